@@ -190,10 +190,11 @@ module _ (told : Bool) (file at : ℕ) (bytes : List ℕ) (n : ℕ) (le : n ≤ 
     }
 
     -- there was no memory to note it
-    pub knows_unnoted : Knows told c rs true grown lost
-    knows_unnoted = record {
+    pub knows_unnoted : (noted : List Range) → ((f i : ℕ) → Covered noted f i → Covered rs f i)
+        → Knows told c noted true grown lost
+    knows_unnoted noted fewer = record {
       whole = λ t l f i h. knows.whole t l f i (less f i (writes.lost f i h));
-      free = λ t l f i h. (writes.frees t f i).1 (inl ((free f i).1 (knows.free t l f i h)));
+      free = λ t l f i h. (writes.frees t f i).1 (inl ((free f i).1 (knows.free t l f i (fewer f i h))));
       covers = λ t l s. absurd (true≢false s);
       safe = λ t s. absurd (true≢false s);
       named = λ s. absurd (true≢false s);
@@ -220,6 +221,26 @@ pub covered_pushed : (rs : List Range) (r : Range) (f i : ℕ)
 covered_pushed rs r f i = (
   λ h. covered_app rs r f i h,
   λ h. ⊎_elim (λ old. covered_old rs r f i old) (λ new. covered_new rs r f i new) h,
+)
+
+-- a range that goes on where the last one ends is noted with it
+pub covered_joined : (rs : List Range) (last both r : Range)
+    → ((f i : ℕ) → ((f ≡ both.file) × InRange both.at both.len i)
+    ↔ (((f ≡ last.file) × InRange last.at last.len i) ⊎ ((f ≡ r.file) × InRange r.at r.len i)))
+    → (f i : ℕ) → Covered (rs ++ both ∷ []) f i
+    ↔ (Covered (rs ++ last ∷ []) f i ⊎ ((f ≡ r.file) × InRange r.at r.len i))
+covered_joined rs last both r same f i = (
+  λ h. ⊎_elim
+      (λ old. inl (covered_old rs last f i old))
+      (λ new. ⊎_elim (λ l. inl (covered_new rs last f i l)) (λ n. inr n) ((same f i).0 new))
+      (covered_app rs both f i h),
+  λ h. ⊎_elim
+      (λ old. ⊎_elim
+      (λ o. covered_old rs both f i o)
+      (λ l. covered_new rs both f i ((same f i).1 (inl l)))
+      (covered_app rs last f i old))
+      (λ n. covered_new rs both f i ((same f i).1 (inr n)))
+      h,
 )
 
 -- what is not known to be durable is not told

@@ -6,8 +6,9 @@ ghost use Rattle.disk_model.specs.Medium.{Quiet, Elapses, WritesNothing};
 use crate::folder::Folder;
 use crate::opened::Opened;
 use std::alloc::Global;
+use std::io;
 use std::marker::Model;
-use system_model::{Failure, System};
+use system_model::{Asked, Failure, Part, System};
 
 /// A disk over the files of a folder. Contracts see the system and what the disk counts.
 #[derive(Drop)]
@@ -68,7 +69,8 @@ impl<S: System> FolderDisk<S> {
         }
     }
 
-    /// Opens the files as a disk, and syncs whatever any process wrote to them, so that nothing is pending.
+    /// Opens the files as a disk, and syncs whatever any process wrote to them, so that nothing is pending. A file that
+    /// cannot be opened counts as one that is not there; where none can, the folder is refused.
     pub fn open(alloc: Global, system: S) -> Result<FolderDisk<S>, FolderRefused<S>>
         requires { IsTrue S.told → (f : ℕ) → IsWhole (S.medium system) f }
         ensures quiet { IfOk result (λ disk. Quiet (disk_seen S.medium disk)) }
@@ -77,10 +79,15 @@ impl<S: System> FolderDisk<S> {
         ensures time { IfOk result (λ disk. Elapses (S.medium system).disk (S.medium disk.system).disk) }
     {
         let mut disk = FolderDisk::new(alloc, system);
-        match disk.folder.sync() {
-            Ok(()) => Ok(disk),
-            Err(_) => Err(refused(disk.folder)),
+        if disk.folder.sync().is_err() {
+            return Err(refused(disk.folder));
         }
+        if let Some(file) = disk.folder.system.refused() {
+            let error = io::Error::from(io::ErrorKind::PermissionDenied);
+            disk.folder.failed(Asked::Open, Part::File(file), error);
+            return Err(refused(disk.folder));
+        }
+        Ok(disk)
     }
 
     /// The system, as the disk left it.

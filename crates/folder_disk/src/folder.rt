@@ -12,7 +12,7 @@ ghost use Rattle.folder_disk.specs.Knows.{Knows};
 ghost use Rattle.folder_disk.specs.FolderView.{counted};
 ghost use Rattle.folder_disk.specs.Writes.{Puts, PutCase};
 
-use crate::notes::note;
+use crate::notes::{is_full, note};
 use crate::opened::Opened;
 use crate::range::Range;
 use crate::reading::read_all;
@@ -176,7 +176,8 @@ impl<S: System> Folder<S> {
         }
     }
 
-    /// Makes the file, if something is to be written to it and it is not there.
+    /// Makes room for a write of these bytes: syncs the file where much of it waits for that, and makes it where it is
+    /// not there.
     fn prepare(&mut self, file: u32, bytes: &[u8]) -> Result<(), DiskFailed>
         requires knows { Knows S.told (S.medium self.old.system) self.old.ranges.items self.old.is_fresh
             self.old.is_grown self.old.is_lost }
@@ -190,7 +191,13 @@ impl<S: System> Folder<S> {
         ensures passes { OnOk result (self.new.faults ≡ self.old.faults) }
         ensures written { self.new.written ≡ self.old.written }
     {
-        if bytes.is_empty() || self.find(file)? {
+        if bytes.is_empty() {
+            return Ok(());
+        }
+        if is_full(self.ranges.as_slice(), file) {
+            self.sync_early(file)?;
+        }
+        if self.find(file)? {
             return Ok(());
         }
         self.is_grown = true;

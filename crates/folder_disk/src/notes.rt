@@ -1,24 +1,60 @@
 //! Notes of what was written and not synced.
 
-ghost use Rattle.std.specs.Prelude.{◌≡◌, ◌⊎◌, ◌↔◌, ℕ, IsTrue, IsFalse, filter, not, ◌==◌};
+ghost use Rattle.std.specs.Prelude.{◌≡◌, ◌⊎◌, ◌↔◌, ℕ, IsTrue, IsFalse, IfSome, [], ◌∷◌, ◌++◌, filter, not, ◌==◌};
 ghost use Rattle.system_model.specs.SystemMedium.{InRange};
 ghost use Rattle.folder_disk.specs.Knows.{Covered};
 
 use crate::range::Range;
 
-/// Notes that a range was written, and says whether there was memory for it.
+/// How many bytes of a file may wait for a sync before it is synced unasked, and in how many ranges.
+const MOST_BYTES: u64 = 1_048_576;
+
+const MOST_RANGES: usize = 1024;
+
+/// Notes that a range was written, and says whether there was memory for it. One that goes on where the last one ended
+/// is noted with it.
 pub(crate) fn note(ranges: &mut Vec<Range>, range: Range) -> bool
     ensures noted { IsTrue result → (f i : ℕ) → Covered ranges.new.items f i
         ↔ (Covered ranges.old.items f i ⊎ ((f ≡ range.file) × InRange range.at range.len i)) }
-    ensures failed { IsFalse result → ranges.new.items ≡ ranges.old.items }
+    ensures failed { IsFalse result → (f i : ℕ) → Covered ranges.new.items f i → Covered ranges.old.items f i }
 {
     if range.len == 0 {
         return true;
     }
+    let Some(last) = ranges.pop() else {
+        return add(ranges, range);
+    };
+    match joined(last, range) {
+        Some(both) => add(ranges, both),
+        None => add(ranges, last) && add(ranges, range),
+    }
+}
+
+/// Adds a range, if there is memory for it.
+fn add(ranges: &mut Vec<Range>, range: Range) -> bool
+    ensures added { IsTrue result → ranges.new.items ≡ ranges.old.items ++ range ∷ [] }
+    ensures failed { IsFalse result → ranges.new.items ≡ ranges.old.items }
+{
     match ranges.push(range) {
         Ok(()) => true,
         Err(_) => false,
     }
+}
+
+/// Two ranges as one, where the second goes on where the first ends.
+fn joined(first: Range, second: Range) -> Option<Range>
+    ensures { IfSome result (λ both. (f i : ℕ) → ((f ≡ both.file) × InRange both.at both.len i)
+        ↔ (((f ≡ first.file) × InRange first.at first.len i) ⊎ ((f ≡ second.file) × InRange second.at second.len i))) }
+{
+    if first.file != second.file || first.at.checked_add(first.len) != Some(second.at) {
+        return None;
+    }
+    let len = first.len.checked_add(second.len)?;
+    Some(Range {
+        file: first.file,
+        at: first.at,
+        len,
+    })
 }
 
 /// Whether something that was written to the file is noted.
@@ -31,6 +67,19 @@ pub(crate) fn is_noted(ranges: &[Range], file: u32) -> bool
         }
     }
     false
+}
+
+/// Whether so much was written to the file that it is to be synced before more is: as much is read again before a sync.
+pub(crate) fn is_full(ranges: &[Range], file: u32) -> bool {
+    let mut bytes: u64 = 0;
+    let mut count: usize = 0;
+    for range in ranges {
+        if range.file == file {
+            bytes = bytes.saturating_add(range.len);
+            count = count.saturating_add(1);
+        }
+    }
+    bytes >= MOST_BYTES || count >= MOST_RANGES
 }
 
 /// Leaves out the ranges of a file.

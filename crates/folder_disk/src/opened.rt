@@ -30,6 +30,8 @@ pub struct Opened<S: System> {
     questions: u64,
     /// Whether a file was found, or made.
     has_files: bool,
+    /// The first file that the folder listed.
+    listed: Option<u32>,
 }
 
 impl<S: System> Model for Opened<S> {
@@ -54,6 +56,7 @@ impl<S: System> Opened<S> {
             uses: BTreeMap::new(alloc),
             questions: 0,
             has_files: false,
+            listed: None,
         }
     }
 
@@ -66,6 +69,11 @@ impl<S: System> Opened<S> {
     /// Whether a file was found, or made.
     pub(crate) fn has_files(&self) -> bool {
         self.has_files
+    }
+
+    /// The first file that the folder lists, where it gives none of them.
+    pub(crate) fn refused(&self) -> Option<u32> {
+        if self.has_files { None } else { self.listed }
     }
 
     /// Whether one file more can be open, or this one is.
@@ -155,7 +163,9 @@ impl<S: System> Opened<S> {
             → IsAbsent (S.medium self.new) f) }
         ensures looks { Looks (S.medium self.old) (S.medium self.new) }
     {
-        self.system.list(alloc)
+        let files = self.system.list(alloc)?;
+        self.listed = files.first().copied();
+        Ok(files)
     }
 
     pub(crate) fn read(&mut self, file: u32, at: u64, out: &mut [u8]) -> io::Result<Reading>

@@ -293,6 +293,28 @@ impl<S: System> Folder<S> {
         }
     }
 
+    /// Syncs the folder and one file, as far as they may need it.
+    pub(crate) fn sync_early(&mut self, file: u32) -> Result<(), DiskFailed>
+        requires knows { Knows S.told (S.medium self.old.system) self.old.ranges.items self.old.is_fresh
+            self.old.is_grown self.old.is_lost }
+        requires lost { IsFalse self.old.is_lost }
+        ensures lost { OnOk result (IsFalse self.new.is_lost) }
+        ensures reads { OnlyReads (S.medium self.old.system).disk (S.medium self.new.system).disk }
+        ensures time { Elapses (S.medium self.old.system).disk (S.medium self.new.system).disk }
+        ensures knows { Knows S.told (S.medium self.new.system) self.new.ranges.items self.new.is_fresh
+            self.new.is_grown self.new.is_lost }
+        ensures cause { OnErr result (Rose self.old.faults self.new.faults) }
+        ensures later { self.old.faults ≤ self.new.faults }
+        ensures passes { OnOk result (self.new.faults ≡ self.old.faults) }
+        ensures written { self.new.written ≡ self.old.written }
+    {
+        self.sync_names()?;
+        if !self.is_fresh {
+            return self.sync_one(file);
+        }
+        self.sync_found()
+    }
+
     /// Closes the file that was not asked for the longest, of those of which nothing is left to sync. Where there is
     /// none, all are synced before.
     pub(crate) fn close_one(&mut self) -> Result<(), DiskFailed>

@@ -9,8 +9,9 @@ mod odometers;
 mod opening;
 mod refusals;
 
+use folder_disk::FolderDisk;
 use odometers::Odometer;
-use per_system::{DirDisk, fill_streams};
+use per_system::{Access, Content, HostSystem, fill_streams};
 use refusals::Refusal;
 use std::env;
 use std::process::ExitCode;
@@ -30,7 +31,7 @@ fn main(rt: HostRuntime) -> ExitCode {
 fn run(rt: &HostRuntime) -> Result<(), Refusal> {
     let _streams = fill_streams(rt).map_err(Refusal::Output)?;
     let alloc = rt.alloc();
-    let disk = DirDisk::new(rt, alloc, folder(rt)?);
+    let disk = disk_in(rt, folder(rt)?)?;
     let mut odometer = Odometer::open(alloc, disk, seconds(rt))?;
     show(rt, odometer.total())?;
     for line in rt.lines(alloc) {
@@ -54,6 +55,20 @@ fn folder(rt: &HostRuntime) -> Result<String, Refusal> {
     match (words.next(), words.next()) {
         (Some(folder), None) => Ok(folder),
         _ => Err(Refusal::Words),
+    }
+}
+
+/// The folder as a disk.
+fn disk_in<'a>(
+    rt: &'a HostRuntime,
+    dir: String,
+) -> Result<FolderDisk<HostSystem<'a, HostRuntime>>, Refusal> {
+    let Ok(system) = HostSystem::hold(rt, rt.alloc(), dir, Content::Disk, Access::Write) else {
+        return Err(Refusal::Device);
+    };
+    match FolderDisk::open(rt.alloc(), system) {
+        Ok(disk) => Ok(disk),
+        Err(_) => Err(Refusal::Device),
     }
 }
 

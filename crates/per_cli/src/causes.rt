@@ -1,8 +1,8 @@
 //! Why a run ended, in one line on standard error.
 
-use per_system::{Asked, Failure};
 use std::rt::Files;
 use std::{fmt, fs, io};
+use system_model::{Asked, Failure};
 
 /// The line where the words are refused.
 const USAGE: &str =

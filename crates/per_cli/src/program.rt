@@ -5,15 +5,18 @@ use crate::telling::Telling;
 use crate::{NO_DISK, NO_MEMORY, WRONG_SIZE};
 use flash_disk::erase_all;
 use flash_model::Flash;
+use folder_disk::FolderDisk;
+use folder_flash::{FolderFlash, of_flash};
 use migrate_fns::Migrations;
 use number_converters::{WithConverters, with_converters};
 use per_base::{Sink, Source};
 use per_run::{FlashRun, JobKind, WordsError, per_flash, per_run, read_words};
-use per_system::{Access, DirDisk, DirFlash, Notes, StdSink, StdSource};
+use per_system::{Access, Content, HostSystem, Noted, NotedFlash, Notes, StdSink, StdSource};
 use std::alloc::{AllocError, Global};
 use std::fs::File;
 use std::io::{Read, Write};
 use std::rt::Files;
+use system_model::{Failure, System};
 
 /// The folder that the words name, for what it is held, whether it is formatted or lines are to be handled in it, and
 /// how many blocks its flash has, where it has one.
@@ -124,23 +127,22 @@ fn run_noting<'a, R: Files<File = File> + Eprint, I: Read + Drop, O: Write + Dro
         otherwise: target.flash.map(|_| Fault::Full),
         output,
     });
-    let outcome = match target.flash {
-        Some(blocks) => {
-            let flash = DirFlash::noting(rt, alloc, dir, target.access, blocks, notes);
-            run_over_flash(
-                alloc,
-                words,
-                migrations,
-                &mut source,
-                &mut sink,
-                flash,
-                target.formats,
-            )
-        }
-        None => {
-            let disk = DirDisk::noting(rt, alloc, dir, target.access, notes);
-            run_over_folder(alloc, words, migrations, &mut source, &mut sink, disk)
-        }
+    let content = match target.flash {
+        Some(_) => Content::Flash,
+        None => Content::Disk,
+    };
+    let outcome = match HostSystem::hold(rt, alloc, dir, content, target.access) {
+        Ok(system) => run_over(
+            alloc,
+            words,
+            migrations,
+            &mut source,
+            &mut sink,
+            target,
+            system,
+            notes,
+        ),
+        Err(failure) => not_held(notes, Some(failure)),
     };
     let ended = Ended {
         status: outcome.status,
@@ -156,20 +158,53 @@ fn run_noting<'a, R: Files<File = File> + Eprint, I: Read + Drop, O: Write + Dro
     outcome.status
 }
 
-/// Runs the program over the folder as a disk.
-fn run_over_folder<'a, R: Files<File = File>, S: Source, K: Sink>(
+/// Runs the program over the folder: as a disk, or as a flash.
+fn run_over<'a, R: Files<File = File>, S: Source, K: Sink>(
     alloc: Global,
     words: &[String],
     migrations: &Migrations,
     source: &mut S,
     sink: &mut K,
-    disk: DirDisk<'a, R>,
+    target: &Target,
+    system: HostSystem<'a, R>,
+    notes: &'a Notes,
 ) -> Outcome {
-    let mut disk = disk;
-    let status = per_run(alloc, words, migrations, source, sink, &mut disk);
+    let disk = match FolderDisk::open(alloc, system) {
+        Ok(disk) => disk,
+        Err(refused) if target.flash.is_some() => return not_held(notes, refused.failure.map(of_flash)),
+        Err(refused) => return not_held(notes, refused.failure),
+    };
+    match target.flash {
+        Some(blocks) => {
+            let flash = NotedFlash::new(FolderFlash::new(alloc, disk, blocks), notes);
+            run_over_flash(
+                alloc,
+                words,
+                migrations,
+                source,
+                sink,
+                flash,
+                target.formats,
+            )
+        }
+        None => {
+            let mut disk = Noted::new(disk, notes);
+            let status = per_run(alloc, words, migrations, source, sink, &mut disk);
+            Outcome {
+                status,
+                has_files: disk.device().has_files(),
+                fault: None,
+            }
+        }
+    }
+}
+
+/// A run whose folder cannot be opened, locked or synced.
+fn not_held(notes: &Notes, failure: Option<Failure>) -> Outcome {
+    notes.note(failure);
     Outcome {
-        status,
-        has_files: disk.has_files(),
+        status: NO_DISK,
+        has_files: false,
         fault: None,
     }
 }
@@ -177,30 +212,30 @@ fn run_over_folder<'a, R: Files<File = File>, S: Source, K: Sink>(
 /// Runs the program over the flash in the folder. One whose file has more bytes than its blocks is left as it is: with
 /// too few of them it would open, at what was written earlier. Before it is formatted its blocks are erased, so that
 /// all of its room comes back.
-fn run_over_flash<'a, R: Files<File = File>, S: Source, K: Sink>(
+fn run_over_flash<'a, Y: System + Drop, S: Source, K: Sink>(
     alloc: Global,
     words: &[String],
     migrations: &Migrations,
     source: &mut S,
     sink: &mut K,
-    flash: DirFlash<'a, R>,
+    flash: NotedFlash<'a, FolderFlash<Y>>,
     formats: bool,
 ) -> Outcome {
     let mut flash = flash;
-    match flash.is_too_long() {
+    match flash.device_mut().is_too_long() {
         Ok(false) => {}
-        Ok(true) => return outcome_of(WRONG_SIZE, Some(Fault::Longer), &flash),
-        Err(_) => return outcome_of(NO_DISK, None, &flash),
+        Ok(true) => return outcome_of(WRONG_SIZE, Some(Fault::Longer), flash.device()),
+        Err(_) => return outcome_of(NO_DISK, None, flash.device()),
     }
     if formats && is_right_size(flash.blocks()) && erase_all(&mut flash).is_err() {
-        return outcome_of(NO_DISK, None, &flash);
+        return outcome_of(NO_DISK, None, flash.device());
     }
     match per_flash(alloc, words, migrations, source, sink, flash) {
         FlashRun::Ran(status, disk) => {
             let fault = (disk.own_faults() > 0).then_some(Fault::Full);
-            outcome_of(status, fault, &disk.into_flash())
+            outcome_of(status, fault, disk.into_flash().device())
         }
-        FlashRun::Unopened(status, flash) => outcome_of(status, None, &flash),
+        FlashRun::Unopened(status, flash) => outcome_of(status, None, flash.device()),
     }
 }
 
@@ -210,10 +245,10 @@ fn is_right_size(blocks: u32) -> bool {
 }
 
 /// What came of a run over a flash.
-fn outcome_of<'a, R: Files<File = File>>(
+fn outcome_of<Y: System + Drop>(
     status: u8,
     fault: Option<Fault>,
-    flash: &DirFlash<'a, R>,
+    flash: &FolderFlash<Y>,
 ) -> Outcome {
     Outcome {
         status,

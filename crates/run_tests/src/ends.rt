@@ -1,8 +1,9 @@
 //! The ends of the program, on the system.
 
 use disk_model::Disk;
+use folder_disk::FolderDisk;
 use per_base::{Sink, Source};
-use per_system::{DirDisk, StdSink, StdSource};
+use per_system::{Access, Content, HostSystem, StdSink, StdSource};
 use std::alloc::Global;
 use std::fs::{self, File};
 use std::rt::Files;
@@ -25,7 +26,7 @@ pub(crate) fn folder(
 fn made(rt: &impl Files<File = File>, alloc: Global) -> anyhow::Result<String> {
     fs::create_dir(rt, "folder_of_a_case")?;
     let name = String::from_str(alloc, "folder_of_a_case")?;
-    let mut disk = DirDisk::new(rt, alloc, name);
+    let mut disk = disk_in(rt, alloc, name)?;
     let before = disk.size(3).unwrap_or(99);
     let is_written = disk.write_at(3, 2, b"abc").is_ok();
     let is_synced = disk.sync().is_ok();
@@ -44,12 +45,28 @@ fn made(rt: &impl Files<File = File>, alloc: Global) -> anyhow::Result<String> {
 /// A folder that is not there reads as empty, is synced, and takes nothing.
 fn missing(rt: &impl Files<File = File>, alloc: Global) -> anyhow::Result<String> {
     let name = String::from_str(alloc, "no_such_folder")?;
-    let mut disk = DirDisk::new(rt, alloc, name);
+    let mut disk = disk_in(rt, alloc, name)?;
     let mut out = [0u8; 2];
     let count = disk.read(0, 0, &mut out).unwrap_or(99);
     let is_synced = disk.sync().is_ok();
     let is_written = disk.write_at(0, 0, b"a").is_ok();
     Ok(format!(in alloc; "read {count}, synced {is_synced}, written {is_written}")?)
+}
+
+/// The folder as a disk.
+fn disk_in<'a, R: Files<File = File>>(
+    rt: &'a R,
+    alloc: Global,
+    dir: String,
+) -> anyhow::Result<FolderDisk<HostSystem<'a, R>>> {
+    let system = match HostSystem::hold(rt, alloc, dir, Content::Disk, Access::Write) {
+        Ok(system) => system,
+        Err(failure) => anyhow::bail!(in alloc; "{failure}"),
+    };
+    match FolderDisk::open(alloc, system) {
+        Ok(disk) => Ok(disk),
+        Err(_) => anyhow::bail!(in alloc; "the folder cannot be synced"),
+    }
 }
 
 /// A reader of the text as a source, which is read twice, and a list as a sink, which takes four bytes.
