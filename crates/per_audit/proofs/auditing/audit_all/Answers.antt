@@ -5,7 +5,7 @@ use Rattle.per_audit.specs.declared.findings.Finding.{Finding}
 use Rattle.per_audit.specs.declared.findings.Listed.{Listed}
 use Rattle.per_audit.proofs.Remaining.{app_elements_at, app_findings_at, apps_all, apps_more_at, elements_whole}
 use Rattle.per_audit.proofs.Remaining.{findings_whole, none_seen, seen_on}
-use Rattle.per_audit.proofs.auditing.audit.Goals as goal
+use Rattle.per_audit.proofs.auditing.audit_all.Goals as goal
 
 pub loop-app-init : goal.loop-app-init
 loop-app-init g c = record {
