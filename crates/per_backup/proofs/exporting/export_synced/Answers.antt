@@ -7,7 +7,7 @@ use Rattle.per_backup.specs.Clauses.{IsViewFor}
 use Rattle.per_backup.specs.Finding.{IsLocated, IsMissing}
 use Rattle.per_backup.proofs.ExportRows.{answered, answered_missing}
 use Rattle.per_backup.proofs.Lists.{err_so, ok_so, some_weaker}
-use Rattle.per_backup.proofs.exporting.export.Goals as goal
+use Rattle.per_backup.proofs.exporting.export_synced.Goals as goal
 
 pub returns-in-Err-clause-answer : goal.returns-in-Err-clause-answer
 returns-in-Err-clause-answer g c =

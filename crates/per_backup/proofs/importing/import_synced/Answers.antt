@@ -7,7 +7,7 @@ use Rattle.per_backup.proofs.Lists.{err_so, ok_so}
 use Rattle.per_backup.proofs.Nothing.{IsRefusedRow, early_refuses, missing_refuses, nothing_imported, nothing_keeps}
 use Rattle.per_backup.proofs.Nothing.{refuses_answers, refuses_there}
 use Rattle.per_backup.proofs.Replaced.{replaced_answers, replaced_imported, replaced_keeps, replaced_unchanged}
-use Rattle.per_backup.proofs.importing.import.Goals as goal
+use Rattle.per_backup.proofs.importing.import_synced.Goals as goal
 
 pub returns-in_err-located-clause-keeps : goal.returns-in_err-located-clause-keeps
 returns-in_err-located-clause-keeps g c = λ tells. nothing_keeps c.storages_stand.ensures c.args.app c.requires
