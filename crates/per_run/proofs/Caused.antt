@@ -22,6 +22,7 @@ use Rattle.run_model.specs.AppLaws.{AppLaws}
 use Rattle.run_model.specs.Endings as endings
 use Rattle.run_model.specs.Endings.{Ending, Failed, HasCauseOf, status_of}
 use Rattle.run_model.specs.Lines.{IsWellFormed}
+use Rattle.run_model.specs.Lives.{looks_none}
 use Rattle.run_model.specs.Runs as runs
 use Rattle.per_run.specs.declared.endings.Ending as parts
 use Rattle.per_run.specs.declared.endings.Ending.TheVariants as part
@@ -38,7 +39,6 @@ use Rattle.per_run.proofs.Begins.{run_short, unbegun}
 use Rattle.per_run.proofs.Completes.{OneLine, completes}
 use Rattle.per_run.proofs.Fresh.{formats_none, generates_none}
 use Rattle.per_run.proofs.Inputs.{not_seen}
-use Rattle.per_run.proofs.Outputs.{nothing_changed}
 
 -- ---- statuses
 
@@ -217,13 +217,14 @@ pub done_none : AppLaws → (told : Bool) (kind : JobKind) (rules : List Rule) (
 done_none laws told Run rules answers left before source sink m lawful =
     run_short told rules answers left before source sink m m 4 lawful (elapses_none lawful)
     (λ tells. unbegun told m lawful) refl
-done_none laws told Format rules answers left before source sink m lawful = formats_none told 4 before m (inr refl)
+done_none laws told Format rules answers left before source sink m lawful = formats_none told 4 before m m (inr refl)
+    (λ unfailed. refl)
 done_none laws told (Generate n) rules answers left before source sink m lawful =
     generates_none told rules answers n 4 before m m (inr refl) (elapses_none lawful).faults
 done_none laws told Audit rules answers left before source sink m lawful =
-    audits_none told 4 before m m (inr refl) (nothing_changed lawful) (λ unfailed. refl)
+    audits_none told 4 before m m (inr refl) (looks_none lawful) (λ unfailed. refl)
 done_none laws told (Export app name) rules answers left before source sink m lawful =
-    exports_none told app name 4 before m m (inr refl) (nothing_changed lawful) (λ unfailed. refl)
+    exports_none told app name 4 before m m (inr refl) (looks_none lawful) (λ unfailed. refl)
 done_none laws told (Import app name) rules answers left before source sink m lawful =
     imports_cut told app name part.OutOfMemory 4 left left before m lawful refl
     (record {

@@ -3,3 +3,4 @@ pub mod Jobs
 pub mod Steps
 pub mod Flashes
 pub mod Samples
+pub mod Lives
