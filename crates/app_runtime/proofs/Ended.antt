@@ -30,7 +30,7 @@ use Rattle.deploy_rows.specs.Rows as rows
 use Rattle.deploy_rows.specs.Rows.{after}
 use Rattle.run_model.specs.Calls.{active_storages, first_open, least_open, session_at}
 use Rattle.run_model.specs.Found.{Found, storage_in}
-use Rattle.run_model.specs.Runtimes.{IsUnwritten, WritesWithin, is_durable, is_refusal}
+use Rattle.run_model.specs.Runtimes.{IsUnwritten, WritesWithin, is_durable, is_refusal, only_plans}
 use Rattle.run_model.specs.Sessions.{Session}
 use Rattle.run_model.specs.Steps.{after_failure, found_named, storage_named, uses_device}
 use Rattle.run_model.specs.Worlds.{Application, none_open}
@@ -156,6 +156,7 @@ module _ (told : Bool) (rules : List Rule) (answers : Answers) (now : ℕ) (c : 
       quiet = m.quiet;
       idle = λ tells calm. absurd (true≢false (sym word.uses ∙ calm));
       unwritten = not_written o.refused refl;
+      looks = λ plans. absurd (true≢false (sym plans ∙ word.no_plan));
       written = λ tells durable. absurd (true≢false (sym durable ∙ word.not_durable));
       cause = λ bad. absurd cc;
       unfailed = (plain o.refused refl).0;
@@ -185,6 +186,7 @@ module _ (told : Bool) (rules : List Rule) (answers : Answers) (now : ℕ) (c : 
         quiet = λ quiet. tt;
         idle = λ tells calm. absurd (true≢false (sym word.uses ∙ calm));
         unwritten = tt;
+        looks = λ plans. absurd (true≢false (sym plans ∙ word.no_plan));
         written = λ tells durable. absurd (true≢false (sym durable ∙ word.not_durable));
         cause = λ bad. m.cause refl;
         unfailed = tt;
@@ -208,6 +210,7 @@ module _ (told : Bool) (rules : List Rule) (answers : Answers) (now : ℕ) (c : 
         quiet = λ quiet. tt;
         idle = λ tells calm. absurd (true≢false (sym word.uses ∙ calm));
         unwritten = tt;
+        looks = λ plans. absurd (true≢false (sym plans ∙ word.no_plan));
         written = λ tells durable. absurd (true≢false (sym durable ∙ word.not_durable));
         cause = λ bad. absurd cc;
         unfailed = tt;
@@ -298,6 +301,7 @@ module _ (told : Bool) (rules : List Rule) (answers : Answers) (now : ℕ) (c : 
     quiet = λ quiet. quiet;
     idle = λ tells calm. same;
     unwritten = λ refused. (refl, refl);
+    looks = λ plans. (refl, refl);
     written = λ tells durable f x found there. writes_nothing s.app f x m;
     cause = λ bad. absurd cc;
     unfailed = sound;
@@ -323,6 +327,7 @@ module _ (told : Bool) (rules : List Rule) (answers : Answers) (now : ℕ) (c : 
         quiet = λ quiet. tt;
         idle = λ tells calm. same;
         unwritten = tt;
+        looks = λ plans. (refl, refl);
         written = λ tells durable f x found there. writes_nothing s.app f x m;
         cause = λ bad. absurd cc;
         unfailed = tt;

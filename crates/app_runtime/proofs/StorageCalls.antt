@@ -1,6 +1,6 @@
 -- A call that names a storage, of an application at rest.
 use Rattle.std.proofs.Common.{◌≡◌, ◌≢◌, ◌⊎◌, ℕ, List, Bool, true, false, IsTrue, Some, IfOk, IsErrOf, OnOk, Result, Ok}
-use Rattle.std.proofs.Common.{Err, refl, sym, ap, subst, inl, inr}
+use Rattle.std.proofs.Common.{Err, refl, sym, ap, subst, inl, inr, true≢false}
 use Rattle.per_base.specs.Causes.{Rose}
 use Rattle.per_base.specs.declared.errors.PerError.TheVariants as error
 use Rattle.disk_model.specs.Medium.{Elapses, Medium, Quiet}
@@ -17,7 +17,7 @@ use Rattle.deploy_laws.specs.Apps.{App, app_at}
 use Rattle.deploy_laws.specs.Stands.{IsLater}
 use Rattle.run_model.specs.Calls.{CallStep, Outcome, app_step, beside_update, goes_beside, session_at, concluded}
 use Rattle.run_model.specs.Found.{Found}
-use Rattle.run_model.specs.Runtimes.{IsUnwritten, WritesWithin, is_durable, is_refusal}
+use Rattle.run_model.specs.Runtimes.{IsUnwritten, WritesWithin, is_durable, is_refusal, only_plans}
 use Rattle.run_model.specs.Sessions.{Session}
 use Rattle.run_model.specs.Steps.{found_named, uses_device}
 use Rattle.run_model.specs.Worlds.{Application}
@@ -37,6 +37,11 @@ call_step : (rules : List Rule) (answers : Answers) (app now : ℕ) (r : Applica
 call_step rules answers app now r (call.Update text) o on row = absurd cc
 call_step rules answers app now r (call.UpdateBegin text) o on row = absurd cc
 call_step rules answers app now r other o on row = row
+
+-- and plans none
+no_plan : (c : Call) → IsTrue (is_on_storage c) → only_plans c ≡ true → ⊥
+no_plan (call.UpdateBegin text) on plans = absurd cc
+no_plan other on plans = true≢false (sym plans)
 
 on_each : {T E : Type 0} (P Q : T → Type 0) (result : Result T E) → ((x : T) → P x → Q x) → IfOk result P
     → IfOk result Q
@@ -126,6 +131,7 @@ module _ (told : Bool) (rules : List Rule) (answers : Answers) (now : ℕ) (c : 
     quiet = s.quiet;
     idle = s.idle;
     unwritten = s.unwritten;
+    looks = λ plans. absurd (no_plan c on plans);
     written = s.written;
     cause = s.cause;
     unfailed = s.unfailed;

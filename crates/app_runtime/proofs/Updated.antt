@@ -250,6 +250,7 @@ module _ (told : Bool) (rules : List Rule) (answers : Answers) (now : ℕ) (text
         quiet = u.quiet;
         idle = λ tells calm. absurd (true≢false calm);
         unwritten = not_written o.refused refl;
+        looks = λ plans. absurd (true≢false (sym plans));
         written = λ tells durable. absurd (true≢false (sym durable));
         cause = λ bad. absurd cc;
         unfailed = (plain o.refused refl).0;
@@ -284,6 +285,7 @@ module _ (told : Bool) (rules : List Rule) (answers : Answers) (now : ℕ) (text
         quiet = λ quiet. tt;
         idle = λ tells calm. absurd (true≢false calm);
         unwritten = tt;
+        looks = λ plans. absurd (true≢false (sym plans));
         written = λ tells durable. absurd (true≢false (sym durable));
         cause = λ bad. u.cause refl;
         unfailed = tt;
@@ -307,6 +309,7 @@ module _ (told : Bool) (rules : List Rule) (answers : Answers) (now : ℕ) (text
         quiet = λ quiet. tt;
         idle = λ tells calm. absurd (true≢false calm);
         unwritten = tt;
+        looks = λ plans. absurd (true≢false (sym plans));
         written = λ tells durable. absurd (true≢false (sym durable));
         cause = λ bad. absurd cc;
         unfailed = tt;
@@ -416,6 +419,7 @@ module _ (told : Bool) (rules : List Rule) (answers : Answers) (now : ℕ) (text
     quiet = quiet_after (Ok (begin.Ready s)) x;
     idle = λ tells calm. absurd (true≢false calm);
     unwritten = λ refused. absurd (true≢false (sym refused));
+    looks = λ plans. (x.image, x.written);
     written = λ tells durable. absurd (true≢false (sym durable));
     cause = λ bad. absurd cc;
     unfailed = λ e. cc;
@@ -462,6 +466,7 @@ module _ (told : Bool) (rules : List Rule) (answers : Answers) (now : ℕ) (text
     quiet = quiet_after (Ok (begin.Refused same e)) x;
     idle = λ tells calm. absurd (true≢false calm);
     unwritten = λ refused. (x.image, x.written);
+    looks = λ plans. (x.image, x.written);
     written = λ tells durable. absurd (true≢false (sym durable));
     cause = λ bad. absurd cc;
     unfailed = (begins_plain rules answers now busy text (root_app root x.begins.0) (Err e) x.begins.2).sound;
@@ -490,6 +495,7 @@ module _ (told : Bool) (rules : List Rule) (answers : Answers) (now : ℕ) (text
         quiet = λ quiet. tt;
         idle = λ tells calm. absurd (true≢false calm);
         unwritten = tt;
+        looks = λ plans. (x.image, x.written);
         written = λ tells durable. absurd (true≢false (sym durable));
         cause = λ bad. x.cause refl;
         unfailed = tt;
@@ -510,6 +516,7 @@ module _ (told : Bool) (rules : List Rule) (answers : Answers) (now : ℕ) (text
         quiet = λ quiet. tt;
         idle = λ tells calm. absurd (true≢false calm);
         unwritten = tt;
+        looks = λ plans. (x.image, x.written);
         written = λ tells durable. absurd (true≢false (sym durable));
         cause = λ bad. absurd cc;
         unfailed = tt;

@@ -21,7 +21,8 @@ use Rattle.run_model.specs.Later.{set_length}
 use Rattle.run_model.specs.Lasting.{IsWorld}
 use Rattle.run_model.specs.Moments.{IsReady, KeepsApplication}
 use Rattle.run_model.specs.Runtimes.{Memory, IsDoubt, IsUnwritten, StaysAside, Stepped, Stopped, WritesWithin}
-use Rattle.run_model.specs.Runtimes.{WrittenBy, calls_none, is_durable, is_refusal, opens_root, writes_none}
+use Rattle.run_model.specs.Runtimes.{WrittenBy, calls_none, is_durable, is_refusal, only_looks, only_plans, opens_root}
+use Rattle.run_model.specs.Runtimes.{writes_none}
 use Rattle.run_model.specs.Sessions.{Session}
 use Rattle.run_model.specs.Starting.{which}
 use Rattle.run_model.specs.Steps.{AppStep, FailsAs, Leads, calls_device, doubt_after, failure, found_named, goes_on}
@@ -115,7 +116,8 @@ module _ (laws : AppLaws) (rules : List Rule) (answers : Answers) (told : Bool) 
     (time : Elapses old new)
     (idle : calls_device (application old.image a) c ≡ false → OnlyReads old new)
     (written : is_durable c ≡ true → (f : Found) (s : Session) → found_named (application old.image a) c ≡ Some (Ok f)
-    → session_at (application old.image a) f.number ≡ Some s → WritesWithin a.app f s old new) where
+    → session_at (application old.image a) f.number ≡ Some s → WritesWithin a.app f s old new)
+    (looks : only_plans c ≡ true → is_to_open (stage_in a.stage) ≡ false → IsUnwritten old new) where
   -- the world before, and what lies on the disk then
   before : Option Doubt → World
   before doubt = world old.image now apps doubt
@@ -181,16 +183,25 @@ module _ (laws : AppLaws) (rules : List Rule) (answers : Answers) (told : Bool) 
   unwritten_on : (doubt : Option Doubt) → calls_none (before doubt) e ≡ true → IsUnwritten old new
   unwritten_on doubt none = let reads = reads_on doubt none in (reads.image, reads.written)
 
+  looked_on : (doubt : Option Doubt) → only_looks (before doubt) e ≡ true → IsUnwritten old new
+  unfolding e
+  looked_on doubt looked = ⊎_elim
+      (λ idle. unwritten_on doubt idle)
+      (λ plans. let two = both (only_plans c) (not (opens_root (before doubt) e)) plans in
+      looks two.0 (subst (λ (r : Application). is_to_open r.stage ≡ false) (it_is doubt)
+      (is_no (opens_root (before doubt) e) two.1)))
+      (either (calls_none (before doubt) e) (only_plans c && not (opens_root (before doubt) e)) looked)
+
   refused_on : (doubt : Option Doubt) (reply : Reply)
       → (is_refusal reply.answer ≡ true → is_to_open (stage_in a.stage) ≡ false → IsUnwritten old new)
       → writes_none (before doubt) e reply ≡ true → IsUnwritten old new
   unfolding e
   refused_on doubt reply refused none = ⊎_elim
-      (λ idle. unwritten_on doubt idle)
+      (λ looked. looked_on doubt looked)
       (λ refusal. let two = both (is_refusal reply.answer) (not (opens_root (before doubt) e)) refusal in
       refused two.0 (subst (λ (r : Application). is_to_open r.stage ≡ false) (it_is doubt)
       (is_no (opens_root (before doubt) e) two.1)))
-      (either (calls_none (before doubt) e) (is_refusal reply.answer && not (opens_root (before doubt) e)) none)
+      (either (only_looks (before doubt) e) (is_refusal reply.answer && not (opens_root (before doubt) e)) none)
 
   -- ---- where it leads
 

@@ -181,7 +181,7 @@ module _ (rules : List Rule) (answers : Answers) (told : Bool) (n : ℕ) (c : Ca
           (λ since. behind x since)
           (cases_on time later x at);
       aside = aside_on s.aside;
-      unwritten = λ none. unwritten_on (s.unwritten (subst (λ (w : World). calls_none w (event.App n c) ≡ true)
+      unwritten = λ none. unwritten_on (s.unwritten (subst (λ (w : World). only_looks w (event.App n c) ≡ true)
           (sym synced_is) none));
       written = written_on s.written;
     }

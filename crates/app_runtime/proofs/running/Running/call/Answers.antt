@@ -10,6 +10,7 @@ returns g c = record {
   quiet = c.answer.ensures.quiet;
   idle = c.answer.ensures.idle;
   unwritten = c.answer.ensures.unwritten;
+  looks = c.answer.ensures.looks;
   written = c.answer.ensures.written;
   cause = c.answer.ensures.cause;
   unfailed = c.answer.ensures.unfailed;
