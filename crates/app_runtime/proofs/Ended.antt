@@ -39,6 +39,7 @@ use Rattle.app_storages.specs.declared.slots.Slots.{Slots}
 use Rattle.app_storages.specs.Slots.{AreOpenOn, IsResting, resting_with, sessions_in}
 use Rattle.deploy_laws.specs.Stands.{IsLater}
 use Rattle.app_storages.specs.Answers.{CallsTo}
+use Rattle.app_storages.specs.Handled.{StaysInPlace}
 use Rattle.app_runtime.specs.declared.running.Running.{Running}
 use Rattle.app_runtime.specs.declared.running.Stage.{Stage}
 use Rattle.app_runtime.specs.declared.running.Stage.TheVariants.{ToOpen, AtRest, Updating}
@@ -88,6 +89,14 @@ marked_running told image b after lt app stage none = record {
 -- no storage is named
 pub none_found : (r : Application) (c : _) → storage_named c ≡ None → found_named r c ≡ None
 none_found r c none = ap (λ (n : Option (List ℕ)). option_map (λ m. storage_in r.disk m None) n) none
+
+none_some : {A : Type 0} (x : Option A) (a : A) → x ≡ None → x ≡ Some a → ⊥
+none_some x a none some = cc
+
+-- and so there is none whose place it could leave
+pub names_none : {app : ℕ} (c : Call) (r : Application) → storage_named c ≡ None → (old new : Image)
+    → StaysInPlace app c r old new
+names_none c r none old new f named = absurd (none_some (found_named r c) (Ok f) (none_found r c none) named)
 
 -- ---- a row of a deployment
 
@@ -158,6 +167,7 @@ module _ (told : Bool) (rules : List Rule) (answers : Answers) (now : ℕ) (c : 
       unwritten = not_written o.refused refl;
       looks = λ plans. absurd (true≢false (sym plans ∙ word.no_plan));
       written = λ tells durable. absurd (true≢false (sym durable ∙ word.not_durable));
+      place = λ tells. names_none c r word.no_storage old.image new.image;
       cause = λ bad. absurd cc;
       unfailed = (plain o.refused refl).0;
       text = (plain o.refused refl).1;
@@ -188,6 +198,7 @@ module _ (told : Bool) (rules : List Rule) (answers : Answers) (now : ℕ) (c : 
         unwritten = tt;
         looks = λ plans. absurd (true≢false (sym plans ∙ word.no_plan));
         written = λ tells durable. absurd (true≢false (sym durable ∙ word.not_durable));
+        place = λ tells. names_none c r word.no_storage old.image new.image;
         cause = λ bad. m.cause refl;
         unfailed = tt;
         text = tt;
@@ -212,6 +223,7 @@ module _ (told : Bool) (rules : List Rule) (answers : Answers) (now : ℕ) (c : 
         unwritten = tt;
         looks = λ plans. absurd (true≢false (sym plans ∙ word.no_plan));
         written = λ tells durable. absurd (true≢false (sym durable ∙ word.not_durable));
+        place = λ tells. names_none c r word.no_storage old.image new.image;
         cause = λ bad. absurd cc;
         unfailed = tt;
         text = tt;
@@ -303,6 +315,7 @@ module _ (told : Bool) (rules : List Rule) (answers : Answers) (now : ℕ) (c : 
     unwritten = λ refused. (refl, refl);
     looks = λ plans. (refl, refl);
     written = λ tells durable f x found there. writes_nothing s.app f x m;
+    place = λ tells f named file beside. refl;
     cause = λ bad. absurd cc;
     unfailed = sound;
     text = text;
@@ -329,6 +342,7 @@ module _ (told : Bool) (rules : List Rule) (answers : Answers) (now : ℕ) (c : 
         unwritten = tt;
         looks = λ plans. (refl, refl);
         written = λ tells durable f x found there. writes_nothing s.app f x m;
+        place = λ tells f named file beside. refl;
         cause = λ bad. absurd cc;
         unfailed = tt;
         text = tt;

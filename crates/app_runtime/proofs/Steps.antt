@@ -50,7 +50,7 @@ use Rattle.app_runtime.specs.Answers.{HasRow, MayLead}
 use Rattle.app_runtime.specs.Promises.{Promises}
 use Rattle.app_runtime.specs.Running.{IsRunning, IsStageAt, NoneOpen, application, stage_in}
 use Rattle.app_runtime.specs.Stages.{reply_of, reply_with, root_of, staged_in, status_of, without_update}
-use Rattle.app_runtime.proofs.Ended.{failed_app, idle_promises, marked_running, none_found}
+use Rattle.app_runtime.proofs.Ended.{failed_app, idle_promises, marked_running, names_none, none_found}
 use Rattle.app_runtime.proofs.InWorld.{fit_length}
 use Rattle.app_runtime.proofs.Kept.{open_by_none}
 use Rattle.app_runtime.proofs.LeadOn.{still}
@@ -319,6 +319,7 @@ module _ (told : Bool) (rules : List Rule) (answers : Answers) (now : ℕ) (b : 
       unwritten = tt;
       looks = λ plans. absurd (true≢false (sym plans ∙ no_plan));
       written = λ tells durable. absurd (true≢false (sym durable ∙ not_durable));
+      place = λ tells. names_none c r no_storage old.image new.image;
       cause = λ bad. cause refl;
       unfailed = tt;
       text = tt;
@@ -335,6 +336,7 @@ module _ (told : Bool) (rules : List Rule) (answers : Answers) (now : ℕ) (b : 
       unwritten = tt;
       looks = λ plans. absurd (true≢false (sym plans ∙ no_plan));
       written = λ tells durable. absurd (true≢false (sym durable ∙ not_durable));
+      place = λ tells. names_none c r no_storage old.image new.image;
       cause = λ bad. absurd cc;
       unfailed = tt;
       text = tt;
@@ -358,7 +360,7 @@ module _ (told : Bool) (rules : List Rule) (answers : Answers) (now : ℕ) (b : 
       (clean : IsTrue told → IsCleanApp b.app old.image → IsCleanApp b.app new.image) (quiet : Quiet old → Quiet new)
       (done : is_refusal reply.answer ≡ false) (sound : reply.answer ≢ answer.Error error.PhysicalStorageFailure)
       (text : HasText reply.answer)
-      (not_durable : is_durable c ≡ false) (no_plan : only_plans c ≡ false) (uses : uses_device r.disk c ≡ true) (time : Elapses old new) where
+      (not_durable : is_durable c ≡ false) (no_plan : only_plans c ≡ false) (no_storage : storage_named c ≡ None) (uses : uses_device r.disk c ≡ true) (time : Elapses old new) where
     pub done_step : Promises told rules answers now c before (record b { stage = stage }) Untouched old new (Ok reply)
     done_step = record {
       app = refl;
@@ -371,6 +373,7 @@ module _ (told : Bool) (rules : List Rule) (answers : Answers) (now : ℕ) (b : 
       unwritten = λ refused. absurd (true≢false (sym refused ∙ done));
       looks = λ plans. absurd (true≢false (sym plans ∙ no_plan));
       written = λ tells durable. absurd (true≢false (sym durable ∙ not_durable));
+      place = λ tells. names_none c r no_storage old.image new.image;
       cause = λ bad. absurd cc;
       unfailed = sound;
       text = text;
@@ -417,7 +420,7 @@ module _ (told : Bool) (rules : List Rule) (answers : Answers) (now : ℕ) (b : 
       (same tells))))
       (at, none) (λ tells. subst (λ (a : App). IsLater r.disk a) (sym (same tells)) (still r.disk))
       (λ tells. subst (λ (a : App). CallsTo b.app a old new) (sym (same tells)) (calls tells))
-      clean quiet refl (λ e. cc) tt refl refl refl time
+      clean quiet refl (λ e. cc) tt refl refl refl refl time
 
   -- ---- the commit
 
@@ -457,7 +460,7 @@ module _ (told : Bool) (rules : List Rule) (answers : Answers) (now : ℕ) (b : 
         })
         (λ tells. subst (λ (a : App). IsLater r.disk a) (sym (is_next tells)) (update_later (progress_in s) r.disk))
         (λ tells. subst (λ (a : App). CallsTo b.app a old new) (sym (is_next tells)) (calls tells)) clean quiet refl
-        (λ e. cc) tt refl refl refl time
+        (λ e. cc) tt refl refl refl refl time
 
 -- ---- an install beside an update
 

@@ -24,6 +24,7 @@ use Rattle.run_model.specs.Worlds.{Application}
 use Rattle.app_storages.specs.declared.slots.Slots.{Slots}
 use Rattle.app_storages.specs.Answers.{is_on_storage}
 use Rattle.app_storages.specs.Answers as stored
+use Rattle.app_storages.specs.Handled.{StaysInPlace}
 use Rattle.app_storages.specs.Slots.{IsResting, resting_with}
 use Rattle.app_runtime.specs.declared.running.Running.{Running}
 use Rattle.app_runtime.specs.declared.running.Stage.TheVariants.{AtRest}
@@ -64,6 +65,7 @@ pub record Stores (told : Bool) (app now : ℕ) (c : Call) (root : Root) (before
   pub written : IsTrue told → is_durable c ≡ true → (f : Found) (s : Session)
       → found_named (resting_with old.image app before) c ≡ Some (Ok f)
       → session_at (resting_with old.image app before) f.number ≡ Some s → WritesWithin app f s old new
+  pub place : IsTrue told → StaysInPlace app c (resting_with old.image app before) old.image new.image
   pub cause : IsErrOf result stop.Device → Rose old.faults new.faults
   pub unfailed : IfOk result (λ reply. reply.answer ≢ answer.Error error.PhysicalStorageFailure)
   pub text : IfOk result (λ reply. HasText reply.answer)
@@ -133,6 +135,7 @@ module _ (told : Bool) (rules : List Rule) (answers : Answers) (now : ℕ) (c : 
     unwritten = s.unwritten;
     looks = λ plans. absurd (no_plan c on plans);
     written = s.written;
+    place = s.place;
     cause = s.cause;
     unfailed = s.unfailed;
     text = s.text;

@@ -50,7 +50,7 @@ use Rattle.app_runtime.specs.Answers.{HasRow, MayLead}
 use Rattle.app_runtime.specs.Promises.{Promises}
 use Rattle.app_runtime.specs.Running.{IsRunning, NoneOpen, application}
 use Rattle.app_runtime.specs.Stages.{Concludes, ConcludesBegun, reply_of, root_of}
-use Rattle.app_runtime.proofs.Ended.{failed_app, marked_running, refused_plain, resting_in, stage_back}
+use Rattle.app_runtime.proofs.Ended.{failed_app, marked_running, names_none, refused_plain, resting_in, stage_back}
 use Rattle.app_runtime.proofs.Frames.{beside_next, calls_reading, calls_to}
 use Rattle.app_runtime.proofs.Kept.{free_kept, free_slots, none_taken}
 use Rattle.app_runtime.proofs.LeadOn.{still}
@@ -252,6 +252,7 @@ module _ (told : Bool) (rules : List Rule) (answers : Answers) (now : ℕ) (text
         unwritten = not_written o.refused refl;
         looks = λ plans. absurd (true≢false (sym plans));
         written = λ tells durable. absurd (true≢false (sym durable));
+        place = λ tells. names_none (call.Update text) r refl old.image new.image;
         cause = λ bad. absurd cc;
         unfailed = (plain o.refused refl).0;
         text = (plain o.refused refl).1;
@@ -287,6 +288,7 @@ module _ (told : Bool) (rules : List Rule) (answers : Answers) (now : ℕ) (text
         unwritten = tt;
         looks = λ plans. absurd (true≢false (sym plans));
         written = λ tells durable. absurd (true≢false (sym durable));
+        place = λ tells. names_none (call.Update text) r refl old.image new.image;
         cause = λ bad. u.cause refl;
         unfailed = tt;
         text = tt;
@@ -311,6 +313,7 @@ module _ (told : Bool) (rules : List Rule) (answers : Answers) (now : ℕ) (text
         unwritten = tt;
         looks = λ plans. absurd (true≢false (sym plans));
         written = λ tells durable. absurd (true≢false (sym durable));
+        place = λ tells. names_none (call.Update text) r refl old.image new.image;
         cause = λ bad. absurd cc;
         unfailed = tt;
         text = tt;
@@ -421,6 +424,7 @@ module _ (told : Bool) (rules : List Rule) (answers : Answers) (now : ℕ) (text
     unwritten = λ refused. absurd (true≢false (sym refused));
     looks = λ plans. (x.image, x.written);
     written = λ tells durable. absurd (true≢false (sym durable));
+    place = λ tells. names_none c here refl old.image new.image;
     cause = λ bad. absurd cc;
     unfailed = λ e. cc;
     text = tt;
@@ -468,6 +472,7 @@ module _ (told : Bool) (rules : List Rule) (answers : Answers) (now : ℕ) (text
     unwritten = λ refused. (x.image, x.written);
     looks = λ plans. (x.image, x.written);
     written = λ tells durable. absurd (true≢false (sym durable));
+    place = λ tells. names_none c here refl old.image new.image;
     cause = λ bad. absurd cc;
     unfailed = (begins_plain rules answers now busy text (root_app root x.begins.0) (Err e) x.begins.2).sound;
     text = (begins_plain rules answers now busy text (root_app root x.begins.0) (Err e) x.begins.2).text;
@@ -497,6 +502,7 @@ module _ (told : Bool) (rules : List Rule) (answers : Answers) (now : ℕ) (text
         unwritten = tt;
         looks = λ plans. (x.image, x.written);
         written = λ tells durable. absurd (true≢false (sym durable));
+        place = λ tells. names_none c here refl old.image new.image;
         cause = λ bad. x.cause refl;
         unfailed = tt;
         text = tt;
@@ -518,6 +524,7 @@ module _ (told : Bool) (rules : List Rule) (answers : Answers) (now : ℕ) (text
         unwritten = tt;
         looks = λ plans. (x.image, x.written);
         written = λ tells durable. absurd (true≢false (sym durable));
+        place = λ tells. names_none c here refl old.image new.image;
         cause = λ bad. absurd cc;
         unfailed = tt;
         text = tt;

@@ -16,6 +16,7 @@ use Rattle.run_model.specs.Found.{Found}
 use Rattle.run_model.specs.Runtimes.{IsUnwritten, WritesWithin, is_durable, is_refusal, only_plans}
 use Rattle.run_model.specs.Sessions.{Session}
 use Rattle.run_model.specs.Steps.{found_named, uses_device}
+use Rattle.app_storages.specs.Handled.{StaysInPlace}
 use Rattle.app_runtime.specs.declared.running.Running.{Running}
 use Rattle.app_runtime.specs.Answers.{HasFailed, HasStopped, IsAnswered}
 use Rattle.app_runtime.specs.Running.{IsRunning, application}
@@ -39,6 +40,8 @@ pub record Promises (told : Bool) (rules : List Rule) (answers : Answers) (now :
   pub written : IsTrue told → is_durable c ≡ true → (f : Found) (s : Session)
       → found_named (application old.image before) c ≡ Some (Ok f)
       → session_at (application old.image before) f.number ≡ Some s → WritesWithin before.app f s old new
+  -- no file changes beside those of a storage that the call names
+  pub place : IsTrue told → StaysInPlace before.app c (application old.image before) old.image new.image
   pub cause : IsErrOf result stop.Device → Rose old.faults new.faults
   pub unfailed : IfOk result (λ reply. reply.answer ≢ answer.Error error.PhysicalStorageFailure)
   pub text : IfOk result (λ reply. HasText reply.answer)

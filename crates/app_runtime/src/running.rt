@@ -23,6 +23,7 @@ ghost use Rattle.run_model.specs.Sessions.{Session};
 ghost use Rattle.run_model.specs.Steps.{calls_device, found_named, uses_device};
 ghost use Rattle.run_model.specs.Worlds.{at_rest, is_to_open, none_open, to_open, update_in};
 ghost use Rattle.app_storages.specs.Answers.{CallsTo};
+ghost use Rattle.app_storages.specs.Handled.{StaysInPlace};
 ghost use Rattle.app_runtime.specs.Answers.{HasFailed, HasStopped, IsAnswered};
 ghost use Rattle.app_runtime.specs.Promises.{Promises};
 ghost use Rattle.app_runtime.specs.Running.{IsRunning, application, running_in, stage_in};
@@ -165,6 +166,9 @@ impl Running {
             → found_named (application (D.medium disk.old).image self.old) call.now ≡ Some (Ok f)
             → session_at (application (D.medium disk.old).image self.old) f.number ≡ Some s
             → WritesWithin self.old.app f s (D.medium disk.old) (D.medium disk.new) }
+        // However it ends, no file changes beside those of a storage that it names.
+        ensures place { IsTrue D.told → StaysInPlace self.old.app call.now
+            (application (D.medium disk.old).image self.old) (D.medium disk.old).image (D.medium disk.new).image }
         ensures cause { IsErrOf result Stop.Device → Rose (D.medium disk.old).faults (D.medium disk.new).faults }
         ensures unfailed { IfOk result (λ reply. reply.answer ≢ Answer.Error PerError.PhysicalStorageFailure) }
         ensures text { IfOk result (λ reply. HasText reply.answer) }

@@ -113,6 +113,12 @@ module _ (rules : List Rule) (answers : Answers) (told : Bool) (n : ℕ) (c : Ca
               old.written new.written nothing.written (within.at_most v others opens);
         }
 
+    place_on : Spares (IsBesideNamed (world_of mid.image (sure m) None) (event.App n c)) mid.image new.image
+        → Spares (IsBesideNamed before (event.App n c)) old.image new.image
+    unfolding before
+    place_on place file beside = place file (subst (λ (w : World). IsBesideNamed w (event.App n c) file) (sym synced_is)
+        beside) ∙ ap (λ (i : Image). i file) nothing.image
+
     -- where it leads
     step_on : (reply : Reply) (w' : World) → StepsOn rules answers (without_doubt before) (event.App n c) reply w' mid
         new → StepsOn rules answers before (event.App n c) reply w' old new
@@ -149,6 +155,7 @@ module _ (rules : List Rule) (answers : Answers) (told : Bool) (n : ℕ) (c : Ca
           aside = aside_on s.aside;
           unwritten = λ none. unwritten_on (s.unwritten (subst
               (λ (w : World). writes_none w (event.App n c) reply ≡ true) (sym synced_is) none));
+          place = place_on s.place;
           written = written_on s.written;
           blamed = (
             le_trans time.faults s.blamed.0,
@@ -183,6 +190,7 @@ module _ (rules : List Rule) (answers : Answers) (told : Bool) (n : ℕ) (c : Ca
       aside = aside_on s.aside;
       unwritten = λ none. unwritten_on (s.unwritten (subst (λ (w : World). only_looks w (event.App n c) ≡ true)
           (sym synced_is) none));
+      place = place_on s.place;
       written = written_on s.written;
     }
 
@@ -207,6 +215,7 @@ module _ (rules : List Rule) (answers : Answers) (told : Bool) (n : ℕ) (c : Ca
           elsewhere_always =
               λ no_doubt x s. inl (reads.during x s);
         };
+        place = λ file beside. ap (λ (i : Image). i file) reads.image;
         unwritten = λ none. (reads.image, reads.written);
         written = λ durable f s found there. record {
           same = λ same. reads.written;

@@ -19,6 +19,7 @@ use Rattle.run_model.specs.Calls.{Outcome, session_at}
 use Rattle.run_model.specs.Steps.{AppStep, FailsAs, calls_device, found_named}
 use Rattle.run_model.specs.Runtimes.{IsUnwritten, WritesWithin, is_refusal, is_durable, only_plans}
 use Rattle.app_storages.specs.Answers.{CallsTo}
+use Rattle.app_storages.specs.Handled.{StaysInPlace}
 use Rattle.app_runtime.specs.declared.running.Running.{Running}
 use Rattle.app_runtime.specs.Running.{IsRunning, application, stage_in}
 
@@ -81,4 +82,7 @@ pub record IsHandled (told : Bool) (rules : List Rule) (answers : Answers) (now 
   pub written : IsTrue told → is_durable c ≡ true → (f : Found) (s : Session)
       → found_named (application old.image a) c ≡ Some (Ok f)
       → session_at (application old.image a) f.number ≡ Some s → WritesWithin a.app f s old new
+  -- no file changes beside those of a storage that the call names
+  pub place : IsTrue told → is_to_open (stage_in a.stage) ≡ false
+      → StaysInPlace a.app c (application old.image a) old.image new.image
   pub time : Elapses old new

@@ -2,15 +2,16 @@
 use Rattle.std.specs.Prelude.{◌≡◌, ◌≤◌, List, [], ◌∷◌, Bool, true, ⊤}
 use Rattle.disk_model.specs.Frame.{Spares}
 use Rattle.command_text.specs.declared.calls.Event.{Event}
-use Rattle.run_model.specs.Runtimes.{CostsBy, IsElsewhere, IsNoRoot, only_looks, writes_none}
+use Rattle.run_model.specs.Runtimes.{CostsBy, IsBesideNamed, IsElsewhere, IsNoRoot, only_looks, writes_none}
 use Rattle.run_model.specs.Turns.{Bytes, Turn}
 use Rattle.run_model.specs.Worlds.{World}
 
--- One command, from the world before it: no file of another application changes; where it is one that writes `none`, no
--- byte is written and reads give what they gave; and a call that makes a session durable writes no more than what
--- differs, and the next index.
+-- One command, from the world before it: no file of another application changes, and where it names a storage none
+-- beside those of that storage; where it is one that writes `none`, no byte is written and reads give what they gave; and
+-- a call that makes a session durable writes no more than what differs, and the next index.
 pub record IsBounded (w : World) (e : Event) (none : Bool) (old new : Bytes) : Type 0 where
   pub elsewhere : Spares (IsElsewhere e) old.image new.image
+  pub place : Spares (IsBesideNamed w e) old.image new.image
   pub unwritten : none ≡ true → new ≡ old
   pub written : CostsBy w e old.written new.written
   pub later : old.written ≤ new.written

@@ -230,6 +230,7 @@ module _ (rules : List Rule) (answers : Answers) (entry start : World) (calm : s
       (subst (λ (b : Bytes). IsBounded (world_of now.image memory doubt) e
       (writes_none (world_of now.image memory doubt) e reply) b (bytes_of new)) going.held (record {
         elsewhere = s.aside.elsewhere;
+        place = s.place;
         unwritten = λ none. same_bytes now new (s.unwritten none);
         written = s.written;
         later = time.written;
@@ -244,6 +245,7 @@ module _ (rules : List Rule) (answers : Answers) (entry start : World) (calm : s
       subst (λ (w : World). IsBegunWithin w e (bytes_behind going.begun turns) (bytes_of new)) (sym going.last)
       (subst (λ (b : Bytes). IsBegunWithin (world_of now.image memory doubt) e b (bytes_of new)) going.held (record {
         elsewhere = s.aside.elsewhere;
+        place = s.place;
         unwritten = λ none. same_bytes now new (s.unwritten none);
         written = s.written;
         later = time.written;

@@ -22,7 +22,7 @@ use Rattle.command_text.specs.declared.replies.Answer.{Answer}
 use Rattle.command_text.specs.declared.replies.Answer.TheVariants as answer
 use Rattle.command_text.specs.declared.replies.Reply.{Reply}
 use Rattle.deploy_laws.specs.Apps.{App, app_at, IsCleanApp}
-use Rattle.deploy_laws.specs.Places.{IsNoFileOf, root_place}
+use Rattle.deploy_laws.specs.Places.{IsBeside, IsNoFileOf, root_place}
 use Rattle.run_model.specs.Calls.{session_at}
 use Rattle.run_model.specs.Found.{Found, shape_in}
 use Rattle.run_model.specs.Lasting.{IsWorld}
@@ -103,6 +103,13 @@ pub record StaysAside (e : Event) (doubt : Option Doubt) (old new : Medium) : Ty
   pub elsewhere : Spares (IsElsewhere e) old.image new.image
   pub elsewhere_always : (doubt ≡ None → Quiet old) → EachCase
       (λ c. old.now c ⊎ IsSettledOn (IsElsewhere e) old.image c) old new
+
+-- A file beside those of the storage that a command names, of an application whose root is in use: the command leaves it
+-- as it was.
+abbrev pub IsBesideNamed : World → Event → ℕ → Type 0
+IsBesideNamed w (event.Now t) file = ⊤
+IsBesideNamed w (event.App app c) file = (is_to_open (app_of w app).stage ≡ false)
+    × ((f : Found) × (found_named (app_of w app) c ≡ Some (Ok f)) × IsBeside app f.bank f.number file)
 
 -- no byte is written, and reads give what they gave
 abbrev pub IsUnwritten : (old new : Medium) → Type 0
@@ -190,6 +197,7 @@ pub record Stepped (rules : List Rule) (answers : Answers) (e : Event) (reply : 
   pub case : (d : Doubt) → doubt' ≡ Some d → (doubt ≡ Some d) ⊎ (new.now d.case × (d.case.left ≡ new.image))
   pub quiet : doubt' ≡ None → Quiet new
   pub aside : StaysAside e doubt old new
+  pub place : Spares (IsBesideNamed (world_of old.image old_memory doubt) e) old.image new.image
   pub unwritten : writes_none (world_of old.image old_memory doubt) e reply ≡ true → IsUnwritten old new
   pub written : WrittenBy (world_of old.image old_memory doubt) e old new
   -- the reply that the device failed has its cause in this command
@@ -202,5 +210,6 @@ pub record Stopped (rules : List Rule) (answers : Answers) (e : Event) (memory :
   pub leads : Leads rules answers (world_of old.image memory doubt) e after
   pub keeps : (app : ℕ) → app < 8 → StopKeeps app (world_of old.image memory doubt) after old new
   pub aside : StaysAside e doubt old new
+  pub place : Spares (IsBesideNamed (world_of old.image memory doubt) e) old.image new.image
   pub unwritten : only_looks (world_of old.image memory doubt) e ≡ true → IsUnwritten old new
   pub written : WrittenBy (world_of old.image memory doubt) e old new

@@ -15,5 +15,6 @@ returns g c =
           (said.idle tells);
       looks = λ plans closed. said.looks plans;
       written = said.written;
+      place = λ tells opened. said.place tells;
       time = said.time;
     }

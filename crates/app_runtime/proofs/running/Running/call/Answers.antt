@@ -12,6 +12,7 @@ returns g c = record {
   unwritten = c.answer.ensures.unwritten;
   looks = c.answer.ensures.looks;
   written = c.answer.ensures.written;
+  place = c.answer.ensures.place;
   cause = c.answer.ensures.cause;
   unfailed = c.answer.ensures.unfailed;
   text = c.answer.ensures.text;
