@@ -360,7 +360,8 @@ module _ (told : Bool) (rules : List Rule) (answers : Answers) (now : ℕ) (b : 
       (clean : IsTrue told → IsCleanApp b.app old.image → IsCleanApp b.app new.image) (quiet : Quiet old → Quiet new)
       (done : is_refusal reply.answer ≡ false) (sound : reply.answer ≢ answer.Error error.PhysicalStorageFailure)
       (text : HasText reply.answer)
-      (not_durable : is_durable c ≡ false) (no_plan : only_plans c ≡ false) (no_storage : storage_named c ≡ None) (uses : uses_device r.disk c ≡ true) (time : Elapses old new) where
+      (not_durable : is_durable c ≡ false) (no_plan : only_plans c ≡ false) (no_storage : storage_named c ≡ None)
+      (uses : uses_device r.disk c ≡ true) (time : Elapses old new) where
     pub done_step : Promises told rules answers now c before (record b { stage = stage }) Untouched old new (Ok reply)
     done_step = record {
       app = refl;

@@ -123,8 +123,8 @@ module _ (laws : AppLaws) (rules : List Rule) (answers : Answers) (told : Bool) 
     (written : is_durable c ≡ true → (f : Found) (s : Session) → found_named (application old.image a) c ≡ Some (Ok f)
     → session_at (application old.image a) f.number ≡ Some s → WritesWithin a.app f s old new)
     (looks : only_plans c ≡ true → is_to_open (stage_in a.stage) ≡ false → IsUnwritten old new)
-    (place : is_to_open (stage_in a.stage) ≡ false → StaysInPlace a.app c (application old.image a) old.image new.image)
-    where
+    (place : is_to_open (stage_in a.stage) ≡ false
+    → StaysInPlace a.app c (application old.image a) old.image new.image) where
   -- the world before, and what lies on the disk then
   before : Option Doubt → World
   before doubt = world old.image now apps doubt

@@ -7,8 +7,8 @@ use Rattle.run_model.specs.Turns.{Bytes, Turn}
 use Rattle.run_model.specs.Worlds.{World}
 
 -- One command, from the world before it: no file of another application changes, and where it names a storage none
--- beside those of that storage; where it is one that writes `none`, no byte is written and reads give what they gave; and
--- a call that makes a session durable writes no more than what differs, and the next index.
+-- beside those of that storage; where it is one that writes `none`, no byte is written and reads give what they gave;
+-- and a call that makes a session durable writes no more than what differs, and the next index.
 pub record IsBounded (w : World) (e : Event) (none : Bool) (old new : Bytes) : Type 0 where
   pub elsewhere : Spares (IsElsewhere e) old.image new.image
   pub place : Spares (IsBesideNamed w e) old.image new.image

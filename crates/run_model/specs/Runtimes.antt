@@ -104,8 +104,8 @@ pub record StaysAside (e : Event) (doubt : Option Doubt) (old new : Medium) : Ty
   pub elsewhere_always : (doubt ≡ None → Quiet old) → EachCase
       (λ c. old.now c ⊎ IsSettledOn (IsElsewhere e) old.image c) old new
 
--- A file beside those of the storage that a command names, of an application whose root is in use: the command leaves it
--- as it was.
+-- A file beside those of the storage that a command names, of an application whose root is in use: the command leaves
+-- it as it was.
 abbrev pub IsBesideNamed : World → Event → ℕ → Type 0
 IsBesideNamed w (event.Now t) file = ⊤
 IsBesideNamed w (event.App app c) file = (is_to_open (app_of w app).stage ≡ false)

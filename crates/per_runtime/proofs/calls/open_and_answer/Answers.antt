@@ -24,10 +24,12 @@ returns-in_err-open_root g c =
       idle = λ tells. none_idle c.applications_stand.ensures.mend g.D.Disk.told (rules_of c.args.migrations.now)
           (answers_of c.args.migrations.now) c.args.now c.args.call.now a c.open_root.new.self old mid
           c.requires.marked said.app closed _;
-      place = λ tells opened. not_in_use c.applications_stand.ensures.mend g.D.Disk.told (rules_of c.args.migrations.now)
+      place = λ tells opened. not_in_use c.applications_stand.ensures.mend g.D.Disk.told
+          (rules_of c.args.migrations.now)
           (answers_of c.args.migrations.now) c.args.now c.args.call.now a c.open_root.new.self old mid
           c.requires.marked said.app closed opened;
-      looks = λ plans opened. not_in_use c.applications_stand.ensures.mend g.D.Disk.told (rules_of c.args.migrations.now)
+      looks = λ plans opened. not_in_use c.applications_stand.ensures.mend g.D.Disk.told
+          (rules_of c.args.migrations.now)
           (answers_of c.args.migrations.now) c.args.now c.args.call.now a c.open_root.new.self old mid
           c.requires.marked said.app closed opened;
       written = none_written c.applications_stand.ensures.mend g.D.Disk.told (rules_of c.args.migrations.now)
@@ -53,10 +55,12 @@ returns g c =
       idle = λ tells. none_idle c.applications_stand.ensures.mend g.D.Disk.told (rules_of c.args.migrations.now)
           (answers_of c.args.migrations.now) c.args.now c.args.call.now a c.open_root.new.self old mid
           c.requires.marked said.app closed _;
-      place = λ tells opened. not_in_use c.applications_stand.ensures.mend g.D.Disk.told (rules_of c.args.migrations.now)
+      place = λ tells opened. not_in_use c.applications_stand.ensures.mend g.D.Disk.told
+          (rules_of c.args.migrations.now)
           (answers_of c.args.migrations.now) c.args.now c.args.call.now a c.open_root.new.self old mid
           c.requires.marked said.app closed opened;
-      looks = λ plans opened. not_in_use c.applications_stand.ensures.mend g.D.Disk.told (rules_of c.args.migrations.now)
+      looks = λ plans opened. not_in_use c.applications_stand.ensures.mend g.D.Disk.told
+          (rules_of c.args.migrations.now)
           (answers_of c.args.migrations.now) c.args.now c.args.call.now a c.open_root.new.self old mid
           c.requires.marked said.app closed opened;
       written = none_written c.applications_stand.ensures.mend g.D.Disk.told (rules_of c.args.migrations.now)
