@@ -40,7 +40,7 @@ use Rattle.run_model.specs.Sessions.{Session, session_of}
 use Rattle.run_model.specs.Worlds.{Application, at_rest}
 use Rattle.app_storages.specs.Durables.{IsSet, IsShown}
 use Rattle.app_storages.specs.Finding.{IsEarly, IsLocated, config_of, found_on, shape_at}
-use Rattle.app_storages.specs.Handled.{IsHandled, MayWrite}
+use Rattle.app_storages.specs.Handled.{IsHandled, MayWrite, StaysInPlace}
 use Rattle.app_storages.specs.Openings.{corrupt_reply, open_call}
 use Rattle.app_storages.specs.Slots.{IsOpenAt, IsResting, resting_with, slot_at}
 use Rattle.app_storages.specs.StorageLaws.{StorageLaws}
@@ -119,6 +119,10 @@ module _ (laws : StorageLaws) (told : Bool) (app now : ℕ) (root : Root) (kind 
     named_so tells = open_named before kind name ∙ ap (λ (x : Result Found PerError). Some x)
         (named old.image (resting.root_at.disk tells))
 
+    in_place : IsTrue told → StaysInPlace app (open_call kind name) before old.image new.image
+    in_place tells = placed laws told app now root (open_call kind name) was was old new l located resting
+        (store_at old.image (shape_at l)) (storing (store_at old.image (shape_at l))) tells named_so
+
     none_due : MayWrite app (open_call kind name) before old new
     none_due durable g s is there = absurd (true≢false (sym durable ∙ open_not_durable kind name))
 
@@ -137,8 +141,7 @@ module _ (laws : StorageLaws) (told : Bool) (app now : ℕ) (root : Root) (kind 
           named_so emptied (rose refl);
       idle = never_idle;
       written = λ tells. none_due;
-      place = λ tells. placed laws told app now root (open_call kind name) was was old new l located resting
-          (store_at old.image (shape_at l)) (storing (store_at old.image (shape_at l))) tells named_so;
+      place = in_place;
       time = (storing (store_at old.image (shape_at l))).time;
     }
     open_failed OutOfMemory rose = record {
@@ -146,8 +149,7 @@ module _ (laws : StorageLaws) (told : Bool) (app now : ℕ) (root : Root) (kind 
           (store_at old.image (shape_at l)) (storing (store_at old.image (shape_at l))) (λ tells. inl (same_app tells));
       idle = never_idle;
       written = λ tells. none_due;
-      place = λ tells. placed laws told app now root (open_call kind name) was was old new l located resting
-          (store_at old.image (shape_at l)) (storing (store_at old.image (shape_at l))) tells named_so;
+      place = in_place;
       time = (storing (store_at old.image (shape_at l))).time;
     }
 
@@ -177,8 +179,7 @@ module _ (laws : StorageLaws) (told : Bool) (app now : ℕ) (root : Root) (kind 
       };
       idle = never_idle;
       written = λ tells. none_due;
-      place = λ tells. placed laws told app now root (open_call kind name) was was old new l located resting
-          (store_at old.image (shape_at l)) (storing (store_at old.image (shape_at l))) tells named_so;
+      place = in_place;
       time = (storing (store_at old.image (shape_at l))).time;
     }
 
@@ -234,8 +235,7 @@ module _ (laws : StorageLaws) (told : Bool) (app now : ℕ) (root : Root) (kind 
       };
       idle = never_idle;
       written = λ tells. none_due;
-      place = λ tells. placed laws told app now root (open_call kind name) was is old new l located resting
-          (store_at old.image (shape_at l)) (storing (store_at old.image (shape_at l))) tells named_so;
+      place = in_place;
       time = (storing (store_at old.image (shape_at l))).time;
     }
       where
