@@ -94,9 +94,9 @@ none_some : {A : Type 0} (x : Option A) (a : A) → x ≡ None → x ≡ Some a 
 none_some x a none some = cc
 
 -- and so there is none whose place it could leave
-pub names_none : {app : ℕ} (c : Call) (r : Application) → storage_named c ≡ None → (old new : Image)
+pub names_none : (app : ℕ) (c : Call) (r : Application) → storage_named c ≡ None → (old new : Image)
     → StaysInPlace app c r old new
-names_none c r none old new f named = absurd (none_some (found_named r c) (Ok f) (none_found r c none) named)
+names_none app c r none old new f named = absurd (none_some (found_named r c) (Ok f) (none_found r c none) named)
 
 -- ---- a row of a deployment
 
@@ -167,7 +167,7 @@ module _ (told : Bool) (rules : List Rule) (answers : Answers) (now : ℕ) (c : 
       unwritten = not_written o.refused refl;
       looks = λ plans. absurd (true≢false (sym plans ∙ word.no_plan));
       written = λ tells durable. absurd (true≢false (sym durable ∙ word.not_durable));
-      place = λ tells. names_none c r word.no_storage old.image new.image;
+      place = λ tells. names_none b.app c r word.no_storage old.image new.image;
       cause = λ bad. absurd cc;
       unfailed = (plain o.refused refl).0;
       text = (plain o.refused refl).1;
@@ -198,7 +198,7 @@ module _ (told : Bool) (rules : List Rule) (answers : Answers) (now : ℕ) (c : 
         unwritten = tt;
         looks = λ plans. absurd (true≢false (sym plans ∙ word.no_plan));
         written = λ tells durable. absurd (true≢false (sym durable ∙ word.not_durable));
-        place = λ tells. names_none c r word.no_storage old.image new.image;
+        place = λ tells. names_none b.app c r word.no_storage old.image new.image;
         cause = λ bad. m.cause refl;
         unfailed = tt;
         text = tt;
@@ -223,7 +223,7 @@ module _ (told : Bool) (rules : List Rule) (answers : Answers) (now : ℕ) (c : 
         unwritten = tt;
         looks = λ plans. absurd (true≢false (sym plans ∙ word.no_plan));
         written = λ tells durable. absurd (true≢false (sym durable ∙ word.not_durable));
-        place = λ tells. names_none c r word.no_storage old.image new.image;
+        place = λ tells. names_none b.app c r word.no_storage old.image new.image;
         cause = λ bad. absurd cc;
         unfailed = tt;
         text = tt;

@@ -319,7 +319,7 @@ module _ (told : Bool) (rules : List Rule) (answers : Answers) (now : ℕ) (b : 
       unwritten = tt;
       looks = λ plans. absurd (true≢false (sym plans ∙ no_plan));
       written = λ tells durable. absurd (true≢false (sym durable ∙ not_durable));
-      place = λ tells. names_none c r no_storage old.image new.image;
+      place = λ tells. names_none b.app c r no_storage old.image new.image;
       cause = λ bad. cause refl;
       unfailed = tt;
       text = tt;
@@ -336,7 +336,7 @@ module _ (told : Bool) (rules : List Rule) (answers : Answers) (now : ℕ) (b : 
       unwritten = tt;
       looks = λ plans. absurd (true≢false (sym plans ∙ no_plan));
       written = λ tells durable. absurd (true≢false (sym durable ∙ not_durable));
-      place = λ tells. names_none c r no_storage old.image new.image;
+      place = λ tells. names_none b.app c r no_storage old.image new.image;
       cause = λ bad. absurd cc;
       unfailed = tt;
       text = tt;
@@ -374,7 +374,7 @@ module _ (told : Bool) (rules : List Rule) (answers : Answers) (now : ℕ) (b : 
       unwritten = λ refused. absurd (true≢false (sym refused ∙ done));
       looks = λ plans. absurd (true≢false (sym plans ∙ no_plan));
       written = λ tells durable. absurd (true≢false (sym durable ∙ not_durable));
-      place = λ tells. names_none c r no_storage old.image new.image;
+      place = λ tells. names_none b.app c r no_storage old.image new.image;
       cause = λ bad. absurd cc;
       unfailed = sound;
       text = text;

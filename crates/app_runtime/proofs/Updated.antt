@@ -252,7 +252,7 @@ module _ (told : Bool) (rules : List Rule) (answers : Answers) (now : ℕ) (text
         unwritten = not_written o.refused refl;
         looks = λ plans. absurd (true≢false (sym plans));
         written = λ tells durable. absurd (true≢false (sym durable));
-        place = λ tells. names_none (call.Update text) r refl old.image new.image;
+        place = λ tells. names_none b.app (call.Update text) r refl old.image new.image;
         cause = λ bad. absurd cc;
         unfailed = (plain o.refused refl).0;
         text = (plain o.refused refl).1;
@@ -288,7 +288,7 @@ module _ (told : Bool) (rules : List Rule) (answers : Answers) (now : ℕ) (text
         unwritten = tt;
         looks = λ plans. absurd (true≢false (sym plans));
         written = λ tells durable. absurd (true≢false (sym durable));
-        place = λ tells. names_none (call.Update text) r refl old.image new.image;
+        place = λ tells. names_none b.app (call.Update text) r refl old.image new.image;
         cause = λ bad. u.cause refl;
         unfailed = tt;
         text = tt;
@@ -313,7 +313,7 @@ module _ (told : Bool) (rules : List Rule) (answers : Answers) (now : ℕ) (text
         unwritten = tt;
         looks = λ plans. absurd (true≢false (sym plans));
         written = λ tells durable. absurd (true≢false (sym durable));
-        place = λ tells. names_none (call.Update text) r refl old.image new.image;
+        place = λ tells. names_none b.app (call.Update text) r refl old.image new.image;
         cause = λ bad. absurd cc;
         unfailed = tt;
         text = tt;
@@ -424,7 +424,7 @@ module _ (told : Bool) (rules : List Rule) (answers : Answers) (now : ℕ) (text
     unwritten = λ refused. absurd (true≢false (sym refused));
     looks = λ plans. (x.image, x.written);
     written = λ tells durable. absurd (true≢false (sym durable));
-    place = λ tells. names_none c here refl old.image new.image;
+    place = λ tells. names_none b.app c here refl old.image new.image;
     cause = λ bad. absurd cc;
     unfailed = λ e. cc;
     text = tt;
@@ -472,7 +472,7 @@ module _ (told : Bool) (rules : List Rule) (answers : Answers) (now : ℕ) (text
     unwritten = λ refused. (x.image, x.written);
     looks = λ plans. (x.image, x.written);
     written = λ tells durable. absurd (true≢false (sym durable));
-    place = λ tells. names_none c here refl old.image new.image;
+    place = λ tells. names_none b.app c here refl old.image new.image;
     cause = λ bad. absurd cc;
     unfailed = (begins_plain rules answers now busy text (root_app root x.begins.0) (Err e) x.begins.2).sound;
     text = (begins_plain rules answers now busy text (root_app root x.begins.0) (Err e) x.begins.2).text;
@@ -502,7 +502,7 @@ module _ (told : Bool) (rules : List Rule) (answers : Answers) (now : ℕ) (text
         unwritten = tt;
         looks = λ plans. (x.image, x.written);
         written = λ tells durable. absurd (true≢false (sym durable));
-        place = λ tells. names_none c here refl old.image new.image;
+        place = λ tells. names_none b.app c here refl old.image new.image;
         cause = λ bad. x.cause refl;
         unfailed = tt;
         text = tt;
@@ -524,7 +524,7 @@ module _ (told : Bool) (rules : List Rule) (answers : Answers) (now : ℕ) (text
         unwritten = tt;
         looks = λ plans. (x.image, x.written);
         written = λ tells durable. absurd (true≢false (sym durable));
-        place = λ tells. names_none c here refl old.image new.image;
+        place = λ tells. names_none b.app c here refl old.image new.image;
         cause = λ bad. absurd cc;
         unfailed = tt;
         text = tt;
