@@ -18,7 +18,7 @@ use Rattle.command_text.specs.Grammar.{IsLine}
 use Rattle.deploy_laws.specs.Places.{shape_of}
 use Rattle.deploy_laws.specs.Apps.{nothing, App, app_at, says_at, IsCleanApp}
 use Rattle.deploy_laws.specs.Pieces.{IsSoundApp}
-use Rattle.deploy_laws.specs.Stands.{IsLater}
+use Rattle.deploy_laws.specs.Stands.{IsLater, Stands}
 use Rattle.deploy_rows.specs.Rows.{reopened}
 use Rattle.run_model.specs.AppLaws.{IsDiskOf, Calls, OpensRoot}
 use Rattle.run_model.specs.Decided.{one_storage, OpensAsEither}
@@ -36,7 +36,7 @@ use Rattle.run_model.specs.Endings.{Ending, HasStarted, HasEnded}
 use Rattle.run_model.specs.Turns.{Turn, turn, text_of, IsBlamed, AreBlamed}
 use Rattle.run_model.specs.Runs.{DiskSide}
 use Rattle.run_model.specs.RunLaws.{Going}
-use Rattle.run_model.specs.Lives.{Known, Life, Pair}
+use Rattle.run_model.specs.Lives.{BeginsAfterStop, IsAmong, Job, Known, Leaves, Life, Pair, pairs_of}
 
 -- ---- single commands
 
@@ -204,6 +204,16 @@ AllOpenedLaw old now = Opened 8 old now → StartKeeps old now
 abbrev pub LifeLaw : {D : Type 0} → (medium : D → Medium) → List Rule → Answers → Type 0
 LifeLaw {D} medium rules answers = (app : ℕ) → app < 8 → (m : D) (pairs : List Pair)
     → Life medium rules answers app m pairs → Known app (medium m) pairs
+
+-- And across a power loss: by what it leaves, with its damage, the application stands between two of the pairs that
+-- were there before.
+abbrev pub LifeStopsLaw : {D : Type 0} → (medium : D → Medium) → List Rule → Answers → Type 0
+LifeStopsLaw {D} medium rules answers = (app : ℕ) → app < 8 → (old new m : D) (pairs : List Pair)
+    → Life medium rules answers app old pairs → (job : Job rules answers app (medium old) (medium new))
+    → (stop : BeginsAfterStop app (Leaves (medium old) (medium new) job)
+    (pairs_of app (medium old) (medium new) job pairs) (medium m))
+    → (p : Pair) × IsAmong (pairs_of app (medium old) (medium new) job pairs) p
+    × Stands app (medium m).image (p.damaged ++ stop.damaged) p.before p.after
 
 -- ---- a run
 

@@ -9,6 +9,7 @@ ghost use Rattle.run_model.specs.Laws.{
   FailureLastsLaw,
   IdleKeepsLaw,
   LifeLaw,
+  LifeStopsLaw,
   NoneOpenedLaw,
   NotFurtherBackLaw,
   NowLastsLaw,
@@ -122,9 +123,11 @@ pub fn a_run_goes_on<D: Disk>(migrations: &Migrations, old: &D, now: &D, new: &D
         (D.medium now.now) (D.medium new.now) }
 {}
 
-/// Whatever ends came before, each run of a life begins with clean places, and each application stands where it should.
+/// Whatever ends came before, each run of a life begins with clean places, and each application stands where it should;
+/// and so it does across each power loss.
 pub fn a_life_goes_on<D: Disk>(migrations: &Migrations)
-    ensures { LifeLaw D.medium (rules_of migrations.now) (answers_of migrations.now) }
+    ensures goes_on { LifeLaw D.medium (rules_of migrations.now) (answers_of migrations.now) }
+    ensures stops { LifeStopsLaw D.medium (rules_of migrations.now) (answers_of migrations.now) }
 {
     applications_stand();
 }
