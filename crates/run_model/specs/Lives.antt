@@ -31,6 +31,7 @@ use Rattle.run_model.specs.Moments.{
   OrBefore,
   last_of,
 }
+use Rattle.run_model.specs.Resting.{stands_itself}
 use Rattle.run_model.specs.RunLaws.{imaged_last}
 use Rattle.run_model.specs.Starting.{at_entry, between_worlds}
 use Rattle.run_model.specs.Lines.{lines_of}
@@ -235,9 +236,15 @@ StandsAged app p c = IsSoundApp app c → (from : Image) × DecaysApp app p.dama
 abbrev pub StandsAmong : ℕ → List Pair → Case → Type 0
 StandsAmong app pairs c = (p : Pair) × IsAmong pairs p × StandsAged app p c
 
--- the places are clean, which each run asks, and in each case the application stands between two of the pairs
+-- by what reads give it stands between two that are among these
+abbrev pub ReadsAmong : ℕ → List Pair → Image → Type 0
+ReadsAmong app pairs image = (p : Pair) × IsAmong pairs p × Stands app image p.damaged p.before p.after
+
+-- The places are clean, which each run asks, and by what reads give and in each case the application stands between two
+-- of the pairs.
 pub record Known (app : ℕ) (m : Medium) (pairs : List Pair) : Type 0 where
   pub clean : IsCleanApp app m.image
+  pub reads : ReadsAmong app pairs m.image
   pub imaged : BeginImaged app pairs
   pub rooted : AreRooted app pairs
   pub stands : (c : Case) → m.now c → StandsAmong app pairs c
@@ -447,6 +454,11 @@ rests : AppLaws → (app : ℕ) → app < 8 → (m : Medium) → Quiet m → IsC
     → Known app m (resting_pairs m.image app)
 rests laws app lt m quiet clean = record {
   clean = clean;
+  reads = (
+    fresh_pair (app_at m.image app) (app_at m.image app),
+    inl refl,
+    stands_itself app m.image [] clean,
+  );
   imaged = ((m.image, refl), tt);
   rooted = (inl refl, tt);
   stands = λ c at. still_there laws app m.image [] c lt clean (settled_on (IsFileOf app) (quiet c at));
@@ -469,6 +481,7 @@ begun laws app pending pairs m imaged rooted stands over =
           (subst (λ d. Stands app over.read.left d p.before p.after) none here)))
           (λ spared. damaged_clean app over.read.left p.damaged p.before p.after spared here)
           (rooted_at app pairs p rooted there.1));
+      reads = (p, there.1, subst (λ i. Stands app i p.damaged p.before p.after) over.gives here);
       imaged = imaged;
       rooted = rooted;
       stands = λ c at. stands c (over.some c at);
@@ -490,6 +503,11 @@ begun_damaged app pending pairs m imaged stands over =
       clean = subst (λ i. IsCleanApp app i) over.gives
           (damaged_clean app over.read.left (p.damaged ++ over.damaged) p.before p.after
           (root_at app over.damaged pairs p over.enough there.1) here);
+      reads = (
+        aged over.damaged p,
+        among_aged over.damaged pairs p there.1,
+        subst (λ i. Stands app i (p.damaged ++ over.damaged) p.before p.after) over.gives here,
+      );
       imaged = imaged_aged app over.damaged pairs imaged;
       rooted = rooted_aged app over.damaged pairs over.enough;
       stands = λ c at. aged_case c (over.some c at);
