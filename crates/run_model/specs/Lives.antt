@@ -179,15 +179,20 @@ pub record BeginsOver (app : ℕ) (pending : Case → Type 0) (m : Medium) : Typ
   pub gives : read.left ≡ m.image
   pub sound : IsSoundApp app read
 
--- The same, and meanwhile some files were damaged: what was pending still is, over what the damage left. Each case that
--- was pending is sound, since nobody knows which of them reads give.
+-- the case came by this damage from one that was pending, which is sound where this one is
+abbrev pub CameBy : ℕ → (damaged : List ℕ) → (pending : Case → Type 0) → Case → Type 0
+CameBy app damaged pending c = (was : Case) × pending was × (IsSoundApp app c → IsSoundApp app was)
+    × Decays damaged was.left c.left
+
+-- The same, and meanwhile some files were damaged: what is pending comes by the damage from what was. Over a sound case
+-- lies a sound one, and so it does over the one that reads give.
 pub record BeginsDamaged (app : ℕ) (pending : Case → Type 0) (pairs : List Pair) (m : Medium) : Type 0 where
   pub damaged : List ℕ
-  pub some : (c : Case) → m.now c → (was : Case) × pending was × Decays damaged was.left c.left
-  pub sound : (c : Case) → pending c → IsSoundApp app c
+  pub some : (c : Case) → m.now c → CameBy app damaged pending c
   pub read : Case
   pub is_now : m.now read
   pub gives : read.left ≡ m.image
+  pub sound : IsSoundApp app (some read is_now).0
   pub enough : HasRoot app damaged pairs
 
 -- power was lost: one sound case is left, some files are damaged, and nothing is pending
@@ -492,10 +497,12 @@ begun_damaged : (app : ℕ) (pending : Case → Type 0) (pairs : List Pair) (m :
     → ((c : Case) → pending c → StandsAmong app pairs c) → (over : BeginsDamaged app pending pairs m)
     → Known app m (all_aged over.damaged pairs)
 begun_damaged app pending pairs m imaged stands over =
-    let (was, is_pending, by_damage) = over.some over.read over.is_now in
-    let there : StandsAmong app pairs was = stands was is_pending in
+    let came_by : CameBy app over.damaged pending over.read = over.some over.read over.is_now in
+    let was = came_by.0 in
+    let by_damage = came_by.3 in
+    let there : StandsAmong app pairs was = stands was came_by.1 in
     let p = there.0 in
-    let aged_so = there.2 (over.sound was is_pending) in
+    let aged_so = there.2 over.sound in
     let here : Stands app over.read.left (p.damaged ++ over.damaged) p.before p.after =
     aged_so.2 (p.damaged ++ over.damaged) over.read.left
     (decays_on app p.damaged over.damaged aged_so.0 was.left over.read.left aged_so.1 by_damage) in
@@ -513,19 +520,16 @@ begun_damaged app pending pairs m imaged stands over =
       stands = λ c at. aged_case c (over.some c at);
     }
   where
-    aged_case : (c : Case) → (was : Case) × pending was × Decays over.damaged was.left c.left
-        → StandsAmong app (all_aged over.damaged pairs) c
-    aged_case c (was, is_pending, by_damage) =
-        let (q, at, so) = stands was is_pending in
-        let came = so (over.sound was is_pending) in (
-          aged over.damaged q,
-          among_aged over.damaged pairs q at,
-          λ sound. (
-            came.0,
-            decays_on app q.damaged over.damaged came.0 was.left c.left came.1 by_damage,
-            came.2,
-          ),
-        )
+    aged_case : (c : Case) → CameBy app over.damaged pending c → StandsAmong app (all_aged over.damaged pairs) c
+    aged_case c (was, is_pending, was_sound, by_damage) = let (q, at, so) = stands was is_pending in (
+      aged over.damaged q,
+      among_aged over.damaged pairs q at,
+      λ sound. let came = so (was_sound sound) in (
+        came.0,
+        decays_on app q.damaged over.damaged came.0 was.left c.left came.1 by_damage,
+        came.2,
+      ),
+    )
 
 -- behind each stop, with its damage, it stands between two of the pairs
 stopped_so : (app : ℕ) (pending : Case → Type 0) (pairs : List Pair) (m : Medium)
