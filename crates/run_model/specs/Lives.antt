@@ -13,7 +13,7 @@ use Rattle.disk_model.specs.lemmas.Frames.{settled_on}
 use Rattle.element_state.specs.Clean.{IsPiece}
 use Rattle.migrate_fns.specs.Rules.{Rule, Answers}
 use Rattle.deploy_laws.specs.Apps.{App, Says, absent, app_at, installed, nothing, IsCleanApp}
-use Rattle.deploy_laws.specs.Pieces.{DecaysApp, IsSoundApp}
+use Rattle.deploy_laws.specs.Pieces.{DecaysApp, IsPlaceOn, IsSoundApp}
 use Rattle.deploy_laws.specs.Places.{IsFileOf, IsNoFileOf}
 use Rattle.deploy_laws.specs.Stands.{IsRootSpared, Stands, StandsCase, same_root}
 use Rattle.deploy_rows.specs.Rows.{reopened}
@@ -167,9 +167,10 @@ pairs_of app old new other earlier = fresh_pair (app_at old.image app) (app_at o
 
 -- ---- between two jobs
 
--- damage to the files of a list makes no piece of any place
-abbrev pub Decays : (damaged : List ℕ) → (old new : Image) → Type 0
-Decays damaged old new = (place : Place) → DecaysFor (IsPiece place) damaged old new
+-- damage to the files of a list makes no piece of any place that some image gives to the application
+abbrev pub Decays : ℕ → (damaged : List ℕ) → (old new : Image) → Type 0
+Decays app damaged old new = (place : Place) (some : Image) → IsPlaceOn app some place
+    → DecaysFor (IsPiece place) damaged old new
 
 -- a process that begins: some of what was pending still is, and reads give what one sound case leaves
 pub record BeginsOver (app : ℕ) (pending : Case → Type 0) (m : Medium) : Type 0 where
@@ -182,10 +183,10 @@ pub record BeginsOver (app : ℕ) (pending : Case → Type 0) (m : Medium) : Typ
 -- the case came by this damage from one that was pending, which is sound where this one is
 abbrev pub CameBy : ℕ → (damaged : List ℕ) → (pending : Case → Type 0) → Case → Type 0
 CameBy app damaged pending c = (was : Case) × pending was × (IsSoundApp app c → IsSoundApp app was)
-    × Decays damaged was.left c.left
+    × Decays app damaged was.left c.left
 
--- The same, and meanwhile some files were damaged: what is pending comes by the damage from what was. Over a sound case
--- lies a sound one, and so it does over the one that reads give.
+-- The same, and meanwhile some files were damaged: what is pending came by the damage from what was. The case from
+-- which came what reads give is sound.
 pub record BeginsDamaged (app : ℕ) (pending : Case → Type 0) (pairs : List Pair) (m : Medium) : Type 0 where
   pub damaged : List ℕ
   pub some : (c : Case) → m.now c → CameBy app damaged pending c
@@ -201,7 +202,7 @@ pub record BeginsAfterStop (app : ℕ) (pending : Case → Type 0) (pairs : List
   pub is_now : pending case
   pub sound : IsSoundApp app case
   pub damaged : List ℕ
-  pub decays : Decays damaged case.left m.image
+  pub decays : Decays app damaged case.left m.image
   pub enough : HasRoot app damaged pairs
   pub quiet : Quiet m
 
@@ -258,12 +259,14 @@ undamaged : (app : ℕ) (image : Image) → DecaysApp app [] image image
 undamaged app image place of_app = record { others = λ f outside. refl; pieces = λ x piece. piece }
 
 -- damage, and then more
-decays_on : (app : ℕ) (first more : List ℕ) (old mid new : Image) → DecaysApp app first old mid → Decays more mid new
+decays_on : (app : ℕ) (first more : List ℕ) (old mid new : Image) → DecaysApp app first old mid
+    → Decays app more mid new
     → DecaysApp app (first ++ more) old new
 decays_on app first more old mid new one other place of_app = record {
-  others = λ f outside. (other place).others f (λ in_more. outside (Contains-append_right first more f in_more))
+  others = λ f outside.
+      (other place old of_app).others f (λ in_more. outside (Contains-append_right first more f in_more))
       ∙ (one place of_app).others f (λ in_first. outside (Contains-append_left first more f in_first));
-  pieces = λ x piece. (one place of_app).pieces x ((other place).pieces x piece);
+  pieces = λ x piece. (one place of_app).pieces x ((other place old of_app).pieces x piece);
 }
 
 freshly : (app : ℕ) (before after : App) (c : Case) → StandsCase app before after c
