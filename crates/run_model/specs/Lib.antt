@@ -28,5 +28,6 @@ pub mod SamplesDamage
 pub mod SamplesLimits
 pub mod SamplesEndings
 pub mod SamplesManifests
+pub mod Resting
 pub mod Lives
 pub mod SamplesLives

@@ -13,7 +13,7 @@ use Rattle.disk_model.specs.lemmas.Frames.{settled_on}
 use Rattle.element_state.specs.Clean.{IsPiece}
 use Rattle.migrate_fns.specs.Rules.{Rule, Answers}
 use Rattle.deploy_laws.specs.Apps.{App, Says, absent, app_at, installed, nothing, IsCleanApp}
-use Rattle.deploy_laws.specs.Pieces.{DecaysApp, IsSoundApp}
+use Rattle.deploy_laws.specs.Pieces.{DecaysApp, IsPlaceOn, IsSoundApp}
 use Rattle.deploy_laws.specs.Places.{IsFileOf, IsNoFileOf}
 use Rattle.deploy_laws.specs.Stands.{IsRootSpared, Stands, StandsCase, same_root}
 use Rattle.deploy_rows.specs.Rows.{reopened}
@@ -31,6 +31,7 @@ use Rattle.run_model.specs.Moments.{
   OrBefore,
   last_of,
 }
+use Rattle.run_model.specs.Resting.{stands_itself}
 use Rattle.run_model.specs.RunLaws.{imaged_last}
 use Rattle.run_model.specs.Starting.{at_entry, between_worlds}
 use Rattle.run_model.specs.Lines.{lines_of}
@@ -166,9 +167,10 @@ pairs_of app old new other earlier = fresh_pair (app_at old.image app) (app_at o
 
 -- ---- between two jobs
 
--- damage to the files of a list makes no piece of any place
-abbrev pub Decays : (damaged : List ℕ) → (old new : Image) → Type 0
-Decays damaged old new = (place : Place) → DecaysFor (IsPiece place) damaged old new
+-- damage to the files of a list makes no piece of any place that some image gives to the application
+abbrev pub Decays : ℕ → (damaged : List ℕ) → (old new : Image) → Type 0
+Decays app damaged old new = (place : Place) (some : Image) → IsPlaceOn app some place
+    → DecaysFor (IsPiece place) damaged old new
 
 -- a process that begins: some of what was pending still is, and reads give what one sound case leaves
 pub record BeginsOver (app : ℕ) (pending : Case → Type 0) (m : Medium) : Type 0 where
@@ -178,15 +180,20 @@ pub record BeginsOver (app : ℕ) (pending : Case → Type 0) (m : Medium) : Typ
   pub gives : read.left ≡ m.image
   pub sound : IsSoundApp app read
 
--- The same, and meanwhile some files were damaged: what was pending still is, over what the damage left. Each case that
--- was pending is sound, since nobody knows which of them reads give.
+-- the case came by this damage from one that was pending, which is sound where this one is
+abbrev pub CameBy : ℕ → (damaged : List ℕ) → (pending : Case → Type 0) → Case → Type 0
+CameBy app damaged pending c = (was : Case) × pending was × (IsSoundApp app c → IsSoundApp app was)
+    × Decays app damaged was.left c.left
+
+-- The same, and meanwhile some files were damaged: what is pending came by the damage from what was. The case from
+-- which came what reads give is sound.
 pub record BeginsDamaged (app : ℕ) (pending : Case → Type 0) (pairs : List Pair) (m : Medium) : Type 0 where
   pub damaged : List ℕ
-  pub some : (c : Case) → m.now c → (was : Case) × pending was × Decays damaged was.left c.left
-  pub sound : (c : Case) → pending c → IsSoundApp app c
+  pub some : (c : Case) → m.now c → CameBy app damaged pending c
   pub read : Case
   pub is_now : m.now read
   pub gives : read.left ≡ m.image
+  pub sound : IsSoundApp app (some read is_now).0
   pub enough : HasRoot app damaged pairs
 
 -- power was lost: one sound case is left, some files are damaged, and nothing is pending
@@ -195,7 +202,7 @@ pub record BeginsAfterStop (app : ℕ) (pending : Case → Type 0) (pairs : List
   pub is_now : pending case
   pub sound : IsSoundApp app case
   pub damaged : List ℕ
-  pub decays : Decays damaged case.left m.image
+  pub decays : Decays app damaged case.left m.image
   pub enough : HasRoot app damaged pairs
   pub quiet : Quiet m
 
@@ -235,9 +242,15 @@ StandsAged app p c = IsSoundApp app c → (from : Image) × DecaysApp app p.dama
 abbrev pub StandsAmong : ℕ → List Pair → Case → Type 0
 StandsAmong app pairs c = (p : Pair) × IsAmong pairs p × StandsAged app p c
 
--- the places are clean, which each run asks, and in each case the application stands between two of the pairs
+-- by what reads give it stands between two that are among these
+abbrev pub ReadsAmong : ℕ → List Pair → Image → Type 0
+ReadsAmong app pairs image = (p : Pair) × IsAmong pairs p × Stands app image p.damaged p.before p.after
+
+-- The places are clean, which each run asks, and by what reads give and in each case the application stands between two
+-- of the pairs.
 pub record Known (app : ℕ) (m : Medium) (pairs : List Pair) : Type 0 where
   pub clean : IsCleanApp app m.image
+  pub reads : ReadsAmong app pairs m.image
   pub imaged : BeginImaged app pairs
   pub rooted : AreRooted app pairs
   pub stands : (c : Case) → m.now c → StandsAmong app pairs c
@@ -246,12 +259,14 @@ undamaged : (app : ℕ) (image : Image) → DecaysApp app [] image image
 undamaged app image place of_app = record { others = λ f outside. refl; pieces = λ x piece. piece }
 
 -- damage, and then more
-decays_on : (app : ℕ) (first more : List ℕ) (old mid new : Image) → DecaysApp app first old mid → Decays more mid new
+decays_on : (app : ℕ) (first more : List ℕ) (old mid new : Image) → DecaysApp app first old mid
+    → Decays app more mid new
     → DecaysApp app (first ++ more) old new
 decays_on app first more old mid new one other place of_app = record {
-  others = λ f outside. (other place).others f (λ in_more. outside (Contains-append_right first more f in_more))
+  others = λ f outside.
+      (other place old of_app).others f (λ in_more. outside (Contains-append_right first more f in_more))
       ∙ (one place of_app).others f (λ in_first. outside (Contains-append_left first more f in_first));
-  pieces = λ x piece. (one place of_app).pieces x ((other place).pieces x piece);
+  pieces = λ x piece. (one place of_app).pieces x ((other place old of_app).pieces x piece);
 }
 
 freshly : (app : ℕ) (before after : App) (c : Case) → StandsCase app before after c
@@ -447,6 +462,11 @@ rests : AppLaws → (app : ℕ) → app < 8 → (m : Medium) → Quiet m → IsC
     → Known app m (resting_pairs m.image app)
 rests laws app lt m quiet clean = record {
   clean = clean;
+  reads = (
+    fresh_pair (app_at m.image app) (app_at m.image app),
+    inl refl,
+    stands_itself app m.image [] clean,
+  );
   imaged = ((m.image, refl), tt);
   rooted = (inl refl, tt);
   stands = λ c at. still_there laws app m.image [] c lt clean (settled_on (IsFileOf app) (quiet c at));
@@ -469,6 +489,7 @@ begun laws app pending pairs m imaged rooted stands over =
           (subst (λ d. Stands app over.read.left d p.before p.after) none here)))
           (λ spared. damaged_clean app over.read.left p.damaged p.before p.after spared here)
           (rooted_at app pairs p rooted there.1));
+      reads = (p, there.1, subst (λ i. Stands app i p.damaged p.before p.after) over.gives here);
       imaged = imaged;
       rooted = rooted;
       stands = λ c at. stands c (over.some c at);
@@ -479,10 +500,12 @@ begun_damaged : (app : ℕ) (pending : Case → Type 0) (pairs : List Pair) (m :
     → ((c : Case) → pending c → StandsAmong app pairs c) → (over : BeginsDamaged app pending pairs m)
     → Known app m (all_aged over.damaged pairs)
 begun_damaged app pending pairs m imaged stands over =
-    let (was, is_pending, by_damage) = over.some over.read over.is_now in
-    let there : StandsAmong app pairs was = stands was is_pending in
+    let came_by : CameBy app over.damaged pending over.read = over.some over.read over.is_now in
+    let was = came_by.0 in
+    let by_damage = came_by.3 in
+    let there : StandsAmong app pairs was = stands was came_by.1 in
     let p = there.0 in
-    let aged_so = there.2 (over.sound was is_pending) in
+    let aged_so = there.2 over.sound in
     let here : Stands app over.read.left (p.damaged ++ over.damaged) p.before p.after =
     aged_so.2 (p.damaged ++ over.damaged) over.read.left
     (decays_on app p.damaged over.damaged aged_so.0 was.left over.read.left aged_so.1 by_damage) in
@@ -490,24 +513,26 @@ begun_damaged app pending pairs m imaged stands over =
       clean = subst (λ i. IsCleanApp app i) over.gives
           (damaged_clean app over.read.left (p.damaged ++ over.damaged) p.before p.after
           (root_at app over.damaged pairs p over.enough there.1) here);
+      reads = (
+        aged over.damaged p,
+        among_aged over.damaged pairs p there.1,
+        subst (λ i. Stands app i (p.damaged ++ over.damaged) p.before p.after) over.gives here,
+      );
       imaged = imaged_aged app over.damaged pairs imaged;
       rooted = rooted_aged app over.damaged pairs over.enough;
       stands = λ c at. aged_case c (over.some c at);
     }
   where
-    aged_case : (c : Case) → (was : Case) × pending was × Decays over.damaged was.left c.left
-        → StandsAmong app (all_aged over.damaged pairs) c
-    aged_case c (was, is_pending, by_damage) =
-        let (q, at, so) = stands was is_pending in
-        let came = so (over.sound was is_pending) in (
-          aged over.damaged q,
-          among_aged over.damaged pairs q at,
-          λ sound. (
-            came.0,
-            decays_on app q.damaged over.damaged came.0 was.left c.left came.1 by_damage,
-            came.2,
-          ),
-        )
+    aged_case : (c : Case) → CameBy app over.damaged pending c → StandsAmong app (all_aged over.damaged pairs) c
+    aged_case c (was, is_pending, was_sound, by_damage) = let (q, at, so) = stands was is_pending in (
+      aged over.damaged q,
+      among_aged over.damaged pairs q at,
+      λ sound. let came = so (was_sound sound) in (
+        came.0,
+        decays_on app q.damaged over.damaged came.0 was.left c.left came.1 by_damage,
+        came.2,
+      ),
+    )
 
 -- behind each stop, with its damage, it stands between two of the pairs
 stopped_so : (app : ℕ) (pending : Case → Type 0) (pairs : List Pair) (m : Medium)
