@@ -17,6 +17,7 @@ use crate::formatting::format;
 use crate::generating::generate;
 use crate::importing::import_storage;
 use crate::run::run;
+use crate::serving::serve;
 use crate::words::{JobKind, WordsError, read_words};
 use command_text::one_line;
 use disk_model::Disk;
@@ -55,11 +56,11 @@ pub fn per_run<D: Disk, S: Source, K: Sink>(
 
     // What the job promises, and why it ended so.
     ensures job { IfSome (job_of (map string_bytes words.now))
-        (λ job. JobDone D.told job.kind (rules_of migrations.now) (answers_of migrations.now) result
+        (λ job. JobDone D.told D.medium job.kind (rules_of migrations.now) (answers_of migrations.now) result
         (S.left source.old) (S.left source.new) (K.written sink.old) (K.written sink.new)
         (record { disk = (D.medium disk.old).faults; source = S.faults source.old; sink = K.faults sink.old })
         (record { disk = (D.medium disk.new).faults; source = S.faults source.new; sink = K.faults sink.new })
-        (D.medium disk.old) (D.medium disk.new)) }
+        disk.old disk.new) }
     ensures caused { IfSome (job_of (map string_bytes words.now)) (λ job. IsCaused job.kind result
         (record { disk = (D.medium disk.old).faults; source = S.faults source.old; sink = K.faults sink.old })
         (record { disk = (D.medium disk.new).faults; source = S.faults source.new; sink = K.faults sink.new })) }
@@ -93,11 +94,11 @@ pub fn run_job<D: Disk, S: Source, K: Sink>(
     disk: &mut D,
 ) -> u8
     requires { IsInRange kind }
-    ensures job { JobDone D.told kind (rules_of migrations.now) (answers_of migrations.now) result
+    ensures job { JobDone D.told D.medium kind (rules_of migrations.now) (answers_of migrations.now) result
         (S.left source.old) (S.left source.new) (K.written sink.old) (K.written sink.new)
         (record { disk = (D.medium disk.old).faults; source = S.faults source.old; sink = K.faults sink.old })
         (record { disk = (D.medium disk.new).faults; source = S.faults source.new; sink = K.faults sink.new })
-        (D.medium disk.old) (D.medium disk.new) }
+        disk.old disk.new }
     ensures caused { IsCaused kind result
         (record { disk = (D.medium disk.old).faults; source = S.faults source.old; sink = K.faults sink.old })
         (record { disk = (D.medium disk.new).faults; source = S.faults source.new; sink = K.faults sink.new }) }
@@ -106,6 +107,7 @@ pub fn run_job<D: Disk, S: Source, K: Sink>(
 {
     match kind {
         JobKind::Run => run(alloc, migrations, source, sink, disk),
+        JobKind::Serve => serve(alloc, migrations, source, sink, disk),
         JobKind::Format => format(alloc, sink, disk),
         JobKind::Generate(number) => generate(alloc, number, migrations, sink, disk),
         JobKind::Audit => audit_disk(alloc, sink, disk),
