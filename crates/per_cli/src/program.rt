@@ -1,25 +1,26 @@
 //! A run of the program over a folder, or a flash in it, and two streams.
 
-use crate::causes::{Ended, Fault, say};
+use crate::causes::{Ended, Fault, say, say_foreign};
 use crate::telling::Telling;
 use crate::{NO_DISK, NO_MEMORY, WRONG_SIZE};
 use migrate_fns::Migrations;
 use number_converters::{WithConverters, with_converters};
 use per_base::{Sink, Source};
 use per_run::{FlashRun, JobKind, WordsError, per_flash, per_run, read_words};
-use per_system::{Access, DirDisk, DirFlash, Notes, StdSink, StdSource};
+use per_system::{Access, DirDisk, DirFlash, Notes, StdSink, StdSource, holds_only_others};
 use std::alloc::{AllocError, Global};
 use std::fs::File;
 use std::io::{Read, Write};
 use std::rt::Files;
 
-/// The folder that the words name, for what it is held, whether lines are to be handled in it, and how many blocks its
-/// flash has, where it has one.
+/// The folder that the words name, for what it is held, whether lines are to be handled in it, whether it may be formatted
+/// for them, and how many blocks its flash has, where it has one.
 #[derive(Drop)]
 struct Target {
     dir: String,
     access: Access,
     takes_lines: bool,
+    formats_blank: bool,
     flash: Option<u32>,
 }
 
@@ -113,6 +114,11 @@ fn run_noting<'a, R: Files<File = File> + Eprint, I: Read + Drop, O: Write + Dro
     dir: String,
     notes: &'a Notes,
 ) -> u8 {
+    if is_foreign(rt, alloc, target) {
+        let dir = target.dir.as_str();
+        let _ = say_foreign(rt, dir, target.flash);
+        return NO_DISK;
+    }
     let mut source = StdSource::new(input);
     let mut sink = StdSink::new(Telling {
         rt,
@@ -143,6 +149,16 @@ fn run_noting<'a, R: Files<File = File> + Eprint, I: Read + Drop, O: Write + Dro
     };
     let _ = say(rt, &ended);
     outcome.status
+}
+
+/// Whether the folder would be formatted though files of others lie in it. Where it cannot be listed the run says why.
+fn is_foreign<R: Files<File = File>>(rt: &R, alloc: Global, target: &Target) -> bool {
+    let is_flash = target.flash.is_some();
+    target.formats_blank
+        && matches!(
+            holds_only_others(rt, alloc, target.dir.as_str(), is_flash),
+            Ok(true)
+        )
 }
 
 /// Runs the program over the folder as a disk.
@@ -205,9 +221,11 @@ fn outcome_of<'a, R: Files<File = File>>(
 fn access_of(kind: &JobKind) -> Access {
     match kind {
         JobKind::Audit | JobKind::Export(_, _) => Access::Read,
-        JobKind::Run | JobKind::Format | JobKind::Generate(_) | JobKind::Import(_, _) => {
-            Access::Write
-        }
+        JobKind::Run
+        | JobKind::Serve
+        | JobKind::Format
+        | JobKind::Generate(_)
+        | JobKind::Import(_, _) => Access::Write,
     }
 }
 
@@ -222,7 +240,8 @@ fn target_of(alloc: Global, words: &[String]) -> Result<(Target, String), AllocE
     match read_words(alloc, words) {
         Ok(job) => {
             let access = access_of(&job.kind);
-            let takes_lines = matches!(job.kind, JobKind::Run);
+            let takes_lines = matches!(job.kind, JobKind::Run | JobKind::Serve);
+            let formats_blank = matches!(job.kind, JobKind::Serve);
             let flash = job.flash;
             let dir = job.dir.into_string();
             let copy = dir.clone()?;
@@ -230,6 +249,7 @@ fn target_of(alloc: Global, words: &[String]) -> Result<(Target, String), AllocE
                 dir,
                 access,
                 takes_lines,
+                formats_blank,
                 flash,
             };
             Ok((target, copy))
@@ -240,6 +260,7 @@ fn target_of(alloc: Global, words: &[String]) -> Result<(Target, String), AllocE
                 dir: String::new(alloc),
                 access: Access::Read,
                 takes_lines: false,
+                formats_blank: false,
                 flash: None,
             };
             Ok((target, dir))

@@ -200,6 +200,38 @@ impl<'a, R: Files<File = File>> HeldFolder<'a, R> {
     }
 }
 
+/// Whether something lies in the folder of this name, and no file of a disk, or of a flash where the folder is to hold one.
+pub fn holds_only_others<R: Files<File = File>>(
+    rt: &R,
+    alloc: Global,
+    dir: &str,
+    is_flash: bool,
+) -> io::Result<bool> {
+    let runtime = (rt, alloc);
+    let mut has_others = false;
+    for entry in fs::read_dir(&runtime, dir)? {
+        match entry {
+            Ok(entry) => {
+                if is_own(entry.file_name(), is_flash) {
+                    return Ok(false);
+                }
+                has_others = true;
+            }
+            Err(error) if error.kind() == io::ErrorKind::InvalidFilename => has_others = true,
+            Err(error) => return Err(error),
+        }
+    }
+    Ok(has_others)
+}
+
+fn is_own(name: &str, is_flash: bool) -> bool {
+    if is_flash {
+        name == "flash"
+    } else {
+        number_of(name).is_some()
+    }
+}
+
 /// The number of a file of a disk.
 fn number_of(name: &str) -> Option<u32> {
     name.strip_prefix("f")?.parse().ok()

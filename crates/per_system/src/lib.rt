@@ -18,6 +18,6 @@ mod streams;
 pub use failures::{Asked, Failure, Notes, Part};
 pub use flash_file::DirFlash;
 pub use folder::DirDisk;
-pub use held::Access;
+pub use held::{Access, holds_only_others};
 pub use standard::{StdSink, StdSource};
 pub use streams::{Streams, fill_streams};
