@@ -225,12 +225,17 @@ module _ (told : Bool) (rules : List Rule) (answers : Answers) (start : Medium)
       (least + 1)
   taken_more left_now left_later now later memory after old new kept kept_later number number_later least count buffer
       so_far some fits takes goes_on = record {
-    given = so_far.given ++ take count buffer;
-    takes = Consumes-trans left_before left_now left_later _ _ so_far.takes takes;
-    many = omega (arith, so_far.many, some, length-append so_far.given (take count buffer),
-        length-take-le count buffer fits);
-    listened = goes_on so_far.given so_far.listened;
-  }
+        given = so_far.given ++ take count buffer;
+        takes = Consumes-trans left_before left_now left_later _ _ so_far.takes takes;
+        many = omega (
+          arith,
+          so_far.many,
+          some,
+          length-append so_far.given (take count buffer),
+          length-take-le count buffer fits,
+        );
+        listened = goes_on so_far.given so_far.listened;
+      }
 
   -- all whole lines of what was taken are handled
   served_all : AppLaws → (ending : endings.Ending) → HasStarted ending → (given : List ℕ) (now : Option (List ℕ))
@@ -315,13 +320,13 @@ module _ (told : Bool) (rules : List Rule) (answers : Answers) (start : Medium)
       → Served told rules answers ending start left_before left_later before later new
   served_piece ending left_now left_later now later memory old new kept number least count buffer so_far takes broken
       ends = record {
-    given = so_far.given ++ take count buffer;
-    taken = Consumes-trans left_before left_now left_later _ _ so_far.takes takes;
-    ended = false;
-    end_seen = not_seen;
-    input = input_false ending _ broken;
-    course = ends so_far.given so_far.listened;
-  }
+        given = so_far.given ++ take count buffer;
+        taken = Consumes-trans left_before left_now left_later _ _ so_far.takes takes;
+        ended = false;
+        end_seen = not_seen;
+        input = input_false ending _ broken;
+        course = ends so_far.given so_far.listened;
+      }
 
   -- memory ran out before anything was taken
   pub served_memory : AppLaws → (now : Option (List ℕ)) (memory : Memory) (medium : Medium)

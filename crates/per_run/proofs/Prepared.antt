@@ -1,6 +1,7 @@
 -- The disk that a run which stays starts on, and the run as a whole.
 use Rattle.std.proofs.Common.{ℕ, List, [], ◌∷◌, length, ◌≡◌, ◌≤◌, ◌<◌, ◌+◌, ◌⊎◌, inl, inr, ⊎_elim, refl, sym, ◌∙◌, ap}
-use Rattle.std.proofs.Common.{subst, arith, Option, None, Bool, true, false, IsTrue, eq-or-lt_of_le, le_refl}
+use Rattle.std.proofs.Common.{subst, arith, Option, None, Bool, true, false, IsTrue, eq-or-lt_of_le, le_refl, le_trans, Result}
+use Rattle.std.proofs.Common.{Ok, Err, IfOk, OnErr}
 use Rattle.std.proofs.KnownBytes.{Appends-nil, Consumes-nil, Keeps-refl}
 use Rattle.per_base.specs.Causes.{Rose}
 use Rattle.disk_model.specs.Case.{Case}
@@ -8,6 +9,7 @@ use Rattle.disk_model.specs.Image.{Image}
 use Rattle.disk_model.specs.Laws.{cases_on, elapses_none, elapses_on, reads_on}
 use Rattle.disk_model.specs.Medium.{Medium, IsLawful, Elapses, OnlyReads}
 use Rattle.migrate_fns.specs.Rules.{Rule, Answers}
+use Rattle.deploy.specs.declared.errors.Stop.{Stop}
 use Rattle.deploy_laws.specs.Apps.{IsCleanApp}
 use Rattle.run_model.specs.Endings as endings
 use Rattle.run_model.specs.Endings.{Failed, HasCauseOf, HasStarted, status_of}
@@ -15,6 +17,8 @@ use Rattle.run_model.specs.Moments.{Between, OrBefore}
 use Rattle.run_model.specs.RunLaws.{start_disk}
 use Rattle.run_model.specs.Runtimes.{Memory, StartKeeps, Starts}
 use Rattle.run_model.specs.Worlds.{Disks, disks, started, world_at}
+use Rattle.per_runtime.specs.Memories.{memory_of}
+use Rattle.per_runtime.specs.declared.runtime.Runtime.{Runtime}
 use Rattle.per_run.specs.declared.endings.Ending.{Ending as Way}
 use Rattle.per_run.specs.declared.endings.Ending.TheVariants as ways
 use Rattle.per_run.specs.Serves.{HadNothing, IsBlank, IsFresh, IsPrepared, Serve, Serves, as_it_was, formatted_first}
@@ -78,6 +82,41 @@ starts_on {a} {b} {c} memory first reads later s = record {
   clean = λ app lt clean. s.clean app lt (subst (IsCleanApp app) (sym reads.image) clean);
   keeps = keeps_on first reads later s.keeps;
 }
+
+-- behind the formatting
+pub readied_first : {D : Type 0} (told : Bool) (medium : D → Medium) (r : Result Runtime Stop) (old mid new : D)
+    → (IsTrue told → IsBlank (medium old).image) → (medium old).faults ≤ (medium mid).faults
+    → IfOk r (λ x. (m : D) × IsBegun told (memory_of x) (medium mid) (medium m) (medium new))
+    → IfOk r (λ x. IsReadied told medium (memory_of x) old new)
+readied_first told medium (Ok x) old mid new blank le begun = record {
+  start = begun.0;
+  prepared = formatted_first blank (record {
+    world = begun.1.world;
+    clean = begun.1.clean;
+    earlier = le_trans le begun.1.earlier;
+  });
+  starts = begun.1.starts;
+  time = begun.1.time;
+}
+readied_first told medium (Err e) old mid new blank le begun = tt
+
+-- on the disk as it was
+pub readied_as : {D : Type 0} (told : Bool) (medium : D → Medium) (r : Result Runtime Stop) (old mid new : D)
+    → (IsTrue told → IsBlank (medium old).image → ⊥) → Elapses (medium old) (medium mid)
+    → OnlyReads (medium old) (medium mid) → Elapses (medium mid) (medium new)
+    → (IsTrue told → IfOk r (λ x. Starts (memory_of x) (medium mid) (medium new)))
+    → IfOk r (λ x. IsReadied told medium (memory_of x) old new)
+readied_as told medium (Ok x) old mid new some first reads later starts = record {
+  start = old;
+  prepared = as_it_was some refl;
+  starts = λ tells. starts_on (memory_of x) first reads later (starts tells);
+  time = elapses_on first later;
+}
+readied_as told medium (Err e) old mid new some first reads later starts = tt
+
+pub on_err : {T E P : Type 0} (r : Result T E) → P → OnErr r P
+on_err (Ok x) p = tt
+on_err (Err e) p = p
 
 -- ---- the run
 
