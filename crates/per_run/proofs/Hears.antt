@@ -1,5 +1,6 @@
 -- Lines that a run which stays handled: one more, and how it ends behind them.
-use Rattle.std.proofs.Common.{ℕ, List, [], ◌∷◌, ◌++◌, length, map, take, ◌≡◌, ◌<◌, ◌+◌, ◌-◌, ◌^◌, min, inl, inr, refl, sym}
+use Rattle.std.proofs.Common.{ℕ, List, [], ◌∷◌, ◌++◌, length, map, take, ◌≡◌, ◌<◌, ◌+◌, ◌-◌, ◌^◌, min, inl, inr, refl}
+use Rattle.std.proofs.Common.{sym}
 use Rattle.std.proofs.Common.{◌∙◌, ap, subst, arith, Option, None, Bool, IsTrue, Result, Ok, Err, codes, append_assoc}
 use Rattle.std.proofs.Common.{append-nil, length-append, ◌⊎◌, le_trans}
 use Rattle.std.proofs.KnownBytes.{Appends-nil, Appends-trans}
@@ -28,7 +29,8 @@ use Rattle.run_model.specs.Worlds.{World, started, world_at}
 use Rattle.per_run.specs.declared.endings.Ending.{Ending}
 use Rattle.per_run.specs.declared.endings.Ending.TheVariants.{AllRead, EndLine, BadLine, OutOfMemory, Source, Sink}
 use Rattle.per_run.specs.declared.endings.Ending.TheVariants.{TooLong}
-use Rattle.per_run.specs.Serves.{Heard, IsCutBehind, IsHeard, ServesBy, answered, line_in, lines_in, number_behind, passed, refused}
+use Rattle.per_run.specs.Serves.{Heard, IsCutBehind, IsHeard, ServesBy, answered, line_in, lines_in, number_behind}
+use Rattle.per_run.specs.Serves.{passed, refused}
 use Rattle.per_run.specs.Serves.{text_in, texts_behind, texts_in, turn_in, turns_in}
 use Rattle.per_run.specs.Serving.{Hearing, HearsOne, Service}
 use Rattle.per_run.specs.Steps.{Goes, IsAnswered, IsGoing, IsStopped, Puts, ending_of}

@@ -1,6 +1,7 @@
 -- The disk that a run which stays starts on, and the run as a whole.
 use Rattle.std.proofs.Common.{ℕ, List, [], ◌∷◌, length, ◌≡◌, ◌≤◌, ◌<◌, ◌+◌, ◌⊎◌, inl, inr, ⊎_elim, refl, sym, ◌∙◌, ap}
-use Rattle.std.proofs.Common.{subst, arith, Option, None, Bool, true, false, IsTrue, eq-or-lt_of_le, le_refl, le_trans, Result}
+use Rattle.std.proofs.Common.{subst, arith, Option, None, Bool, true, false, IsTrue, eq-or-lt_of_le, le_refl}
+use Rattle.std.proofs.Common.{le_trans, Result}
 use Rattle.std.proofs.Common.{Ok, Err, IfOk, OnErr}
 use Rattle.std.proofs.KnownBytes.{Appends-nil, Consumes-nil, Keeps-refl}
 use Rattle.per_base.specs.Causes.{Rose}

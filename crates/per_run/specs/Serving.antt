@@ -1,5 +1,6 @@
 -- What the parts of a run that stays keep, from line to line and from byte to byte.
-use Rattle.std.specs.Prelude.{◌≡◌, ◌⊎◌, ◌≤◌, ℕ, List, [], ◌∷◌, ◌++◌, length, take, min, ◌-◌, ◌^◌, Option, None, Bool, true, false, IsTrue}
+use Rattle.std.specs.Prelude.{◌≡◌, ◌⊎◌, ◌≤◌, ℕ, List, [], ◌∷◌, ◌++◌, length, take, min, ◌-◌, ◌^◌, Option, None, Bool}
+use Rattle.std.specs.Prelude.{true, false, IsTrue}
 use Rattle.std.specs.List.{AllByRecursion, flat_map}
 use Rattle.std.specs.Io.KnownBytes.{Appends, Consumes, IsAtEnd}
 use Rattle.disk_model.specs.Medium.{Medium, Elapses}
@@ -12,7 +13,8 @@ use Rattle.run_model.specs.Runtimes.{Memory, StartKeeps, Starts}
 use Rattle.run_model.specs.Turns.{AreBlamed, worlds_of}
 use Rattle.run_model.specs.Worlds.{started, world_at}
 use Rattle.per_run.specs.declared.endings.Ending.{Ending}
-use Rattle.per_run.specs.Serves.{HadNothing, Heard, IsBlank, IsHeard, IsPrepared, IsServedInput, ServesBy, line_in, lines_in}
+use Rattle.per_run.specs.Serves.{HadNothing, Heard, IsBlank, IsHeard, IsPrepared, IsServedInput, ServesBy, line_in}
+use Rattle.per_run.specs.Serves.{lines_in}
 use Rattle.per_run.specs.Serves.{texts_in, turns_in}
 use Rattle.per_run.specs.Steps.{Goes, IsClean, ending_of, with_feed}
 
