@@ -16,8 +16,8 @@ pub record Read (GoesOn InUse Later : Type 0) (room sink_before sink_now source_
   pub sink_later : sink_before ≤ sink_now
   pub source_later : source_before ≤ source_now
 
-abbrev pub invariant-loop-_pieces : goal.invariant-loop-_pieces
-invariant-loop-_pieces g l = Read
+abbrev pub invariant-loop-pieces : goal.invariant-loop-pieces
+invariant-loop-pieces g l = Read
     ((start : g.row.D.Denot) (before : Option (List ℕ))
     → Listened g.D.Disk.told (rules_of l.migrations) (answers_of l.migrations) (g.D.Disk.medium start) before []
     (g.K.Sink.written l.initial.sink)
