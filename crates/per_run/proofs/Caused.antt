@@ -70,22 +70,22 @@ run_caused told rules answers status left_before left_now before now source_befo
     new r = ended_so r.ending status _ _ r.status_is r.cause
 
 -- a run that stays
-stayed_so : {P : Type 0} (ending : Ending) (heard : List Heard) (all : List (List ℕ)) (before now : Option (List ℕ))
+stayed_so : (P : Type 0) (ending : Ending) (heard : List Heard) (all : List (List ℕ)) (before now : Option (List ℕ))
     (status : ℕ) (b n : Failed) → ServesBy P ending heard all before now → status ≡ status_of ending
     → HasCauseOf ending b n → IsCaused Serve status b n
-stayed_so endings.all_read heard all before now status b n ends is cause =
+stayed_so P endings.all_read heard all before now status b n ends is cause =
     by_itself (among status 0 (statuses_of Serve) is (0, omega arith, refl))
-stayed_so endings.end_line heard all before now status b n ends is cause =
+stayed_so P endings.end_line heard all before now status b n ends is cause =
     by_itself (among status 0 (statuses_of Serve) is (0, omega arith, refl))
-stayed_so endings.bad_line heard all before now status b n ends is cause = absurd ends
-stayed_so endings.device heard all before now status b n ends is cause = by_disk is cause
-stayed_so endings.start_memory heard all before now status b n ends is cause =
+stayed_so P endings.bad_line heard all before now status b n ends is cause = absurd ends
+stayed_so P endings.device heard all before now status b n ends is cause = by_disk is cause
+stayed_so P endings.start_memory heard all before now status b n ends is cause =
     by_itself (among status 4 (statuses_of Serve) is (1, omega arith, refl))
-stayed_so endings.memory heard all before now status b n ends is cause =
+stayed_so P endings.memory heard all before now status b n ends is cause =
     by_itself (among status 4 (statuses_of Serve) is (1, omega arith, refl))
-stayed_so endings.source heard all before now status b n ends is cause = by_source is refl cause
-stayed_so endings.sink heard all before now status b n ends is cause = by_sink is cause
-stayed_so endings.too_long heard all before now status b n ends is cause =
+stayed_so P endings.source heard all before now status b n ends is cause = by_source is refl cause
+stayed_so P endings.sink heard all before now status b n ends is cause = by_sink is cause
+stayed_so P endings.too_long heard all before now status b n ends is cause =
     by_itself (among status 7 (statuses_of Serve) is (2, omega arith, refl))
 
 -- what rose since a later count of the disk
@@ -110,7 +110,7 @@ serve_caused told medium rules answers status left_before left_now before now so
     sink_now old new (served start prepared s) =
     since_earlier Serve status (medium old).faults (medium start).faults source_before sink_before _
     (earlier_start told medium old start prepared)
-    (stayed_so s.ending s.heard _ before now status _ _ s.ends s.status_is s.cause)
+    (stayed_so _ s.ending s.heard _ before now status _ _ s.ends s.status_is s.cause)
 serve_caused told medium rules answers status left_before left_now before now source_before source_now sink_before
     sink_now old new (unprepared nothing (inl failed) left_same same) = by_disk failed.0 failed.1
 serve_caused told medium rules answers status left_before left_now before now source_before source_now sink_before

@@ -45,6 +45,14 @@ blank_on image file so_far none f lt = ⊎_elim
 pub not_blank : (image : Image) (file : ℕ) → file < 32768 → 0 < length (image file) → IsBlank image → ⊥
 not_blank image file lt some blank = omega (arith, some, ap length (blank file lt))
 
+pub says_true : (blank : Bool) (P : Type 0) → blank ≡ true → Says blank P → P
+says_true true P is p = p
+says_true false P is p = let bad : false ≡ true = is in cc
+
+pub says_false : (blank : Bool) (P : Type 0) → blank ≡ false → Says blank P → P → ⊥
+says_false false P is p = p
+says_false true P is p = let bad : true ≡ false = is in cc
+
 -- no count of failures fell
 pub earlier_start : {D : Type 0} (told : Bool) (medium : D → Medium) (old start : D)
     → IsPrepared told medium old start → (medium old).faults ≤ (medium start).faults
