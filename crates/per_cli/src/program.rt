@@ -13,8 +13,8 @@ use std::fs::File;
 use std::io::{Read, Write};
 use std::rt::Files;
 
-/// The folder that the words name, for what it is held, whether lines are to be handled in it, whether it may be formatted
-/// for them, and how many blocks its flash has, where it has one.
+/// The folder that the words name, for what it is held, whether lines are to be handled in it, whether it may be
+/// formatted for them, and how many blocks its flash has, where it has one.
 #[derive(Drop)]
 struct Target {
     dir: String,

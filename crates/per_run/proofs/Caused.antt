@@ -274,13 +274,15 @@ done_none laws told medium Run rules answers left before source sink disk lawful
 done_none laws told medium Serve rules answers left before source sink disk lawful =
     serves_short told medium rules answers left before source sink disk disk lawful (elapses_none lawful)
     (inr (inr (reads_none lawful)))
-done_none laws told medium Format rules answers left before source sink disk lawful = formats_none told 4 before (medium disk) (inr refl)
+done_none laws told medium Format rules answers left before source sink disk lawful =
+    formats_none told 4 before (medium disk) (inr refl)
 done_none laws told medium (Generate n) rules answers left before source sink disk lawful =
     generates_none told rules answers n 4 before (medium disk) (medium disk) (inr refl) (elapses_none lawful).faults
 done_none laws told medium Audit rules answers left before source sink disk lawful =
     audits_none told 4 before (medium disk) (medium disk) (inr refl) (nothing_changed lawful) (λ unfailed. refl)
 done_none laws told medium (Export app name) rules answers left before source sink disk lawful =
-    exports_none told app name 4 before (medium disk) (medium disk) (inr refl) (nothing_changed lawful) (λ unfailed. refl)
+    exports_none told app name 4 before (medium disk) (medium disk) (inr refl) (nothing_changed lawful)
+    (λ unfailed. refl)
 done_none laws told medium (Import app name) rules answers left before source sink disk lawful =
     imports_cut told app name part.OutOfMemory 4 left left before (medium disk) lawful refl
     (record {
@@ -302,18 +304,20 @@ complete_none o left A B C = each_is o (λ job. job.kind ≡ Run → A → B →
 
 -- ---- a run over good lines
 
-pub completes_if : {D : Type 0} → OneLine → (told : Bool) (medium : D → Medium) (kind : JobKind) (rules : List Rule) (answers : Answers) (status : ℕ)
+pub completes_if : {D : Type 0} → OneLine → (told : Bool) (medium : D → Medium) (kind : JobKind) (rules : List Rule)
+    (answers : Answers) (status : ℕ)
     (left left_now before now : Option (List ℕ)) (b n : Failed) (old new : D)
     → b.disk ≡ (medium old).faults → n.disk ≡ (medium new).faults
     → JobDone told medium kind rules answers status left left_now before now b n old new → kind ≡ Run
     → (Rose (medium old).faults (medium new).faults → ⊥) → (Rose b.source n.source → ⊥)
     → (Rose b.sink n.sink → ⊥) → IfSome left (λ l. IsWellFormed l → (status ≡ 0) ⊎ (status ≡ 4))
-completes_if one told medium kind rules answers status None left_now before now b n old new old_is new_is done is disk source
-    sink = tt
-completes_if one told medium kind rules answers status (Some left) left_now before now b n old new old_is new_is done is disk
-    source sink = λ formed.
+completes_if one told medium kind rules answers status None left_now before now b n old new old_is new_is done is disk
+    source sink = tt
+completes_if one told medium kind rules answers status (Some left) left_now before now b n old new old_is new_is done is
+    disk source sink = λ formed.
     completes one told rules answers status left left_now before now b.source n.source b.sink n.sink (medium old)
-    (medium new) (subst (λ (k : JobKind). JobDone told medium k rules answers status (Some left) left_now before now b n old new) is done)
+    (medium new) (subst (λ (k : JobKind). JobDone told medium k rules answers status (Some left) left_now before now b n
+    old new) is done)
     disk source sink formed
 
 -- ---- numbers are in their ranges

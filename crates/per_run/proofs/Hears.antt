@@ -168,8 +168,8 @@ module _ (told : Bool) (rules : List Rule) (answers : Answers) (start : Medium) 
       (now : Option (List ℕ)) (memory : Memory) (medium : Medium) → AllByRecursion IsHeard heard
       → Goes told rules answers start (turns_in heard) memory medium
       → ServesBy (IsTrue told
-      → IsSettled (last_of (started (world_at start.image)) (worlds_of (turns_in heard))) medium) ending heard all before
-      now
+      → IsSettled (last_of (started (world_at start.image)) (worlds_of (turns_in heard))) medium) ending heard all
+      before now
       → Service told rules answers ending start before all now medium
   service laws ending begun heard all now memory medium are goes ends = record {
     heard = heard;
@@ -296,8 +296,8 @@ module _ (told : Bool) (rules : List Rule) (answers : Answers) (start : Medium) 
   service_in_reply laws ending heard number others now later memory after old new text reply counts lawful time hearing
       a puts =
       let more = turned heard now memory after old new text reply lawful time hearing a in
-      service_cut laws ending heard (answered text (turn a.event reply new.faults more.0)) number others now later memory
-      after old new counts (has_end reply) hearing a.spelled puts more.1
+      service_cut laws ending heard (answered text (turn a.event reply new.faults more.0)) number others now later
+      memory after old new counts (has_end reply) hearing a.spelled puts more.1
 
   pub service_in_refusal : {D : Type 0} (medium : D → Medium) → AppLaws → (ending : Ending) (heard : List Heard)
       (number : ℕ) (others : List (List ℕ)) (now later : Option (List ℕ)) (memory : Memory) (old new : D)

@@ -227,9 +227,11 @@ JobDone told medium (Generate n) rules answers status left_before left_now befor
     Generates told rules answers n status before now (medium old) (medium new)
 JobDone told medium Audit rules answers status left_before left_now before now old_counts new_counts old new =
     Audits told status before now (medium old) (medium new)
-JobDone told medium (Export app name) rules answers status left_before left_now before now old_counts new_counts old new =
+JobDone told medium (Export app name) rules answers status left_before left_now before now old_counts new_counts old
+    new =
     Exports told app name status before now (medium old) (medium new)
-JobDone told medium (Import app name) rules answers status left_before left_now before now old_counts new_counts old new =
+JobDone told medium (Import app name) rules answers status left_before left_now before now old_counts new_counts old
+    new =
     Imports told app name status left_before left_now before now (medium old) (medium new)
 
 -- the statuses that no failure brings

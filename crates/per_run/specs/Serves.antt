@@ -1,5 +1,5 @@
--- What a run that stays promises: its input has no bound, a line outside the grammar is answered and changes nothing, and
--- a disk on which nothing lies is formatted first.
+-- What a run that stays promises: its input has no bound, a line outside the grammar is answered and changes nothing,
+-- and a disk on which nothing lies is formatted first.
 use Rattle.std.specs.Prelude.{◌≡◌, ◌⊎◌, ◌≤◌, ◌<◌, ◌+◌, ◌-◌, ◌^◌, min, ℕ, List, [], ◌∷◌, ◌++◌, length, map, take, Option}
 use Rattle.std.specs.Prelude.{None, Bool, false, IsTrue, IsFalse, codes, ⊤}
 use Rattle.std.specs.List.{AllByRecursion, flat_map}
@@ -146,7 +146,8 @@ pub record Serve (told : Bool) (rules : List Rule) (answers : Answers) (status :
   pub input : IsServedInput ending ended (length given)
   pub heard : List Heard
   pub are : AllByRecursion IsHeard heard
-  pub ends : ServesBy (IsTrue told → IsSettled (last_of (started (world_at old.image)) (worlds_of (turns_in heard))) new)
+  pub ends : ServesBy (IsTrue told
+      → IsSettled (last_of (started (world_at old.image)) (worlds_of (turns_in heard))) new)
       ending heard (lines_of false given) before now
   pub cause : HasCauseOf ending (record { disk = old.faults; source = source_before; sink = sink_before })
       (record { disk = new.faults; source = source_now; sink = sink_now })
@@ -186,7 +187,8 @@ pub data Serves {D : Type 0} (told : Bool) (medium : D → Medium) (rules : List
       (medium start) (medium new)
       → Serves told medium rules answers status left_before left_now before now source_before source_now sink_before
       sink_now old new
-  unprepared : HadNothing told medium old new → ((status ≡ 3) × Rose (medium old).faults (medium new).faults) ⊎ (status ≡ 4)
+  unprepared : HadNothing told medium old new
+      → ((status ≡ 3) × Rose (medium old).faults (medium new).faults) ⊎ (status ≡ 4)
       → Keeps left_before left_now → Keeps before now
       → Serves told medium rules answers status left_before left_now before now source_before source_now sink_before
       sink_now old new

@@ -22,8 +22,8 @@ use Rattle.per_run.specs.declared.words.WordsError.TheVariants as words_error
 abbrev pub named_rule : List ℕ → ArgAction → Rule
 named_rule name action = record (new_rule name) { long = Some name; action = Some action }
 
--- a required option `--dir`, the flags `--format`, `--audit` and `--serve`, and the options `--flash`, `--generate`, `--export`
--- and `--import`
+-- a required option `--dir`, the flags `--format`, `--audit` and `--serve`, and the options `--flash`, `--generate`,
+-- `--export` and `--import`
 abbrev pub option_rules : List Rule
 option_rules = record (named_rule (codes "dir") Set) { required = true } ∷ named_rule (codes "flash") Set
     ∷ named_rule (codes "format") SetTrue ∷ named_rule (codes "generate") Set ∷ named_rule (codes "audit") SetTrue

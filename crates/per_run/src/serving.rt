@@ -1,7 +1,7 @@
 //! The job of a run that stays: its input has no bound, and a line outside the grammar is answered and ends nothing.
 
-ghost use Rattle.std.specs.Prelude.{◌≡◌, ◌<◌, ◌+◌, ◌-◌, ◌^◌, ◌++◌, ℕ, List, [], ◌∷◌, Option, IfErr, OnOk, false, length};
-ghost use Rattle.std.specs.Prelude.{min, take};
+ghost use Rattle.std.specs.Prelude.{◌≡◌, ◌<◌, ◌+◌, ◌-◌, ◌^◌, ◌++◌, ℕ, List, [], ◌∷◌, Option, IfErr, OnOk, false};
+ghost use Rattle.std.specs.Prelude.{length, min, take};
 ghost use Rattle.disk_model.specs.Medium.{Elapses};
 ghost use Rattle.migrate_fns.specs.Stored.{answers_of, rules_of};
 ghost use Rattle.per_base.specs.Causes.{Rose};

@@ -200,7 +200,8 @@ impl<'a, R: Files<File = File>> HeldFolder<'a, R> {
     }
 }
 
-/// Whether something lies in the folder of this name, and no file of a disk, or of a flash where the folder is to hold one.
+/// Whether something lies in the folder of this name, and no file of a disk, or no flash where the folder is to hold
+/// one.
 pub fn holds_only_others<R: Files<File = File>>(
     rt: &R,
     alloc: Global,

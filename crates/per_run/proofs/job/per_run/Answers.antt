@@ -30,8 +30,8 @@ returns-in-Ok-clause-unread g c = some_is _ c.in-Ok.job _ c.in-Ok.ensures.job c.
 
 pub returns-in-Ok-clause-complete : goal.returns-in-Ok-clause-complete
 returns-in-Ok-clause-complete g c = some_is _ c.in-Ok.job _ c.in-Ok.ensures.job (λ is disk source sink.
-    completes_if c.one_line.ensures _ g.D.Disk.medium c.in-Ok.job.kind _ _ _ _ _ _ _ _ _ _ _ refl refl c.run_job.ensures.job is disk
-    source sink)
+    completes_if c.one_line.ensures _ g.D.Disk.medium c.in-Ok.job.kind _ _ _ _ _ _ _ _ _ _ _ refl refl
+    c.run_job.ensures.job is disk source sink)
 
 -- ---- the words say none
 
