@@ -117,3 +117,27 @@ fn of_folder(asked: Asked, error: io::Error) -> Failure {
         error,
     }
 }
+
+/// Whether something is in the folder of this name, and nothing of what it is to hold.
+pub fn holds_only_others<R: Files<File = File>>(
+    rt: &R,
+    alloc: Global,
+    dir: &str,
+    content: Content,
+) -> io::Result<bool> {
+    let runtime = (rt, alloc);
+    let mut has_others = false;
+    for entry in fs::read_dir(&runtime, dir)? {
+        match entry {
+            Ok(entry) => {
+                if content.number_of(entry.file_name()).is_some() {
+                    return Ok(false);
+                }
+                has_others = true;
+            }
+            Err(error) if error.kind() == io::ErrorKind::InvalidFilename => has_others = true,
+            Err(error) => return Err(error),
+        }
+    }
+    Ok(has_others)
+}

@@ -26,5 +26,6 @@ returns c =
     in
     let audit = c.in_ok-arg-5.ensures.shape c.flag-2.ensures.global ∙ ap₂ with_rule generate c.flag-2.ensures.rule in
     let export = c.in_ok-arg-6.ensures.shape c.option-4.ensures.global ∙ ap₂ with_rule audit c.option-4.ensures.rule in
-    IfOk-weaker c.arg-7.result _ _ (λ r adds. adds.shape c.option-5.ensures.global
-    ∙ ap₂ with_rule export c.option-5.ensures.rule) c.arg-7.ensures
+    let import = c.in_ok-arg-7.ensures.shape c.option-5.ensures.global ∙ ap₂ with_rule export c.option-5.ensures.rule in
+    IfOk-weaker c.arg-8.result _ _ (λ r adds. adds.shape c.flag-3.ensures.global
+    ∙ ap₂ with_rule import c.flag-3.ensures.rule) c.arg-8.ensures
