@@ -158,6 +158,7 @@ module _ (told : Bool) (rules : List Rule) (answers : Answers) (now : ℕ) (c : 
       unwritten = not_written o.refused refl;
       written = λ tells durable. absurd (true≢false (sym durable ∙ word.not_durable));
       cause = λ bad. absurd cc;
+      passes = m.passes;
       unfailed = (plain o.refused refl).0;
       text = (plain o.refused refl).1;
       time = m.time;
@@ -187,6 +188,7 @@ module _ (told : Bool) (rules : List Rule) (answers : Answers) (now : ℕ) (c : 
         unwritten = tt;
         written = λ tells durable. absurd (true≢false (sym durable ∙ word.not_durable));
         cause = λ bad. m.cause refl;
+        passes = tt;
         unfailed = tt;
         text = tt;
         time = m.time;
@@ -210,6 +212,7 @@ module _ (told : Bool) (rules : List Rule) (answers : Answers) (now : ℕ) (c : 
         unwritten = tt;
         written = λ tells durable. absurd (true≢false (sym durable ∙ word.not_durable));
         cause = λ bad. absurd cc;
+        passes = tt;
         unfailed = tt;
         text = tt;
         time = m.time;
@@ -300,6 +303,7 @@ module _ (told : Bool) (rules : List Rule) (answers : Answers) (now : ℕ) (c : 
     unwritten = λ refused. (refl, refl);
     written = λ tells durable f x found there. writes_nothing s.app f x m;
     cause = λ bad. absurd cc;
+    passes = refl;
     unfailed = sound;
     text = text;
     time = elapses_none lawful;
@@ -325,6 +329,7 @@ module _ (told : Bool) (rules : List Rule) (answers : Answers) (now : ℕ) (c : 
         unwritten = tt;
         written = λ tells durable f x found there. writes_nothing s.app f x m;
         cause = λ bad. absurd cc;
+        passes = tt;
         unfailed = tt;
         text = tt;
         time = elapses_none lawful;

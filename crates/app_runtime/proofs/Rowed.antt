@@ -120,6 +120,7 @@ pub record Made (told : Bool) (row : App → Result App PerError) (app : ℕ) (r
   pub quiet : Quiet old → OnOk made (Quiet new)
   pub unchanged : IfOk made (λ o. (o.refused ≡ None → ⊥) → Untouched × (o.root ≡ root))
   pub cause : IsErrOf made stop.Device → Rose old.faults new.faults
+  pub passes : OnOk made (new.faults ≡ old.faults)
   pub device_only : IsErrOf made stop.Device → IsOk (row (root_app root []))
   pub calls : IsTrue told → CallsTo app (after (app_at old.image app) (row (app_at old.image app))) old new
   pub time : Elapses old new

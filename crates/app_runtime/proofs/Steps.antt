@@ -319,6 +319,7 @@ module _ (told : Bool) (rules : List Rule) (answers : Answers) (now : ℕ) (b : 
       unwritten = tt;
       written = λ tells durable. absurd (true≢false (sym durable ∙ not_durable));
       cause = λ bad. cause refl;
+      passes = tt;
       unfailed = tt;
       text = tt;
       time = time;
@@ -334,6 +335,7 @@ module _ (told : Bool) (rules : List Rule) (answers : Answers) (now : ℕ) (b : 
       unwritten = tt;
       written = λ tells durable. absurd (true≢false (sym durable ∙ not_durable));
       cause = λ bad. absurd cc;
+      passes = tt;
       unfailed = tt;
       text = tt;
       time = time;
@@ -356,7 +358,8 @@ module _ (told : Bool) (rules : List Rule) (answers : Answers) (now : ℕ) (b : 
       (clean : IsTrue told → IsCleanApp b.app old.image → IsCleanApp b.app new.image) (quiet : Quiet old → Quiet new)
       (done : is_refusal reply.answer ≡ false) (sound : reply.answer ≢ answer.Error error.PhysicalStorageFailure)
       (text : HasText reply.answer)
-      (not_durable : is_durable c ≡ false) (uses : uses_device r.disk c ≡ true) (time : Elapses old new) where
+      (not_durable : is_durable c ≡ false) (uses : uses_device r.disk c ≡ true) (passes : new.faults ≡ old.faults)
+      (time : Elapses old new) where
     pub done_step : Promises told rules answers now c before (record b { stage = stage }) Untouched old new (Ok reply)
     done_step = record {
       app = refl;
@@ -369,6 +372,7 @@ module _ (told : Bool) (rules : List Rule) (answers : Answers) (now : ℕ) (b : 
       unwritten = λ refused. absurd (true≢false (sym refused ∙ done));
       written = λ tells durable. absurd (true≢false (sym durable ∙ not_durable));
       cause = λ bad. absurd cc;
+      passes = passes;
       unfailed = sound;
       text = text;
       time = time;
@@ -388,10 +392,10 @@ module _ (told : Bool) (rules : List Rule) (answers : Answers) (now : ℕ) (b : 
       → count ≡ remaining (progress_in t) → StagedAt told new.image b.app t
       → (IsTrue told → app_at new.image b.app ≡ r.disk)
       → (IsTrue told → CallsTo b.app r.disk old new) → (IsTrue told → IsCleanApp b.app old.image
-      → IsCleanApp b.app new.image) → (Quiet old → Quiet new) → Elapses old new
+      → IsCleanApp b.app new.image) → (Quiet old → Quiet new) → new.faults ≡ old.faults → Elapses old new
       → Promises told rules answers now call.UpdateNext before (record b { stage = Updating t }) Untouched old new
       (Ok (reply_with (answer.Number count)))
-  next_done t count progress counts at same calls clean quiet time =
+  next_done t count progress counts at same calls clean quiet passes time =
       done_step call.UpdateNext (Updating t) (reply_with (answer.Number count))
       (λ tells. next_row tells _ (ap (λ (n : ℕ). (
         reply_with (answer.Number n),
@@ -414,7 +418,7 @@ module _ (told : Bool) (rules : List Rule) (answers : Answers) (now : ℕ) (b : 
       (same tells))))
       (at, none) (λ tells. subst (λ (a : App). IsLater r.disk a) (sym (same tells)) (still r.disk))
       (λ tells. subst (λ (a : App). CallsTo b.app a old new) (sym (same tells)) (calls tells))
-      clean quiet refl (λ e. cc) tt refl refl time
+      clean quiet refl (λ e. cc) tt refl refl passes time
 
   -- ---- the commit
 
@@ -438,10 +442,10 @@ module _ (told : Bool) (rules : List Rule) (answers : Answers) (now : ℕ) (b : 
     pub commit_done : (root : Root) → RootAt told new.image b.app root → (IsTrue told → app_at new.image b.app ≡ next)
         → (IsTrue told → CallsTo b.app next old new)
         → (IsTrue told → IsCleanApp b.app old.image → IsCleanApp b.app new.image) → (Quiet old → Quiet new)
-        → Elapses old new
+        → new.faults ≡ old.faults → Elapses old new
         → Promises told rules answers now call.UpdateCommit before (record b { stage = AtRest root }) Untouched old new
         (Ok (reply_with answer.Done))
-    commit_done root at is_next calls clean quiet time =
+    commit_done root at is_next calls clean quiet passes time =
         done_step call.UpdateCommit (AtRest root) (reply_with answer.Done)
         (λ tells. commit_row tells _ (ap (λ (a : App). (
           reply_with answer.Done,
@@ -454,7 +458,7 @@ module _ (told : Bool) (rules : List Rule) (answers : Answers) (now : ℕ) (b : 
         })
         (λ tells. subst (λ (a : App). IsLater r.disk a) (sym (is_next tells)) (update_later (progress_in s) r.disk))
         (λ tells. subst (λ (a : App). CallsTo b.app a old new) (sym (is_next tells)) (calls tells)) clean quiet refl
-        (λ e. cc) tt refl refl time
+        (λ e. cc) tt refl refl passes time
 
 -- ---- an install beside an update
 

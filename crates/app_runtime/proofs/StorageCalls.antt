@@ -60,6 +60,7 @@ pub record Stores (told : Bool) (app now : ℕ) (c : Call) (root : Root) (before
       → found_named (resting_with old.image app before) c ≡ Some (Ok f)
       → session_at (resting_with old.image app before) f.number ≡ Some s → WritesWithin app f s old new
   pub cause : IsErrOf result stop.Device → Rose old.faults new.faults
+  pub passes : OnOk result (new.faults ≡ old.faults)
   pub unfailed : IfOk result (λ reply. reply.answer ≢ answer.Error error.PhysicalStorageFailure)
   pub text : IfOk result (λ reply. HasText reply.answer)
   pub time : Elapses old new
@@ -128,6 +129,7 @@ module _ (told : Bool) (rules : List Rule) (answers : Answers) (now : ℕ) (c : 
     unwritten = s.unwritten;
     written = s.written;
     cause = s.cause;
+    passes = s.passes;
     unfailed = s.unfailed;
     text = s.text;
     time = s.time;

@@ -94,6 +94,7 @@ pub record Updates (told : Bool) (rules : List Rule) (answers : Answers) (now : 
   pub unchanged : IfOk made (λ o. (o.refused ≡ None → ⊥)
       → (new.image ≡ old.image) × (new.written ≡ old.written) × (o.root ≡ root))
   pub cause : IsErrOf made stop.Device → Rose old.faults new.faults
+  pub passes : OnOk made (new.faults ≡ old.faults)
   pub device_only : IsErrOf made stop.Device → IsOk (offered busy text (root_app root []))
   pub outside : Leaves told (IsBesideNext app (free_bank root)) old new
   pub any_moment : IsTrue told → LeadsTo app (rows.MayLead rules answers now busy text (app_at old.image app)) made old
@@ -252,6 +253,7 @@ module _ (told : Bool) (rules : List Rule) (answers : Answers) (now : ℕ) (text
         unwritten = not_written o.refused refl;
         written = λ tells durable. absurd (true≢false (sym durable));
         cause = λ bad. absurd cc;
+        passes = u.passes;
         unfailed = (plain o.refused refl).0;
         text = (plain o.refused refl).1;
         time = u.time;
@@ -286,6 +288,7 @@ module _ (told : Bool) (rules : List Rule) (answers : Answers) (now : ℕ) (text
         unwritten = tt;
         written = λ tells durable. absurd (true≢false (sym durable));
         cause = λ bad. u.cause refl;
+        passes = tt;
         unfailed = tt;
         text = tt;
         time = u.time;
@@ -309,6 +312,7 @@ module _ (told : Bool) (rules : List Rule) (answers : Answers) (now : ℕ) (text
         unwritten = tt;
         written = λ tells durable. absurd (true≢false (sym durable));
         cause = λ bad. absurd cc;
+        passes = tt;
         unfailed = tt;
         text = tt;
         time = u.time;
@@ -341,6 +345,7 @@ pub record Beginning (told : Bool) (rules : List Rule) (answers : Answers) (now 
   pub written : new.written ≡ old.written
   pub idle : Quiet old → IsIdle old new
   pub cause : IsErrOf made stop.Device → Rose old.faults new.faults
+  pub passes : OnOk made (new.faults ≡ old.faults)
   pub device_only : IsErrOf made stop.Device → IsOk (offered busy text (root_app root []))
   pub any_moment : IsTrue told → StandsThroughout app (app_at old.image app) old new
   pub time : Elapses old new
@@ -418,6 +423,7 @@ module _ (told : Bool) (rules : List Rule) (answers : Answers) (now : ℕ) (text
     unwritten = λ refused. absurd (true≢false (sym refused));
     written = λ tells durable. absurd (true≢false (sym durable));
     cause = λ bad. absurd cc;
+    passes = x.passes;
     unfailed = λ e. cc;
     text = tt;
     time = x.time;
@@ -464,6 +470,7 @@ module _ (told : Bool) (rules : List Rule) (answers : Answers) (now : ℕ) (text
     unwritten = λ refused. (x.image, x.written);
     written = λ tells durable. absurd (true≢false (sym durable));
     cause = λ bad. absurd cc;
+    passes = x.passes;
     unfailed = (begins_plain rules answers now busy text (root_app root x.begins.0) (Err e) x.begins.2).sound;
     text = (begins_plain rules answers now busy text (root_app root x.begins.0) (Err e) x.begins.2).text;
     time = x.time;
@@ -492,6 +499,7 @@ module _ (told : Bool) (rules : List Rule) (answers : Answers) (now : ℕ) (text
         unwritten = tt;
         written = λ tells durable. absurd (true≢false (sym durable));
         cause = λ bad. x.cause refl;
+        passes = tt;
         unfailed = tt;
         text = tt;
         time = x.time;
@@ -512,6 +520,7 @@ module _ (told : Bool) (rules : List Rule) (answers : Answers) (now : ℕ) (text
         unwritten = tt;
         written = λ tells durable. absurd (true≢false (sym durable));
         cause = λ bad. absurd cc;
+        passes = tt;
         unfailed = tt;
         text = tt;
         time = x.time;

@@ -38,6 +38,7 @@ pub record Promises (told : Bool) (rules : List Rule) (answers : Answers) (now :
       → found_named (application old.image before) c ≡ Some (Ok f)
       → session_at (application old.image before) f.number ≡ Some s → WritesWithin before.app f s old new
   pub cause : IsErrOf result stop.Device → Rose old.faults new.faults
+  pub passes : OnOk result (new.faults ≡ old.faults)
   pub unfailed : IfOk result (λ reply. reply.answer ≢ answer.Error error.PhysicalStorageFailure)
   pub text : IfOk result (λ reply. HasText reply.answer)
   pub time : Elapses old new

@@ -115,6 +115,7 @@ impl Running {
             → CallsTo self.old.app next (D.medium disk.old) (D.medium disk.new) }
         ensures quiet { OnOk result (Quiet (D.medium disk.new)) }
         ensures cause { IsErrOf result Stop.Device → Rose (D.medium disk.old).faults (D.medium disk.new).faults }
+        ensures passes { OnOk result ((D.medium disk.new).faults ≡ (D.medium disk.old).faults) }
         ensures time { Elapses (D.medium disk.old) (D.medium disk.new) }
     {
         let root = open_root(self.alloc, disk, self.app)?;
@@ -161,6 +162,7 @@ impl Running {
             → session_at (application (D.medium disk.old).image self.old) f.number ≡ Some s
             → WritesWithin self.old.app f s (D.medium disk.old) (D.medium disk.new) }
         ensures cause { IsErrOf result Stop.Device → Rose (D.medium disk.old).faults (D.medium disk.new).faults }
+        ensures passes { OnOk result ((D.medium disk.new).faults ≡ (D.medium disk.old).faults) }
         ensures unfailed { IfOk result (λ reply. reply.answer ≢ Answer.Error PerError.PhysicalStorageFailure) }
         ensures text { IfOk result (λ reply. HasText reply.answer) }
         ensures time { Elapses (D.medium disk.old) (D.medium disk.new) }

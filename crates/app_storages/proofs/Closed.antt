@@ -73,6 +73,7 @@ pub record Closes (told : Bool) (storage : Open) (old new : Medium) (Same : Type
       → OnOk result (IsClean (stores.shape_of (store_in storage)) new.image)
   pub at_most : WritesAtMost storage old new
   pub cause : IsErrOf result Device → Rose old.faults new.faults
+  pub passes : OnOk result (new.faults ≡ old.faults)
   pub storing : IsStoring told (stores.shape_of (store_in storage)) (Opens (durable_view storage) []) old new
 
 busy_early : (held : Option ℕ) (e : PerError) → busy held ≡ Some e → IsEarly e
@@ -128,6 +129,7 @@ module _ (laws : StorageLaws) (texts : TextLaw) (told : Bool) (app now : ℕ) (r
         quiet = λ quiet. quiet;
         unwritten = λ refusal. (refl, refl);
         unfailed = λ failed. done_not_failed (sym (ap (λ (r : Reply). r.answer) says) ∙ failed);
+        passes = refl;
         text = subst (λ (r : Reply). HasText r.answer) (sym says) tt;
       };
       idle = λ tells idle. same;
@@ -224,7 +226,7 @@ module _ (laws : StorageLaws) (texts : TextLaw) (told : Bool) (app now : ℕ) (r
           (λ tells clean. subst (λ (sh : Shape). IsClean sh new.image) shape
           (on_done (IsClean (stores.shape_of (store_in storage)) new.image)
           (closes.clean tells (subst (λ (sh : Shape). IsClean sh old.image) (sym shape) clean))))
-          (λ quiet. on_done (Quiet new) (closes.quiet quiet))
+          (λ quiet. on_done (Quiet new) (closes.quiet quiet)) (on_done (new.faults ≡ old.faults) closes.passes)
         where
           on_done : (P : Type 0) → OnOk result P → P
           on_done P on = subst (λ (r : Result Closing Stop). OnOk r P) ok on

@@ -91,6 +91,7 @@ pub record Makes (told : Bool) (storage : Open) (refused : Option PerError) (old
       → OnOk result (IsClean (stores.shape_of (store_in storage)) new.image)
   pub at_most : WritesAtMost storage old new
   pub cause : IsErrOf result Device → Rose old.faults new.faults
+  pub passes : OnOk result (new.faults ≡ old.faults)
   pub storing : IsStoring told (stores.shape_of (store_in storage)) (Opens (durable_view storage) []) old new
 
 pub none_of : {A : Type 0} (x : Option A) → ((a : A) → x ≡ Some a → ⊥) → x ≡ None
@@ -238,9 +239,9 @@ module _ (laws : StorageLaws) (texts : TextLaw) (told : Bool) (app now : ℕ) (r
       pub done_handled : (is : Slots) (reply : Reply) → refused ≡ None → Says reply None
           → IsResting told new.image app root is → (IsTrue told → store_at new.image (shape_at l) ≡ next)
           → sessions_in is ≡ after.sessions → (IsTrue told → IsClean (shape_at l) old.image
-          → IsClean (shape_at l) new.image) → (Quiet old → Quiet new)
+          → IsClean (shape_at l) new.image) → (Quiet old → Quiet new) → new.faults ≡ old.faults
           → IsHandled told app now root c was is old new Same (Ok reply)
-      done_handled is reply none says rests there sessions clean quiet = record {
+      done_handled is reply none says rests there sessions clean quiet passes = record {
         ends = record {
           answered = λ tells. answered_so laws told app now root c was is old new l located resting next storing tells
               (there tells) reply after (settles reply says none tells) disk stage sessions (clean tells);
@@ -248,6 +249,7 @@ module _ (laws : StorageLaws) (texts : TextLaw) (told : Bool) (app now : ℕ) (r
           quiet = quiet;
           unwritten = λ refusal. absurd (not_refusal reply says refusal);
           unfailed = λ failed. absurd (done_not_failed (sym (ap (λ (r : Reply). r.answer) says) ∙ failed));
+          passes = passes;
           text = subst (λ (r : Reply). HasText r.answer) (sym says) tt;
         };
         idle = idle;

@@ -82,6 +82,7 @@ module _ (laws : StorageLaws) (told : Bool) (app now : ℕ) (root : Root) (c : C
       unwritten = λ refused. (refl, refl);
       unfailed = λ failed. early.no_failure (same_error e error.PhysicalStorageFailure
           (sym (ap (λ (r : Reply). r.answer) says) ∙ failed));
+      passes = refl;
       text = subst (λ (r : Reply). HasText r.answer) (sym says) (texts e early.no_want);
     };
     idle = λ tells idle. same;

@@ -75,6 +75,11 @@ module _ {told : Bool} {app now : ℕ} {root : Root} {c : Call} {was is : Slots}
   cause_of (Err Device) handled err = handled.ends.cause
   cause_of (Err OutOfMemory) handled err = absurd cc
 
+  pub passes_of : (result : Result Reply Stop) → IsHandled told app now root c was is old new Same result
+      → OnOk result (new.faults ≡ old.faults)
+  passes_of (Ok reply) handled = handled.ends.passes
+  passes_of (Err e) handled = tt
+
   pub unfailed_of : (result : Result Reply Stop) → IsHandled told app now root c was is old new Same result
       → IfOk result (λ reply. reply.answer ≢ answer.Error error.PhysicalStorageFailure)
   unfailed_of (Ok reply) handled = handled.ends.unfailed
@@ -142,6 +147,7 @@ refused_handled untouched told app now root c slots m Same law resting same e re
     quiet = λ quiet. quiet;
     unwritten = λ refused. (refl, refl);
     unfailed = λ failed. plain e plainly (sym (ap (λ (r : Reply). r.answer) is) ∙ failed);
+    passes = refl;
     text = subst (λ (r : Reply). HasText r.answer) (sym is) text;
   };
   idle = λ tells idle. same;

@@ -64,6 +64,7 @@ idle_handled laws told app now root c was is m Same same law was_resting is_rest
     quiet = λ quiet. quiet;
     unwritten = λ refused. (refl, refl);
     unfailed = unfailed;
+    passes = refl;
     text = text;
   };
   idle = λ tells idle. same;

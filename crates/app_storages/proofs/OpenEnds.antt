@@ -147,11 +147,12 @@ module _ (laws : StorageLaws) (told : Bool) (app now : ℕ) (root : Root) (kind 
 
     -- it is corrupt, and so it stays
     pub open_corrupt : (report : Report) → (new.image ≡ old.image) × (new.written ≡ old.written) → Quiet new
+        → new.faults ≡ old.faults
         → (IsTrue told → IsOpeningOf (store_at old.image (shape_at l)) (shape_at l) (config_of l)
         (given.Corrupt report))
         → (reply : Reply) → reply ≡ corrupt_reply (config_of l).name report
         → IsHandled told app now root (open_call kind name) was was old new Same (Ok reply)
-    open_corrupt report untouched quiet opening reply says = record {
+    open_corrupt report untouched quiet passes opening reply says = record {
       ends = record {
         answered = λ tells.
             let seen = corrupt_by (store_at old.image (shape_at l)) (shape_at l) (config_of l) report (opening tells) in
@@ -167,6 +168,7 @@ module _ (laws : StorageLaws) (told : Bool) (app now : ℕ) (root : Root) (kind 
         quiet = λ was_quiet. quiet;
         unwritten = λ refused. untouched;
         unfailed = λ failed. absurd (let e = sym (ap (λ (r : Reply). r.answer) says) ∙ failed in cc);
+        passes = passes;
         text = subst (λ (r : Reply). HasText r.answer) (sym says) refl;
       };
       idle = never_idle;
@@ -177,13 +179,13 @@ module _ (laws : StorageLaws) (told : Bool) (app now : ℕ) (root : Root) (kind 
     -- it is open
     pub open_opened : (o : Open) (reported : Vec Report Global) (is : Slots) → IsPlaced (shape_at l) (config_of l) o
         → IsUsed told new.image (store_in o) → IsShown o → Quiet new
-        → IsSet l.number (Some o) was is → (IsTrue told → IsClean (shape_at l) old.image
+        → new.faults ≡ old.faults → IsSet l.number (Some o) was is → (IsTrue told → IsClean (shape_at l) old.image
         → IsClean (shape_at l) new.image)
         → (IsTrue told → IsOpeningOf (store_at old.image (shape_at l)) (shape_at l) (config_of l)
         (given.Opened o reported))
         → (reply : Reply) → reply ≡ record { reports = reported.items; answer = answer.Done }
         → IsHandled told app now root (open_call kind name) was is old new Same (Ok reply)
-    open_opened o reported is placed used shown quiet set clean opening reply says = record {
+    open_opened o reported is placed used shown quiet passes set clean opening reply says = record {
       ends = record {
         answered = λ tells.
             let seen = seen_by (store_at old.image (shape_at l)) (shape_at l) (config_of l) o reported (opening tells)
@@ -222,6 +224,7 @@ module _ (laws : StorageLaws) (told : Bool) (app now : ℕ) (root : Root) (kind 
         quiet = λ was_quiet. quiet;
         unwritten = λ refused. absurd (let e = sym (ap (λ (r : Reply). is_refusal r.answer) says) ∙ refused in cc);
         unfailed = λ failed. absurd (let e = sym (ap (λ (r : Reply). r.answer) says) ∙ failed in cc);
+        passes = passes;
         text = subst (λ (r : Reply). HasText r.answer) (sym says) tt;
       };
       idle = never_idle;

@@ -70,6 +70,7 @@ pub record Rebuilds (told : Bool) (shape : Shape) (row : State → Result State 
       → IsClean shape new.image)
   pub quiet : OnOk result (Quiet new)
   pub cause : IsErrOf result Device → Rose old.faults new.faults
+  pub passes : OnOk result (new.faults ≡ old.faults)
   pub outside : Leaves told (IsOutside shape.place) old new
   pub any_moment : IsTrue told → KeptThroughout shape (after_state (store_at old.image shape)
       (row (store_at old.image shape))) old new
@@ -218,6 +219,7 @@ module _ (laws : StorageLaws) (texts : TextLaw) (told : Bool) (app now : ℕ) (r
         quiet = λ quiet. subst (λ (r : Result (Option PerError) Stop). OnOk r (Quiet new)) ok rebuilds.quiet;
         unwritten = λ refusal. unwritten_by refused refl refusal;
         unfailed = λ failed. unfailed_by refused refl (sym (ap (λ (r : Reply). r.answer) says) ∙ failed);
+        passes = subst (λ (r : Result (Option PerError) Stop). OnOk r (new.faults ≡ old.faults)) ok rebuilds.passes;
         text = subst (λ (r : Reply). HasText r.answer) (sym says) (text_by refused refl);
       };
       idle = idle;

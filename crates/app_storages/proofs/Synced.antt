@@ -193,6 +193,7 @@ module _ (laws : StorageLaws) (texts : TextLaw) (told : Bool) (app now : ℕ) (r
         (on_made (made.Done later) ok (IsClean (stores.shape_of (store_in storage)) new.image)
         (makes.clean tells (subst (λ (sh : Shape). IsClean sh old.image) (sym shape) clean))))
         (λ quiet. on_made (made.Done later) ok (Quiet new) (makes.quiet quiet))
+        (on_made (made.Done later) ok (new.faults ≡ old.faults) makes.passes)
       where
         some_is : (x o : Open) → Some x ≡ Some o → x ≡ o
         some_is x o is = cc

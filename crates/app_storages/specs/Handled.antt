@@ -26,7 +26,7 @@ abbrev pub MayWrite : (app : ℕ) → Call → (before : Application) → (old n
 MayWrite app c before old new = is_durable c ≡ true → (f : Found) (s : Session) → found_named before c ≡ Some (Ok f)
     → session_at before f.number ≡ Some s → WritesWithin app f s old new
 
--- the call was answered
+-- the call was answered: no call of the disk failed
 pub record IsReplied (told : Bool) (app now : ℕ) (root : Root) (c : Call) (was is : Slots) (old new : Medium)
     (reply : Reply) : Type 0 where
   pub answered : IsTrue told → IsAnswered app now c (resting_with old.image app was) (resting_with new.image app is)
@@ -35,6 +35,7 @@ pub record IsReplied (told : Bool) (app now : ℕ) (root : Root) (c : Call) (was
   pub quiet : Quiet old → Quiet new
   pub unwritten : is_refusal reply.answer ≡ true → IsUnwritten old new
   pub unfailed : reply.answer ≢ answer.Error error.PhysicalStorageFailure
+  pub passes : new.faults ≡ old.faults
   pub text : HasText reply.answer
 
 -- its device failed

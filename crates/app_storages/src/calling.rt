@@ -70,6 +70,7 @@ impl Slots {
             → session_at (resting_with (D.medium disk.old).image app self.old) f.number ≡ Some s
             → WritesWithin app f s (D.medium disk.old) (D.medium disk.new) }
         ensures cause { IsErrOf result Stop.Device → Rose (D.medium disk.old).faults (D.medium disk.new).faults }
+        ensures passes { OnOk result ((D.medium disk.new).faults ≡ (D.medium disk.old).faults) }
         ensures unfailed { IfOk result (λ reply. reply.answer ≢ Answer.Error PerError.PhysicalStorageFailure) }
         ensures text { IfOk result (λ reply. HasText reply.answer) }
         ensures time { Elapses (D.medium disk.old) (D.medium disk.new) }

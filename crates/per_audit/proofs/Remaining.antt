@@ -1,12 +1,14 @@
 -- What is left to be added, while storages and applications are gone through one after another; and what looks leave of
 -- a disk.
 use Rattle.std.proofs.Common.{◌≡◌, ℕ, zero, suc, ◌+◌, ◌-◌, ◌<◌, ◌≤◌, List, [], ◌∷◌, ◌++◌, map, length, get_or, drop}
-use Rattle.std.proofs.Common.{Bool, refl, sym, ap, ◌∙◌, subst, arith}
+use Rattle.std.proofs.Common.{Bool, true, false, refl, sym, ap, ◌∙◌, ◌⊎◌, subst, inl, inr, ⊎_elim, arith, true≢false}
+use Rattle.std.specs.Prelude.{Result, Ok, Err, IfOk, OnErr, OnOk, is_err}
 use Rattle.std.specs.List.{AllByRecursion, flat_map, range_with_len}
 use Rattle.std.proofs.lemmas.List.{append-nil, append_assoc, drop_all, drop_more}
 use Rattle.disk_model.specs.Image.{Image}
-use Rattle.disk_model.specs.Laws.{elapses_none, elapses_on, idle_none, idle_on}
-use Rattle.disk_model.specs.Medium.{Elapses, IsIdle, IsLawful, Medium, Quiet}
+use Rattle.disk_model.specs.Case.{IsSettledAt}
+use Rattle.disk_model.specs.Laws.{cases_on, elapses_none, elapses_on, idle_none, idle_on}
+use Rattle.disk_model.specs.Medium.{EachCase, Elapses, IsIdle, IsLawful, Medium, Quiet, WritesNothing}
 use Rattle.deployment_model.specs.Conditions.{IsStorage}
 use Rattle.deployment_model.specs.Data.{StorageData, storage_data}
 use Rattle.deployment_model.specs.declared.configs.StorageConfig.{StorageConfig}
@@ -172,3 +174,35 @@ seen_on first next = record {
   passes = next.passes ∙ first.passes;
   time = elapses_on first.time next.time;
 }
+
+-- behind a sync that succeeded: a crash leaves what reads give, or what one before the sync might have left
+pub seen_behind : {old mid new : Medium} → Elapses old mid → WritesNothing old mid → Quiet mid → Elapses mid new
+    → (Quiet mid → IsIdle mid new) → EachCase (λ c. old.now c ⊎ IsSettledAt old.image c) old new
+seen_behind time nothing quiet later idle c s = ⊎_elim
+    (λ first. ⊎_elim (λ was. inl was) (λ now. inr (subst (λ (i : Image). IsSettledAt i c) nothing.image (quiet c now)))
+    (nothing.during c first))
+    (λ at. inr (subst (λ (i : Image). IsSettledAt i c) nothing.image ((idle quiet).during c at)))
+    (cases_on time later c s)
+
+-- ---- a result that was tested
+
+pub on_err : {T E P : Type 0} → (r : Result T E) → is_err r ≡ true → OnErr r P → P
+on_err (Ok x) is p = absurd (true≢false (sym is))
+on_err (Err e) is p = p
+
+pub on_ok : {T E P : Type 0} → (r : Result T E) → is_err r ≡ false → OnOk r P → P
+on_ok (Ok x) is p = p
+on_ok (Err e) is p = absurd (true≢false is)
+
+-- what is so of each audit over an image
+pub on_image : {X : Type 0} (of : Image → X) (old mid : Image) (x : X) → mid ≡ old → x ≡ of mid → x ≡ of old
+on_image of old mid x same is = is ∙ ap of same
+
+pub each_on_image : {T E X : Type 0} (of : Image → X) (part : T → X) (old mid : Image) (r : Result T E) → mid ≡ old
+    → IfOk r (λ t. part t ≡ of mid) → IfOk r (λ t. part t ≡ of old)
+each_on_image of part old mid (Ok t) same is = on_image of old mid (part t) same is
+each_on_image of part old mid (Err e) same is = tt
+
+pub passes_on : {T E : Type 0} (r : Result T E) (a b c : ℕ) → b ≡ a → OnOk r (c ≡ b) → OnOk r (c ≡ a)
+passes_on (Ok t) a b c first is = is ∙ first
+passes_on (Err e) a b c first is = tt

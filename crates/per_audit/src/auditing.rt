@@ -1,9 +1,10 @@
 //! The audit of a disk: each root is looked at, and each storage that it names is read.
 
-ghost use Rattle.std.specs.Prelude.{◌≡◌, ◌≤◌, ◌<◌, IfOk, IfSome, IsErrOf, IsTrue, OnOk, length, map};
+ghost use Rattle.std.specs.Prelude.{◌≡◌, ◌⊎◌, ◌≤◌, ◌<◌, IfOk, IfSome, IsErrOf, IsTrue, OnOk, length, map};
 ghost use Rattle.std.specs.List.{AllByRecursion};
 ghost use Rattle.per_base.specs.Causes.{Rose};
-ghost use Rattle.disk_model.specs.Medium.{Elapses, IsIdle, Quiet};
+ghost use Rattle.disk_model.specs.Case.{IsSettledAt};
+ghost use Rattle.disk_model.specs.Medium.{EachCase, Elapses, IsIdle, Quiet};
 ghost use Rattle.deployment_model.specs.Conditions.{IsDeployment, IsStorage};
 ghost use Rattle.deployment_model.specs.Data.{deployment_data, storage_data};
 ghost use Rattle.element_state.specs.States.{store_at};
@@ -32,6 +33,28 @@ const APPS: u32 = 8;
 ///
 /// `Device` where the disk fails, and `OutOfMemory`.
 pub fn audit<D: Disk>(alloc: Global, disk: &mut D) -> Result<Audit, Stop>
+    ensures elements { IsTrue D.told → IfOk result (λ audit. audit.elements ≡ elements_at (D.medium disk.old).image) }
+    ensures findings { IsTrue D.told → IfOk result (λ audit. audit.findings ≡ findings_at (D.medium disk.old).image) }
+    ensures quiet { OnOk result (Quiet (D.medium disk.new)) }
+    ensures image { (D.medium disk.new).image ≡ (D.medium disk.old).image }
+    ensures written { (D.medium disk.new).written ≡ (D.medium disk.old).written }
+
+    // A crash meanwhile leaves what reads give, or what one before the audit might have left.
+    ensures during { EachCase (λ c. (D.medium disk.old).now c ⊎ IsSettledAt (D.medium disk.old).image c)
+        (D.medium disk.old) (D.medium disk.new) }
+    ensures cause { IsErrOf result Stop.Device → Rose (D.medium disk.old).faults (D.medium disk.new).faults }
+    ensures passes { OnOk result ((D.medium disk.new).faults ≡ (D.medium disk.old).faults) }
+    ensures fed { IsErrOf result Stop.OutOfMemory → (D.medium disk.new).faults ≡ (D.medium disk.old).faults }
+    ensures time { Elapses (D.medium disk.old) (D.medium disk.new) }
+{
+    if disk.sync().is_err() {
+        return Err(Stop::Device);
+    }
+    audit_all(alloc, disk)
+}
+
+// The same without the sync.
+fn audit_all<D: Disk>(alloc: Global, disk: &mut D) -> Result<Audit, Stop>
     ensures elements { IsTrue D.told → IfOk result (λ audit. audit.elements ≡ elements_at (D.medium disk.old).image) }
     ensures findings { IsTrue D.told → IfOk result (λ audit. audit.findings ≡ findings_at (D.medium disk.old).image) }
     ensures quiet { OnOk result (Quiet (D.medium disk.new)) }

@@ -9,3 +9,4 @@ pub mod Replaced
 pub mod ExportRows
 pub mod ImportRows
 pub mod Numbers
+pub mod Synced

@@ -14,7 +14,7 @@ use Rattle.element_state.specs.Clean.{IsClean}
 use Rattle.element_state.specs.declared.shapes.Shape.{Shape}
 use Rattle.element_state.specs.Kept.{IsKeptCase, KeptThroughout}
 use Rattle.element_state.specs.States.{State, store_at}
-use Rattle.deploy_laws.specs.Places.{IsFileOf}
+use Rattle.deploy_laws.specs.Places.{IsFileOf, IsNoFileOf}
 use Rattle.deploy_laws.specs.Apps.{App, IsCleanApp, app_at}
 use Rattle.deploy_laws.specs.Stands.{StandsCase, StandsThroughout}
 use Rattle.deploy_rows.specs.Rows.{Answers, after}
@@ -22,7 +22,7 @@ use Rattle.deploy.specs.Clauses.{ChangesNothing}
 use Rattle.run_model.specs.Found.{Found, shape_in, storage_in}
 use Rattle.per_backup.specs.Backups.{importing, importing_into}
 use Rattle.per_backup.specs.declared.finding.Located.{Located}
-use Rattle.per_backup.specs.Clauses.{ImportKeeps, Imported, IsSeen}
+use Rattle.per_backup.specs.Clauses.{Imported, IsSeen, KeepsSettled}
 use Rattle.per_backup.specs.Finding.{IsLocated, IsMissing, config_of, found_as}
 use Rattle.per_backup.specs.StorageLaws.{StorageLaws}
 use Rattle.per_backup.proofs.Rows.{importing_found, importing_missing, later_import, row_goes, some_agree, with_row}
@@ -44,7 +44,7 @@ module _ (laws : StorageLaws) (app : ℕ) (lt : app < 8) (name text : List ℕ) 
       (settled_on (IsOfPlace shape.place) ((nothing.idle quiet).during c past))
 
   -- each moment of an import
-  pub nothing_keeps : ImportKeeps app name text old new
+  pub nothing_keeps : KeepsSettled app name text old new
   nothing_keeps = record {
     kept = λ f found. kept_so (shape_in app f) _ (some_agree laws old.image app name f found);
     elsewhere = λ f found file out. ap (λ (im : Image). im file) nothing.image;
@@ -52,6 +52,7 @@ module _ (laws : StorageLaws) (app : ℕ) (lt : app < 8) (name text : List ℕ) 
     stands = λ quiet clean c past. laws.still app old.image _ c lt clean
         (settled_on (IsFileOf app) ((nothing.idle quiet).during c past))
         (later_import (app_at old.image app) name text);
+    beside = λ quiet c past. settled_on (IsNoFileOf app) ((nothing.idle quiet).during c past);
     refused = λ err. nothing;
   }
 

@@ -9,6 +9,7 @@ use Rattle.disk_model.specs.Frame.{IsSettledOn, Spares}
 use Rattle.disk_model.specs.Image.{Image}
 use Rattle.disk_model.specs.Medium.{EachCase, Elapses, Medium, Quiet}
 use Rattle.disk_model.specs.Place.{IsOutside}
+use Rattle.disk_model.specs.lemmas.Frames.{settled_less}
 use Rattle.deployment_model.specs.Data.{StorageData}
 use Rattle.element_state.specs.Clean.{IsClean}
 use Rattle.element_state.specs.declared.shapes.Shape.{Shape}
@@ -24,13 +25,13 @@ use Rattle.deploy.specs.declared.errors.Stop.{Stop}
 use Rattle.run_model.specs.Found.{Found, shape_in, storage_in, with_state}
 use Rattle.per_backup.specs.declared.finding.Located.{Located}
 use Rattle.per_backup.specs.Backups.{importing, importing_into}
-use Rattle.per_backup.specs.Clauses.{ImportKeeps, Imported, IsSeen}
+use Rattle.per_backup.specs.Clauses.{Imported, IsSeen, KeepsSettled}
 use Rattle.per_backup.specs.Finding.{IsLocated, config_of, found_as}
 use Rattle.per_backup.specs.StorageLaws.{StorageLaws}
 use Rattle.per_backup.proofs.Lists.{ok_so}
 use Rattle.per_backup.proofs.Nothing.{nothing_on, then_kept, then_outside, then_spares}
 use Rattle.per_backup.proofs.Rows.{after_row, answers_row, importing_found, one_found, row_done, row_refused, with_row}
-use Rattle.per_backup.proofs.Stored.{clean_there, stays_so, stored_here, storing_here}
+use Rattle.per_backup.proofs.Stored.{app_beside, clean_there, stays_so, stored_here, storing_here}
 
 -- what a deployment promises of a storage that it makes anew with these contents
 pub record Replaces (told : Bool) (shape : Shape) (row : State → Result State PerError) (old new : Medium)
@@ -173,7 +174,7 @@ module _ (laws : StorageLaws) (told : Bool) (app : ℕ) (lt : app < 8) (name tex
     elsewhere_here = then_spares laws old mid new before nothing later (IsOutside here.place)
         (anew.outside.at_the_end tells)
 
-    pub replaced_keeps : ImportKeeps app name text old new
+    pub replaced_keeps : KeepsSettled app name text old new
     replaced_keeps = record {
       kept = λ g is. subst (λ (x : Found). KeptThroughout (shape_in app x)
           (after_state x.state (importing x.config x.state text)) old new) (sym (it_is g is))
@@ -187,6 +188,10 @@ module _ (laws : StorageLaws) (told : Bool) (app : ℕ) (lt : app < 8) (name tex
       stands = subst (λ (b : App). StandsThroughout app b old new) (sym world)
           (storing_here laws app (located.says tells).0 located.active (located.says tells).1 number s located.of.config
           lt located.of.in_bank located.of.in_slots next old new says_old outside_here kept_here);
+      beside = λ quiet c past. settled_less
+          (λ file aside. laws.beside app located.active.bank number file s lt located.of.in_bank located.of.in_slots
+          (app_beside app located.active.bank number file located.of.in_bank located.of.in_slots aside))
+          (outside_here quiet c past);
       refused = λ err. nothing_on before nothing later (anew.stays tells
           (subst (λ (st : State). IsErr (row st)) (sym was_mid)
           (row_refused a f (row was) (subst (λ (r : Result App PerError). IsErr r) row_into err))));

@@ -13,7 +13,7 @@ use Rattle.element_state.specs.Clean.{IsClean}
 use Rattle.element_state.specs.Kept.{KeptThroughout}
 use Rattle.element_state.specs.declared.shapes.Shape.{Shape}
 use Rattle.element_state.specs.States.{State, store_at}
-use Rattle.deploy_laws.specs.Places.{IsBeside, IsFileOf, Named, shape_of, shapes_if, shapes_in}
+use Rattle.deploy_laws.specs.Places.{IsBeside, IsFileOf, IsNoFileOf, Named, shape_of, shapes_if, shapes_in}
 use Rattle.deploy_laws.specs.Apps.{App, IsCleanApp, Says, app_at, installed, says_at, shapes_named}
 use Rattle.deploy_laws.specs.Stands.{StandsThroughout}
 use Rattle.per_backup.specs.StorageLaws.{StorageLaws}
@@ -32,6 +32,11 @@ shapes_of : (app g : ℕ) (v : Named) (previous : Option Named)
     → shapes_named app (installed g v previous) ≡ shapes_in app v ++ shapes_if app previous
 unfolding shapes_named
 shapes_of app g v previous = refl
+
+-- a file that is none of the application lies beside each of its storages
+pub app_beside : (app bank number f : ℕ) → bank ≤ 1 → number < 16 → IsNoFileOf app f → IsBeside app bank number f
+app_beside app bank number f ltb ltn aside =
+    ⊎_elim (λ low. inl (omega (arith, low))) (λ high. inr (omega (arith, high, ltb, ltn))) aside
 
 module _ (laws : StorageLaws) (app g : ℕ) (v : Named) (previous : Option Named) (number : ℕ) (s : StorageData)
     (at : slice_get v.deployment.storages number ≡ Some s) where

@@ -11,14 +11,17 @@ use Rattle.disk_model.specs.Place.{IsOutside}
 use Rattle.element_state.specs.Clean.{IsClean}
 use Rattle.element_state.specs.declared.shapes.Shape.{Shape}
 use Rattle.element_state.specs.declared.shapes.View.{View}
-use Rattle.element_state.specs.Kept.{KeptThroughout}
+use Rattle.element_state.specs.Kept.{IsKeptCase, KeptThroughout}
 use Rattle.element_state.specs.Read.{IsView}
 use Rattle.deploy_laws.specs.Apps.{App, IsCleanApp, app_at}
-use Rattle.deploy_laws.specs.Stands.{StandsThroughout}
+use Rattle.deploy_laws.specs.Places.{IsNoFileOf}
+use Rattle.deploy_laws.specs.Stands.{StandsCase, StandsThroughout}
 use Rattle.deploy_rows.specs.Recovering.{after_state}
 use Rattle.deploy_rows.specs.Rows.{after}
 use Rattle.deploy.specs.Clauses.{ChangesNothing}
 use Rattle.run_model.specs.Found.{Found, shape_in, storage_in}
+use Rattle.run_model.specs.Lives.{LooksOnly}
+use Rattle.run_model.specs.Moments.{OrBefore}
 use Rattle.per_backup.specs.declared.exporting.Exported.{Exported}
 use Rattle.per_backup.specs.declared.exporting.Exported.TheVariants.{Octets, Refused}
 use Rattle.per_backup.specs.Backups.{importing, importing_into}
@@ -43,20 +46,36 @@ IsViewFor kind v = (shape : Shape) × (shape.kind ≡ kind) × IsView shape v
 
 -- ---- an import
 
--- Every moment of an import, however it ends.
+-- Every moment of an import, however it ends: each may also be one that might have come before it.
 pub record ImportKeeps (app : ℕ) (name text : List ℕ) (old new : Medium) : Type 0 where
   -- the storage stands between what it was and what is imported
+  pub kept : (f : Found) → storage_in (app_at old.image app) name None ≡ Ok f → IsClean (shape_in app f) old.image
+      → EachCase (OrBefore old (IsKeptCase (shape_in app f) old.image
+      (after_state f.state (importing f.config f.state text)))) old new
+  -- all other files stay, at the end and at any moment
+  pub elsewhere : (f : Found) → storage_in (app_at old.image app) name None ≡ Ok f
+      → Spares (IsOutside (shape_in app f).place) old.image new.image
+  pub outside : (f : Found) → storage_in (app_at old.image app) name None ≡ Ok f
+      → EachCase (OrBefore old (IsSettledOn (IsOutside (shape_in app f).place) old.image)) old new
+  -- so the application stands between what it was and itself with the imported storage
+  pub stands : IsCleanApp app old.image → EachCase (OrBefore old (StandsCase app (app_at old.image app)
+      (after (app_at old.image app) (importing_into (app_at old.image app) name text)))) old new
+  -- and no file of another one changes
+  pub beside : EachCase (OrBefore old (IsSettledOn (IsNoFileOf app) old.image)) old new
+  -- and where the import is refused nothing changes
+  pub refused : IsErr (importing_into (app_at old.image app) name text) → LooksOnly old new
+
+-- The same of the calls behind the sync with which an import begins, where nothing is pending.
+pub record KeepsSettled (app : ℕ) (name text : List ℕ) (old new : Medium) : Type 0 where
   pub kept : (f : Found) → storage_in (app_at old.image app) name None ≡ Ok f
       → KeptThroughout (shape_in app f) (after_state f.state (importing f.config f.state text)) old new
-  -- all other files stay, at the end and at any moment
   pub elsewhere : (f : Found) → storage_in (app_at old.image app) name None ≡ Ok f
       → Spares (IsOutside (shape_in app f).place) old.image new.image
   pub outside : (f : Found) → storage_in (app_at old.image app) name None ≡ Ok f → Quiet old
       → EachCase (IsSettledOn (IsOutside (shape_in app f).place) old.image) old new
-  -- so the application stands between what it was and itself with the imported storage
   pub stands : StandsThroughout app (after (app_at old.image app) (importing_into (app_at old.image app) name text)) old
       new
-  -- and where the import is refused nothing changes
+  pub beside : Quiet old → EachCase (IsSettledOn (IsNoFileOf app) old.image) old new
   pub refused : IsErr (importing_into (app_at old.image app) name text) → ChangesNothing old new
 
 -- An import that ended: the application is the one with the imported storage, or the same where it was refused.

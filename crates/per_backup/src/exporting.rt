@@ -10,6 +10,7 @@ ghost use Rattle.element_state.specs.Read.{IsView};
 ghost use Rattle.element_state.specs.States.{State, store_at};
 ghost use Rattle.deploy_laws.specs.Apps.{App};
 ghost use Rattle.deploy_rows.specs.Recovering.{is_content};
+ghost use Rattle.run_model.specs.Lives.{LooksOnly};
 ghost use Rattle.per_backup.specs.Backups.{contents_of, exporting, fresh_of, text_from};
 ghost use Rattle.per_backup.specs.Clauses.{IsSeen, IsViewFor, exported_as, items_in};
 
@@ -43,6 +44,29 @@ pub enum Exported {
 ///
 /// `Device` where the disk fails, and `OutOfMemory`.
 pub fn export<D: Disk>(alloc: Global, disk: &mut D, app: u32, name: &Name) -> Result<Exported, Stop>
+    requires { app < 8 }
+    ensures answer { IfOk result (λ x. (it : App) × IsSeen D.told (D.medium disk.old).image app it
+        × (exported_as x ≡ exporting it name.now)) }
+    ensures stays { LooksOnly (D.medium disk.old) (D.medium disk.new) }
+    ensures quiet { OnOk result (Quiet (D.medium disk.new)) }
+    ensures cause { IsErrOf result Stop.Device → Rose (D.medium disk.old).faults (D.medium disk.new).faults }
+    ensures passes { OnOk result ((D.medium disk.new).faults ≡ (D.medium disk.old).faults) }
+    ensures fed { IsErrOf result Stop.OutOfMemory → (D.medium disk.new).faults ≡ (D.medium disk.old).faults }
+    ensures time { Elapses (D.medium disk.old) (D.medium disk.new) }
+{
+    if disk.sync().is_err() {
+        return Err(Stop::Device);
+    }
+    export_synced(alloc, disk, app, name)
+}
+
+// The same without the sync.
+fn export_synced<D: Disk>(
+    alloc: Global,
+    disk: &mut D,
+    app: u32,
+    name: &Name,
+) -> Result<Exported, Stop>
     requires { app < 8 }
     ensures answer { IfOk result (λ x. (it : App) × IsSeen D.told (D.medium disk.old).image app it
         × (exported_as x ≡ exporting it name.now)) }

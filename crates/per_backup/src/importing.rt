@@ -12,8 +12,9 @@ ghost use Rattle.deploy_rows.specs.Recovering.{if_fits};
 ghost use Rattle.deploy_rows.specs.Rows.{Answers};
 ghost use Rattle.deploy.specs.Clauses.{ChangesNothing};
 ghost use Rattle.deploy.specs.Recovered.{AreElements};
+ghost use Rattle.run_model.specs.Lives.{LooksOnly};
 ghost use Rattle.per_backup.specs.Backups.{importing, importing_into};
-ghost use Rattle.per_backup.specs.Clauses.{ImportKeeps, Imported, IsSeen};
+ghost use Rattle.per_backup.specs.Clauses.{ImportKeeps, Imported, IsSeen, KeepsSettled};
 
 use crate::finding::find;
 use crate::laws::storages_stand;
@@ -49,10 +50,38 @@ pub fn import<D: Disk>(
     ensures refused { IfOk result (λ refused. (it : App) × IsSeen D.told (D.medium disk.old).image app it
         × Answers refused (importing_into it name.now bytes.now)) }
     ensures unchanged { IfOk result (λ refused. IsSome refused
-        → ChangesNothing (D.medium disk.old) (D.medium disk.new)) }
+        → LooksOnly (D.medium disk.old) (D.medium disk.new)) }
     ensures imported { IsTrue D.told → OnOk result (Imported app name.now bytes.now (D.medium disk.old)
         (D.medium disk.new)) }
     ensures keeps { IsTrue D.told → ImportKeeps app name.now bytes.now (D.medium disk.old) (D.medium disk.new) }
+    ensures quiet { OnOk result (Quiet (D.medium disk.new)) }
+    ensures cause { IsErrOf result Stop.Device → Rose (D.medium disk.old).faults (D.medium disk.new).faults }
+    ensures passes { OnOk result ((D.medium disk.new).faults ≡ (D.medium disk.old).faults) }
+    ensures fed { IsErrOf result Stop.OutOfMemory → (D.medium disk.new).faults ≡ (D.medium disk.old).faults }
+    ensures time { Elapses (D.medium disk.old) (D.medium disk.new) }
+{
+    if disk.sync().is_err() {
+        return Err(Stop::Device);
+    }
+    import_synced(alloc, disk, app, name, bytes)
+}
+
+// The same without the sync.
+fn import_synced<D: Disk>(
+    alloc: Global,
+    disk: &mut D,
+    app: u32,
+    name: &Name,
+    bytes: &[u8],
+) -> Result<Option<PerError>, Stop>
+    requires { app < 8 }
+    ensures refused { IfOk result (λ refused. (it : App) × IsSeen D.told (D.medium disk.old).image app it
+        × Answers refused (importing_into it name.now bytes.now)) }
+    ensures unchanged { IfOk result (λ refused. IsSome refused
+        → ChangesNothing (D.medium disk.old) (D.medium disk.new)) }
+    ensures imported { IsTrue D.told → OnOk result (Imported app name.now bytes.now (D.medium disk.old)
+        (D.medium disk.new)) }
+    ensures keeps { IsTrue D.told → KeepsSettled app name.now bytes.now (D.medium disk.old) (D.medium disk.new) }
     ensures quiet { OnOk result (Quiet (D.medium disk.new)) }
     ensures cause { IsErrOf result Stop.Device → Rose (D.medium disk.old).faults (D.medium disk.new).faults }
     ensures passes { OnOk result ((D.medium disk.new).faults ≡ (D.medium disk.old).faults) }

@@ -7,7 +7,6 @@ use Rattle.per_base.specs.Causes.{Rose}
 use Rattle.per_base.specs.Errors.{error_number}
 use Rattle.per_base.specs.declared.errors.PerError.{PerError}
 use Rattle.disk_model.specs.Medium.{IsLawful, Medium, Quiet}
-use Rattle.deploy.specs.Clauses.{ChangesNothing}
 use Rattle.deploy_laws.specs.Apps.{App, app_at}
 use Rattle.deploy_rows.specs.Rows.{Answers}
 use Rattle.per_audit.specs.Audits.{elements_at, findings_at, is_sound}
@@ -20,13 +19,14 @@ use Rattle.per_run.specs.declared.endings.Ending.TheVariants.{TooLong}
 use Rattle.per_run.specs.Jobs.{AnswersOr, Audits, Exports, FailsAtThree, Imports, IsDone, IsTaken, IsUncalled}
 use Rattle.per_run.specs.Jobs.{Makes, Writes, answered_text, error_line}
 use Rattle.per_run.specs.Steps.{Breaks, IsCut, ending_of}
-use Rattle.per_run.proofs.Outputs.{not_cut, not_done, not_read, nothing_changed, writes_as, writes_none}
+use Rattle.per_run.proofs.Outputs.{not_cut, not_done, not_read, writes_as, writes_none}
 use Rattle.run_model.specs.Endings.{status_of}
+use Rattle.run_model.specs.Lives.{LooksOnly, looks_none}
 
 -- ---- an audit
 
 pub audits_none : (told : Bool) (status : ℕ) (now : Option (List ℕ)) (old new : Medium) → (status ≡ 3) ⊎ (status ≡ 4)
-    → ChangesNothing old new → FailsAtThree status old.faults new.faults
+    → LooksOnly old new → FailsAtThree status old.faults new.faults
     → Audits told status now now old new
 audits_none told status now old new is stays failed = record {
   elements = elements_at old.image;
@@ -101,7 +101,7 @@ answers_as text row same status before now is answers =
 -- ---- an export
 
 pub exports_none : (told : Bool) (app : ℕ) (name : List ℕ) (status : ℕ) (now : Option (List ℕ)) (old new : Medium)
-    → (status ≡ 3) ⊎ (status ≡ 4) → ChangesNothing old new → FailsAtThree status old.faults new.faults
+    → (status ≡ 3) ⊎ (status ≡ 4) → LooksOnly old new → FailsAtThree status old.faults new.faults
     → Exports told app name status now now old new
 exports_none told app name status now old new is stays failed = record {
   it = app_at old.image app;
@@ -166,7 +166,7 @@ makes_none told app name text status now old new is keeps failed = record {
 pub uncalled : {told : Bool} {m : Medium} (now : Option (List ℕ)) → IsLawful told m → IsUncalled now now m m
 uncalled now lawful = record {
   output = Keeps-refl now;
-  stays = nothing_changed lawful;
+  stays = looks_none lawful;
   moment = refl;
   faults = refl;
 }

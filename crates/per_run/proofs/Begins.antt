@@ -26,13 +26,13 @@ use Rattle.per_run.proofs.Inputs.{not_seen}
 
 -- nothing is handled yet
 pub handled_none : (told : Bool) (rules : List Rule) (answers : Answers) (now : Option (List ℕ)) (memory : Memory)
-    (old new : Medium) → Elapses old new
+    (old new : Medium) → Elapses old new → new.faults ≡ old.faults
     → (IsTrue told → Starts memory old new) → Handled told rules answers old now [] now memory new
-handled_none told rules answers now memory old new time starts = record {
+handled_none told rules answers now memory old new time passes starts = record {
   turns = [];
   gives = refl;
   wrote = Appends-nil now;
-  goes = goes_none told rules answers memory old new time starts;
+  goes = goes_none told rules answers memory old new time passes starts;
 }
 
 pub reached_none : (told : Bool) (rules : List Rule) (answers : Answers) (start : Medium) (before now : Option (List ℕ))
@@ -76,7 +76,7 @@ run_none told rules answers left before source sink old new status lawful time k
   gives = refl;
   ends = record { no_line = refl; no_turn = refl; wrote = Appends-nil before };
   cause = rose;
-  blamed = time.faults;
+  failures = record { behind = old.faults; blamed = refl; later = time.faults; passes = λ over. absurd over };
   time = time;
   disk = λ tells. start_disk rules answers endings.device before before told old new lawful time (λ begun. begun)
       (keeps tells);
@@ -100,7 +100,7 @@ run_short told rules answers left before source sink old new status lawful time 
   gives = refl;
   ends = record { no_line = refl; no_turn = refl; wrote = Appends-nil before };
   cause = tt;
-  blamed = time.faults;
+  failures = record { behind = old.faults; blamed = refl; later = time.faults; passes = λ over. absurd over };
   time = time;
   disk = λ tells. start_disk rules answers endings.start_memory before before told old new lawful time (λ begun. begun)
       (keeps tells);
@@ -137,7 +137,7 @@ run_from told rules answers ending left_before left_now before now source_before
       gives = ran.course.gives;
       ends = ran.course.ends;
       cause = cause_of ending source blamed.sink;
-      blamed = ran.course.blamed;
+      failures = ran.course.failures;
       time = time;
       disk = ran.course.disk;
     }

@@ -22,6 +22,7 @@ use Rattle.run_model.specs.AppLaws.{AppLaws}
 use Rattle.run_model.specs.Endings as endings
 use Rattle.run_model.specs.Endings.{Ending, Failed, HasCauseOf, status_of}
 use Rattle.run_model.specs.Lines.{IsWellFormed}
+use Rattle.run_model.specs.Lives.{looks_none}
 use Rattle.run_model.specs.Runs as runs
 use Rattle.per_run.specs.declared.endings.Ending as parts
 use Rattle.per_run.specs.declared.endings.Ending.TheVariants as part
@@ -39,7 +40,6 @@ use Rattle.per_run.proofs.Begins.{run_short, unbegun}
 use Rattle.per_run.proofs.Completes.{OneLine, completes}
 use Rattle.per_run.proofs.Fresh.{formats_none, generates_none}
 use Rattle.per_run.proofs.Inputs.{not_seen}
-use Rattle.per_run.proofs.Outputs.{nothing_changed}
 use Rattle.per_run.proofs.Prepared.{earlier_start, serves_short}
 
 -- ---- statuses
@@ -275,13 +275,13 @@ done_none laws told medium Serve rules answers left before source sink disk lawf
     serves_short told medium rules answers left before source sink disk disk lawful (elapses_none lawful)
     (inr (inr (reads_none lawful)))
 done_none laws told medium Format rules answers left before source sink disk lawful =
-    formats_none told 4 before (medium disk) (inr refl)
+    formats_none told 4 before (medium disk) (medium disk) (inr refl) (λ unfailed. refl)
 done_none laws told medium (Generate n) rules answers left before source sink disk lawful =
     generates_none told rules answers n 4 before (medium disk) (medium disk) (inr refl) (elapses_none lawful).faults
 done_none laws told medium Audit rules answers left before source sink disk lawful =
-    audits_none told 4 before (medium disk) (medium disk) (inr refl) (nothing_changed lawful) (λ unfailed. refl)
+    audits_none told 4 before (medium disk) (medium disk) (inr refl) (looks_none lawful) (λ unfailed. refl)
 done_none laws told medium (Export app name) rules answers left before source sink disk lawful =
-    exports_none told app name 4 before (medium disk) (medium disk) (inr refl) (nothing_changed lawful)
+    exports_none told app name 4 before (medium disk) (medium disk) (inr refl) (looks_none lawful)
     (λ unfailed. refl)
 done_none laws told medium (Import app name) rules answers left before source sink disk lawful =
     imports_cut told app name part.OutOfMemory 4 left left before (medium disk) lawful refl

@@ -1,6 +1,6 @@
 -- What was handled stays handled, and how a run ends behind it.
 use Rattle.std.proofs.Common.{ℕ, List, [], ◌∷◌, ◌++◌, length, take, ◌≡◌, ◌≤◌, ◌<◌, ◌+◌, ◌⊎◌, inl, inr, refl, sym, ap}
-use Rattle.std.proofs.Common.{subst, le_trans, Option, Bool, IsTrue, Err, append-nil, append_assoc, codes}
+use Rattle.std.proofs.Common.{subst, le_refl, Option, Bool, IsTrue, Err, append-nil, append_assoc, codes}
 use Rattle.std.proofs.KnownBytes.{Appends-nil, Appends-trans}
 use Rattle.std.specs.Io.KnownBytes.{Appends}
 use Rattle.disk_model.specs.Medium.{Medium, IsLawful, Elapses}
@@ -16,7 +16,7 @@ use Rattle.run_model.specs.Lines.{IsBad}
 use Rattle.run_model.specs.RunLaws.{ends_disk, stops_disk}
 use Rattle.run_model.specs.Runs.{DiskSide}
 use Rattle.run_model.specs.Runtimes.{Memory}
-use Rattle.run_model.specs.Turns.{Turn, events_of, AreBlamed}
+use Rattle.run_model.specs.Turns.{Turn, events_of, AreBlamed, CountsFailures}
 use Rattle.run_model.specs.Worlds.{World}
 use Rattle.per_run.specs.declared.endings.Ending.{Ending}
 use Rattle.per_run.specs.declared.endings.Ending.TheVariants.{AllRead, EndLine, BadLine, OutOfMemory, Source, Sink}
@@ -50,11 +50,15 @@ stopped_front whole front s = record {
   stopped = s.stopped;
 }
 
--- causes stay causes while the count goes on
-pub blamed_later : (before : ℕ) (ts : List Turn) (after later : ℕ) → after ≤ later → AreBlamed before ts after
-    → AreBlamed before ts later
-blamed_later before [] after later le blamed = le_trans blamed le
-blamed_later before (t ∷ ts) after later le blamed = (blamed.0, blamed_later t.faults ts after later le blamed.1)
+-- nothing failed behind the last command
+pub counts_whole : {Whole : Type 0} {before : ℕ} {ts : List Turn} {after : ℕ} → AreBlamed before ts after
+    → CountsFailures Whole before ts after
+counts_whole {after = after} blamed = record {
+  behind = after;
+  blamed = blamed;
+  later = le_refl after;
+  passes = λ whole. refl;
+}
 
 module _ (told : Bool) (rules : List Rule) (answers : Answers) (start : Medium) (before : Option (List ℕ)) where
   -- ---- one more line is handled
@@ -117,7 +121,7 @@ module _ (told : Bool) (rules : List Rule) (answers : Answers) (start : Medium) 
         turns = handled.turns;
         gives = handled.gives;
         ends = record { others = others; next = ap (λ (t : List ℕ). lines ++ t ∷ others) is; wrote = handled.wrote };
-        blamed = handled.goes.blamed;
+        failures = counts_whole handled.goes.blamed;
         disk = rests laws endings.end_line tt lines (lines ++ text ∷ others) handled.turns now memory (medium old)
             handled.goes;
       })
@@ -139,7 +143,7 @@ module _ (told : Bool) (rules : List Rule) (answers : Answers) (start : Medium) 
       wrote = Appends-trans before now later _ _ handled.wrote
           (subst (λ (n : ℕ). Appends now later (bad_line_text n)) is wrote);
     };
-    blamed = handled.goes.blamed;
+    failures = counts_whole handled.goes.blamed;
     disk = rests laws endings.bad_line tt lines (lines ++ text ∷ others) handled.turns later memory medium handled.goes;
   }
 
@@ -167,7 +171,7 @@ module _ (told : Bool) (rules : List Rule) (answers : Answers) (start : Medium) 
                 Appends-trans before now later _ _ handled.wrote here.2;
           }),
         );
-        blamed = handled.goes.blamed;
+        failures = counts_whole handled.goes.blamed;
         disk = rests laws endings.sink tt lines (lines ++ text ∷ others) handled.turns later memory medium handled.goes;
       }
 
@@ -186,7 +190,7 @@ module _ (told : Bool) (rules : List Rule) (answers : Answers) (start : Medium) 
       wrote =
           subst (Appends before later) (append-nil _) (Appends-trans before now later _ _ handled.wrote same);
     });
-    blamed = handled.goes.blamed;
+    failures = counts_whole handled.goes.blamed;
     disk = rests laws endings.memory tt lines (lines ++ others) handled.turns later memory medium handled.goes;
   }
 
@@ -221,7 +225,12 @@ module _ (told : Bool) (rules : List Rule) (answers : Answers) (start : Medium) 
     turns = handled.turns;
     gives = handled.gives;
     ends = inl (record { others = text ∷ others; next = refl; wrote = handled.wrote });
-    blamed = blamed_later start.faults handled.turns old.faults new.faults time.faults handled.goes.blamed;
+    failures = record {
+      behind = old.faults;
+      blamed = handled.goes.blamed;
+      later = time.faults;
+      passes = λ over. absurd over;
+    };
     disk = λ tells.
         let g : IsGoing rules answers start handled.turns memory old = handled.goes.disk tells in
         stops_disk rules answers endings.memory lines (lines ++ text ∷ others) others text handled.turns before now
@@ -288,7 +297,7 @@ module _ (told : Bool) (rules : List Rule) (answers : Answers) (start : Medium) 
         turns = handled.turns ++ t ∷ [];
         gives = give_turn lines handled.turns text t handled.gives a.spelled;
         ends = inr (in_reply 0 lines others now later memory old text t handled (has_end reply) p);
-        blamed = more.1.blamed;
+        failures = counts_whole more.1.blamed;
         disk = rests laws endings.memory tt (lines ++ text ∷ []) (lines ++ text ∷ others) (handled.turns ++ t ∷ [])
             later after new more.1;
       }
@@ -298,7 +307,7 @@ module _ (told : Bool) (rules : List Rule) (answers : Answers) (start : Medium) 
         turns = handled.turns ++ t ∷ [];
         gives = give_turn lines handled.turns text t handled.gives a.spelled;
         ends = (p.0, inl (in_reply p.0 lines others now later memory old text t handled p.1 p.2));
-        blamed = more.1.blamed;
+        failures = counts_whole more.1.blamed;
         disk = rests laws endings.sink tt (lines ++ text ∷ []) (lines ++ text ∷ others) (handled.turns ++ t ∷ []) later
             after new more.1;
       }
@@ -314,7 +323,7 @@ module _ (told : Bool) (rules : List Rule) (answers : Answers) (start : Medium) 
     turns = handled.turns;
     gives = handled.gives;
     ends = record { next = is; wrote = handled.wrote };
-    blamed = handled.goes.blamed;
+    failures = counts_whole handled.goes.blamed;
     disk = rests laws endings.all_read tt lines all handled.turns now memory medium handled.goes;
   }
 
@@ -326,7 +335,7 @@ module _ (told : Bool) (rules : List Rule) (answers : Answers) (start : Medium) 
     turns = handled.turns;
     gives = handled.gives;
     ends = record { next = is; wrote = handled.wrote };
-    blamed = handled.goes.blamed;
+    failures = counts_whole handled.goes.blamed;
     disk = rests laws endings.source tt lines all handled.turns now memory medium handled.goes;
   }
 
@@ -338,7 +347,7 @@ module _ (told : Bool) (rules : List Rule) (answers : Answers) (start : Medium) 
     turns = handled.turns;
     gives = handled.gives;
     ends = record { next = is; wrote = handled.wrote };
-    blamed = handled.goes.blamed;
+    failures = counts_whole handled.goes.blamed;
     disk = rests laws endings.too_long tt lines all handled.turns now memory medium handled.goes;
   }
 

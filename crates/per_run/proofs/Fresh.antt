@@ -1,8 +1,7 @@
 -- Disks that were formatted, and jobs that did not come to their output.
 use Rattle.std.proofs.Common.{ℕ, zero, suc, List, [], ◌∷◌, replicate, ◌≡◌, ◌≤◌, ◌<◌, ◌+◌, ◌⊎◌, inl, inr, refl, sym, ◌∙◌}
-use Rattle.std.proofs.Common.{ap, ap₂, subst, le_trans, arith, Option, None, Bool, IsTrue}
+use Rattle.std.proofs.Common.{ap, ap₂, subst, arith, Option, None, Bool, IsTrue}
 use Rattle.disk_model.specs.Image.{Image}
-use Rattle.disk_model.specs.Laws.{rose_before}
 use Rattle.disk_model.specs.Medium.{Medium}
 use Rattle.migrate_fns.specs.Rules.{Rule, Answers}
 use Rattle.command_text.specs.Generated.{generated}
@@ -12,11 +11,12 @@ use Rattle.run_model.specs.Moments.{last_of}
 use Rattle.run_model.specs.RunLaws.{ends_settled}
 use Rattle.run_model.specs.Runs.{IsSettled}
 use Rattle.run_model.specs.Runtimes.{Memory}
-use Rattle.run_model.specs.Turns.{Turn, Follow, AreBlamed, replies_of, worlds_of}
+use Rattle.run_model.specs.Turns.{Turn, AreBlamed, Follow, replies_of, worlds_of}
 use Rattle.run_model.specs.Worlds.{Application, World, all_resting, formatted, resting, started, world_at}
 use Rattle.per_run.specs.declared.tally.Tally.{Tally}
-use Rattle.per_run.specs.Jobs.{Formats, Generates, Writes, summary}
+use Rattle.per_run.specs.Jobs.{FailsAtThree, Formats, Generates, Writes, summary}
 use Rattle.per_run.specs.Steps.{Counted, IsBegun, IsGoing, Tallies}
+use Rattle.per_run.proofs.Courses.{counts_whole}
 use Rattle.per_run.proofs.Goes.{goes_none}
 use Rattle.per_run.proofs.Outputs.{not_done, writes_none}
 use Rattle.per_run.proofs.Tallied.{length_all}
@@ -37,13 +37,14 @@ is_formatted image each = ap (λ (apps : List Application). record formatted { a
 
 -- ---- jobs that did not come to their output
 
-pub formats_none : (told : Bool) (status : ℕ) (now : Option (List ℕ)) (new : Medium) → (status ≡ 3) ⊎ (status ≡ 4)
-    → Formats told status now now new
-formats_none told status now new is = record {
+pub formats_none : (told : Bool) (status : ℕ) (now : Option (List ℕ)) (old new : Medium) → (status ≡ 3) ⊎ (status ≡ 4)
+    → FailsAtThree status old.faults new.faults → Formats told status now now old new
+formats_none told status now old new is failed = record {
   output = writes_none status now _ is;
   world = λ tells done. absurd (not_done status is done);
   clean = λ tells done. absurd (not_done status is done);
   quiet = λ done. absurd (not_done status is done);
+  failed = failed;
 }
 
 pub generates_none : (told : Bool) (rules : List Rule) (answers : Answers) (n status : ℕ) (now : Option (List ℕ))
@@ -53,25 +54,18 @@ generates_none told rules answers n status now old new is later = record {
   turns = [];
   gives = λ done. absurd (not_done status is done);
   output = writes_none status now _ is;
-  blamed = later;
+  failures = record {
+    behind = old.faults;
+    blamed = refl;
+    later = later;
+    passes = λ done. absurd (not_done status is done);
+  };
   follow = λ tells. tt;
   settled = λ tells done. absurd (not_done status is done);
   clean = λ tells done. absurd (not_done status is done);
 }
 
 -- ---- a made input that was handled
-
--- causes since a later moment are causes since an earlier one
-blamed_before : (before after : ℕ) (ts : List Turn) (now : ℕ) → before ≤ after → AreBlamed after ts now
-    → AreBlamed before ts now
-blamed_before before after [] now le blamed = le_trans le blamed
-blamed_before before after (t ∷ ts) now le blamed = (
-  (
-    le_trans le blamed.0.0,
-    λ failed. rose_before before after t.faults le (blamed.0.1 failed),
-  ),
-  blamed.1,
-)
 
 begins_calm : (image : Image) → (started (world_at image)).doubt ≡ None
 unfolding world_at
@@ -87,13 +81,17 @@ counted_none told rules answers memory tally old middle new begun none = record 
   turns = [];
   gives = refl;
   each = refl;
-  goes = goes_none told rules answers memory middle new begun.time begun.starts;
+  goes = goes_none told rules answers memory middle new begun.time begun.started begun.starts;
   tallies = none;
 }
 
 follow_from : (rules : List Rule) (answers : Answers) (w v : World) (ts : List Turn) → w ≡ v → Follow rules answers w ts
     → Follow rules answers v ts
 follow_from rules answers w v ts is follow = subst (λ (x : World). Follow rules answers x ts) is follow
+
+pub counts_up : {told : Bool} {memory : Memory} {old middle new : Medium} {now : ℕ}
+    → IsBegun told memory old middle new → new.faults ≤ now → old.faults ≤ now
+counts_up {now = now} begun later = subst (λ (n : ℕ). n ≤ now) (begun.started ∙ begun.passes) later
 
 pub generates_all : (told : Bool) (rules : List Rule) (answers : Answers) (n status : ℕ) (before now : Option (List ℕ))
     (memory after : Memory) (tally : Tally) (old middle begun new : Medium)
@@ -105,7 +103,7 @@ generates_all told rules answers n status before now memory after tally old midd
   gives = λ done. counted.gives;
   output = subst (λ (k : ℕ). Writes status before now (summary k (replies_of counted.turns))) (sym (length_all n))
       writes;
-  blamed = blamed_before old.faults middle.faults counted.turns new.faults b.earlier counted.goes.blamed;
+  failures = counts_whole (subst (λ (n : ℕ). AreBlamed n counted.turns new.faults) b.passes counted.goes.blamed);
   follow = λ tells.
       let g : IsGoing rules answers middle counted.turns after new = counted.goes.disk tells in
       follow_from rules answers (started (world_at middle.image)) formatted counted.turns (here tells) g.2.follow;

@@ -56,10 +56,10 @@ module _ (rules : List Rule) (answers : Answers) (start : Medium) where
 
 -- a runtime that started is a run without a command
 pub goes_none : (told : Bool) (rules : List Rule) (answers : Answers) (memory : Memory) (old new : Medium)
-    → Elapses old new → (IsTrue told → Starts memory old new)
+    → Elapses old new → new.faults ≡ old.faults → (IsTrue told → Starts memory old new)
     → Goes told rules answers old [] memory new
-goes_none told rules answers memory old new time starts = record {
-  blamed = time.faults;
+goes_none told rules answers memory old new time passes starts = record {
+  blamed = passes;
   disk = λ tells. let s : Starts memory old new = starts tells in
       (None, sym s.sure, starts_going rules answers memory old new time s);
 }

@@ -2,9 +2,6 @@
 use Rattle.std.proofs.Common.{ℕ, List, [], ◌≡◌, ◌⊎◌, ◌∙◌, inl, inr, refl, sym, subst, arith, Option, Bool}
 use Rattle.std.proofs.KnownBytes.{Keeps-refl}
 use Rattle.std.specs.Io.KnownBytes.{Appends}
-use Rattle.disk_model.specs.Laws.{idle_none}
-use Rattle.disk_model.specs.Medium.{IsLawful, Medium}
-use Rattle.deploy.specs.Clauses.{ChangesNothing}
 use Rattle.per_run.specs.Jobs.{IsDone, IsFront, IsWritten, Writes}
 
 -- ---- statuses
@@ -66,12 +63,3 @@ writes_front before now text front = record {
 pub writes_as : (status : ℕ) (before now : Option (List ℕ)) (text same : List ℕ) → text ≡ same
     → Writes status before now text → Writes status before now same
 writes_as status before now text same is writes = subst (Writes status before now) is writes
-
--- ---- a disk that was not touched
-
-pub nothing_changed : {told : Bool} {m : Medium} → IsLawful told m → ChangesNothing m m
-nothing_changed lawful = record {
-  image = refl;
-  written = refl;
-  idle = λ quiet. idle_none lawful quiet;
-}

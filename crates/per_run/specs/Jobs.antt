@@ -16,13 +16,13 @@ use Rattle.command_text.specs.declared.replies.Reply.{Reply}
 use Rattle.command_text.specs.Generated.{generated}
 use Rattle.command_text.specs.Replies.{answer_text}
 use Rattle.deploy_laws.specs.Apps.{App, IsCleanApp}
-use Rattle.deploy.specs.Clauses.{ChangesNothing}
 use Rattle.run_model.specs.Endings.{Failed}
 use Rattle.run_model.specs.Lines.{Give}
+use Rattle.run_model.specs.Lives.{LooksOnly}
 use Rattle.run_model.specs.Moments.{AreSoundDoubts, last_of}
 use Rattle.run_model.specs.Runs as runs
 use Rattle.run_model.specs.Runs.{IsSettled}
-use Rattle.run_model.specs.Turns.{Turn, events_of, replies_of, worlds_of, AreBlamed, Follow}
+use Rattle.run_model.specs.Turns.{Turn, events_of, replies_of, worlds_of, CountsFailures, Follow}
 use Rattle.run_model.specs.Worlds.{world_at, formatted}
 use Rattle.per_audit.specs.Audits.{elements_at, findings_at}
 use Rattle.per_audit.specs.AuditText.{audit_text}
@@ -63,11 +63,12 @@ FailsAtThree status before now = status ≢ 3 → now ≡ before
 -- ---- format
 
 -- eight applications of which nothing is installed, in clean places, and nothing pending
-pub record Formats (told : Bool) (status : ℕ) (before now : Option (List ℕ)) (new : Medium) : Type 0 where
+pub record Formats (told : Bool) (status : ℕ) (before now : Option (List ℕ)) (old new : Medium) : Type 0 where
   pub output : Writes status before now (codes "ok\n")
   pub world : IsTrue told → IsDone status → world_at new.image ≡ formatted
   pub clean : IsTrue told → IsDone status → (app : ℕ) → app < 8 → IsCleanApp app new.image
   pub quiet : IsDone status → Quiet new
+  pub failed : FailsAtThree status old.faults new.faults
 
 -- ---- an input that is made of a number
 
@@ -117,7 +118,7 @@ pub record Generates (told : Bool) (rules : List Rule) (answers : Answers) (n st
   pub turns : List Turn
   pub gives : IsDone status → Give (generated n) (events_of turns)
   pub output : Writes status before now (summary (length (generated n)) (replies_of turns))
-  pub blamed : AreBlamed old.faults turns new.faults
+  pub failures : CountsFailures (IsDone status) old.faults turns new.faults
   pub follow : IsTrue told → Follow rules answers formatted turns
   pub settled : IsTrue told → IsDone status → IsSettled (last_of formatted (worlds_of turns)) new
   pub clean : IsTrue told → IsDone status → (app : ℕ) → app < 8 → AreSoundDoubts app (worlds_of turns)
@@ -136,7 +137,7 @@ pub record Audits (told : Bool) (status : ℕ) (before now : Option (List ℕ)) 
   -- 8 and not 0 is the status where something is found
   pub sound : status ≡ 0 → findings ≡ []
   pub found : status ≡ 8 → findings ≢ []
-  pub stays : ChangesNothing old new
+  pub stays : LooksOnly old new
   pub quiet : IsDone status → Quiet new
   pub failed : FailsAtThree status old.faults new.faults
 
@@ -165,7 +166,7 @@ pub record Exports (told : Bool) (app : ℕ) (name : List ℕ) (status : ℕ) (b
   pub it : App
   pub seen : IsSeen told old.image app it
   pub answers : AnswersOr (λ text. text) (exporting it name) status before now
-  pub stays : ChangesNothing old new
+  pub stays : LooksOnly old new
   pub quiet : IsDone status → Quiet new
   pub failed : FailsAtThree status old.faults new.faults
 
@@ -180,7 +181,7 @@ pub record IsTaken (left_before left_now : Option (List ℕ)) (given : List ℕ)
 -- nothing was written, and no call of the disk was made
 pub record IsUncalled (before now : Option (List ℕ)) (old new : Medium) : Type 0 where
   pub output : Keeps before now
-  pub stays : ChangesNothing old new
+  pub stays : LooksOnly old new
   pub moment : new.moment ≡ old.moment
   pub faults : new.faults ≡ old.faults
 
@@ -190,7 +191,7 @@ pub record Makes (told : Bool) (app : ℕ) (name text : List ℕ) (status : ℕ)
   pub it : App
   pub seen : IsSeen told old.image app it
   pub answers : AnswersOr (λ after. codes "ok\n") (importing_into it name text) status before now
-  pub refused : IsDone status → IsErr (importing_into it name text) → ChangesNothing old new
+  pub refused : IsDone status → IsErr (importing_into it name text) → LooksOnly old new
   pub imported : IsTrue told → IsDone status → Imported app name text old new
   -- at every moment, however it ends
   pub keeps : IsTrue told → ImportKeeps app name text old new
@@ -222,7 +223,7 @@ JobDone told medium Serve rules answers status left_before left_now before now o
     Serves told medium rules answers status left_before left_now before now old_counts.source new_counts.source
     old_counts.sink new_counts.sink old new
 JobDone told medium Format rules answers status left_before left_now before now old_counts new_counts old new =
-    Formats told status before now (medium new)
+    Formats told status before now (medium old) (medium new)
 JobDone told medium (Generate n) rules answers status left_before left_now before now old_counts new_counts old new =
     Generates told rules answers n status before now (medium old) (medium new)
 JobDone told medium Audit rules answers status left_before left_now before now old_counts new_counts old new =

@@ -5,3 +5,4 @@ pub mod Steps
 pub mod Serving
 pub mod Flashes
 pub mod Samples
+pub mod Lives

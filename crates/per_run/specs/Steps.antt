@@ -18,7 +18,7 @@ use Rattle.run_model.specs.Lines.{Give, IsBad, lines_of}
 use Rattle.run_model.specs.RunLaws.{Going}
 use Rattle.run_model.specs.Runs.{DiskSide}
 use Rattle.run_model.specs.Runtimes.{Memory, IsDoubt, Starts, Stepped, Stopped}
-use Rattle.run_model.specs.Turns.{Turn, events_of, replies_of, text_of, IsBlamed, AreBlamed}
+use Rattle.run_model.specs.Turns.{Turn, events_of, replies_of, text_of, IsBlamed, AreBlamed, CountsFailures}
 use Rattle.run_model.specs.Worlds.{Doubt, world_at, started, formatted}
 use Rattle.per_run.specs.declared.answering.Outcome.{Outcome}
 use Rattle.per_run.specs.declared.answering.Outcome.TheVariants as outcome
@@ -138,7 +138,7 @@ pub record Course (told : Bool) (rules : List Rule) (answers : Answers) (ending 
   pub turns : List Turn
   pub gives : Give lines (events_of turns)
   pub ends : EndsBy ending lines all turns before now
-  pub blamed : AreBlamed start.faults turns medium.faults
+  pub failures : CountsFailures (endings.HasEnded ending) start.faults turns medium.faults
   pub disk : IsTrue told → DiskSide rules answers ending lines all turns before now start medium
 
 -- ---- bytes
@@ -213,7 +213,8 @@ pub record Counted (told : Bool) (rules : List Rule) (answers : Answers) (start 
 
 -- A runtime that started on a disk which was formatted before.
 pub record IsBegun (told : Bool) (memory : Memory) (old middle new : Medium) : Type 0 where
-  pub earlier : old.faults ≤ middle.faults
+  pub passes : middle.faults ≡ old.faults
+  pub started : new.faults ≡ middle.faults
   pub world : IsTrue told → world_at middle.image ≡ formatted
   pub clean : IsTrue told → (app : ℕ) → app < 8 → IsCleanApp app middle.image
   pub starts : IsTrue told → Starts memory middle new

@@ -14,7 +14,8 @@ use std::alloc::Global;
 
 /// Formats the disk for all applications, and says so.
 pub fn format<D: Disk, K: Sink>(alloc: Global, sink: &mut K, disk: &mut D) -> u8
-    ensures job { Formats D.told result (K.written sink.old) (K.written sink.new) (D.medium disk.new) }
+    ensures job { Formats D.told result (K.written sink.old) (K.written sink.new) (D.medium disk.old)
+        (D.medium disk.new) }
     ensures status { (result ≡ 0) ⊎ ((result ≡ 4) ⊎ (((result ≡ 3)
         × Rose (D.medium disk.old).faults (D.medium disk.new).faults)
         ⊎ ((result ≡ 6) × Rose (K.faults sink.old) (K.faults sink.new)))) }

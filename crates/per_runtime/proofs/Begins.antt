@@ -95,12 +95,13 @@ stopped_by told old new OutOfMemory cause = tt
 -- ---- one more
 
 pub none_opened : AppLaws → (told : Bool) (old now : Medium) → Quiet now → WritesNothing old now → Elapses old now
-    → AreOpened told 0 [] old now
-none_opened laws told old now quiet nothing time = record {
+    → now.faults ≡ old.faults → AreOpened told 0 [] old now
+none_opened laws told old now quiet nothing time passes = record {
   many = refl;
   each = λ k a there. absurd (none_some a there);
   opened = λ tells. open_none laws old now time nothing quiet;
   quiet = quiet;
+  passes = passes;
   time = time;
 }
 
@@ -119,8 +120,8 @@ pub one_opened : AppLaws → StaysInUse → (told : Bool) (a : ℕ) (apps : List
     → a < 8 → AreOpened told a apps old now
     → b.app ≡ a → IsRunning told new.image b → running_in b ≡ idle → (IsTrue told → OpensRoot a now new)
     → (IsTrue told → IsOnTheWay a now new) → Quiet new → Elapses now new
-    → AreOpened told (a + 1) (apps ++ b ∷ []) old new
-one_opened laws stays told a apps b old now new lt are number used rests opens way quiet time = record {
+    → new.faults ≡ now.faults → AreOpened told (a + 1) (apps ++ b ∷ []) old new
+one_opened laws stays told a apps b old now new lt are number used rests opens way quiet time passes = record {
   many = length_more apps b ∙ ap (λ (n : ℕ). n + 1) are.many;
   each = λ k x there. ⊎_elim
       (λ was. before k x was)
@@ -129,6 +130,7 @@ one_opened laws stays told a apps b old now new lt are number used rests opens w
       (at_end apps b k x there);
   opened = λ tells. open_next laws a old now new lt (are.opened tells) (opens tells);
   quiet = quiet;
+  passes = passes ∙ are.passes;
   time = elapses_on are.time time;
 }
   where

@@ -104,7 +104,7 @@ now_steps laws makes rules answers told m now t apps b tells lawful are quiet do
   aside = record { elsewhere = λ f inside. refl; elsewhere_always = λ q c s. inl (lawful.only_now c s) };
   unwritten = λ none. (refl, refl);
   written = tt;
-  blamed = (le_refl m.faults, λ e. absurd (not_four e));
+  blamed = record { later = le_refl m.faults; cause = λ four. absurd (not_four four); passes = λ other. refl };
 }
 
 -- ---- a call of one application
@@ -233,7 +233,11 @@ module _ (laws : AppLaws) (rules : List Rule) (answers : Answers) (told : Bool) 
 
   blamed_on : (reply : Reply) → IsAnswered told rules answers now c a a' old new reply
       → IsBlamed old.faults new.faults reply
-  blamed_on reply h = (time.faults, λ is. absurd (h.unfailed is))
+  blamed_on reply h = record {
+    later = time.faults;
+    cause = λ four. absurd (h.unfailed four);
+    passes = λ other. h.passes;
+  }
 
   -- the world after it
   then : Option Doubt → World
@@ -392,7 +396,7 @@ module _ (laws : AppLaws) (rules : List Rule) (answers : Answers) (told : Bool) 
         unwritten = λ none. unwritten_on None (⊎_elim (λ idle. idle) (λ refusal. absurd (true≢false (sym refusal)))
             (either (calls_none (before None) e) false none));
         written = written_on None;
-        blamed = (time.faults, λ is. h.cause);
+        blamed = record { later = time.faults; cause = λ four. h.cause; passes = λ other. absurd (other refl) };
       }
 
   -- ---- memory ran out

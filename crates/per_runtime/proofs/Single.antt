@@ -81,16 +81,17 @@ pub called : (told : Bool) (rules : List Rule) (answers : Answers) (now : ℕ) (
     old new)
     → (Quiet old → OnOk result (Quiet new))
     → IfOk result (λ reply. is_refusal reply.answer ≡ true → IsUnwritten old new)
-    → (IsErrOf result Device → Rose old.faults new.faults)
+    → (IsErrOf result Device → Rose old.faults new.faults) → OnOk result (new.faults ≡ old.faults)
     → IfOk result (λ reply. reply.answer ≢ answer.Error error.PhysicalStorageFailure)
     → IfOk result (λ reply. HasText reply.answer)
     → IfEnded result (IsAnswered told rules answers now c a a' old new) (IsFailed told rules answers now c a a' old new)
     (IsTrue told → IsInProgress rules answers a.app now c (application old.image a) old new)
 called told rules answers now c a a' old new (Ok reply) rests app memory answered failed stopped quiet unwritten cause
-    unfailed text = record {
+    passes unfailed text = record {
       app = app;
       memory = memory (λ e. absurd cc);
       text = text;
+      passes = passes;
       unfailed = unfailed;
       quiet = quiet;
       unwritten = λ refused closed. unwritten refused;
@@ -104,7 +105,7 @@ called told rules answers now c a a' old new (Ok reply) rests app memory answere
       };
     }
 called told rules answers now c a a' old new (Err Device) rests app memory answered failed stopped quiet unwritten cause
-    unfailed text = record {
+    passes unfailed text = record {
       app = app;
       memory = memory memory_left;
       cause = cause refl;
@@ -124,7 +125,7 @@ called told rules answers now c a a' old new (Err Device) rests app memory answe
       };
     }
 called told rules answers now c a a' old new (Err OutOfMemory) rests app memory answered failed stopped quiet unwritten
-    cause unfailed text = λ tells.
+    cause passes unfailed text = λ tells.
     let is = stopped tells refl in record {
       next = is.next;
       leads = led rules answers a.app now c (application old.image a) is.next
@@ -263,7 +264,8 @@ module _ (mend : RootMendLaw) (told : Bool) (rules : List Rule) (answers : Answe
   -- ---- the root is in use, and the call was made
 
   module _ (opened : running_in b ≡ record { stage = at_rest; sessions = none_open }) (quiet : Quiet mid)
-      (opens : IsTrue told → OpensRoot a.app old mid) (a' : Running) (new : Medium) (time : Elapses mid new) where
+      (opens : IsTrue told → OpensRoot a.app old mid) (a' : Running) (new : Medium) (time : Elapses mid new)
+      (passes : mid.faults ≡ old.faults) where
     opened_is : IsTrue told → root_opened (application mid.image b) ≡ root_opened (application old.image a)
     opened_is tells = ap (λ (r : memory.Running). root_opened (as_app (app_at mid.image b.app) r)) opened
         ∙ ap (λ (x : App). as_app x (record { stage = at_rest; sessions = none_open }))
@@ -334,6 +336,7 @@ module _ (mend : RootMendLaw) (told : Bool) (rules : List Rule) (answers : Answe
       app = h.app ∙ same;
       memory = h.memory;
       text = h.text;
+      passes = h.passes ∙ passes;
       unfailed = h.unfailed;
       quiet = λ was. h.quiet quiet;
       unwritten = λ refused rests. not_in_use rests;

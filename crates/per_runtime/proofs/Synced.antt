@@ -26,6 +26,7 @@ use Rattle.run_model.specs.KeepLaws.{after_sync_keeps, failed_sync_keeps}
 use Rattle.run_model.specs.Moments.{IsMoment, IsReady, StepKeeps, StopKeeps}
 use Rattle.run_model.specs.Runtimes.{Memory, IsDoubt, IsElsewhere, IsUnwritten, StaysAside, Stepped, StepsOn, Stopped}
 use Rattle.run_model.specs.Runtimes.{WrittenBy, WritesWithin, calls_none, world_of, writes_none}
+use Rattle.run_model.specs.Turns.{IsBlamed}
 use Rattle.run_model.specs.Steps.{Leads, calls_device, doubt_after, failure}
 use Rattle.run_model.specs.Lasting.{IsWorld}
 use Rattle.run_model.specs.Worlds.{Application, Doubt, World, app_of, with_app, without_doubt}
@@ -59,6 +60,15 @@ more : (copies contents index before before' after : ℕ) → before ≡ before'
 more copies contents index before before' after same bound =
     subst (λ (k : ℕ). after ≤ k + copies * (contents + index + 88)) same bound
 
+-- a command behind a sync that did not fail
+blamed_behind : (reply : Reply) (old mid new : Medium) → old.faults ≤ mid.faults → mid.faults ≡ old.faults
+    → IsBlamed mid.faults new.faults reply → IsBlamed old.faults new.faults reply
+blamed_behind reply old mid new earlier same blamed = record {
+  later = le_trans earlier blamed.later;
+  cause = λ four. rose_before old.faults mid.faults new.faults earlier (blamed.cause four);
+  passes = λ other. blamed.passes other ∙ same;
+}
+
 module _ (rules : List Rule) (answers : Answers) (told : Bool) (n : ℕ) (c : Call) (m : Memory) (d : Doubt)
     (old mid new : Medium)
     (calls : calls_device (app_of (world_of old.image m (Some d)) n) c ≡ true) (nothing : WritesNothing old mid)
@@ -72,7 +82,8 @@ module _ (rules : List Rule) (answers : Answers) (told : Bool) (n : ℕ) (c : Ca
   unfolding before
   synced_is = ap (λ (i : Image). world_of i (sure m) None) nothing.image
 
-  module _ (lawful : IsLawful told mid) (quiet : Quiet mid) (later : Elapses mid new) where
+  module _ (lawful : IsLawful told mid) (quiet : Quiet mid) (passes : mid.faults ≡ old.faults)
+      (later : Elapses mid new) where
     -- a case of the sync, or one behind it: it might have come before the command, or leaves all as it was
     settled_case : (files : ℕ → Type 0) (x : Case) → mid.now x → IsSettledOn files old.image x
     settled_case files x at = settled_on files
@@ -150,11 +161,7 @@ module _ (rules : List Rule) (answers : Answers) (told : Bool) (n : ℕ) (c : Ca
           unwritten = λ none. unwritten_on (s.unwritten (subst
               (λ (w : World). writes_none w (event.App n c) reply ≡ true) (sym synced_is) none));
           written = written_on s.written;
-          blamed = (
-            le_trans time.faults s.blamed.0,
-            λ is. rose_before old.faults mid.faults new.faults time.faults
-                (s.blamed.1 is),
-          );
+          blamed = blamed_behind reply old mid new time.faults passes s.blamed;
         }
 
     pub stopped : Stopped rules answers (event.App n c) (sure m) None mid new
@@ -215,7 +222,7 @@ module _ (rules : List Rule) (answers : Answers) (told : Bool) (n : ℕ) (c : Ca
               (index_length f.config.kind (synced_view (shape_in n f) v (synced_of s) (seen_of s)).entries) old.written
               mid.written reads.written;
         };
-        blamed = (time.faults, λ is. rose);
+        blamed = record { later = time.faults; cause = λ four. rose; passes = λ other. absurd (other refl) };
       }
 
 -- ---- the runtime
@@ -237,7 +244,8 @@ module _ (rules : List Rule) (answers : Answers) (told : Bool) (n : ℕ) (c : Ca
   not_idle tells none = true≢false (sym (calls_in told old.image r n c None tells below used.apps calls)
       ∙ is_no (calls_device (app_of (world_of old.image (memory_of r) None) n) c) none)
 
-  module _ (r' : Runtime) (new : Medium) (lawful : IsLawful told mid) (quiet : Quiet mid) where
+  module _ (r' : Runtime) (new : Medium) (lawful : IsLawful told mid) (quiet : Quiet mid)
+      (passes : mid.faults ≡ old.faults) where
     steps_on : (reply : Reply) → Elapses mid new
         → (IsTrue told → (doubt : Option Doubt) → IsDoubt (memory_of (record r { in_doubt = false })) doubt
         → Stepped rules answers (event.App n c) reply (memory_of (record r { in_doubt = false })) (memory_of r') doubt
@@ -247,7 +255,7 @@ module _ (rules : List Rule) (answers : Answers) (told : Bool) (n : ℕ) (c : Ca
     steps_on reply later steps tells None is = absurd (true≢false (sym in_doubt ∙ sym is))
     steps_on reply later steps tells (Some d) is = stepped rules answers told n c (memory_of r) d old mid new
         (calls_in told old.image r n c (Some d) tells below used.apps calls)
-        nothing time lawful quiet later reply (memory_of r') (steps tells None refl)
+        nothing time lawful quiet passes later reply (memory_of r') (steps tells None refl)
 
     stops_on : Elapses mid new
         → (IsTrue told → (doubt : Option Doubt) → IsDoubt (memory_of (record r { in_doubt = false })) doubt
@@ -257,7 +265,7 @@ module _ (rules : List Rule) (answers : Answers) (told : Bool) (n : ℕ) (c : Ca
     stops_on later stops tells None is = absurd (true≢false (sym in_doubt ∙ sym is))
     stops_on later stops tells (Some d) is = stopped rules answers told n c (memory_of r) d old mid new
         (calls_in told old.image r n c (Some d) tells below used.apps calls)
-        nothing time lawful quiet later (stops tells None refl)
+        nothing time lawful quiet passes later (stops tells None refl)
 
     -- behind the sync the command went on without a doubt
     pub resumed : (Behind Whole : Type 0) (result : Result Reply Stop)
@@ -267,11 +275,7 @@ module _ (rules : List Rule) (answers : Answers) (told : Bool) (n : ℕ) (c : Ca
       end = record {
         memory = h.end.memory;
         text = h.end.text;
-        blamed = (
-          le_trans time.faults h.end.blamed.0,
-          λ four.
-              rose_before old.faults mid.faults new.faults time.faults (h.end.blamed.1 four),
-        );
+        blamed = blamed_behind reply old mid new time.faults passes h.end.blamed;
         stepped = steps_on reply h.time h.end.stepped;
       };
       idle = λ tells none. absurd (not_idle tells none);
@@ -305,7 +309,7 @@ module _ (rules : List Rule) (answers : Answers) (told : Bool) (n : ℕ) (c : Ca
             λ sure. absurd (true≢false (sym in_doubt ∙ sure));
       };
       text = refl;
-      blamed = (time.faults, λ four. rose);
+      blamed = record { later = time.faults; cause = λ four. rose; passes = λ other. absurd (other refl) };
       stepped = fails_on makes reads rose;
     };
     idle = λ tells none. absurd (not_idle tells none);

@@ -27,6 +27,7 @@ pub record AreOpened (told : Bool) (count : ℕ) (apps : List Running) (old now 
       → (a.app ≡ app) × IsRunning told now.image a × (running_in a ≡ idle)
   pub opened : IsTrue told → Opened count old now
   pub quiet : Quiet now
+  pub passes : now.faults ≡ old.faults
   pub time : Elapses old now
 
 -- by how the start ends

@@ -53,6 +53,7 @@ pub record IsAnswered (told : Bool) (rules : List Rule) (answers : Answers) (now
   pub app : a'.app ≡ a.app
   pub memory : IsRunning told new.image a'
   pub text : HasText reply.answer
+  pub passes : new.faults ≡ old.faults
   pub unfailed : reply.answer ≢ answer.Error error.PhysicalStorageFailure
   pub quiet : Quiet old → Quiet new
   pub unwritten : is_refusal reply.answer ≡ true → is_to_open (stage_in a.stage) ≡ false → IsUnwritten old new

@@ -1,6 +1,6 @@
 //! The start: eight roots are opened, one after another.
 
-ghost use Rattle.std.specs.Prelude.{◌≡◌, IfOk, IsErrOf, IsTrue};
+ghost use Rattle.std.specs.Prelude.{◌≡◌, IfOk, IsErrOf, IsTrue, OnOk};
 ghost use Rattle.per_base.specs.Causes.{Rose};
 ghost use Rattle.disk_model.specs.Medium.{Elapses};
 ghost use Rattle.run_model.specs.Runtimes.{StartKeeps, Starts};
@@ -30,6 +30,7 @@ pub fn start<D: Disk>(alloc: Global, disk: &mut D) -> Result<Runtime, Stop>
     // However it ends, at each moment each application stands between what it was and itself with its root mended.
     ensures stopped { IsTrue D.told → StartKeeps (D.medium disk.old) (D.medium disk.new) }
     ensures cause { IsErrOf result Stop.Device → Rose (D.medium disk.old).faults (D.medium disk.new).faults }
+    ensures passes { OnOk result ((D.medium disk.new).faults ≡ (D.medium disk.old).faults) }
     ensures time { Elapses (D.medium disk.old) (D.medium disk.new) }
 {
     let apps = open_all(alloc, disk)?;

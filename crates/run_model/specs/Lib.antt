@@ -28,3 +28,4 @@ pub mod SamplesLimits
 pub mod SamplesEndings
 pub mod SamplesManifests
 pub mod Lives
+pub mod SamplesLives

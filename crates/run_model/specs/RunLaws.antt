@@ -3,9 +3,8 @@
 use Rattle.std.specs.Prelude.{◌≡◌, ◌⊎◌, ℕ, zero, suc, ◌+◌, ◌≤◌, ◌<◌, List, [], ◌∷◌, ◌++◌, length, map, Option, Some}
 use Rattle.std.specs.Prelude.{None, Bool, IsTrue, true, false}
 use Rattle.std.specs.List.{AllByRecursion}
-use Rattle.std.proofs.Common.{refl, sym, ap, ◌∙◌, subst, le_refl, le_trans, inl, inr, ⊎_elim, arith}
+use Rattle.std.proofs.Common.{refl, sym, ap, ◌∙◌, subst, le_trans, inl, inr, ⊎_elim, arith}
 use Rattle.std.specs.Io.KnownBytes.{Appends}
-use Rattle.per_base.specs.Causes.{Rose}
 use Rattle.disk_model.specs.Case.{Case}
 use Rattle.disk_model.specs.Laws.{elapses_on}
 use Rattle.disk_model.specs.Medium.{Medium, Quiet, IsLawful, Elapses}
@@ -63,16 +62,7 @@ rest_there disk app (r ∷ rs) = ap (λ (xs : List Application). resting (disk a
 -- one command more, with its cause
 pub blamed_on : (before : ℕ) (ts : List Turn) (t : Turn) (after : ℕ) → AreBlamed before ts after
     → IsBlamed after t.faults t.reply → AreBlamed before (ts ++ t ∷ []) t.faults
-blamed_on before [] t after blamed cause = (
-  (
-    le_trans blamed cause.0,
-    λ failed. le_from before after t.faults blamed (cause.1 failed),
-  ),
-  le_refl _,
-)
-  where
-    le_from : (a b c : ℕ) → a ≤ b → Rose b c → Rose a c
-    le_from a b c earlier rose = omega arith
+blamed_on before [] t after same cause = (subst (λ (n : ℕ). IsBlamed n t.faults t.reply) same cause, refl)
 blamed_on before (u ∷ us) t after blamed cause = (blamed.0, blamed_on u.faults us t after blamed.1 cause)
 
 -- ---- what is said of a run so far

@@ -14,7 +14,7 @@ use Rattle.run_model.specs.Lasting.{IsWorld}
 use Rattle.run_model.specs.Lines.{lines_of, Give}
 use Rattle.run_model.specs.Moments.{AreImaged, IsMomentOf, OrBefore, last_of, AreSoundDoubts, AreDecided}
 use Rattle.run_model.specs.Steps.{Leads}
-use Rattle.run_model.specs.Turns.{Turn, events_of, worlds_of, text_of, Follow, AreBlamed}
+use Rattle.run_model.specs.Turns.{Turn, events_of, worlds_of, text_of, Follow, CountsFailures}
 use Rattle.run_model.specs.Worlds.{Disks, Doubt, World, disks, world_at, started, closed}
 
 -- ---- doubts
@@ -130,6 +130,6 @@ pub record Run (told : Bool) (rules : List Rule) (answers : Answers) (status : â
   -- goes on
   pub cause : HasCauseOf ending (record { disk = old.faults; source = source_before; sink = sink_before })
       (record { disk = new.faults; source = source_now; sink = sink_now })
-  pub blamed : AreBlamed old.faults turns new.faults
+  pub failures : CountsFailures (HasEnded ending) old.faults turns new.faults
   pub time : Elapses old new
   pub disk : IsTrue told â†’ DiskSide rules answers ending lines (lines_of ended given) turns before now old new

@@ -1,5 +1,5 @@
 -- The commands of a run that were answered, with their replies and the worlds after them.
-use Rattle.std.specs.Prelude.{◌≡◌, ◌≤◌, ℕ, List, [], ◌∷◌, map, ⊤}
+use Rattle.std.specs.Prelude.{◌≡◌, ◌≢◌, ◌≤◌, ℕ, List, [], ◌∷◌, map, ⊤}
 use Rattle.std.specs.List.{flat_map}
 use Rattle.per_base.specs.Causes.{Rose}
 use Rattle.per_base.specs.declared.errors.PerError.TheVariants as error
@@ -37,11 +37,20 @@ abbrev pub Follow : List Rule → Answers → World → List Turn → Type 0
 Follow rules answers w [] = ⊤
 Follow rules answers w (t ∷ ts) = StepsTo rules answers w t.event t.reply t.world × Follow rules answers t.world ts
 
--- a reply that the device failed has its cause in that very command: the count rose from the command before to it
-abbrev pub IsBlamed : (before now : ℕ) → Reply → Type 0
-IsBlamed before now reply = (before ≤ now) × (reply.answer ≡ answer.Error error.PhysicalStorageFailure
-    → Rose before now)
+-- a command is answered that the device failed where the count of failures rose in it, and only there
+pub record IsBlamed (before now : ℕ) (reply : Reply) : Type 0 where
+  pub later : before ≤ now
+  pub cause : reply.answer ≡ answer.Error error.PhysicalStorageFailure → Rose before now
+  pub passes : reply.answer ≢ answer.Error error.PhysicalStorageFailure → now ≡ before
 
+-- so each is, and nothing failed between them
 abbrev pub AreBlamed : (before : ℕ) → List Turn → (after : ℕ) → Type 0
-AreBlamed before [] after = before ≤ after
+AreBlamed before [] after = after ≡ before
 AreBlamed before (t ∷ ts) after = IsBlamed before t.faults t.reply × AreBlamed t.faults ts after
+
+-- The failures of a run: those of its answered commands, and behind the last of them none where the run was whole.
+pub record CountsFailures (Whole : Type 0) (before : ℕ) (turns : List Turn) (after : ℕ) : Type 0 where
+  pub behind : ℕ
+  pub blamed : AreBlamed before turns behind
+  pub later : behind ≤ after
+  pub passes : Whole → after ≡ behind

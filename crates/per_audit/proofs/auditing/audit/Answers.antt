@@ -1,69 +1,55 @@
-use Rattle.std.proofs.Common.{◌<◌, ◌≤◌, List, ◌++◌, ap, ◌∙◌, arith}
-use Rattle.std.specs.List.{flat_map, range_with_len}
-use Rattle.disk_model.specs.Laws.{idle_on}
-use Rattle.per_audit.specs.declared.findings.Finding.{Finding}
-use Rattle.per_audit.specs.declared.findings.Listed.{Listed}
-use Rattle.per_audit.proofs.Remaining.{app_elements_at, app_findings_at, apps_all, apps_more_at, elements_whole}
-use Rattle.per_audit.proofs.Remaining.{findings_whole, none_seen, seen_on}
+-- The disk is synchronised, and then audited; where the sync fails nothing is looked at.
+use Rattle.std.proofs.Common.{◌∙◌, inl, sym}
+use Rattle.disk_model.specs.Laws.{elapses_on, rose_before}
+use Rattle.per_audit.specs.Audits.{elements_at, findings_at}
+use Rattle.per_audit.proofs.Remaining.{each_on_image, on_err, on_ok, passes_on, seen_behind}
 use Rattle.per_audit.proofs.auditing.audit.Goals as goal
 
-pub loop-app-init : goal.loop-app-init
-loop-app-init g c = record {
-  elements = λ tells. ap (λ (xs : List Listed). xs ++ flat_map (app_elements_at (g.D.Disk.medium c.args.disk.now).image)
-      (range_with_len 0 8)) c.new-notes.ensures.elements;
-  findings = λ tells. ap (λ (xs : List Finding). xs ++ flat_map
-      (app_findings_at (g.D.Disk.medium c.args.disk.now).image) (range_with_len 0 8)) c.new-notes.ensures.findings;
-  quiet = λ some. absurd (omega (arith, some));
-  seen = none_seen (g.met.D.Disk.lawful c.args.disk.now);
-}
+pub returns-then-is_err-clause-during : goal.returns-then-is_err-clause-during
+returns-then-is_err-clause-during g c = λ x s.
+    let reads = on_err c.sync.result (sym c.if-is_err.ensures.value) c.sync.ensures.failed in inl (reads.during x s)
 
-pub loop-app-preserved : goal.loop-app-preserved
-loop-app-preserved g c =
-    let it = c.loop-app.invariant in
-    let app = c.loop-app.app in
-    let lt : app < 8 = omega arith in
-    let ok = c.in_ok-audit_app.ensures in
-    let old = g.D.Disk.medium c.args.disk.now in
-    let mid = g.D.Disk.medium c.loop-app.disk in
-    record {
-      elements = λ tells. apps_more_at app_elements_at old.image mid.image app c.loop-app.notes.elements.items
-          c.audit_app.new.notes.elements.items lt it.seen.image
-          (it.elements tells) (ok.adds tells).elements_are;
-      findings = λ tells. apps_more_at app_findings_at old.image mid.image app c.loop-app.notes.findings.items
-          c.audit_app.new.notes.findings.items lt it.seen.image
-          (it.findings tells) (ok.adds tells).findings_are;
-      quiet = λ some. ok.quiet;
-      seen = seen_on it.seen (record {
-        image = ok.image;
-        idle = ok.idle;
-        written = ok.written;
-        passes =
-            ok.passes;
-        time = ok.time;
-      });
-    }
+pub returns-then-is_err-clause-image : goal.returns-then-is_err-clause-image
+returns-then-is_err-clause-image g c = c.sync.ensures.writes_nothing.image
+
+pub returns-then-is_err-clause-written : goal.returns-then-is_err-clause-written
+returns-then-is_err-clause-written g c = c.sync.ensures.writes_nothing.written
+
+pub returns-then-is_err-clause-cause : goal.returns-then-is_err-clause-cause
+returns-then-is_err-clause-cause g c = λ failed.
+    on_err c.sync.result (sym c.if-is_err.ensures.value) c.sync.ensures.cause
 
 pub returns-clause-elements : goal.returns-clause-elements
-returns-clause-elements g c = λ tells.
-    let past : 8 ≤ c.loop-app.app = omega arith in
-    c.into_audit.ensures.elements
-    ∙ apps_all (app_elements_at (g.D.Disk.medium c.args.disk.now).image) c.loop-app.app c.loop-app.notes.elements.items
-    past (c.loop-app.invariant.elements tells)
-    ∙ elements_whole (g.D.Disk.medium c.args.disk.now).image
+returns-clause-elements g c = λ tells. each_on_image elements_at (λ audit. audit.elements)
+    (g.D.Disk.medium c.args.disk.now).image (g.D.Disk.medium c.sync.new.self).image c.audit_all.result
+    c.sync.ensures.writes_nothing.image (c.audit_all.ensures.elements tells)
 
 pub returns-clause-findings : goal.returns-clause-findings
-returns-clause-findings g c = λ tells.
-    let past : 8 ≤ c.loop-app.app = omega arith in
-    c.into_audit.ensures.findings
-    ∙ apps_all (app_findings_at (g.D.Disk.medium c.args.disk.now).image) c.loop-app.app c.loop-app.notes.findings.items
-    past (c.loop-app.invariant.findings tells)
-    ∙ findings_whole (g.D.Disk.medium c.args.disk.now).image
+returns-clause-findings g c = λ tells. each_on_image findings_at (λ audit. audit.findings)
+    (g.D.Disk.medium c.args.disk.now).image (g.D.Disk.medium c.sync.new.self).image c.audit_all.result
+    c.sync.ensures.writes_nothing.image (c.audit_all.ensures.findings tells)
 
-pub returns-clause-quiet : goal.returns-clause-quiet
-returns-clause-quiet g c = c.loop-app.invariant.quiet (omega arith)
+pub returns-clause-image : goal.returns-clause-image
+returns-clause-image g c = c.audit_all.ensures.image ∙ c.sync.ensures.writes_nothing.image
 
-pub returns-in_err-audit_app-clause-idle : goal.returns-in_err-audit_app-clause-idle
-returns-in_err-audit_app-clause-idle g c = λ quiet.
-    let seen = c.loop-app.invariant.seen in
-    let was = seen.idle quiet in
-    idle_on seen.time was c.in_err-audit_app.ensures.time (c.in_err-audit_app.ensures.idle was.quiet)
+pub returns-clause-written : goal.returns-clause-written
+returns-clause-written g c = c.audit_all.ensures.written ∙ c.sync.ensures.writes_nothing.written
+
+pub returns-clause-during : goal.returns-clause-during
+returns-clause-during g c = seen_behind c.sync.ensures.time c.sync.ensures.writes_nothing
+    (on_ok c.sync.result (sym c.if-is_err.ensures.value) c.sync.ensures.quiet) c.audit_all.ensures.time
+    c.audit_all.ensures.idle
+
+pub returns-clause-cause : goal.returns-clause-cause
+returns-clause-cause g c = λ failed. rose_before _ _ _ c.sync.ensures.time.faults (c.audit_all.ensures.cause failed)
+
+pub returns-clause-passes : goal.returns-clause-passes
+returns-clause-passes g c = passes_on c.audit_all.result _ _ _
+    (on_ok c.sync.result (sym c.if-is_err.ensures.value) c.sync.ensures.passes) c.audit_all.ensures.passes
+
+pub returns-clause-fed : goal.returns-clause-fed
+returns-clause-fed g c = λ starved. c.audit_all.ensures.fed starved
+    ∙ on_ok c.sync.result (sym c.if-is_err.ensures.value) c.sync.ensures.passes
+
+pub returns-clause-time : goal.returns-clause-time
+returns-clause-time g c = elapses_on c.sync.ensures.time c.audit_all.ensures.time

@@ -1,36 +1,60 @@
-use Rattle.std.proofs.Common.{refl, ◌∙◌}
-use Rattle.disk_model.specs.Image.{Image}
-use Rattle.element_state.specs.declared.shapes.View.{View}
-use Rattle.element_state.specs.Read.{IsView}
-use Rattle.per_backup.specs.declared.exporting.Exported.TheVariants.{Refused}
-use Rattle.per_backup.specs.Clauses.{IsViewFor}
-use Rattle.per_backup.specs.Finding.{IsLocated, IsMissing}
-use Rattle.per_backup.proofs.ExportRows.{answered, answered_missing}
-use Rattle.per_backup.proofs.Lists.{err_so, ok_so, some_weaker}
+-- The disk is synchronised, and then the storage is read; where the sync fails nothing is.
+use Rattle.std.proofs.Common.{◌≡◌, ◌∙◌, sym}
+use Rattle.disk_model.specs.Laws.{elapses_on, rose_before}
+use Rattle.run_model.specs.Lives.{looks_unsynced}
+use Rattle.per_backup.specs.Backups.{exporting}
+use Rattle.per_backup.specs.Clauses.{IsSeen, exported_as}
+use Rattle.per_backup.proofs.Synced.{each_ok, on_err, on_ok, passes_on, then_looks, then_seen}
 use Rattle.per_backup.proofs.exporting.export.Goals as goal
 
-pub returns-in-Err-clause-answer : goal.returns-in-Err-clause-answer
-returns-in-Err-clause-answer g c =
-    let old = (g.D.Disk.medium c.args.disk.now).image in
-    answered_missing g.D.Disk.told old c.args.app c.args.name.now c.in-Err.error
-    (err_so c.in_ok-located.field-0 c.in-Err.error (IsMissing g.D.Disk.told old c.args.app c.args.name.now) c.in-Err.is
-    c.in_ok-located.ensures.missing)
-    (Refused c.in-Err.error) refl
+pub returns-then-is_err-clause-stays : goal.returns-then-is_err-clause-stays
+returns-then-is_err-clause-stays g c = looks_unsynced (g.D.Disk.medium c.args.disk.now)
+    (g.D.Disk.medium c.sync.new.self)
+    (on_err c.sync.result (sym c.if-is_err.ensures.value) c.sync.ensures.failed)
 
-pub answer_of-requires : goal.answer_of-requires
-answer_of-requires g c =
-    let l = c.in-Ok.located in
-    let located = ok_so c.in_ok-located.field-0 l (IsLocated g.D.Disk.told (g.D.Disk.medium c.args.disk.now).image
-    c.args.app c.args.name.now) c.in-Ok.is c.in_ok-located.ensures.located in
-    some_weaker c.in_ok-view.view (IsView l.shape) (IsViewFor l.config.kind)
-    (λ v is. (l.shape, located.of.configured.kind, is)) c.in_ok-view.ensures.read
+pub returns-then-is_err-clause-cause : goal.returns-then-is_err-clause-cause
+returns-then-is_err-clause-cause g c = λ failed.
+    on_err c.sync.result (sym c.if-is_err.ensures.value) c.sync.ensures.cause
 
 pub returns-clause-answer : goal.returns-clause-answer
 returns-clause-answer g c =
-    let old = (g.D.Disk.medium c.args.disk.now).image in
-    let l = c.in-Ok.located in
-    answered g.D.Disk.told old (g.D.Disk.medium c.find.new.disk).image c.args.app c.args.name.now l
-    c.in_ok-located.ensures.image
-    (ok_so c.in_ok-located.field-0 l (IsLocated g.D.Disk.told old c.args.app c.args.name.now) c.in-Ok.is
-    c.in_ok-located.ensures.located)
-    c.in_ok-view.view c.in_ok-view.ensures.view c.in_ok-answer.answer c.in_ok-answer.ensures
+    let old = g.D.Disk.medium c.args.disk.now in
+    let mid = g.D.Disk.medium c.sync.new.self in
+    each_ok
+    (λ x. (it : _) × IsSeen g.D.Disk.told mid.image c.args.app it × (exported_as x ≡ exporting it c.args.name.now))
+    (λ x. (it : _) × IsSeen g.D.Disk.told old.image c.args.app it × (exported_as x ≡ exporting it c.args.name.now))
+    c.export_synced.result
+    (λ x given. (
+      given.0,
+      then_seen g.D.Disk.told old mid (g.D.Disk.medium c.export_synced.new.disk) (g.met.D.Disk.lawful c.sync.new.self)
+          c.sync.ensures.time c.sync.ensures.writes_nothing
+          (on_ok c.sync.result (sym c.if-is_err.ensures.value) c.sync.ensures.quiet) c.export_synced.ensures.time
+          c.args.app given.0 given.1,
+      given.2,
+    ))
+    c.export_synced.ensures.answer
+
+pub returns-clause-stays : goal.returns-clause-stays
+returns-clause-stays g c = then_looks g.D.Disk.told (g.D.Disk.medium c.args.disk.now) (g.D.Disk.medium c.sync.new.self)
+    (g.D.Disk.medium c.export_synced.new.disk) (g.met.D.Disk.lawful c.sync.new.self) c.sync.ensures.time
+    c.sync.ensures.writes_nothing (on_ok c.sync.result (sym c.if-is_err.ensures.value) c.sync.ensures.quiet)
+    c.export_synced.ensures.time
+    (record {
+      image = c.export_synced.ensures.image;
+      written = c.export_synced.ensures.written;
+      idle = c.export_synced.ensures.idle;
+    })
+
+pub returns-clause-cause : goal.returns-clause-cause
+returns-clause-cause g c = λ failed. rose_before _ _ _ c.sync.ensures.time.faults (c.export_synced.ensures.cause failed)
+
+pub returns-clause-passes : goal.returns-clause-passes
+returns-clause-passes g c = passes_on c.export_synced.result _ _ _
+    (on_ok c.sync.result (sym c.if-is_err.ensures.value) c.sync.ensures.passes) c.export_synced.ensures.passes
+
+pub returns-clause-fed : goal.returns-clause-fed
+returns-clause-fed g c = λ starved. c.export_synced.ensures.fed starved
+    ∙ on_ok c.sync.result (sym c.if-is_err.ensures.value) c.sync.ensures.passes
+
+pub returns-clause-time : goal.returns-clause-time
+returns-clause-time g c = elapses_on c.sync.ensures.time c.export_synced.ensures.time

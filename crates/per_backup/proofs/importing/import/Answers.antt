@@ -1,217 +1,83 @@
-use Rattle.std.proofs.Common.{◌≡◌}
-use Rattle.element_state.specs.States.{State}
-use Rattle.deploy_rows.specs.Recovering.{if_fits}
-use Rattle.per_backup.specs.Backups.{importing}
-use Rattle.per_backup.specs.Finding.{IsLocated, IsMissing, config_of}
-use Rattle.per_backup.proofs.Lists.{err_so, ok_so}
-use Rattle.per_backup.proofs.Nothing.{IsRefusedRow, early_refuses, missing_refuses, nothing_imported, nothing_keeps}
-use Rattle.per_backup.proofs.Nothing.{refuses_answers, refuses_there}
-use Rattle.per_backup.proofs.Replaced.{replaced_answers, replaced_imported, replaced_keeps, replaced_unchanged}
+-- The disk is synchronised, and then the storage is made anew; where the sync fails nothing is.
+use Rattle.std.proofs.Common.{◌∙◌, sym}
+use Rattle.std.specs.Prelude.{IsSome}
+use Rattle.disk_model.specs.Laws.{elapses_on, rose_before}
+use Rattle.deploy.specs.Clauses.{ChangesNothing}
+use Rattle.deploy_rows.specs.Rows.{Answers}
+use Rattle.run_model.specs.Lives.{LooksOnly}
+use Rattle.per_backup.specs.Backups.{importing_into}
+use Rattle.per_backup.specs.Clauses.{IsSeen}
+use Rattle.per_backup.proofs.Synced.{each_ok, on_each, on_err, on_ok, passes_on, then_imported, then_keeps, then_looks}
+use Rattle.per_backup.proofs.Synced.{then_seen, unsynced_keeps}
 use Rattle.per_backup.proofs.importing.import.Goals as goal
 
-pub returns-in_err-located-clause-keeps : goal.returns-in_err-located-clause-keeps
-returns-in_err-located-clause-keeps g c = λ tells. nothing_keeps c.storages_stand.ensures c.args.app c.requires
-    c.args.name.now c.args.bytes.now (g.D.Disk.medium c.args.disk.now) (g.D.Disk.medium c.find.new.disk)
-    (record {
-      image = c.in_err-located.ensures.image;
-      written = c.in_err-located.ensures.written;
-      idle =
-          c.in_err-located.ensures.idle;
-    })
+pub returns-then-is_err-clause-keeps : goal.returns-then-is_err-clause-keeps
+returns-then-is_err-clause-keeps g c = λ tells. unsynced_keeps c.args.app c.args.name.now c.args.bytes.now
+    (g.D.Disk.medium c.args.disk.now) (g.D.Disk.medium c.sync.new.self)
+    (on_err c.sync.result (sym c.if-is_err.ensures.value) c.sync.ensures.failed)
 
--- there is no such storage
-
-pub returns-in-Err-clause-refused : goal.returns-in-Err-clause-refused
-returns-in-Err-clause-refused g c = refuses_answers g.D.Disk.told (g.D.Disk.medium c.args.disk.now).image c.args.app
-    c.args.name.now c.args.bytes.now c.in-Err.error (missing_refuses g.D.Disk.told
-    (g.D.Disk.medium c.args.disk.now).image c.args.app c.args.name.now c.args.bytes.now c.in-Err.error
-    (err_so c.in_ok-located.field-0 c.in-Err.error (IsMissing g.D.Disk.told (g.D.Disk.medium c.args.disk.now).image
-    c.args.app c.args.name.now) c.in-Err.is c.in_ok-located.ensures.missing))
-
-pub returns-in-Err-clause-imported : goal.returns-in-Err-clause-imported
-returns-in-Err-clause-imported g c = λ tells. nothing_imported c.storages_stand.ensures c.args.app c.requires
-    c.args.name.now c.args.bytes.now (g.D.Disk.medium c.args.disk.now) (g.D.Disk.medium c.find.new.disk)
-    (record {
-      image = c.in_ok-located.ensures.image;
-      written = c.in_ok-located.ensures.written;
-      idle =
-          c.in_ok-located.ensures.idle;
-    }) c.in-Err.error
-    (refuses_there g.D.Disk.told (g.D.Disk.medium c.args.disk.now).image c.args.app c.args.name.now c.args.bytes.now
-    c.in-Err.error (missing_refuses g.D.Disk.told (g.D.Disk.medium c.args.disk.now).image c.args.app
-    c.args.name.now c.args.bytes.now c.in-Err.error (err_so c.in_ok-located.field-0 c.in-Err.error
-    (IsMissing g.D.Disk.told (g.D.Disk.medium c.args.disk.now).image c.args.app c.args.name.now) c.in-Err.is
-    c.in_ok-located.ensures.missing)) tells)
-
-pub returns-in-Err-clause-keeps : goal.returns-in-Err-clause-keeps
-returns-in-Err-clause-keeps g c = λ tells. nothing_keeps c.storages_stand.ensures c.args.app c.requires c.args.name.now
-    c.args.bytes.now (g.D.Disk.medium c.args.disk.now) (g.D.Disk.medium c.find.new.disk)
-    (record {
-      image = c.in_ok-located.ensures.image;
-      written = c.in_ok-located.ensures.written;
-      idle =
-          c.in_ok-located.ensures.idle;
-    })
-
--- the text is none for it
-
-pub returns-in_err-contents-clause-keeps : goal.returns-in_err-contents-clause-keeps
-returns-in_err-contents-clause-keeps g c = λ tells. nothing_keeps c.storages_stand.ensures c.args.app c.requires
-    c.args.name.now c.args.bytes.now (g.D.Disk.medium c.args.disk.now) (g.D.Disk.medium c.find.new.disk)
-    (record {
-      image = c.in_ok-located.ensures.image;
-      written = c.in_ok-located.ensures.written;
-      idle =
-          c.in_ok-located.ensures.idle;
-    })
-
-pub returns-in-Err-2-clause-refused : goal.returns-in-Err-2-clause-refused
-returns-in-Err-2-clause-refused g c = refuses_answers g.D.Disk.told (g.D.Disk.medium c.args.disk.now).image c.args.app
-    c.args.name.now c.args.bytes.now c.in-Err-2.error (early_refuses g.D.Disk.told
-    (g.D.Disk.medium c.args.disk.now).image c.args.app c.args.name.now c.args.bytes.now c.in-Err-2.error
-    c.in-Ok.located (ok_so c.in_ok-located.field-0 c.in-Ok.located
-    (IsLocated g.D.Disk.told (g.D.Disk.medium c.args.disk.now).image c.args.app c.args.name.now) c.in-Ok.is
-    c.in_ok-located.ensures.located) (err_so c.in_ok-contents.field-0 c.in-Err-2.error
-    (IsRefusedRow (config_of c.in-Ok.located) c.args.bytes.now) c.in-Err-2.is c.in_ok-contents.ensures.refused))
-
-pub returns-in-Err-2-clause-imported : goal.returns-in-Err-2-clause-imported
-returns-in-Err-2-clause-imported g c = λ tells. nothing_imported c.storages_stand.ensures c.args.app c.requires
-    c.args.name.now c.args.bytes.now (g.D.Disk.medium c.args.disk.now) (g.D.Disk.medium c.find.new.disk)
-    (record {
-      image = c.in_ok-located.ensures.image;
-      written = c.in_ok-located.ensures.written;
-      idle =
-          c.in_ok-located.ensures.idle;
-    }) c.in-Err-2.error
-    (refuses_there g.D.Disk.told (g.D.Disk.medium c.args.disk.now).image c.args.app c.args.name.now c.args.bytes.now
-    c.in-Err-2.error (early_refuses g.D.Disk.told (g.D.Disk.medium c.args.disk.now).image c.args.app
-    c.args.name.now c.args.bytes.now c.in-Err-2.error c.in-Ok.located
-    (ok_so c.in_ok-located.field-0 c.in-Ok.located (IsLocated g.D.Disk.told
-    (g.D.Disk.medium c.args.disk.now).image c.args.app c.args.name.now) c.in-Ok.is
-    c.in_ok-located.ensures.located) (err_so c.in_ok-contents.field-0 c.in-Err-2.error
-    (IsRefusedRow (config_of c.in-Ok.located) c.args.bytes.now) c.in-Err-2.is
-    c.in_ok-contents.ensures.refused)) tells)
-
-pub returns-in-Err-2-clause-keeps : goal.returns-in-Err-2-clause-keeps
-returns-in-Err-2-clause-keeps g c = λ tells. nothing_keeps c.storages_stand.ensures c.args.app c.requires
-    c.args.name.now c.args.bytes.now (g.D.Disk.medium c.args.disk.now) (g.D.Disk.medium c.find.new.disk)
-    (record {
-      image = c.in_ok-located.ensures.image;
-      written = c.in_ok-located.ensures.written;
-      idle =
-          c.in_ok-located.ensures.idle;
-    })
-
--- it is made anew
+pub returns-then-is_err-clause-cause : goal.returns-then-is_err-clause-cause
+returns-then-is_err-clause-cause g c = λ failed.
+    on_err c.sync.result (sym c.if-is_err.ensures.value) c.sync.ensures.cause
 
 pub returns-clause-refused : goal.returns-clause-refused
-returns-clause-refused g c = replaced_answers c.storages_stand.ensures g.D.Disk.told c.args.app c.requires
-    c.args.name.now c.args.bytes.now c.in-Ok.located c.in-Ok-2.contents.items
-    (ok_so c.in_ok-contents.field-0 c.in-Ok-2.contents (λ fs. (state : State)
-    → importing (config_of c.in-Ok.located) state c.args.bytes.now
-    ≡ if_fits (config_of c.in-Ok.located) state fs.items) c.in-Ok-2.is c.in_ok-contents.ensures.row)
-    (g.D.Disk.medium c.args.disk.now) (g.D.Disk.medium c.find.new.disk) (g.D.Disk.medium c.replace_contents.new.disk)
-    c.in_ok-located.ensures.time (record {
-      image = c.in_ok-located.ensures.image;
-      written =
-          c.in_ok-located.ensures.written;
-      idle = c.in_ok-located.ensures.idle;
-    }) c.replace_contents.ensures.time
-    (ok_so c.in_ok-located.field-0 c.in-Ok.located (IsLocated g.D.Disk.told (g.D.Disk.medium c.args.disk.now).image
-    c.args.app c.args.name.now) c.in-Ok.is c.in_ok-located.ensures.located) c.replace_contents.result
-    (record {
-      refused = c.replace_contents.ensures.refused;
-      state = c.replace_contents.ensures.state;
-      unchanged =
-          c.replace_contents.ensures.unchanged;
-      stays = c.replace_contents.ensures.stays;
-      clean =
-          c.replace_contents.ensures.clean;
-      outside = c.replace_contents.ensures.outside;
-      any_moment =
-          c.replace_contents.ensures.any_moment;
-    })
+returns-clause-refused g c =
+    let old = g.D.Disk.medium c.args.disk.now in
+    let mid = g.D.Disk.medium c.sync.new.self in
+    each_ok
+    (λ refused. (it : _) × IsSeen g.D.Disk.told mid.image c.args.app it
+    × Answers refused (importing_into it c.args.name.now c.args.bytes.now))
+    (λ refused. (it : _) × IsSeen g.D.Disk.told old.image c.args.app it
+    × Answers refused (importing_into it c.args.name.now c.args.bytes.now))
+    c.import_synced.result
+    (λ x given. (
+      given.0,
+      then_seen g.D.Disk.told old mid (g.D.Disk.medium c.import_synced.new.disk) (g.met.D.Disk.lawful c.sync.new.self)
+          c.sync.ensures.time c.sync.ensures.writes_nothing
+          (on_ok c.sync.result (sym c.if-is_err.ensures.value) c.sync.ensures.quiet) c.import_synced.ensures.time
+          c.args.app given.0 given.1,
+      given.2,
+    ))
+    c.import_synced.ensures.refused
 
 pub returns-clause-unchanged : goal.returns-clause-unchanged
-returns-clause-unchanged g c = replaced_unchanged c.storages_stand.ensures g.D.Disk.told c.args.app c.requires
-    c.args.name.now c.args.bytes.now c.in-Ok.located c.in-Ok-2.contents.items
-    (ok_so c.in_ok-contents.field-0 c.in-Ok-2.contents (λ fs. (state : State)
-    → importing (config_of c.in-Ok.located) state c.args.bytes.now
-    ≡ if_fits (config_of c.in-Ok.located) state fs.items) c.in-Ok-2.is c.in_ok-contents.ensures.row)
-    (g.D.Disk.medium c.args.disk.now) (g.D.Disk.medium c.find.new.disk) (g.D.Disk.medium c.replace_contents.new.disk)
-    c.in_ok-located.ensures.time (record {
-      image = c.in_ok-located.ensures.image;
-      written =
-          c.in_ok-located.ensures.written;
-      idle = c.in_ok-located.ensures.idle;
-    }) c.replace_contents.ensures.time
-    (ok_so c.in_ok-located.field-0 c.in-Ok.located (IsLocated g.D.Disk.told (g.D.Disk.medium c.args.disk.now).image
-    c.args.app c.args.name.now) c.in-Ok.is c.in_ok-located.ensures.located) c.replace_contents.result
-    (record {
-      refused = c.replace_contents.ensures.refused;
-      state = c.replace_contents.ensures.state;
-      unchanged =
-          c.replace_contents.ensures.unchanged;
-      stays = c.replace_contents.ensures.stays;
-      clean =
-          c.replace_contents.ensures.clean;
-      outside = c.replace_contents.ensures.outside;
-      any_moment =
-          c.replace_contents.ensures.any_moment;
-    })
+returns-clause-unchanged g c =
+    let old = g.D.Disk.medium c.args.disk.now in
+    let mid = g.D.Disk.medium c.sync.new.self in
+    let new = g.D.Disk.medium c.import_synced.new.disk in
+    each_ok (λ refused. IsSome refused → ChangesNothing mid new) (λ refused. IsSome refused → LooksOnly old new)
+    c.import_synced.result
+    (λ refused given some. then_looks g.D.Disk.told old mid new (g.met.D.Disk.lawful c.sync.new.self)
+    c.sync.ensures.time c.sync.ensures.writes_nothing
+    (on_ok c.sync.result (sym c.if-is_err.ensures.value) c.sync.ensures.quiet) c.import_synced.ensures.time
+    (given some))
+    c.import_synced.ensures.unchanged
 
 pub returns-clause-imported : goal.returns-clause-imported
-returns-clause-imported g c = λ tells. replaced_imported c.storages_stand.ensures g.D.Disk.told c.args.app c.requires
-    c.args.name.now c.args.bytes.now c.in-Ok.located c.in-Ok-2.contents.items
-    (ok_so c.in_ok-contents.field-0 c.in-Ok-2.contents (λ fs. (state : State)
-    → importing (config_of c.in-Ok.located) state c.args.bytes.now
-    ≡ if_fits (config_of c.in-Ok.located) state fs.items) c.in-Ok-2.is c.in_ok-contents.ensures.row)
-    (g.D.Disk.medium c.args.disk.now) (g.D.Disk.medium c.find.new.disk) (g.D.Disk.medium c.replace_contents.new.disk)
-    c.in_ok-located.ensures.time (record {
-      image = c.in_ok-located.ensures.image;
-      written =
-          c.in_ok-located.ensures.written;
-      idle = c.in_ok-located.ensures.idle;
-    }) c.replace_contents.ensures.time
-    (ok_so c.in_ok-located.field-0 c.in-Ok.located (IsLocated g.D.Disk.told (g.D.Disk.medium c.args.disk.now).image
-    c.args.app c.args.name.now) c.in-Ok.is c.in_ok-located.ensures.located) c.replace_contents.result
-    (record {
-      refused = c.replace_contents.ensures.refused;
-      state = c.replace_contents.ensures.state;
-      unchanged =
-          c.replace_contents.ensures.unchanged;
-      stays = c.replace_contents.ensures.stays;
-      clean =
-          c.replace_contents.ensures.clean;
-      outside = c.replace_contents.ensures.outside;
-      any_moment =
-          c.replace_contents.ensures.any_moment;
-    }) tells
+returns-clause-imported g c = λ tells. on_each c.import_synced.result
+    (then_imported g.D.Disk.told (g.D.Disk.medium c.args.disk.now) (g.D.Disk.medium c.sync.new.self)
+    (g.D.Disk.medium c.import_synced.new.disk) (g.met.D.Disk.lawful c.sync.new.self) c.sync.ensures.time
+    c.sync.ensures.writes_nothing (on_ok c.sync.result (sym c.if-is_err.ensures.value) c.sync.ensures.quiet)
+    c.import_synced.ensures.time c.args.app c.args.name.now c.args.bytes.now)
+    (c.import_synced.ensures.imported tells)
 
 pub returns-clause-keeps : goal.returns-clause-keeps
-returns-clause-keeps g c = λ tells. replaced_keeps c.storages_stand.ensures g.D.Disk.told c.args.app c.requires
-    c.args.name.now c.args.bytes.now c.in-Ok.located c.in-Ok-2.contents.items
-    (ok_so c.in_ok-contents.field-0 c.in-Ok-2.contents (λ fs. (state : State)
-    → importing (config_of c.in-Ok.located) state c.args.bytes.now
-    ≡ if_fits (config_of c.in-Ok.located) state fs.items) c.in-Ok-2.is c.in_ok-contents.ensures.row)
-    (g.D.Disk.medium c.args.disk.now) (g.D.Disk.medium c.find.new.disk) (g.D.Disk.medium c.replace_contents.new.disk)
-    c.in_ok-located.ensures.time (record {
-      image = c.in_ok-located.ensures.image;
-      written =
-          c.in_ok-located.ensures.written;
-      idle = c.in_ok-located.ensures.idle;
-    }) c.replace_contents.ensures.time
-    (ok_so c.in_ok-located.field-0 c.in-Ok.located (IsLocated g.D.Disk.told (g.D.Disk.medium c.args.disk.now).image
-    c.args.app c.args.name.now) c.in-Ok.is c.in_ok-located.ensures.located) c.replace_contents.result
-    (record {
-      refused = c.replace_contents.ensures.refused;
-      state = c.replace_contents.ensures.state;
-      unchanged =
-          c.replace_contents.ensures.unchanged;
-      stays = c.replace_contents.ensures.stays;
-      clean =
-          c.replace_contents.ensures.clean;
-      outside = c.replace_contents.ensures.outside;
-      any_moment =
-          c.replace_contents.ensures.any_moment;
-    }) tells
+returns-clause-keeps g c = λ tells. then_keeps g.D.Disk.told (g.D.Disk.medium c.args.disk.now)
+    (g.D.Disk.medium c.sync.new.self) (g.D.Disk.medium c.import_synced.new.disk)
+    (g.met.D.Disk.lawful c.sync.new.self) c.sync.ensures.time c.sync.ensures.writes_nothing
+    (on_ok c.sync.result (sym c.if-is_err.ensures.value) c.sync.ensures.quiet) c.import_synced.ensures.time c.args.app
+    c.args.name.now c.args.bytes.now (c.import_synced.ensures.keeps tells)
+
+pub returns-clause-cause : goal.returns-clause-cause
+returns-clause-cause g c = λ failed. rose_before _ _ _ c.sync.ensures.time.faults (c.import_synced.ensures.cause failed)
+
+pub returns-clause-passes : goal.returns-clause-passes
+returns-clause-passes g c = passes_on c.import_synced.result _ _ _
+    (on_ok c.sync.result (sym c.if-is_err.ensures.value) c.sync.ensures.passes) c.import_synced.ensures.passes
+
+pub returns-clause-fed : goal.returns-clause-fed
+returns-clause-fed g c = λ starved. c.import_synced.ensures.fed starved
+    ∙ on_ok c.sync.result (sym c.if-is_err.ensures.value) c.sync.ensures.passes
+
+pub returns-clause-time : goal.returns-clause-time
+returns-clause-time g c = elapses_on c.sync.ensures.time c.import_synced.ensures.time

@@ -15,7 +15,7 @@ returns-in-Ok-clause-job g c = record {
   output = c.write_audit.ensures.output;
   sound = c.write_audit.ensures.sound;
   found = c.write_audit.ensures.found;
-  stays = record { image = c.audit.ensures.image; written = c.audit.ensures.written; idle = c.audit.ensures.idle };
+  stays = record { image = c.audit.ensures.image; written = c.audit.ensures.written; during = c.audit.ensures.during };
   quiet = λ done. c.in-Ok.ensures.quiet;
   failed = λ unfailed. c.in-Ok.ensures.passes;
 }
@@ -25,7 +25,7 @@ returns-in-Ok-clause-caused g c = λ source. audit_caused _ _ _ c.write_audit.en
 
 pub returns-in-Err-Device-clause-job : goal.returns-in-Err-Device-clause-job
 returns-in-Err-Device-clause-job g c = audits_none _ _ _ _ _ (inl refl)
-    (record { image = c.audit.ensures.image; written = c.audit.ensures.written; idle = c.audit.ensures.idle })
+    (record { image = c.audit.ensures.image; written = c.audit.ensures.written; during = c.audit.ensures.during })
     (λ unfailed. absurd (unfailed refl))
 
 pub returns-in-Err-Device-clause-caused : goal.returns-in-Err-Device-clause-caused
@@ -34,7 +34,7 @@ returns-in-Err-Device-clause-caused g c = λ source. by_disk refl
 
 pub returns-in-Err-OutOfMemory-clause-job : goal.returns-in-Err-OutOfMemory-clause-job
 returns-in-Err-OutOfMemory-clause-job g c = audits_none _ _ _ _ _ (inr refl)
-    (record { image = c.audit.ensures.image; written = c.audit.ensures.written; idle = c.audit.ensures.idle })
+    (record { image = c.audit.ensures.image; written = c.audit.ensures.written; during = c.audit.ensures.during })
     (λ unfailed. c.audit.ensures.fed (c.in-Err-OutOfMemory.is ∙ ap Err c.in-Err-OutOfMemory.field-0-is))
 
 pub returns-in-Err-OutOfMemory-clause-caused : goal.returns-in-Err-OutOfMemory-clause-caused

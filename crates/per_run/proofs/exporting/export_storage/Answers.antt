@@ -20,7 +20,7 @@ returns-in-Ok-clause-job g c = record {
   answers = answers_as (λ text. text) (exported_as c.in-Ok.exported)
       (exporting c.in-Ok.ensures.answer.0 c.args.name.now) _ _ _ c.in-Ok.ensures.answer.2
       c.write_exported.ensures.answers;
-  stays = record { image = c.export.ensures.image; written = c.export.ensures.written; idle = c.export.ensures.idle };
+  stays = c.export.ensures.stays;
   quiet = λ done. c.in-Ok.ensures.quiet;
   failed = λ unfailed. c.in-Ok.ensures.passes;
 }
@@ -30,7 +30,7 @@ returns-in-Ok-clause-caused g c = λ source. export_caused _ _ _ _ _ c.write_exp
 
 pub returns-in-Err-Device-clause-job : goal.returns-in-Err-Device-clause-job
 returns-in-Err-Device-clause-job g c = exports_none _ _ _ _ _ _ _ (inl refl)
-    (record { image = c.export.ensures.image; written = c.export.ensures.written; idle = c.export.ensures.idle })
+    c.export.ensures.stays
     (λ unfailed. absurd (unfailed refl))
 
 pub returns-in-Err-Device-clause-caused : goal.returns-in-Err-Device-clause-caused
@@ -39,7 +39,7 @@ returns-in-Err-Device-clause-caused g c = λ source. by_disk refl
 
 pub returns-in-Err-OutOfMemory-clause-job : goal.returns-in-Err-OutOfMemory-clause-job
 returns-in-Err-OutOfMemory-clause-job g c = exports_none _ _ _ _ _ _ _ (inr refl)
-    (record { image = c.export.ensures.image; written = c.export.ensures.written; idle = c.export.ensures.idle })
+    c.export.ensures.stays
     (λ unfailed. c.export.ensures.fed (c.in-Err-OutOfMemory.is ∙ ap Err c.in-Err-OutOfMemory.field-0-is))
 
 pub returns-in-Err-OutOfMemory-clause-caused : goal.returns-in-Err-OutOfMemory-clause-caused

@@ -1,5 +1,5 @@
 -- The runtime starts behind the formatting.
-use Rattle.std.proofs.Common.{Result, Ok, Err, IfOk, ℕ, ◌≤◌, ◌<◌, ◌≡◌, Bool, IsTrue}
+use Rattle.std.proofs.Common.{Result, Ok, Err, IfOk, OnOk, ℕ, ◌<◌, ◌≡◌, Bool, IsTrue}
 use Rattle.disk_model.specs.Laws.{elapses_on, rose_before}
 use Rattle.disk_model.specs.Medium.{Medium, Elapses}
 use Rattle.deploy.specs.declared.errors.Stop.{Stop}
@@ -13,21 +13,24 @@ use Rattle.per_run.proofs.Fresh.{is_formatted}
 use Rattle.per_run.proofs.generating.start_formatted.Goals as goal
 
 begun_ok : {D : Type 0} (medium : D → Medium) (told : Bool) (r : Result Runtime Stop) (old middle new : D)
-    → (medium old).faults ≤ (medium middle).faults
+    → (medium middle).faults ≡ (medium old).faults
+    → OnOk r ((medium new).faults ≡ (medium middle).faults)
     → (IsTrue told → world_at (medium middle).image ≡ formatted)
     → (IsTrue told → (app : ℕ) → app < 8 → IsCleanApp app (medium middle).image)
     → (IsTrue told → IfOk r (λ x. Starts (memory_of x) (medium middle) (medium new)))
     → Elapses (medium middle) (medium new)
     → IfOk r (λ x. (m : D) × IsBegun told (memory_of x) (medium old) (medium m) (medium new))
-begun_ok medium told (Ok x) old middle new earlier world clean starts time =
-    (middle, record { earlier = earlier; world = world; clean = clean; starts = starts; time = time })
-begun_ok medium told (Err e) old middle new earlier world clean starts time = tt
+begun_ok medium told (Ok x) old middle new passes started world clean starts time = (
+  middle,
+  record { passes = passes; started = started; world = world; clean = clean; starts = starts; time = time },
+)
+begun_ok medium told (Err e) old middle new passes started world clean starts time = tt
 
 pub returns-in-Ok-clause-begun : goal.returns-in-Ok-clause-begun
 returns-in-Ok-clause-begun g c = begun_ok g.D.Disk.medium g.D.Disk.told c.start.result c.args.disk.now
-    c.format_all.new.disk c.start.new.disk c.format_all.ensures.time.faults
-    (λ tells. is_formatted _ (c.in-Ok.ensures.apps tells)) c.in-Ok.ensures.clean c.start.ensures.starts
-    c.start.ensures.time
+    c.format_all.new.disk c.start.new.disk c.in-Ok.ensures.passes
+    c.start.ensures.passes (λ tells. is_formatted _ (c.in-Ok.ensures.apps tells)) c.in-Ok.ensures.clean
+    c.start.ensures.starts c.start.ensures.time
 
 pub returns-in-Ok-clause-cause : goal.returns-in-Ok-clause-cause
 returns-in-Ok-clause-cause g c = λ failed. rose_before _ _ _ c.format_all.ensures.time.faults

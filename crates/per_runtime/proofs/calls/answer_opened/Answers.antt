@@ -10,7 +10,7 @@ returns g c =
           c.args.call.now c.args.running.now c.call.new.self
           (g.D.Disk.medium c.args.disk.now) (g.D.Disk.medium c.call.new.disk) c.call.result c.requires.opened said.app
           said.memory said.answered said.failed said.stopped
-          said.quiet said.unwritten said.cause said.unfailed said.text;
+          said.quiet said.unwritten said.cause said.passes said.unfailed said.text;
       idle = λ tells. none_called (g.D.Disk.medium c.args.disk.now).image c.args.running.now c.args.call.now
           (said.idle tells);
       written = said.written;

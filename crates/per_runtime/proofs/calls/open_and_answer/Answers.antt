@@ -43,7 +43,7 @@ returns g c =
       end = opened_first c.applications_stand.ensures.mend g.D.Disk.told (rules_of c.args.migrations.now)
           (answers_of c.args.migrations.now) c.args.now c.args.call.now a c.open_root.new.self old mid
           c.requires.marked said.app closed said.opened said.quiet said.root c.answer_opened.new.running new
-          c.answer_opened.ensures.time c.answer_opened.result said.time c.answer_opened.ensures.end;
+          c.answer_opened.ensures.time said.passes c.answer_opened.result said.time c.answer_opened.ensures.end;
       idle = λ tells. none_idle c.applications_stand.ensures.mend g.D.Disk.told (rules_of c.args.migrations.now)
           (answers_of c.args.migrations.now) c.args.now c.args.call.now a c.open_root.new.self old mid
           c.requires.marked said.app closed _;

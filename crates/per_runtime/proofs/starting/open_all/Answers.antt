@@ -23,7 +23,7 @@ pub loop-app-init : goal.loop-app-init
 loop-app-init g c = rw c.new-apps.ensures.items (none_opened c.applications_stand.ensures g.D.Disk.told
     (g.D.Disk.medium c.args.disk.now) (g.D.Disk.medium c.sync.new.self)
     (on_ok c.sync.result (sym c.if-is_err.ensures.value) c.sync.ensures.quiet) c.sync.ensures.writes_nothing
-    c.sync.ensures.time)
+    c.sync.ensures.time (on_ok c.sync.result (sym c.if-is_err.ensures.value) c.sync.ensures.passes))
 
 pub returns-in_err-running : goal.returns-in_err-running
 returns-in_err-running g c =
@@ -86,7 +86,7 @@ loop-app-preserved g c =
     (g.D.Disk.medium c.args.disk.now) now new lt it (said.app ∙ c.in_ok-running.ensures.app) said.memory said.opened
     (λ tells. root_at c.in_ok-running.running.app c.loop-app.app now new c.in_ok-running.ensures.app (said.root tells))
     (λ tells. way_at c.in_ok-running.running.app c.loop-app.app now new c.in_ok-running.ensures.app
-    (said.on_the_way tells)) said.quiet said.time)
+    (said.on_the_way tells)) said.quiet said.time said.passes)
 
 pub returns : goal.returns
 returns g c =

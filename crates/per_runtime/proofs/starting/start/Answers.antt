@@ -18,3 +18,6 @@ returns-clause-starts g c = λ tells. starts_by g.D.Disk.told c.in_ok-apps.apps.
 pub returns-clause-fresh : goal.returns-clause-fresh
 returns-clause-fresh g c = fresh_by g.D.Disk.told c.in_ok-apps.apps.items (g.D.Disk.medium c.args.disk.now)
     (g.D.Disk.medium c.open_all.new.disk) c.in_ok-apps.ensures.end
+
+pub returns-clause-passes : goal.returns-clause-passes
+returns-clause-passes g c = c.in_ok-apps.ensures.end.passes

@@ -12,6 +12,7 @@ returns g c = record {
   unwritten = c.answer.ensures.unwritten;
   written = c.answer.ensures.written;
   cause = c.answer.ensures.cause;
+  passes = c.answer.ensures.passes;
   unfailed = c.answer.ensures.unfailed;
   text = c.answer.ensures.text;
   time = c.answer.ensures.time;

@@ -45,6 +45,7 @@ returns g c =
       unwritten = c.call.ensures.unwritten;
       written = c.call.ensures.written;
       cause = c.call.ensures.cause;
+      passes = c.call.ensures.passes;
       unfailed = c.call.ensures.unfailed;
       text = c.call.ensures.text;
       time = c.call.ensures.time;

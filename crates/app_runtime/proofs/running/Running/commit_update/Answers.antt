@@ -113,4 +113,4 @@ returns g c = λ now.
     (λ tells. subst (λ n. app_at new.image n ≡ updated_app (progress_in t) (app_at old.image n)) of_app
     (c.in_ok-root.ensures.app tells)) calls
     (λ tells. subst (λ n. IsCleanApp n old.image → IsCleanApp n new.image) of_app (c.in_ok-root.ensures.clean tells))
-    (λ quiet. c.in_ok-root.ensures.quiet) c.commit_update.ensures.time)))
+    (λ quiet. c.in_ok-root.ensures.quiet) c.in_ok-root.ensures.passes c.commit_update.ensures.time)))

@@ -44,6 +44,7 @@ returns g c = λ now.
       quiet = c.finish-made.ensures.quiet;
       unchanged = c.finish-made.ensures.unchanged;
       cause = c.finish-made.ensures.cause;
+      passes = c.finish-made.ensures.passes;
       device_only = c.finish-made.ensures.device_only;
       calls = λ tells. calls_to told s.app (after (app_at old.image s.app) (finishing (app_at old.image s.app)))
           (IsNoRootSlot s.app) old new tells (λ f is. no_root s.app f resting.below is) outside

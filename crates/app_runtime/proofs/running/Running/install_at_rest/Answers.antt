@@ -56,6 +56,7 @@ returns g c =
       quiet = c.install-made.ensures.quiet;
       unchanged = c.install-made.ensures.unchanged;
       cause = c.install-made.ensures.cause;
+      passes = c.install-made.ensures.passes;
       device_only = c.install-made.ensures.device_only;
       calls = λ tells. calls_to told taken.app (after (app_at old.image taken.app) (row (app_at old.image taken.app)))
           (IsBesideNext taken.app 0) old new tells (λ f is.

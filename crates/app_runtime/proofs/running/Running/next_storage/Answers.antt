@@ -106,4 +106,4 @@ returns g c = λ now.
     (subst (λ n. StagedAt told new.image n c.in_ok-staged.staged) of_app c.in_ok-staged.ensures.staged)
     (λ tells. subst (λ n. app_at new.image n ≡ app_at old.image n) of_app (c.next_storage.ensures.app tells)) calls
     (λ tells. subst (λ n. IsCleanApp n old.image → IsCleanApp n new.image) of_app (c.next_storage.ensures.clean tells))
-    c.in_ok-staged.ensures.quiet c.next_storage.ensures.time)))
+    c.in_ok-staged.ensures.quiet c.in_ok-staged.ensures.passes c.next_storage.ensures.time)))

@@ -61,6 +61,7 @@ returns g c = λ now.
       quiet = c.rollback-made.ensures.quiet;
       unchanged = c.rollback-made.ensures.unchanged;
       cause = c.rollback-made.ensures.cause;
+      passes = c.rollback-made.ensures.passes;
       device_only = c.rollback-made.ensures.device_only;
       calls = λ tells. calls_to told s.app (after (app_at old.image s.app) (row (app_at old.image s.app)))
           (IsNoRootSlot s.app) old new tells (λ f is. no_root s.app f resting.below is)

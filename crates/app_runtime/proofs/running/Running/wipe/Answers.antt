@@ -68,6 +68,7 @@ returns g c = λ now.
       quiet = c.wipe-made.ensures.quiet;
       unchanged = c.wipe-made.ensures.unchanged;
       cause = c.wipe-made.ensures.cause;
+      passes = c.wipe-made.ensures.passes;
       device_only = c.wipe-made.ensures.device_only;
       calls = λ tells. calls_to told taken.app (after (app_at old.image taken.app) (row (app_at old.image taken.app)))
           (IsNoRootSlot taken.app) old new tells (λ f is. no_root taken.app f (subst (λ n. n < 8) back resting.below)

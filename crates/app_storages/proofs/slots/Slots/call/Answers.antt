@@ -1,5 +1,5 @@
-use Rattle.app_storages.proofs.Handled.{answered_of, cause_of, failed_of, memory_of, quiet_of, stopped_of, text_of}
-use Rattle.app_storages.proofs.Handled.{unfailed_of, unwritten_of}
+use Rattle.app_storages.proofs.Handled.{answered_of, cause_of, failed_of, memory_of, passes_of, quiet_of, stopped_of}
+use Rattle.app_storages.proofs.Handled.{text_of, unfailed_of, unwritten_of}
 use Rattle.app_storages.proofs.slots.Slots.call.Goals as goal
 
 pub returns : goal.returns
@@ -13,6 +13,7 @@ returns g c = record {
   unwritten = unwritten_of c.handle.result c.handle.ensures;
   written = c.handle.ensures.written;
   cause = cause_of c.handle.result c.handle.ensures;
+  passes = passes_of c.handle.result c.handle.ensures;
   unfailed = unfailed_of c.handle.result c.handle.ensures;
   text = text_of c.handle.result c.handle.ensures;
   time = c.handle.ensures.time;

@@ -76,6 +76,7 @@ returns-in-Ok-close g c = λ now.
           c.close.ensures.clean;
       at_most = c.close.ensures.at_most;
       cause = c.close.ensures.cause;
+      passes = c.close.ensures.passes;
       storing =
           c.close.ensures.storing;
     })
@@ -105,6 +106,7 @@ returns-in-Err-close g c = λ now.
           c.close.ensures.clean;
       at_most = c.close.ensures.at_most;
       cause = c.close.ensures.cause;
+      passes = c.close.ensures.passes;
       storing =
           c.close.ensures.storing;
     })

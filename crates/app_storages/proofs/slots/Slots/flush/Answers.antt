@@ -82,6 +82,7 @@ returns-in-Ok-flush g c = λ now.
       at_most = c.flush.ensures.at_most;
       cause =
           c.flush.ensures.cause;
+      passes = c.flush.ensures.passes;
       storing = c.flush.ensures.storing;
     })
     c.in-Ok-flush.made c.in-Ok-flush.is c.take.new.self c.put_back.new.self c.take.ensures.rest c.put_back.result
@@ -114,6 +115,7 @@ returns-in-Err-flush g c = λ now.
       at_most = c.flush.ensures.at_most;
       cause =
           c.flush.ensures.cause;
+      passes = c.flush.ensures.passes;
       storing = c.flush.ensures.storing;
     })
     c.take.new.self c.take.ensures.rest c.in-Err-flush.stop c.in-Err-flush.is

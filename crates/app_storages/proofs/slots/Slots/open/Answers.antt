@@ -89,7 +89,7 @@ returns-in-Ok-Opened g c = λ now.
     c.in-Ok-Opened.ensures.placed))
     (subst (λ (x : Opening). OnOpened x (λ o. IsUsed told new.image (store_in o))) given c.in-Ok-Opened.ensures.used)
     (record { kind = c.invariants.ensures.kind; shows = c.invariants.ensures.synced })
-    c.in-Ok-Opened.ensures.quiet c.put.ensures
+    c.in-Ok-Opened.ensures.quiet c.in-Ok-Opened.ensures.passes c.put.ensures
     (λ tells clean. subst (λ (sh : Shape). IsClean sh new.image) placed_so
     (c.in-Ok-Opened.ensures.clean tells (subst (λ (sh : Shape). IsClean sh m.image) (sym placed_so) clean)))
     (λ tells. subst (λ (sh : Shape). IsOpeningOf (store_at m.image sh) sh (config_of l)
@@ -114,7 +114,7 @@ returns-in-Ok-is_corrupt g c = λ now.
     c.in-Ok.ensures.found c.in-Ok.ensures.named closed new (c.open_storage.new.disk ≡ c.args.disk.now) storing
     report (subst (λ (x : Opening). OnCorrupt x ((new.image ≡ m.image) × (new.written ≡ m.written))) given
     c.in-Ok-Corrupt.ensures.untouched)
-    c.in-Ok-Corrupt.ensures.quiet
+    c.in-Ok-Corrupt.ensures.quiet c.in-Ok-Corrupt.ensures.passes
     (λ tells. subst (λ (sh : Shape). IsOpeningOf (store_at m.image sh) sh (config_of l) (found.Corrupt report))
     placed_so
     (subst (λ (x : Opening). IsOpeningOf (store_at m.image c.in-Ok-shape.shape) c.in-Ok-shape.shape (config_of l) x)

@@ -99,6 +99,7 @@ returns-in-Ok-reset_storage g c =
       quiet =
           made.quiet;
       cause = made.cause;
+      passes = made.passes;
       outside = made.outside;
       any_moment = made.any_moment;
       time = made.time;
@@ -133,6 +134,7 @@ returns g c =
       quiet =
           made.quiet;
       cause = made.cause;
+      passes = made.passes;
       outside = made.outside;
       any_moment = made.any_moment;
       time = made.time;

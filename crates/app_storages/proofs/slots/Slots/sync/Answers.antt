@@ -87,6 +87,7 @@ returns-in-Ok-sync g c = λ now.
       at_most = c.sync.ensures.at_most;
       cause =
           c.sync.ensures.cause;
+      passes = c.sync.ensures.passes;
       storing = c.sync.ensures.storing;
     })
     c.in-Ok-sync.made c.in-Ok-sync.is c.take.new.self c.put_back.new.self c.take.ensures.rest c.put_back.result
@@ -118,6 +119,7 @@ returns-in-Err-sync g c = λ now.
       at_most = c.sync.ensures.at_most;
       cause =
           c.sync.ensures.cause;
+      passes = c.sync.ensures.passes;
       storing = c.sync.ensures.storing;
     })
     c.take.new.self c.take.ensures.rest c.in-Err-sync.stop c.in-Err-sync.is

@@ -13,7 +13,11 @@ returns-in-Now g c =
       end = record {
         memory = record { apps = c.requires.memory.apps; quiet = c.requires.memory.quiet };
         text = tt;
-        blamed = (le_refl m.faults, λ four. absurd (not_four four));
+        blamed = record {
+          later = le_refl m.faults;
+          cause = λ four. absurd (not_four four);
+          passes = λ other. refl;
+        };
         stepped = λ tells doubt is. now_steps c.applications_stand.ensures c.running_is_application.ensures
             (rules_of c.args.migrations.now) (answers_of c.args.migrations.now) g.D.Disk.told m
             r.now c.in-Now.moment r.apps.items r.in_doubt tells lawful c.requires.memory.apps c.requires.memory.quiet

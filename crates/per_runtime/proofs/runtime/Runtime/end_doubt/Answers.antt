@@ -20,4 +20,5 @@ returns g c = resumed (rules_of c.args.migrations.now) (answers_of c.args.migrat
     (g.D.Disk.medium c.args.disk.now) (g.D.Disk.medium c.sync.new.self) c.requires.app c.requires.memory
     c.requires.device c.requires.doubt c.sync.ensures.writes_nothing c.sync.ensures.time
     c.hand.new.self (g.D.Disk.medium c.hand.new.disk) (g.met.D.Disk.lawful c.sync.new.self)
-    (on_ok c.sync.result (sym c.if-is_err.ensures.value) c.sync.ensures.quiet) _ _ c.hand.result c.hand.ensures
+    (on_ok c.sync.result (sym c.if-is_err.ensures.value) c.sync.ensures.quiet)
+    (on_ok c.sync.result (sym c.if-is_err.ensures.value) c.sync.ensures.passes) _ _ c.hand.result c.hand.ensures

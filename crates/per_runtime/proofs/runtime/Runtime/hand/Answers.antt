@@ -38,7 +38,11 @@ returns-in-Ok g c =
           quiet = λ sure. is.end.quiet (c.requires.memory.quiet sure);
         };
         text = is.end.text;
-        blamed = (is.time.faults, λ four. absurd (is.end.unfailed four));
+        blamed = record {
+          later = is.time.faults;
+          cause = λ four. absurd (is.end.unfailed four);
+          passes = λ other. is.end.passes;
+        };
         stepped = λ tells doubt in_doubt. answered_steps c.applications_stand.ensures c.running_is_application.ensures
             c.running_stays.ensures rules answers told old new r.now c.args.app c.args.call.now r.apps.items a a'
             r.in_doubt
@@ -75,7 +79,11 @@ returns-in-Err-Device g c =
           quiet = λ sure. absurd (true≢false sure);
         };
         text = refl;
-        blamed = (is.time.faults, λ four. end.cause);
+        blamed = record {
+          later = is.time.faults;
+          cause = λ four. end.cause;
+          passes = λ other. absurd (other refl);
+        };
         stepped = λ tells doubt in_doubt. failed_steps c.applications_stand.ensures c.running_is_application.ensures
             c.running_stays.ensures rules answers told old new r.now c.args.app c.args.call.now r.apps.items a a'
             r.in_doubt

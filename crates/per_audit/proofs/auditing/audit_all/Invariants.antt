@@ -2,7 +2,7 @@ use Rattle.std.proofs.Common.{◌≤◌}
 use Rattle.std.specs.Prelude.{IsTrue}
 use Rattle.disk_model.specs.Medium.{Quiet}
 use Rattle.per_audit.proofs.Remaining.{AppsLeft, IsSeen, app_findings_at, app_elements_at}
-use Rattle.per_audit.proofs.auditing.audit.Given as goal
+use Rattle.per_audit.proofs.auditing.audit_all.Given as goal
 
 abbrev pub invariant-loop-app : goal.invariant-loop-app
 invariant-loop-app g l = record {
