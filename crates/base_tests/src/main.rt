@@ -9,7 +9,7 @@
 //!
 //! `stops PLAN WORD .. / WORD / BEFORE / AFTER` stops the one word after each call of the disk, restarts in five ways,
 //! and says `kept` where an opening then finds what is expected before or after that word. A plan is
-//! `KIND:ALLOWED:M:COPIES:SCOPE`, and may name a first file behind that.
+//! `KIND:ALLOWED:M:COPIES:SCOPE`, and may name a first file after that.
 #![tactic(auto)]
 
 mod anywhere;

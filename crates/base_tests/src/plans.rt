@@ -20,7 +20,7 @@ pub struct Plan {
     pub allowed: u64,
 }
 
-/// `KIND:ALLOWED:M:COPIES:SCOPE`, and behind that the first file where it is not number 0.
+/// `KIND:ALLOWED:M:COPIES:SCOPE`, and after that the first file where it is not number 0.
 pub fn plan_of(word: &str) -> Result<Plan, Trouble> {
     let (kind, rest) = cut(word, ':');
     let (allowed, rest) = cut(rest, ':');

@@ -8,7 +8,7 @@ use case_words::{Trouble, cut, text};
 use disk_model::MemDisk;
 use std::alloc::Global;
 
-/// No word makes so many calls of the disk here.
+/// No word makes that many calls of the disk here.
 const ENOUGH: u64 = 400;
 
 /// What a restart keeps of the writes since the last sync: all, nothing, or those that the bits of a number say:
@@ -99,7 +99,7 @@ fn follow(alloc: Global, course: Course<'_>, way: &str) -> Result<Option<String>
     Ok(Some(text(alloc, "the word does not end")?))
 }
 
-// The disk on which the word is stopped after so many calls, and whether it succeeded.
+// The disk on which the word is stopped after that many calls, and whether it succeeded.
 fn stopped_at(alloc: Global, course: Course<'_>, passing: u64) -> Result<(MemDisk, bool), Trouble> {
     let kept = run(alloc, course.plan, course.earlier)?;
     let (kept, said) = step(alloc, course.plan, stopped(kept, passing), course.word)?;
@@ -113,7 +113,7 @@ fn is_allowed(course: Course<'_>, is_over: bool, now: &str) -> bool {
     !is_over && (now == course.before || fits(course.between, now))
 }
 
-// Whether a text begins with what stands before the star and ends with what stands behind it.
+// Whether a text begins with what stands before the star and ends with what follows it.
 fn fits(pattern: &str, text: &str) -> bool {
     match pattern.split_once('*') {
         Some((front, back)) => text.starts_with(front) && text.ends_with(back),

@@ -43,7 +43,7 @@ pub fn disk_of(kept: Kept) -> MemDisk {
     }
 }
 
-/// From now on so many calls of the disk pass.
+/// From now on that many calls of the disk pass.
 pub fn stopped(kept: Kept, passing: u64) -> Kept
     requires { IsKept kept }
     ensures { IsKept result }

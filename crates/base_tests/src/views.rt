@@ -34,7 +34,7 @@ fn put_entries(alloc: Global, said: &mut String, entries: &[Entry]) -> Result<()
     Ok(())
 }
 
-// Adds an element: behind `=` its value, behind `!` its salvage where too few copies agree; then its length,
+// Adds an element: after `=` its value, after `!` its salvage where too few copies agree; then its length,
 // its last change, and the copies that lack it.
 fn put_entry(alloc: Global, said: &mut String, entry: &Entry) -> Result<(), Trouble> {
     let name = entry.name.as_str();

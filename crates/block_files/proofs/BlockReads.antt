@@ -1,4 +1,4 @@
--- What a walk over the blocks of a content keeps: whether they lie within a file, and calls that only read.
+-- What a walk over the blocks of a content keeps: whether they are within a file, and calls that only read.
 use Rattle.std.proofs.Common.{◌≡◌, ◌≢◌, ℕ, ◌+◌, ◌-◌, ◌*◌, ◌<◌, ◌≤◌, min, List, [], ◌∷◌, length}
 use Rattle.std.proofs.Common.{get_or, drop, Bool, true, false, ◌&&◌, ◌||◌, nat_eq, nat_le, refl}
 use Rattle.std.proofs.Common.{sym, ap, ◌∙◌}

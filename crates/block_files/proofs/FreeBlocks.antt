@@ -105,7 +105,7 @@ choosing_skip set count i blocks lt is now = record {
   rest = ap (λ rest. blocks ++ take (count - length blocks) rest) (sym (rest_at set i true lt is)) ∙ now.rest;
 }
 
--- a choice may begin behind blocks that are all taken
+-- a choice may begin after blocks that are all taken
 pub choosing_from : (set : List Bool) (count i : ℕ) → i ≤ length set → ((b : ℕ) → b < i → contains set b ≡ true)
     → IsChoosing set count i []
 choosing_from set count zero within taken = choosing_none set count

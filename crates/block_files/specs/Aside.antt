@@ -1,4 +1,4 @@
--- What a crash leaves of contents that lie in blocks which writes leave alone.
+-- What a crash leaves of contents that are in blocks which writes leave alone.
 use Rattle.std.specs.Prelude.{◌≡◌, ◌⊎◌, ℕ, ◌*◌, ◌<◌, ◌≤◌, List, length, slice_index, Bool, true, Some}
 use Rattle.disk_model.specs.Image.{Image}
 use Rattle.disk_model.specs.Case.{Case, IsSettledAt}
@@ -8,7 +8,7 @@ use Rattle.disk_model.specs.declared.place.Place.{Place}
 use Rattle.block_files.specs.Areas.{within}
 use Rattle.block_files.specs.Contents.{counting}
 
--- where a content lies: its blocks, its length and its hash
+-- where a content is: its blocks, its length and its hash
 pub record Where : Type 0 where
   pub blocks : List ℕ
   pub len : ℕ

@@ -3,7 +3,7 @@ use Rattle.std.specs.Prelude.{◌≡◌, ℕ, zero, suc, ◌+◌, ◌*◌, ◌/�
 use Rattle.std.specs.Prelude.{cond}
 use Rattle.std.specs.Str.{bytes_eq}
 
--- how many blocks so many bytes take
+-- how many blocks that many bytes take
 abbrev pub blocks_for : ℕ → ℕ
 blocks_for len = (len + 255) / 256
 

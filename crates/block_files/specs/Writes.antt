@@ -20,7 +20,7 @@ pub record Wrote (told : Bool) (spared apart : ℕ → Type 0) (n : ℕ) (old ne
   pub time : Elapses old new
   pub passes : new.faults ≡ old.faults
 
--- Writes of which one failed: spared files and blocks apart read as before, but for what lies past an old end.
+-- Writes of which one failed: spared files and blocks apart read as before, but for what is past an old end.
 pub record Tore (told : Bool) (spared apart : ℕ → Type 0) (n : ℕ) (old new : Medium) : Type 0 where
   pub tears : IsTrue told → Tears spared apart old.image new.image
   pub during : Follows (KeepsCase spared apart) old.now (new.since old.moment)

@@ -30,7 +30,7 @@ impl BlockSet {
     ///
     /// # Errors
     ///
-    /// Only want of memory.
+    /// Only `OutOfMemory`.
     pub fn new(alloc: Global, capacity: u32) -> Result<BlockSet, AllocError>
         ensures empty { IfOk result (λ set. set ≡ replicate capacity false) }
         ensures free { IfOk result (λ set. free_of set ≡ capacity) }
@@ -46,7 +46,7 @@ impl BlockSet {
     ///
     /// # Errors
     ///
-    /// Only want of memory.
+    /// Only `OutOfMemory`.
     pub fn copy(&self) -> Result<BlockSet, AllocError>
         ensures { IfOk result (λ copy. copy ≡ self.now) }
     {

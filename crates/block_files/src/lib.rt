@@ -1,5 +1,5 @@
 //! Contents of elements in blocks: every copy of a place has an area file of 256-byte blocks, numbered from 0, and a
-//! content lies in the same blocks of each copy.
+//! content is in the same blocks of each copy.
 //!
 //! [`put_blob`] writes a content into blocks that were free, and [`put_shared`] only the blocks in which it differs
 //! from an earlier one. [`get_blob`] reads every copy of a content: those that have its hash count, the vote among them
@@ -7,7 +7,7 @@
 //! [`BlockSet`] says which blocks are taken.
 //!
 //! The promise, on every image: each copy that was written holds the bytes, every other block of every file reads as
-//! before, and a crash at any moment changes nothing else but what lies past an old end of an area. A caller who must
+//! before, and a crash at any moment changes nothing else but what is past an old end of an area. A caller who must
 //! not run out of memory half way chooses blocks first, by [`reserve_blob`] or [`reserve_shared`], and then writes
 //! without memory, by [`write_blob`] or [`write_shared`].
 //!

@@ -32,7 +32,7 @@ pub struct PutBlob {
 ///
 /// # Errors
 ///
-/// Only want of memory.
+/// Only `OutOfMemory`.
 pub fn reserve_blob(alloc: Global, used: &mut BlockSet, bytes: &[u8]) -> Result<PutBlob, AllocError>
     requires { blocks_for (length bytes.now) ≤ free_of used.old }
     ensures count { IfOk result (λ blob. length blob.blocks ≡ blocks_for (length bytes.now)) }
@@ -94,7 +94,7 @@ pub fn put_blob<D: Disk>(
 ///
 /// # Errors
 ///
-/// Only want of memory.
+/// Only `OutOfMemory`.
 pub fn reserve_shared(
     alloc: Global,
     used: &mut BlockSet,

@@ -62,7 +62,7 @@ impl From<FromHexError> for Trouble {
     }
 }
 
-/// What stands before the first such character, and what behind it.
+/// What stands before the first such character, and what after it.
 pub fn cut(text: &str, at: char) -> (&str, &str) {
     match text.split_once(at) {
         Some(parts) => parts,
@@ -162,7 +162,7 @@ pub fn numbers_text(alloc: Global, numbers: &[u32]) -> Result<String, Trouble> {
     Ok(said)
 }
 
-/// Adds a word behind others.
+/// Adds a word after others.
 pub fn add(said: &mut String, word: &str) -> Result<(), Trouble> {
     if !said.is_empty() {
         said.push(' ')?;

@@ -64,7 +64,7 @@ drop_min a xs = ⊎_elim
     ap (λ (n : ℕ). drop n xs) e ∙ drop_all (length xs) xs (omega arith) ∙ sym (drop_all a xs (omega (arith, ge))))
     (cases_lt a (length xs))
 
--- a run that lies at some place among bytes, as far as they reach
+-- a run that is at some place among bytes, as far as they reach
 pub front_is : (held run rest : List ℕ) (a s n : ℕ) → rest ≡ drop s held → s ≡ min (length held) a
     → n ≡ min (length rest) (length run) → take n rest ≡ take (length run) (drop a held)
 front_is held run rest a s n is start size =

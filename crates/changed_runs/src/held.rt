@@ -88,7 +88,7 @@ impl Held {
     }
 }
 
-/// Reads at most so many bytes, and says how many there were.
+/// Reads at most that many bytes, and says how many there were.
 fn read_runs<D: Disk>(
     disk: &mut D,
     file: u32,

@@ -1,4 +1,4 @@
-//! Errors, as rows describe them. Want of memory has no text and is none of them.
+//! Errors, as rows describe them. `OutOfMemory` has no text and is none of them.
 
 ghost use Rattle.std.specs.Prelude.{IfOk, IsSome};
 ghost use Rattle.per_base.specs.Errors.{error_number};

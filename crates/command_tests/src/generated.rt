@@ -11,7 +11,7 @@ pub(crate) fn first(alloc: Global) -> Result<String, RowError> {
     joined(alloc, &first_lines())
 }
 
-/// The lines behind the generated ones.
+/// The lines after the generated ones.
 pub(crate) fn last(alloc: Global) -> Result<String, RowError> {
     joined(alloc, &last_lines())
 }
@@ -26,7 +26,7 @@ fn joined(alloc: Global, lines: &[&str]) -> Result<String, RowError> {
     Ok(text)
 }
 
-/// The number behind a number.
+/// The number after a number.
 pub(crate) fn next(alloc: Global, row: &str) -> Result<String, RowError> {
     let next = next_number(small(row)?);
     Ok(format!(in alloc; "{next}")?)

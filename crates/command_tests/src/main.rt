@@ -6,9 +6,9 @@
 //! | `line LINE` | what the line says, in all its parts |
 //! | `kind LINE` | whether it says an event, nothing or the end, or is refused |
 //! | `reply REPLY` | the text of the reply |
-//! | `next X` | the number behind a number |
+//! | `next X` | the number after a number |
 //! | `generated N X I` | a line of the generated input |
-//! | `first-lines`, `last-lines` | the lines before the generated ones and behind them |
+//! | `first-lines`, `last-lines` | the lines before the generated ones and after them |
 //! | any other | the row itself |
 #![tactic(auto)]
 

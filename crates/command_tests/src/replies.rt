@@ -1,4 +1,4 @@
-//! Replies, as rows describe them: the reports, each with `; ` behind it, and the answer. The words are those of the
+//! Replies, as rows describe them: the reports, each with `; ` after it, and the answer. The words are those of the
 //! types.
 
 ghost use Rattle.std.specs.Prelude.{IfOk};

@@ -76,7 +76,7 @@ manifest_again j some one_line = let e : nat_eq (length j) 0 ≡ false =
 
 -- ---- words
 
--- the row whose word the text is, where each row's word is the text of what it stands for
+-- the row whose word the text is, where each row's word is the text of what it denotes
 pub first_row_takes : {A : Type 0} (P : List ℕ → A → Type 0) (rows : List (List ℕ × A))
     → AllByRecursion (λ row. P row.0 row.1) rows → (text : List ℕ) (x : A) → first_row rows text ≡ Some x → P text x
 first_row_takes P [] all text x e = absurd cc

@@ -26,7 +26,7 @@ use Rattle.command_text.proofs.Splits.{split_takes}
 use Rattle.command_text.proofs.Shapes.{IsCall, Further, pick_takes, word_takes, manifest_row, storage_row, element_row}
 use Rattle.command_text.proofs.Shapes.{handle_row, detail_row, handle_detail_row}
 
--- ---- the arguments behind a storage and a name, or a storage and a handle
+-- ---- the arguments after a storage and a name, or a storage and a handle
 
 a_number : Further (unsigned_in (2 ^ 64)) (λ n. number n ∷ []) decimal
 a_number = record {

@@ -84,7 +84,7 @@ handle_row word make shape rest c e =
     made word rest (word, name a.0.0 ∷ handle a.0.1 ∷ []) (make a.0.0 a.0.1) c (shape a.0.0 a.0.1)
     (some_is (make a.0.0 a.0.1) c a.2) (ap (behind word) (sym read.0), (read.1, (read.2, tt)))
 
--- what stands behind a storage and a name, or behind a storage and a handle: the texts of the further arguments, and
+-- what follows a storage and a name, or after a storage and a handle: the texts of the further arguments, and
 -- that these are right
 pub record Further {X : Type 0} (read : List ℕ → Option X) (arguments : X → List Argument) (text : X → List ℕ) : Type 0
   where

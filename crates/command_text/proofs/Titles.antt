@@ -1,4 +1,4 @@
--- Every error but want of memory has a number, and so a text.
+-- Every error but OutOfMemory has a number, and so a text.
 use Rattle.std.proofs.Common.{◌≢◌, refl}
 use Rattle.per_base.specs.declared.errors.PerError.{PerError}
 use Rattle.per_base.specs.declared.errors.PerError.TheVariants.{StorageNotFound, KeyNotFound, IllegalWriteAccess}

@@ -2,7 +2,7 @@
 use Rattle.std.specs.Prelude.{ℕ, zero, suc, ◌+◌, ◌*◌, ◌/◌, ◌%◌, List, [], ◌∷◌, ◌++◌, if◌then◌else◌, ◌==◌, codes}
 use Rattle.std.specs.Fmt.{decimal}
 
--- the number behind this one
+-- the number after this one
 abbrev pub next_number : ℕ → ℕ
 next_number x = (x * 1103515245 + 12345) % 2147483648
 
@@ -18,7 +18,7 @@ generated_line x i =
     if i % 8 == 7 then codes "0 exists g " ++ generated_key x else
     codes "0 set g " ++ (generated_key x ++ (codes " u64:" ++ decimal x)))))
 
--- so many lines from line i on, behind this number
+-- that many lines from line i on, after this number
 abbrev pub generated_lines : ℕ → ℕ → ℕ → List (List ℕ)
 generated_lines zero i x = []
 generated_lines (suc count) i x = generated_line (next_number x) i ∷ generated_lines count (i + 1) (next_number x)
@@ -28,7 +28,7 @@ abbrev pub first_lines : List (List ℕ)
 first_lines = codes "0 install {\"version\":1,\"keyValueStorages\":[{\"name\":\"g\",\"redundancy\":{\"m\":2,\"n\":3}}]}"
     ∷ codes "0 open-kvs g" ∷ []
 
--- the lines behind them
+-- the lines after them
 abbrev pub last_lines : List (List ℕ)
 last_lines = codes "0 sync g" ∷ codes "0 size g" ∷ codes "0 close g" ∷ []
 

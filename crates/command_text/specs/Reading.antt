@@ -33,7 +33,7 @@ Reads view (Err e) read = Fails e read
 
 -- ---- words
 
--- what stands before the first space, and behind it
+-- what stands before the first space, and after it
 abbrev pub split : List ℕ → Option (List ℕ × List ℕ)
 split [] = None
 split (b ∷ bytes) = if nat_eq b 32 then Some ([], bytes) else with_front (b ∷ []) (split bytes)
@@ -106,7 +106,7 @@ other_modes = (codes "none", mode_of 0)
 unfoldable pub mode_in : List ℕ → Option OpenMode
 mode_in text = branch (first_row other_modes text) (λ mode. Some mode) (mode_end_in text)
 
--- two names; a name and a handle; and the same with what stands behind them
+-- two names; a name and a handle; and the same with what follows them
 unfoldable pub element_in : List ℕ → Option (List ℕ × List ℕ)
 element_in text = do
   words ← split text
@@ -152,7 +152,7 @@ distance_in text = do
   offset ← signed_in (2 ^ 63) words.1
   Some (origin, offset)
 
--- ---- calls, by what stands behind their word
+-- ---- calls, by what follows their word
 
 -- no argument
 abbrev pub bare_calls : List (List ℕ × Call)
@@ -294,7 +294,7 @@ manifest_call word text =
     pick manifest_calls word (λ make. manifest_in text >>= λ j. Some (make j))
     (storage_call word text)
 
--- a word, and what stands behind its space where it has one
+-- a word, and what follows its space where it has one
 unfoldable pub call_in : List ℕ → Option Call
 call_in text = branch (split text) (λ parts. manifest_call parts.0 parts.1) (bare_call text)
 

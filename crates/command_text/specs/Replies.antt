@@ -73,7 +73,7 @@ error_name error.NoUpdateInProgress = codes "NoUpdateInProgress"
 error_name error.ExportRejected = codes "ExportRejected"
 error_name error.OutOfMemory = codes "OutOfMemory"
 
--- the number and the name of an error; want of memory has no number
+-- the number and the name of an error; OutOfMemory has no number
 abbrev pub numbered : Option ℕ → List ℕ → List ℕ
 numbered (Some number) name = decimal number ++ codes " " ++ name
 numbered None name = name
@@ -81,7 +81,7 @@ numbered None name = name
 abbrev pub error_title : PerError → List ℕ
 error_title e = numbered (error_number e) (error_name e)
 
--- what an error carries, each behind a space
+-- what an error carries, each after a space
 abbrev pub carried_text : PerError → List ℕ
 carried_text (error.IntegrityCorrupted u) = codes " " ++ unit_text u
 carried_text (error.DataTypeMismatch stored asked) = codes " " ++ stored ++ codes " " ++ asked
@@ -130,7 +130,7 @@ answer_text (answer.Info i) = codes "info " ++ info_text i
 answer_text (answer.Status s) = codes "status " ++ status_text s
 answer_text (answer.Error e) = codes "error " ++ error_title e ++ carried_text e
 
--- want of memory has no reply
+-- OutOfMemory has no reply
 abbrev pub HasText : Answer → Type 0
 HasText (answer.Error e) = IsSome (error_number e)
 HasText other = ⊤

@@ -207,7 +207,7 @@ pub(crate) fn handle(alloc: Global, text: &[u8]) -> Result<(Name, u32), LineErro
     Ok((storage, handle_number(rest)?))
 }
 
-/// A storage, a name of it, and what stands behind them.
+/// A storage, a name of it, and what follows them.
 #[tactic(auto, unfolding(crate::specs::Reading::element_front))]
 pub(crate) fn element_front(alloc: Global, text: &[u8]) -> Result<(Name, Name, &[u8]), LineError>
     ensures { Reads (λ x. (x.0, x.1, x.2.now)) result (element_front text.now) }
@@ -218,7 +218,7 @@ pub(crate) fn element_front(alloc: Global, text: &[u8]) -> Result<(Name, Name, &
     Ok((storage, name(alloc, element)?, rest))
 }
 
-/// A storage, a handle of it, and what stands behind them.
+/// A storage, a handle of it, and what follows them.
 #[tactic(auto, unfolding(crate::specs::Reading::handle_front))]
 pub(crate) fn handle_front(alloc: Global, text: &[u8]) -> Result<(Name, u32, &[u8]), LineError>
     ensures { Reads (λ x. (x.0, x.1, x.2.now)) result (handle_front text.now) }

@@ -52,7 +52,7 @@ pub enum Call {
     Sync(Name),
     Discard(Name),
 
-    // ---- files: the number behind a storage is a handle's
+    // ---- files: the number after a storage is a handle's
     Files(Name),
     FileExists(Name, Name),
     OpenFile(Name, Name, OpenKind, OpenMode),

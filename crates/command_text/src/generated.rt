@@ -15,14 +15,14 @@ pub fn first_lines() -> [&'static str; 2]
     ]
 }
 
-/// The three lines behind the generated ones: the storage is synchronised, measured and closed.
+/// The three lines after the generated ones: the storage is synchronised, measured and closed.
 pub fn last_lines() -> [&'static str; 3]
     ensures { map (λ line. line.now) result ≡ last_lines }
 {
     ["0 sync g", "0 size g", "0 close g"]
 }
 
-/// The number behind this one.
+/// The number after this one.
 pub fn next_number(x: u64) -> u64
     requires { x < 2 ^ 31 }
     ensures next { result ≡ next_number x }

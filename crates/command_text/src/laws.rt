@@ -28,7 +28,7 @@ pub fn generated_is_spelled()
     ensures whole { (n : ℕ) → n < 2 ^ 31 → AllByRecursion IsEventLine (generated n) }
 {}
 
-/// Every error has a text but want of memory.
+/// Every error has a text but `OutOfMemory`.
 pub fn errors_have_texts()
     ensures { (e : PerError) → e ≢ PerError.OutOfMemory → HasText (Answer.Error e) }
 {}

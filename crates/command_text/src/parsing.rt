@@ -1,4 +1,4 @@
-//! Calls, by their word. The words stand in groups, by what stands behind them.
+//! Calls, by their word. The words stand in groups, by what follows them.
 
 ghost use Rattle.std.specs.Prelude.{◌≡◌};
 ghost use Rattle.command_text.specs.Reading.{Reads, bare_call, call_in, detail_call, element_call, handle_bytes_call};
@@ -70,7 +70,7 @@ fn manifest_call(alloc: Global, word: &[u8], text: &[u8]) -> Result<Call, LineEr
     storage_call(alloc, word, text)
 }
 
-/// A call with a storage, or with more behind it.
+/// A call with a storage, or with more after it.
 #[tactic(auto, unfolding(crate::specs::Reading::storage_call))]
 fn storage_call(alloc: Global, word: &[u8], text: &[u8]) -> Result<Call, LineError>
     ensures { Reads (λ c. c) result (storage_call word.now text.now) }
@@ -111,7 +111,7 @@ fn storage_call(alloc: Global, word: &[u8], text: &[u8]) -> Result<Call, LineErr
     element_call(alloc, word, text)
 }
 
-/// A call with a storage and a name of it, or with more behind them, or another.
+/// A call with a storage and a name of it, or with more after them, or another.
 #[tactic(auto, unfolding(crate::specs::Reading::element_call))]
 fn element_call(alloc: Global, word: &[u8], text: &[u8]) -> Result<Call, LineError>
     ensures { Reads (λ c. c) result (element_call word.now text.now) }
@@ -192,7 +192,7 @@ fn detail_call(alloc: Global, word: &[u8], text: &[u8]) -> Result<Call, LineErro
     handle_call(alloc, word, text)
 }
 
-/// A call with a storage and a handle of it, or with more behind them.
+/// A call with a storage and a handle of it, or with more after them.
 #[tactic(auto, unfolding(crate::specs::Reading::handle_call))]
 fn handle_call(alloc: Global, word: &[u8], text: &[u8]) -> Result<Call, LineError>
     ensures { Reads (λ c. c) result (handle_call word.now text.now) }

@@ -265,7 +265,7 @@ fn number_and_name(error: &PerError) -> (u32, &'static str)
     }
 }
 
-/// Appends what an error carries, each behind a space.
+/// Appends what an error carries, each after a space.
 fn push_carried(out: &mut String, error: &PerError) -> Result<(), AllocError>
     ensures { OnOk result (string_bytes out.new ≡ string_bytes out.old ++ carried_text error.now) }
 {

@@ -5,7 +5,7 @@ ghost use Rattle.std.specs.Str.{bytes_eq};
 ghost use Rattle.value_text.specs.Readers.{Finds};
 ghost use Rattle.command_text.specs.Reading.{split};
 
-/// What stands before the first space, and behind it.
+/// What stands before the first space, and after it.
 pub(crate) fn split(text: &[u8]) -> Option<(&[u8], &[u8])>
     ensures { Finds (λ parts. (parts.0.now, parts.1.now)) result (split text.now) }
 {

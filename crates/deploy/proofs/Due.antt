@@ -1,4 +1,4 @@
--- A refusal that the root alone decides is due at once; what is due behind it takes memory.
+-- A refusal that the root alone decides is due at once; what is due after it takes memory.
 use Rattle.std.proofs.Common.{◌≡◌, ◌⊎◌, ⊎_elim, ℕ, ◌-◌, List, [], Bool, true, false, Option, None, Some, refl, sym, ap}
 use Rattle.std.proofs.Common.{◌∙◌, subst}
 use Rattle.std.specs.Prelude.{Result, Ok, Err, cond, nat_le, option_map}

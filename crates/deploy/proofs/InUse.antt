@@ -51,7 +51,7 @@ pub parts_say : (i : parts.Installed) → says_by (generation_of i.cell) (Some (
 parts_say i = ap (λ (p : Option Named). installed (generation_of i.cell) (named i.bank (version_said i.active)) p)
     (previous_named i.bank i.previous)
 
--- ---- where it lies
+-- ---- where it is
 
 pub cell_alone : (image : Image) (app : ℕ) (cell : Cell) (t : List ℕ) → place_of cell ≡ root_place app
     → CellAt image cell t

@@ -83,7 +83,7 @@ module _ (frame : FrameLaw) (app bank limit : ℕ) (old new : Image)
       let same = frame (shape_of app bank from s) old new (spared from s (omega (arith, low))) in
       (same.state ∙ made.0, same.clean made.1, made_stays ss cs (suc from) k (omega (arith, low)) made.2)
 
--- the files of a storage lie beside those of one with a greater number
+-- the files of a storage are beside those of one with a greater number
 pub earlier_spared : (files : StorageFilesLaw) (app bank later : ℕ) (old new : Image) → app < 8 → bank ≤ 1 → later ≤ 16
     → Spares (IsBeside app bank later) old new
     → (number : ℕ) (s : StorageData) → number < later → Spares (IsOfPlace (shape_of app bank number s).place) old new
@@ -146,7 +146,7 @@ beside_in_rest : (app bank built count number : ℕ) → built ≤ number → nu
 beside_in_rest app bank built count number from ltc f rest =
     ⊎_elim (λ low. inl (omega (arith, low, from))) (λ high. inr (omega (arith, high, ltc))) rest
 
--- of at most sixteen storages none lies outside the bank
+-- of at most sixteen storages none is outside the bank
 pub bank_in_rest : (app bank built count : ℕ) → count ≤ 16 → (f : ℕ) → IsOutsideBank app bank f
     → IsBesideRest app bank built count f
 bank_in_rest app bank built count few f out = ⊎_elim (λ low. inl (omega (arith, low)))

@@ -1,4 +1,4 @@
--- The next root: where its register lies, and what its writing leaves alone.
+-- The next root: where its register is, and what its writing leaves alone.
 use Rattle.std.proofs.Common.{ℕ, ◌≤◌, List, Bool, IsTrue, sym, ◌∙◌, subst}
 use Rattle.disk_model.specs.Frame.{Spares}
 use Rattle.disk_model.specs.Image.{Image}

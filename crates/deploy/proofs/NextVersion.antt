@@ -1,4 +1,4 @@
--- The next version is made in a bank in which none lies, and then the root is written once: what every moment, and the
+-- The next version is made in a bank in which none is, and then the root is written once: what every moment, and the
 -- end, leave of the application.
 use denote.Ref.{Bor}
 use Rattle.std.proofs.Common.{◌≡◌, ℕ, ◌+◌, ◌-◌, ◌≤◌, ◌<◌, List, [], ◌∷◌, ◌++◌, suc, ◌⊎◌, Bool, IsTrue, Option, Some}
@@ -181,7 +181,7 @@ module _ (again : AgainLaw) (alone : AloneLaw) (app g bank : ℕ) (v : Version) 
     pub clean_still : IsCleanApp app start → IsCleanApp app mid
     clean_still = (keeps app bank start mid lt le (free start held) spared).1
 
-    -- what is named stays as it was, and what is made lies beside it
+    -- what is named stays as it was, and what is made is beside it
     module _ (fit : AllFit v.deployment.storages contents)
         (made : AreMade mid (shapes_from app bank 0 v.deployment.storages) contents) where
       pub states_next : map (store_at mid) (shapes_named app (says_by (g + 1) (Some next))) ≡ (after start).states
@@ -290,7 +290,7 @@ module _ (told : Bool) (app bank built count : ℕ) where
         nothing_remains f = ⊎_elim (λ below. inl below) (λ above. inr (omega (arith, above, none)))
             (cases_lt f (storage_file app bank built))
 
-    -- the storages lie in the bank
+    -- the storages are in the bank
     pub leaves_whole : count ≤ 16 → Leaves told (IsBesideNext app bank) old new
     leaves_whole few = leaves_less told (IsBesideCommit app bank built count) (IsBesideNext app bank) old new
         (λ f is. (is.0, bank_in_rest app bank built count few f is.1)) leaves

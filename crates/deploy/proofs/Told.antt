@@ -22,7 +22,7 @@ told_rejected text rule none broken =
     ap (λ (o : Option DeploymentData). said_or_broken o (broken_rule text)) none
     ∙ ap (λ (r : Option ℕ). said_or_broken None r) broken
 
--- by the error of the reader, which is no want of memory
+-- by the error of the reader, which is no OutOfMemory
 pub told_refused : (text : List ℕ) (error : ManifestError) (rule : ℕ) → error ≡ Rejected rule
     → Refuses (broken_rule text) error
     → (error ≢ OutOfMemory → deployment_in text ≡ None) → deployment_of text ≡ Err (ManifestRejected rule)

@@ -1,4 +1,4 @@
--- Roots that leave a version behind: one version stands alone, or none does.
+-- Roots that leave a version after: one version stands alone, or none does.
 use Rattle.std.specs.Prelude.{◌≡◌, ◌≤◌, ◌<◌, ◌+◌, ℕ, List, [], map, Bool, IsTrue, Option, Some, None, Result, Ok, Err}
 use Rattle.per_base.specs.declared.errors.PerError.{PerError}
 use Rattle.disk_model.specs.Image.{Image}

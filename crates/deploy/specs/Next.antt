@@ -1,4 +1,4 @@
--- The next version of an application: it is made in one bank, and the version before it lies in the other.
+-- The next version of an application: it is made in one bank, and the version before it is in the other.
 use Rattle.std.specs.Prelude.{ℕ, ◌-◌, List, [], ◌++◌, Option, Some, None}
 use Rattle.per_base.specs.declared.elements.Fresh.{Fresh}
 use Rattle.root_text.specs.RootText.{Version}

@@ -202,8 +202,8 @@ fn install_version<D: Disk>(
     })
 }
 
-/// Makes the storages of the next version, from the one with number `built` on, in a bank in which no version lies, and
-/// then writes the root: that version is active, and the one before it, if there is one, lies in the other bank as it
+/// Makes the storages of the next version, from the one with number `built` on, in a bank in which no version is, and
+/// then writes the root: that version is active, and the one before it, if there is one, is in the other bank as it
 /// was.
 pub(crate) fn make_version<D: Disk>(
     alloc: Global,

@@ -1,4 +1,4 @@
-//! Leaving one of two versions behind: the previous one is forgotten, or it is active again.
+//! Leaving one of two versions after: the previous one is forgotten, or it is active again.
 
 ghost use Rattle.std.specs.Prelude.{◌≡◌, ◌≤◌, ◌<◌, ◌⊎◌, ℕ, List, [], ◌∷◌, Err, IfErr, IfNone, IfOk, IsErrOf, IsOk};
 ghost use Rattle.std.specs.Prelude.{IsTrue, None, Ok, OnOk, Result, drop, option_map, take, ◌≢◌};
@@ -30,7 +30,7 @@ use std::alloc::Global;
 /// Forgets the previous version: the root is written. What its bank holds stays, and nothing names it.
 ///
 /// Refusals, the first that holds: `IntegrityCorrupted` with the root where it is bad; `NotInstalled`;
-/// `NoPreviousVersion`; `LimitReached` with `Generations`. They come before any call of the disk and take no memory.
+/// `NoPreviousVersion`; `LimitReached` with `Generations`. They come before any call of the disk and do not allocate.
 ///
 /// # Errors
 ///

@@ -1,6 +1,6 @@
 //! Deployment: an application is installed, updated, finished, rolled back and wiped, whole or not at all.
 //!
-//! What is installed stands in the application's root, a register of three copies ([`Root`]). A version lies in one of
+//! What is installed stands in the application's root, a register of three copies ([`Root`]). A version is in one of
 //! two banks of storages; the next one is made in the other bank, and only then is the root written, once. So a stop at
 //! any moment leaves the application as it was or as the call leads to.
 //!

@@ -35,7 +35,7 @@ use std::alloc::{AllocError, Global};
 use update_plan::initial_of;
 use value_code::encodes;
 
-/// Makes a closed storage anew of what can be read of it, at a moment in seconds: of each element its content, or else
+/// Rebuilds a closed storage from its readable contents, at a moment in seconds: of each element its content, or else
 /// its salvage, or else what it starts with; of a storage of which nothing is seen, what it is installed with.
 ///
 /// Refusals, the first that holds: `OutOfStorageSpace` where that is more than the storage may have; `LimitReached`

@@ -1,4 +1,4 @@
-//! Where the root and the storages of an application lie.
+//! Where the root and the storages of an application are.
 
 ghost use Rattle.std.specs.Prelude.{◌≡◌, ◌≤◌, ◌<◌, IfOk};
 ghost use Rattle.deployment_model.specs.Conditions.{IsStorage};
@@ -12,7 +12,7 @@ use disk_model::Place;
 use element_state::Shape;
 use std::alloc::AllocError;
 
-/// Where the storage with this number lies in a bank of an application, as it is configured.
+/// Where the storage with this number is in a bank of an application, as it is configured.
 pub fn shape_of(
     app: u32,
     bank: u32,

@@ -269,7 +269,7 @@ fn begin_with<D: Disk>(
     }
 }
 
-// A want of memory is no refusal.
+// Running out of memory is no refusal.
 fn refusal(failed: PerError) -> Result<PerError, Stop>
     ensures refused { IfOk result (λ refused. refused ≡ failed) }
     ensures fed { IfOk result (λ refused. refused ≢ PerError.OutOfMemory) }

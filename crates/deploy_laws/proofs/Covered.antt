@@ -45,7 +45,7 @@ module _ (app : ℕ) (c : Case) (sound : IsSoundApp app c) (damaged : List ℕ) 
     on_left : IsPiece (root_place app) c.left piece
     on_left = root_decays.pieces piece (record { copy = lt; parity = own_small g; verifies = v })
 
-    -- a place that the text names is one of what lay before the damage
+    -- a place that the text names is one of what was before the damage
     was_named : (shape : Shape) → Contains (shapes_named app (says_by g (root_of t))) shape
         → IsPlaceOn app c.left shape.place
     was_named shape named = of_storage copy g t shape lt on_left.verifies named refl

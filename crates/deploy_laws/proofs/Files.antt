@@ -1,4 +1,4 @@
--- Which files the places of an application have: its root, its banks and the storages in them lie apart.
+-- Which files the places of an application have: its root, its banks and the storages in them are apart.
 use Rattle.std.proofs.Common.{◌≡◌, ℕ, suc, ◌+◌, ◌<◌, ◌≤◌, List, [], ◌∷◌, ◌++◌, length, None, Some, inl, inr, ⊎_elim}
 use Rattle.std.proofs.Common.{arith}
 use Rattle.std.specs.List.{AllByRecursion}
@@ -145,7 +145,7 @@ module _ (app : ℕ) (P : Shape → Type 0) where
       (all_in app active P a (λ number s ltn keeps. each active.bank number s a.in_bank ltn keeps))
       (all_in app previous P p (λ number s ltn keeps. each previous.bank number s p.in_bank ltn keeps))
 
-  -- none lies in this bank
+  -- none is in this bank
   pub all_apart : (other : ℕ) → ((bank number : ℕ) (s : StorageData) → bank ≤ 1 → ¬ (bank ≡ other) → number < 16
       → IsStorage s → P (shape_of app bank number s))
       → (says : Says) → AreVersions says → IsFree other says → AllByRecursion P (shapes_named app says)
@@ -187,7 +187,7 @@ module _ (app : ℕ) (lt : app < 8) (says : Says) (versions : AreVersions says) 
   root_spared old new spared = all_named app (λ shape. Spares (IsOfPlace shape.place) old new)
       (λ bank number s ltb ltn keeps f of. spared f (storage_no_root app bank number s lt ltb ltn f of)) says versions
 
-  -- and of all files but those of a bank in which none lies
+  -- and of all files but those of a bank in which none is
   module _ (other : ℕ) (le : other ≤ 1) (free : IsFree other says) where
     pub apart_untouched : (start : Image) (c : Case) → IsSettledOn (IsOutsideBank app other) start c
         → AreUntouched start c (shapes_named app says)

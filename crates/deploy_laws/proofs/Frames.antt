@@ -162,7 +162,7 @@ module _ (app : ℕ) (old new : Image) (spared : Spares (IsOfPlace (root_place a
             clean.root,
       )
 
--- ---- all files of an application, or all but those of a bank in which no version lies
+-- ---- all files of an application, or all but those of a bank in which no version is
 
 module _ (standing_law : StandingLaw) (frame : FrameLaw) (app : ℕ) (old new : Image) (lt : app < 8)
     (versions : AreVersions (says_at old app)) where

@@ -1,4 +1,4 @@
--- On every image, what a root names lies in its banks and keeps what deployments keep.
+-- On every image, what a root names is in its banks and keeps what deployments keep.
 use Rattle.std.proofs.Common.{◌≡◌, ℕ, ◌≤◌, List, Option, Some, None, refl, arith}
 use Rattle.disk_model.specs.Image.{Image}
 use Rattle.deployment_model.specs.Conditions.{IsDeployment}

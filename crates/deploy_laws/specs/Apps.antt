@@ -82,12 +82,12 @@ root_sole image app = nat_le (length (held image (root_place app))) 1
 
 -- ---- versions
 
--- the version lies in a bank and keeps what every deployment keeps
+-- the version is in a bank and keeps what every deployment keeps
 pub record IsPlaced (v : Named) : Type 0 where
   pub in_bank : v.bank ≤ 1
   pub keeps : IsDeployment v.deployment
 
--- the version before it lies in the other bank
+-- the version before it is in the other bank
 pub record ArePlaced (active previous : Named) : Type 0 where
   pub of_active : IsPlaced active
   pub of_previous : IsPlaced previous
@@ -99,7 +99,7 @@ AreVersions (absent g) = ⊤
 AreVersions (installed g active None) = IsPlaced active
 AreVersions (installed g active (Some previous)) = ArePlaced active previous
 
--- no version that it names lies in this bank
+-- no version that it names is in this bank
 abbrev pub IsFree : (bank : ℕ) → Says → Type 0
 IsFree bank nothing = ⊤
 IsFree bank (absent g) = ⊤

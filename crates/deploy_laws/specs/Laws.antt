@@ -27,7 +27,7 @@ use Rattle.deploy_laws.specs.Stands.{Stands, StandsCase, IsRootSpared, IsLater}
 
 -- ---- what a root says
 
--- on every image, hostile ones included, what a root names lies in its banks and keeps what deployments keep
+-- on every image, hostile ones included, what a root names is in its banks and keeps what deployments keep
 abbrev pub VersionsLaw : Type 0
 VersionsLaw = (image : Image) (app : ℕ) → AreVersions (says_at image app)
 
@@ -78,7 +78,7 @@ StorageFilesLaw = (app bank number file : ℕ) (s : StorageData) → app < 8 →
 abbrev pub RootSlotsLaw : Type 0
 RootSlotsLaw = (app file : ℕ) → app < 8 → IsNoRootFile app file → IsNoSlot (root_place app) file
 
--- a file beside those of a storage lies outside its place
+-- a file beside those of a storage is outside its place
 abbrev pub BesideLaw : Type 0
 BesideLaw = (app bank number file : ℕ) (s : StorageData) → app < 8 → bank ≤ 1 → number < 16
     → IsBeside app bank number file
@@ -176,7 +176,7 @@ FormattingLaw = (app : ℕ) (next : List ℕ) (start : Image) (c : Case) → IsC
     → FormatStops (root_place app) 1 next start c
     → StandsCase app (app_at start app) (record { says = absent 1; lacking = []; states = [] }) c
 
--- storages are made in a bank in which no version lies, before whatever may come of the application
+-- storages are made in a bank in which no version is, before whatever may come of the application
 abbrev pub CreatingLaw : Type 0
 CreatingLaw = (app bank : ℕ) (start : Image) (after : App) (c : Case) → app < 8 → bank ≤ 1 → IsCleanApp app start
     → IsFree bank (says_at start app)

@@ -1,4 +1,4 @@
--- Where the root and the storages of an application lie.
+-- Where the root and the storages of an application are.
 use Rattle.std.specs.Prelude.{◌⊎◌, ℕ, suc, ◌+◌, ◌*◌, ◌<◌, ◌≤◌, min, max, List, [], ◌∷◌, Option, Some, None}
 use Rattle.std.proofs.Common.{arith}
 use Rattle.disk_model.specs.declared.place.Place.{Place}

@@ -71,7 +71,7 @@ two_lost : app_at (beside (1 ∷ 9 ∷ []) []) 0 ≡ without nothing []
 unfolding computed
 two_lost = refl
 
--- the next text in one copy stands for nothing yet, and in two it stands
+-- the next text in one copy denotes nothing yet, and in two it stands
 next_in_one : app_at (beside (0 ∷ []) (absent_in 2)) 0 ≡ without (absent 1) []
 unfolding computed
 next_in_one = refl
@@ -112,7 +112,7 @@ fav = record {
 abbrev favourites : DeploymentData
 favourites = record { version = 1; storages = fav ∷ [] }
 
--- its storage lies from file 1024 on
+-- its storage is from file 1024 on
 place_of_fav : (shape_of 0 0 0 fav).place.first ≡ 1024
 unfolding computed
 place_of_fav = refl

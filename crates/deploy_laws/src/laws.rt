@@ -22,7 +22,7 @@ use guarded_cell::held_is_lawful;
 use manifest::said_is_kept;
 use root_text::one_root;
 
-/// What a root says, on every image: versions that lie in their banks and keep what deployments keep, told by the
+/// What a root says, on every image: versions that are in their banks and keep what deployments keep, told by the
 /// root's own files alone. Where a root's text is held alone the application is what it says, and clean where its
 /// storages are.
 pub fn roots_say()
@@ -38,7 +38,7 @@ pub fn roots_say()
     held_is_lawful();
 }
 
-/// The files of a root, of the storages in both banks, and of other applications lie apart, and hold all slots and
+/// The files of a root, of the storages in both banks, and of other applications are apart, and hold all slots and
 /// areas.
 pub fn files_lie_apart()
     ensures root { RootFilesLaw }
@@ -49,7 +49,7 @@ pub fn files_lie_apart()
 {}
 
 /// What leaves the files of an application alone leaves the application as it was, and so does what writes in a bank in
-/// which no version lies. What writes the files of one storage changes the state of that storage alone, and what writes
+/// which no version is. What writes the files of one storage changes the state of that storage alone, and what writes
 /// those of the root that of none.
 pub fn others_stand()
     ensures frame { AppFrameLaw }
@@ -67,9 +67,9 @@ pub fn others_stand()
     places_stand_apart();
 }
 
-/// What is granted of chance and damage covers every storage that a root names afterwards. A root that is read stands
-/// while nothing is damaged, and then what stands has clean places; copies that lack the root do not matter beside two
-/// that hold it.
+/// The assumptions on hash collisions and damage cover every storage that a root names afterwards. A root that is read
+/// stands while nothing is damaged, and then what stands has clean places; copies that lack the root do not matter
+/// beside two that hold it.
 pub fn roots_stay()
     ensures covered { CoveredLaw }
     ensures root { RootStandsLaw }
@@ -88,7 +88,7 @@ pub fn untouched_stands()
 }
 
 /// A stop while the root is brought to every copy, while a bad root is made anew, while storages are made in a bank in
-/// which no version lies, and while the root is written, leaves the application as before or as after.
+/// which no version is, and while the root is written, leaves the application as before or as after.
 pub fn deploying_stands()
     ensures opening { OpeningLaw }
     ensures formatting { FormattingLaw }

@@ -32,7 +32,7 @@ use Rattle.deploy.specs.Updates.{IsUpdated}
 abbrev pub Differs : ℕ → Image → Image → Type 0
 Differs file start image = ¬ (image file ≡ start file)
 
--- the refusal of an update beside a previous version gives way to want of memory
+-- the refusal of an update beside a previous version gives way to OutOfMemory
 abbrev pub DueWantsMemory : Type 0
 DueWantsMemory = (busy : Option (List ℕ)) (manifest : List ℕ) (g : ℕ) (active previous : Named) (root : Root)
     (result : Result Begin Stop)

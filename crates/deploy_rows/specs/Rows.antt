@@ -179,7 +179,7 @@ abbrev pub Begins : List Rule → fns.Answers → (now : ℕ) → (busy : Option
     → Result InProgress PerError → Type 0
 Begins rules answers now busy text a result = BeginsWith rules answers now a.states (offered busy text a) result
 
--- the application once an update in progress is committed: the new version in the other bank, and the old one behind it
+-- the application once an update in progress is committed: the new version in the other bank, and the old one after it
 -- as it was
 unfoldable pub updated_app : InProgress → App → App
 updated_app p a = elim a.says [

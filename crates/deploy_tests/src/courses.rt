@@ -50,7 +50,7 @@ pub fn step(
     Ok(disk)
 }
 
-/// Adds an answer behind others.
+/// Adds an answer after others.
 pub fn add(said: &mut String, answer: &str) -> Result<(), Trouble> {
     if !said.is_empty() {
         said.push_str(" | ")?;

@@ -82,7 +82,7 @@ pub fn wear(alloc: Global, disk: &mut MemDisk, rest: &str) -> Result<(), Fault> 
     Ok(())
 }
 
-// So many copies from a file on.
+// That many copies from a file on.
 fn place_of(first: u32, copies: u32) -> Result<Place, Fault>
     ensures { IfOk result (λ place. (place.first ≤ 32768) × (place.copies ≤ 8)) }
 {

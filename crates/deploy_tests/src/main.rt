@@ -2,7 +2,7 @@
 //!
 //! `course WORD ..` prints what each word answers, from a disk of empty files on. `stops WORD .. / WORD / LOOK .. /
 //! BEFORE / AFTER` stops the one word after each write to the disk, restarts in five ways, and says `kept` where the
-//! words behind it then answer what is expected before or after that word; ` / BETWEEN` may add what else may be
+//! words after it then answer what is expected before or after that word; ` / BETWEEN` may add what else may be
 //! answered on the way. `damaged` does the same, and besides once more for each copy of the root of application 0,
 //! which is damaged after the restart. A line that is empty or begins with `#` is printed as it stands, and one that is
 //! no case is answered by `no case`. What is wanted was worked out by hand from the rules.

@@ -93,7 +93,7 @@ fn state_text(alloc: Global, state: &RootState) -> Result<String, Fault> {
     }
 }
 
-// Behind a comma each, the copies that lack the root, and that another text is held.
+// After a comma each, the copies that lack the root, and that another text is held.
 fn copies_text(alloc: Global, lacking: &Numbers, sole: bool) -> Result<String, Fault> {
     let mut said = String::new(alloc);
     if !lacking.as_slice().is_empty() {

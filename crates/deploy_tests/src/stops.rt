@@ -6,7 +6,7 @@ use case_words::{Trouble, text};
 use disk_model::MemDisk;
 use std::alloc::Global;
 
-/// No word makes so many calls of the disk here.
+/// No word makes that many calls of the disk here.
 const ENOUGH: u64 = 1_000;
 
 /// What a restart keeps of the writes since the last sync: all, nothing, or those that the bits of a number say:
@@ -128,7 +128,7 @@ fn follow(
     Ok(None)
 }
 
-// The disk on which the word is stopped after so many calls, and whether it succeeded.
+// The disk on which the word is stopped after that many calls, and whether it succeeded.
 fn stopped_at(
     alloc: Global,
     start: &Snapshot,

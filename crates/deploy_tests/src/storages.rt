@@ -24,7 +24,7 @@ use value_text::parse_value;
 /// The moment of recoveries and resets.
 const RECOVERED: u64 = 1090;
 
-/// `STORAGE`, and what a word says behind it: opens the root, finds the storage, and does there what the word says.
+/// `STORAGE`, and what a word says after it: opens the root, finds the storage, and does there what the word says.
 pub fn stored(
     alloc: Global,
     disk: &mut MemDisk,

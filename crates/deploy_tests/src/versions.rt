@@ -87,7 +87,7 @@ fn put_view(alloc: Global, said: &mut String, kind: StoreKind, view: &View) -> R
     Ok(())
 }
 
-// Adds an element: behind `=` its content, behind `!` its salvage where too few copies agree, the info of a file, and
+// Adds an element: after `=` its content, after `!` its salvage where too few copies agree, the info of a file, and
 // the copies that lack it.
 fn put_entry(
     alloc: Global,

@@ -1,4 +1,4 @@
--- Deployments as plain data, without where they lie in memory: what two deployments that say the same have in common.
+-- Deployments as plain data, without where they are in memory: what two deployments that say the same have in common.
 use Rattle.std.specs.Prelude.{ℕ, List, map, Bool, Option, option_map}
 use Rattle.per_base.specs.declared.elements.StoreKind.{StoreKind}
 use Rattle.per_base.specs.declared.elements.Scope.{Scope}

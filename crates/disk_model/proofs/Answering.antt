@@ -101,7 +101,7 @@ begin_failed old new begins same = failed old new same begins.later (begins.fail
     })
     (λ none. absurd (true≢false (begins.due ∙ ap (λ b. b || is_stopped old 0) (none.planned 0) ∙ none.stopped 0)))
 
--- want of memory makes a call fail
+-- OutOfMemory makes a call fail
 pub want_failed : (old mid new : MemDisk) → Begins old mid false → SameRecord old mid → Wants mid new
     → SameRecord mid new → Fails old new
 want_failed old mid new begins first wants next =

@@ -1,4 +1,4 @@
--- What writes leave alone: files that are spared, and blocks of 256 bytes that lie apart from what is written.
+-- What writes leave alone: files that are spared, and blocks of 256 bytes that are apart from what is written.
 -- Read by `slice_index`, which gives 0 past the end, so that a gap that a write fills with zeros reads as before.
 use Rattle.std.specs.Prelude.{◌≡◌, ℕ, ◌+◌, ◌*◌, ◌<◌, ◌≤◌, length, slice_index}
 use Rattle.disk_model.specs.Image.{Image}
@@ -20,7 +20,7 @@ pub record Keeps (spared apart : ℕ → Type 0) (old new : Image) : Type 0 wher
   pub bytes : (f k j : ℕ) → j < 256 → apart k → slice_index (new f) (256 * k + j) ≡ slice_index (old f) (256 * k + j)
   pub no_shorter : (f : ℕ) → length (old f) ≤ length (new f)
 
--- writes that a crash may have cut short: what lies past an old end may hold anything
+-- writes that a crash may have cut short: what is past an old end may hold anything
 pub record Tears (spared apart : ℕ → Type 0) (old new : Image) : Type 0 where
   pub files : Spares spared old new
   pub bytes : (f k j : ℕ) → j < 256 → apart k → 256 * k + j < length (old f)

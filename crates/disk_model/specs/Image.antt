@@ -19,7 +19,7 @@ put_bytes old at bytes = if length bytes == 0 then old
 abbrev pub put_image : Image → ℕ → ℕ → List ℕ → Image
 put_image image file at bytes f = if f == file then put_bytes (image f) at bytes else image f
 
--- the bytes of a file after a write of n bytes that was cut short: the range and what lies past the old end may hold
+-- the bytes of a file after a write of n bytes that was cut short: the range and what is past the old end may hold
 -- anything
 pub record Torn (at n : ℕ) (old new : List ℕ) : Type 0 where
   pub kept : (i : ℕ) → i < length old → (i < at) ⊎ (at + n ≤ i) → slice_index new i ≡ slice_index old i

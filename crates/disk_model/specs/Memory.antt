@@ -14,7 +14,7 @@ abbrev pub mem_medium : MemDisk → Medium
 mem_medium disk = recorded (image_of disk.files) (start_of disk.files disk.start) disk.calls.items disk.faults
     disk.written
 
--- how many calls failed for want of memory
+-- how many calls failed because memory ran out
 abbrev pub starved_count : MemDisk → ℕ
 starved_count disk = disk.starved
 
@@ -66,8 +66,8 @@ pub record KeepsCounts (old new : MemDisk) : Type 0 where
   pub faults : (mem_medium new).faults ≡ (mem_medium old).faults
   pub starved : starved_count new ≡ starved_count old
 
--- How a call answers: it fails where the plan names it and where it comes after the stop, and else for want of memory
--- alone, which is counted beside the fault.
+-- How a call answers: it fails where the plan names it and where it comes after the stop, and else because memory ran
+-- out alone, which is counted beside the fault.
 pub record Answers (old new : MemDisk) (failed : Bool) : Type 0 where
   pub due : IsTrue (is_due old) → IsTrue failed × (starved_count new ≡ starved_count old)
   pub starves : IsFalse (is_due old) → IsTrue failed → starved_count new ≡ raised (starved_count old)
@@ -121,7 +121,7 @@ pub record Succeeds (old new : MemDisk) : Type 0 where
   pub counts : KeepsCounts old new
   pub orders : new.orders ≡ old.orders
 
--- the rest of a call fails for want of memory
+-- the rest of a call fails because memory ran out
 pub record Wants (old new : MemDisk) : Type 0 where
   pub later : (mem_medium old).faults ≤ (mem_medium new).faults
   pub faults : (mem_medium new).faults ≡ raised (mem_medium old).faults

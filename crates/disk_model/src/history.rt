@@ -51,7 +51,7 @@ pub fn begun(start: Option<Files>, files: Files) -> Files
     }
 }
 
-/// Copies what lies from `at` on, as much as there is and as there is room for, and says how much that is.
+/// Copies what is from `at` on, as much as there is and as there is room for, and says how much that is.
 pub fn read_from(bytes: &[u8], at: u64, out: &mut [u8]) -> usize
     ensures count { result ≡ min (length out.old) (length bytes.now - at) }
     ensures bytes { take result out.new ≡ take result (drop at bytes.now) }
@@ -199,7 +199,7 @@ fn tear(
     grow(alloc, files, file, end)
 }
 
-// Where so many bytes from `at` on end; beyond all places there is no memory for them.
+// Where that many bytes from `at` on end; beyond all places there is no memory for them.
 fn end_within(at: u64, len: usize) -> Result<usize, AllocError>
     ensures { IfOk result (λ end. end ≡ at + len) }
 {

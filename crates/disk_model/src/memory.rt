@@ -140,7 +140,7 @@ impl MemDisk {
         Ok(MemDisk::holding(alloc, torn))
     }
 
-    /// How many calls failed for want of memory, up to the greatest u64.
+    /// How many calls failed because memory ran out, up to the greatest u64.
     pub fn starved(&self) -> u64
         ensures { result ≡ starved_count self.now }
     {
@@ -196,7 +196,7 @@ impl MemDisk {
         Ok(())
     }
 
-    // Counts a want of memory.
+    // Counts a failed allocation.
     fn starve(&mut self) -> DiskFailed
         ensures record { SameRecord self.old self.new }
         ensures wants { Wants self.old self.new }

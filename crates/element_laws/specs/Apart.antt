@@ -1,4 +1,4 @@
--- Storages whose places lie apart: what the calls on one leave of the other.
+-- Storages whose places are apart: what the calls on one leave of the other.
 use Rattle.std.specs.Prelude.{◌≡◌, ◌⊎◌, ℕ, ◌+◌, ◌*◌, ◌≤◌}
 use Rattle.disk_model.specs.declared.place.Place.{Place}
 use Rattle.disk_model.specs.Image.{Image}
@@ -16,7 +16,7 @@ use Rattle.element_laws.specs.Phases.{IsOfPlace}
 
 -- ---- what a storage is on two images
 
--- it stands for the same, its place is clean and it is in use where that was so
+-- it denotes the same, its place is clean and it is in use where that was so
 pub record IsUnchanged (shape : Shape) (old new : Image) : Type 0 where
   pub state : store_at new shape ≡ store_at old shape
   pub clean : IsClean shape old → IsClean shape new
@@ -32,7 +32,7 @@ FrameLaw = (shape : Shape) (old new : Image) → Spares (IsOfPlace shape.place) 
 abbrev pub LieApart : Place → Place → Type 0
 LieApart one other = (one.first + 4 * one.copies ≤ other.first) ⊎ (other.first + 4 * other.copies ≤ one.first)
 
--- then the files of one lie outside the other
+-- then the files of one are outside the other
 abbrev pub OutsideLaw : Type 0
 OutsideLaw = (one other : Place) → LieApart one other → (file : ℕ) → IsOfPlace other file
     → IsOutside one file

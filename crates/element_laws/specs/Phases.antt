@@ -196,7 +196,7 @@ GivenUpLaw = (shape : Shape) (start now : Image) (text : FitText) → IsClean sh
     × ((copy h : ℕ) (u : List ℕ) → copy < shape.place.copies → Holds now shape.place copy h u
     → (h ≡ text.0.generation) × (u ≡ text.0.text))
 
--- the contents that held indexes name lie in blocks of the set, and fill no more than these
+-- the contents that held indexes name are in blocks of the set, and fill no more than these
 abbrev pub TakesNamed : (taken : ℕ → Bool) → Place → Image → Type 0
 TakesNamed taken place image = (at : Where) → IsNamed place image at
     → ((i : ℕ) → i < length at.blocks → taken (slice_index at.blocks i) ≡ true) × (at.len ≤ 256 * length at.blocks)

@@ -17,7 +17,7 @@ pub fn untouched_is_kept()
     ensures untouched { UntouchedLaw }
 {}
 
-/// What a storage is depends on the files of its place alone, and those of one place lie outside another that lies
+/// What a storage is depends on the files of its place alone, and those of one place are outside another that is
 /// apart. So what leaves all files outside one place alone, at its end and at every moment, leaves a storage at the
 /// other as it was.
 pub fn places_stand_apart()
@@ -71,7 +71,7 @@ pub fn places_are_clean()
 {}
 
 /// A stop while contents are mended in the copies that lacked them, after `adopting_keeps`, keeps a storage. A mend
-/// may stop in the midst of a copy, which is half mended then: no two contents lie under one hash, and so it gives the
+/// may stop in the midst of a copy, which is half mended then: no two contents have the same hash, and so it gives the
 /// value or nothing.
 pub fn mending_keeps()
     ensures start { MendStartLaw }

@@ -8,12 +8,12 @@
 //! after, in both scopes and with shared blocks: it stands as before or as after, no text or value comes up that was
 //! never synchronised, no copy is lost that was not damaged, and its place stays clean.
 //!
-//! Storages at places that lie apart do not touch each other ([`places_stand_apart`]).
+//! Storages at places that are apart do not touch each other ([`places_stand_apart`]).
 //!
 //! [`places_are_clean`] and [`use_is_adopted`] say where the laws begin and end, and [`outcomes_are_refused`] what they
 //! exclude.
 //!
-//! The premises are that no torn piece passes its hash by chance and no two contents lie under one hash, and that one
+//! The premises are that no torn piece passes its hash by chance and no two contents have the same hash, and that one
 //! storage has one caller at a time.
 #![tactic(auto)]
 

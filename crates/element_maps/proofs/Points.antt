@@ -151,7 +151,7 @@ of_files : (kind : StoreKind) (info : FileInfo) → IsTrue (has_info kind (Some 
 of_files Keys info has = absurd cc
 of_files Files info has = refl
 
--- a change that makes the one element into the other may be committed beside an entry that stands for the one
+-- a change that makes the one element into the other may be committed beside an entry that denotes the one
 pub point_taken : (kind : StoreKind) (test : List ℕ → Bool) (name : List ℕ) (es : List Entry) (old : Option Entry)
     (new : Option Element)
     → entry_at name es ≡ old

@@ -19,7 +19,7 @@ use Rattle.element_maps.specs.Differences.{MakeInto}
 
 -- ---- what the storage holds
 
--- the map that a view stands for with a test of contents: a value that fails it is unreadable
+-- the map that a view denotes with a test of contents: a value that fails it is unreadable
 abbrev pub synchronised : (List ℕ → Bool) → View → Map
 synchronised test v = map_of (judged_view test v)
 

@@ -22,7 +22,7 @@ use Rattle.element_maps.specs.Sessions.{same_map, synchronised}
 
 -- ---- how it is configured
 
--- a storage of this kind lies where the shape says, as it is configured: by its name, with its copies, and no larger
+-- a storage of this kind is where the shape says, as it is configured: by its name, with its copies, and no larger
 pub record IsConfigured (of : StoreKind) (config : StorageData) (shape : Shape) : Type 0 where
   pub of_kind : config.kind ≡ of
   pub kind : shape.kind ≡ of
@@ -34,7 +34,7 @@ pub record IsConfigured (of : StoreKind) (config : StorageData) (shape : Shape) 
 
 -- ---- what an opening gives
 
--- where the storage lies, what it shows, the map that is synchronised, and what is reported
+-- where the storage is, what it shows, the map that is synchronised, and what is reported
 pub record Opened : Type 0 where
   pub shape : Shape
   pub view : View

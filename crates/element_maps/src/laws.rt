@@ -18,7 +18,7 @@ pub fn changes_make_maps()
     ensures others { OthersLaw }
 {}
 
-/// What a view stands for is a map as a session owes it; with no test of contents it is the view's own. Elements that
+/// What a view denotes is a map as a session owes it; with no test of contents it is the view's own. Elements that
 /// are the same by test are equal.
 pub fn views_are_maps()
     ensures untested { UntestedLaw }

@@ -16,7 +16,7 @@ use Rattle.index_text.specs.Reading.{index_of}
 use Rattle.element_state.specs.declared.shapes.Shape.{Shape}
 use Rattle.element_state.specs.Fit.{fit_index}
 
--- where the content of an entry lies
+-- where the content of an entry is
 abbrev pub where_of : IndexEntry → Where
 where_of e = record { blocks = e.blocks; len = e.len; hash = e.hash }
 
@@ -67,7 +67,7 @@ pub record IsClean (shape : Shape) (image : Image) : Type 0 where
       → b < shape.place.copies
       → counting_at image shape.place a at ≡ Some s → counting_at image shape.place b at ≡ Some t → s ≡ t
 
--- ---- what is granted of chance
+-- ---- assumptions on hash collisions
 
 -- some copy gives these bytes under the entry, after the last sync or with the writes since then done whole
 pub record IsCounted (place : Place) (c : Case) (at : Where) (bytes : List ℕ) : Type 0 where
@@ -75,13 +75,13 @@ pub record IsCounted (place : Place) (c : Case) (at : Where) (bytes : List ℕ) 
   pub inside : copy < place.copies
   pub counts : (counting_at c.base place copy at ≡ Some bytes) ⊎ (counting_at c.full place copy at ≡ Some bytes)
 
--- No two contents lie under one hash: all that counts for a content which an index names that was held after the last
+-- No two contents have the same hash: all that counts for a content which an index names that was held after the last
 -- sync is the same bytes.
 abbrev pub HasNoTwins : Place → Case → Type 0
 HasNoTwins place c = (at : Where) (s t : List ℕ) → IsNamed place c.base at → IsCounted place c at s
     → IsCounted place c at t → s ≡ t
 
--- A sound case, for a place: no torn piece passes its hash by chance, and no two contents lie under one hash. It is a
+-- A sound case, for a place: no torn piece passes its hash by chance, and no two contents have the same hash. It is a
 -- matter of hashes alone.
 pub record IsSound (place : Place) (c : Case) : Type 0 where
   pub pieces : IsSoundFor (IsPiece place) c

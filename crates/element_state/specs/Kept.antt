@@ -51,7 +51,7 @@ IsFromOneOf left (there ∷ views) = IsFrom left there ⊎ IsFromOneOf left view
 abbrev pub IsSpared : Shape → (damaged lacking : List ℕ) → (copy : ℕ) → Type 0
 IsSpared shape damaged lacking copy = IsUndamaged damaged shape.place copy × ¬ (Contains lacking (copy + 1))
 
--- so many copies as must agree are spared and did not lack it
+-- that many copies as must agree are spared and did not lack it
 abbrev pub HasEnough : Shape → (damaged lacking : List ℕ) → Type 0
 HasEnough shape damaged lacking = AtLeast (IsSpared shape damaged lacking) shape.place.copies shape.m
 
@@ -137,7 +137,7 @@ SalvageStays shape damaged left (Corrupt (Some v) others) after = HasOne shape d
 
 -- What a stop and damage leave of a storage that was in one state and on its way to another.
 pub record Kept (shape : Shape) (damaged : List ℕ) (left before after : State) : Type 0 where
-  -- every text that fits, and not only the one that it opens at, stands for something known: later damage may bring it
+  -- every text that fits, and not only the one that it opens at, denotes something known: later damage may bring it
   -- up
   pub known : AllByRecursion (λ w. IsFromOneOf w (all_views before ++ listed (salvage_of after))) (all_views left)
   pub stays : Stays shape damaged left before after

@@ -1,4 +1,4 @@
--- What a text that fits stands for: which copies support it, its elements, and the copies that lack them. Copies are
+-- What a text that fits denotes: which copies support it, its elements, and the copies that lack them. Copies are
 -- counted from 0, in lists from 1.
 use Rattle.std.specs.Prelude.{ℕ, ◌+◌, List, length, map, Bool, ◌&&◌, ◌||◌, not, cond, nat_le, Option, Some, None}
 use Rattle.std.specs.Prelude.{is_some}

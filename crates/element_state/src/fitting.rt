@@ -91,7 +91,7 @@ fn size_of(entries: &[IndexEntry]) -> u64
     total
 }
 
-// Whether all blocks lie below this number.
+// Whether all blocks are below this number.
 fn are_below(entries: &[IndexEntry], blocks: u64) -> bool
     ensures { result ≡ list_all (λ e. list_all (λ b. nat_lt b blocks) e.blocks) entries.now }
 {

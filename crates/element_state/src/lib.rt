@@ -1,4 +1,4 @@
-//! What the copies of one storage stand for, and reading it.
+//! What the copies of one storage denote, and reading it.
 //!
 //! A storage is an index in the slots of a place and contents in its areas. A text that some copy holds fits where it
 //! is an index of the storage's kind and within its bounds; it qualifies where enough copies support it: with element

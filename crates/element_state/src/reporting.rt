@@ -12,7 +12,7 @@ use std::alloc::{AllocError, Global};
 ///
 /// # Errors
 ///
-/// Only want of memory.
+/// Only `OutOfMemory`.
 pub fn failed_report(alloc: Global, shape: &Shape) -> Result<Report, AllocError>
     ensures { IfOk result (λ report. report ≡ failed_report shape.now) }
 {
@@ -24,7 +24,7 @@ pub fn failed_report(alloc: Global, shape: &Shape) -> Result<Report, AllocError>
     })
 }
 
-// The numbers of so many copies, from 1 on.
+// The numbers of that many copies, from 1 on.
 fn all_copies(alloc: Global, copies: u32) -> Result<Numbers, AllocError>
     ensures { IfOk result (λ numbers. numbers ≡ range_with_len 1 copies) }
 {

@@ -11,11 +11,11 @@ use std::alloc::AllocError;
 pub struct Shape {
     /// By which reports call it.
     pub name: Name,
-    /// Where its copies lie.
+    /// Where its copies are.
     pub place: Place,
     /// Keys or files.
     pub kind: StoreKind,
-    /// So many copies must agree.
+    /// That many copies must agree.
     pub m: u32,
     /// On what they must agree.
     pub scope: Scope,
@@ -39,7 +39,7 @@ impl Shape {
     }
 }
 
-/// What the copies of a storage stand for.
+/// What the copies of a storage denote.
 #[derive(Debug, Drop)]
 pub struct View {
     /// That of its index, at least 1.

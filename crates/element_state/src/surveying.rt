@@ -20,7 +20,7 @@ use guarded_cell::{Looked, Seen, Slots, look};
 use index_text::Index;
 use std::alloc::Global;
 
-/// A text that stands for a storage, with all that was read of it.
+/// A text that denotes a storage, with all that was read of it.
 #[derive(Debug, Drop)]
 pub struct Found {
     /// Whether the storage opens at this text; else it is the first that fits.
@@ -29,7 +29,7 @@ pub struct Found {
     pub seen: Seen,
     /// The index that the text spells.
     pub index: Index,
-    /// What it stands for.
+    /// What it denotes.
     pub view: View,
     /// Which slots of the place hold a text.
     pub slots: Slots,
@@ -80,7 +80,7 @@ pub fn survey<D: Disk>(
     Ok(found)
 }
 
-/// What the storage stands for. It begins with a sync and writes nothing.
+/// What the storage denotes. It begins with a sync and writes nothing.
 ///
 /// # Errors
 ///

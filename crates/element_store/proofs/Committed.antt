@@ -128,7 +128,7 @@ lacking_at : Image → Place → ℕ → Where → List ℕ
 lacking_at image place m at = lacking (voted m (contents place at.blocks at.len at.hash image))
     place at.blocks at.len at.hash image
 
--- what is seen of an entry goes by where its content lies
+-- what is seen of an entry goes by where its content is
 seen_alike : (image : Image) (place : Place) (m : ℕ) (a b : IndexEntry) → where_of a ≡ where_of b
     → ((entry_view image place m a).content ≡ (entry_view image place m b).content)
     × ((entry_view image place m a).lacking ≡ (entry_view image place m b).lacking)

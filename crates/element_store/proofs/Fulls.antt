@@ -107,7 +107,7 @@ counting_full file blocks bytes hash len full is long =
     cond-true (bytes_eq (sha256 (joined file blocks len)) hash) (Some (joined file blocks len)) None same
     ∙ ap (λ (b : List ℕ). Some b) j
 
--- so many copies of one text
+-- that many copies of one text
 holders_all : (bytes : List ℕ) (a n : ℕ) → holders (map (λ c. Some bytes) (range_with_len a n)) bytes ≡ n
 holders_all bytes a zero = refl
 holders_all bytes a (suc n) =

@@ -68,7 +68,7 @@ content_bad : (o s t : Option (List ℕ)) → content_of o s ≡ Bad t → o ≡
 content_bad None s t e = refl
 content_bad (Some x) s t e = cc
 
--- bytes that count and lie within
+-- bytes that count and are within
 full_of : (file blocks : List ℕ) (len : ℕ) (hash v : List ℕ) → counting file blocks len hash ≡ Some v
     → within file blocks len ≡ true → length v ≡ len → IsFull file blocks v × (sha256 v ≡ hash)
 unfolding counting
@@ -617,7 +617,7 @@ opened_text shape start r found =
         some_same : {X : Type 0} (a b : X) → Some a ≡ Some b → a ≡ b
         some_same a b e = cc
 
--- ---- a storage that is in use as it lies
+-- ---- a storage that is in use as it is
 
 module _ (shape : Shape) (old one two : Medium) (r : OpeningPlan) (text : List ℕ) (views : List Entry) (index : Index)
     (v : View) (is : IsShape shape)

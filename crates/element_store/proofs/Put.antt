@@ -107,7 +107,7 @@ module _ (kind : StoreKind) (standing : List IndexEntry) (views : List Entry) (s
   count : length job.blocks ≡ blocks_for (length job.bytes.now)
   count = sym (ap length is_blocks) ∙ made.count ∙ ap (λ (bs : List ℕ). blocks_for (length bs)) (sym is_bytes)
 
-  -- a part that is not changed lies in an old block of the element
+  -- a part that is not changed is in an old block of the element
   abbrev IsOld : ℕ → Type 0
   IsOld i = (was : IndexEntry) × (seen : Entry) × AreBeside standing views was seen × (was.name ≡ f.name)
       × (seen.content ≡ Good job.was.now)

@@ -77,7 +77,7 @@ laid_distinct [] laid = IsDistinct-from_apart nat_eq [] (λ i j d less lt. absur
 laid_distinct (e ∷ es) laid = distinct_join e.blocks (blocks_of es) laid.0 (laid_distinct es laid.2)
     (disjoint_all e.blocks es laid.1)
 
--- every block lies below the capacity
+-- every block is below the capacity
 list_all_from : (p : ℕ → Bool) (xs : List ℕ) → ((i : ℕ) → i < length xs → p (get_or xs i 0) ≡ true)
     → list_all p xs ≡ true
 list_all_from p [] each = refl

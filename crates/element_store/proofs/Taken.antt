@@ -122,7 +122,7 @@ taken_by capacity es set added = record {
   free = (let a = added.free in let all = none_free capacity in omega (arith, a, all));
 }
 
--- the blocks of an index that fits lie in the area
+-- the blocks of an index that fits are in the area
 second : (a b : Bool) → (a && b) ≡ true → b ≡ true
 second true b is = is
 second false b is = absurd (not_both is)

@@ -34,7 +34,7 @@ generation_in store = generation_of store.cell
 abbrev pub view_in : Store → View
 view_in store = whole_view store.shape (generation_of store.cell) store.entries.items
 
--- a set of so many blocks has exactly those of these entries, so all others are free
+-- a set of that many blocks has exactly those of these entries, so all others are free
 pub record AreTaken (blocks : ℕ) (entries : List IndexEntry) (set : List Bool) : Type 0 where
   pub capacity : length set ≡ blocks
   pub exact : (b : ℕ) → contains set b ≡ named_in (blocks_of entries) b

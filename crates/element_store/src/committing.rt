@@ -88,7 +88,7 @@ impl Store {
             (index_in store).entries) }
         ensures format { IfOk result (λ store. (index_in store).format ≡ 2) }
 
-        // A want of memory hands the storage back, and then nothing happened. Only a disk that failed closes it.
+        // Running out of memory hands the storage back, and then nothing happened. Only a disk that failed closes it.
         ensures memory { IfErr result (λ fault. HandsBack self fault (disk.new ≡ disk.old)) }
         ensures cause { IfErr result (λ fault. IsDeviceFault fault
             → Rose (D.medium disk.old).faults (D.medium disk.new).faults) }

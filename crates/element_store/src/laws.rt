@@ -13,7 +13,7 @@ ghost use Rattle.element_store.specs.Stores.{IsUsed, shape_of};
 use element_laws::places_stand_apart;
 
 /// A storage in use stays in use where the files of its place are as they were, as they are where only files of a place
-/// that lies apart from its own changed.
+/// that is apart from its own changed.
 pub fn use_stays()
     ensures frame { (told : Bool) (store : Store) (old new : Image)
         → (IsTrue told → Spares (IsOfPlace (shape_of store).place) old new)

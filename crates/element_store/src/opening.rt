@@ -80,7 +80,7 @@ pub fn open_store<D: Disk>(
     ensures unwritten { IsErrOf result StoreError.Corrupt → (D.medium disk.new).written ≡ (D.medium disk.old).written }
     ensures settled { IsErrOf result StoreError.Corrupt → Quiet (D.medium disk.new) }
 
-    // A want of memory comes before anything is written.
+    // Memory runs out only before anything is written.
     ensures memory { IsErrOf result StoreError.OutOfMemory
         → ((D.medium disk.new).image ≡ (D.medium disk.old).image)
         × ((D.medium disk.new).written ≡ (D.medium disk.old).written) }

@@ -84,7 +84,7 @@ pub fn rebuild<D: Disk>(
     Ok(())
 }
 
-/// Where new contents may lie beside what a storage holds, and the generation of their index.
+/// Where new contents may be beside what a storage holds, and the generation of their index.
 #[derive(Drop)]
 struct Ground {
     used: BlockSet,

@@ -15,7 +15,7 @@ use std::alloc::{AllocError, Global};
 ///
 /// # Errors
 ///
-/// Only want of memory.
+/// Only `OutOfMemory`.
 pub fn reports_of(alloc: Global, shape: &Shape, view: &View) -> Result<Vec<Report>, AllocError>
     ensures { IfOk result (λ found. found.items ≡ reports (λ bytes. true) shape.now view.now) }
 {

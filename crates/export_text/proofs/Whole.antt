@@ -279,7 +279,7 @@ refused_is_none text (Err errors.NotAnExport) given refused x is same =
 pub all_written : (fs : List Fresh) (n : ℕ) → length fs ≤ n → take n fs ≡ fs
 all_written fs n whole = take_all n fs whole
 
--- a body with its hash behind it
+-- a body with its hash after it
 pub under_hash : (text written slice digest body : List ℕ) → text ≡ written ++ digest → written ≡ body → slice ≡ written
     → digest ≡ sha256 slice → text ≡ body ++ sha256 body
 under_hash text written slice digest body added is slice_is hashed =

@@ -74,7 +74,7 @@ export_text x = export_body x ++ sha256 (export_body x)
 
 -- ---- the export that a text spells, read from the left
 
--- so many bytes, which are a content of this kind
+-- that many bytes, which are a content of this kind
 unfoldable pub content_at : StoreKind → ℕ → List ℕ → Option (List ℕ × List ℕ)
 content_at kind len bytes = do
   content ← bytes_at len bytes
@@ -88,7 +88,7 @@ fresh_at kind bytes = do
   content ← content_at kind len.0 len.1
   Some (record { name = name.0; info = info.0; bytes = content.0 }, content.1)
 
--- what stands behind the mark
+-- what follows the mark
 unfoldable pub marked_at : List ℕ → Option (List ℕ)
 marked_at bytes = do
   first ← bytes_at 5 bytes

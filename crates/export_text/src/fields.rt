@@ -125,7 +125,7 @@ pub fn len_of(kind: StoreKind, bytes: &[u8]) -> Result<(u32, &[u8]), ExportError
     Ok((len, rest))
 }
 
-/// A copy of so many bytes, which are a content of this kind.
+/// A copy of that many bytes, which are a content of this kind.
 #[tactic(auto, unfolding(crate::specs::Exports::content_at))]
 pub fn content_of(
     alloc: Global,

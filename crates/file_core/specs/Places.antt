@@ -54,7 +54,7 @@ peek_byte cursor bytes = reading cursor bytes (λ rest. slice_index rest 0)
 abbrev pub get_byte : Cursor → List ℕ → Result (ℕ × Cursor) PerError
 get_byte cursor bytes = reading cursor bytes (λ rest. (slice_index rest 0, advanced cursor 1))
 
--- so many bytes, or the rest
+-- that many bytes, or the rest
 abbrev pub read : Cursor → List ℕ → ℕ → Result (List ℕ × Cursor) PerError
 read cursor bytes count = reading cursor bytes (λ rest. (take count rest, advanced cursor (min count (length rest))))
 
@@ -98,7 +98,7 @@ start_of Beginning cursor size = 0
 start_of Current cursor size = cursor.position
 start_of End cursor size = size
 
--- the position so far from its start, where it lies from 0 to the size
+-- the position so far from its start, where it is from 0 to the size
 abbrev pub move_position : Cursor → ℕ → Origin → ℤ → Result (ℕ × Cursor) PerError
 move_position cursor size origin offset =
     let target : ℤ = pos (start_of origin cursor size) +ℤ offset in

@@ -33,7 +33,7 @@ pub fn overwrite_content(
     Ok(len)
 }
 
-/// Keeps so many bytes of a readable content.
+/// Keeps that many bytes of a readable content.
 pub fn truncate_content(content: &mut Content, size: usize)
     requires { IsTrue (is_good content.old) }
     ensures { content.new ≡ Content.Good (take size (bytes_of content.old)) }

@@ -110,7 +110,7 @@ impl Cursor {
         Ok(byte)
     }
 
-    /// So many bytes, or the rest where fewer are left; the position passes them.
+    /// That many bytes, or the rest where fewer are left; the position passes them.
     ///
     /// # Errors
     ///

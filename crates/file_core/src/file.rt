@@ -156,7 +156,7 @@ impl File {
         ensures kind { cursor.new.kind ≡ cursor.old.kind }
         ensures within { room.others + self.old.len ≤ room.allowed → room.others + self.new.len ≤ room.allowed }
         ensures writer { OnOk result (IsTrue (places.writes cursor.old.kind)) }
-        // Want of memory stands for no refusal, and comes only where the file grows.
+        // `OutOfMemory` never replaces a refusal; it comes only where the file grows.
         ensures due { IfErr result (λ error. error ≡ PerError.OutOfMemory
             → IsDue (written cursor.old self.old piece.now now room)) }
         ensures memory { IfErr result (λ error. error ≡ PerError.OutOfMemory → GrowsBy cursor.old self.old piece.now) }
@@ -223,7 +223,7 @@ impl File {
         Ok(())
     }
 
-    /// Keeps so many bytes of the content.
+    /// Keeps that many bytes of the content.
     fn keep(&mut self, size: usize, now: u64)
         requires good { IsTrue (is_good self.old.content) }
         requires inside { size ≤ length (bytes_of self.old.content) }

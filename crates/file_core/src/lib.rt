@@ -6,7 +6,7 @@
 //! changes nothing.
 //!
 //! The content is changed in place: reading, moving and writing a byte take no time that grows with the file, and a
-//! write inside a content copies no more than it writes. Cutting, moving, peeking and getting a byte take no memory.
+//! write inside a content copies no more than it writes. Cutting, moving, peeking and getting a byte do not allocate.
 #![tactic(auto)]
 
 mod contents;

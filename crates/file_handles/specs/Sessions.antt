@@ -65,7 +65,7 @@ abbrev pub with_file : Map → Option Handle → Option (Handle × Element)
 with_file files None = None
 with_file files (Some handle) = readable handle (element_at files handle.name)
 
--- there is a file, it is readable, and the position lies in it
+-- there is a file, it is readable, and the position is in it
 abbrev pub IsHeldAt : Option Element → ℕ → Type 0
 IsHeldAt None position = ⊥
 IsHeldAt (Some file) position = IsTrue (is_good file.content) × (position ≤ file.len)

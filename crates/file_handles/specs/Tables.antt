@@ -15,7 +15,7 @@ pub record Table : Type 0 where
   pub session : Session
   pub moment : ℕ
 
--- each handle has its file, which is readable, and its position lies in it
+-- each handle has its file, which is readable, and its position is in it
 abbrev pub Held : Map → Handles → Type 0
 Held files handles = (number : ℕ) (handle : Handle) → handle_at handles number ≡ Some handle
     → IsHeldAt (element_at files handle.name) handle.cursor.position

@@ -44,7 +44,7 @@ impl FileTable {
         Ok(byte)
     }
 
-    /// So many bytes, or the rest where fewer are left; the position passes them.
+    /// That many bytes, or the rest where fewer are left; the position passes them.
     ///
     /// # Errors
     ///

@@ -5,7 +5,7 @@
 //! carries, a busy file by the lowest handle that stands in the way, and a refused call changes nothing. A writer is
 //! alone with its file; readers share one.
 //!
-//! The files are the table's own, apart from those on the disk: cutting a file takes no memory, and neither do the
+//! The files are the table's own, apart from those on the disk: cutting a file does not allocate, and neither do the
 //! other calls that only look, move or close. At most 1,024 files stand, and they never take more than the storage is
 //! allowed.
 #![tactic(auto)]

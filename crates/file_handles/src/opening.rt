@@ -188,7 +188,7 @@ impl FileTable {
     /// # Errors
     ///
     /// `LimitReached` with `FileBytes` where the length is above 1,048,576; `OutOfStorageSpace` where the storage with
-    /// this file at that length would exceed its maximum. Changes nothing, and takes no memory.
+    /// this file at that length would exceed its maximum. Changes nothing, and does not allocate.
     pub fn would_fit(&self, name: &Name, len: u64) -> Result<(), PerError>
         ensures ok { OnOk result (opening.would_fit self.now.storage self.now.session.files name.now len ≡ None) }
         ensures refused { IfErr result (λ error. opening.would_fit self.now.storage self.now.session.files name.now len

@@ -36,7 +36,7 @@ impl FileTable {
             (option_copied initial.entry) ≡ Ok self.new.session) }
         ensures refused { IfErr result (λ error. IsRefusal
             (calls.recover_file self.old.storage self.old.session name.now now (option_copied initial.entry)) error) }
-        // Want of memory stands for no refusal, and comes only where the initial content is taken.
+        // `OutOfMemory` never replaces a refusal; it comes only where the initial content is taken.
         ensures memory { IfErr result (λ error. error ≡ PerError.OutOfMemory
             → IsDue (calls.recover_file self.old.storage self.old.session name.now now
             (option_copied initial.entry))) }

@@ -93,7 +93,7 @@ files_are (e ∷ es) all name = by (is_at (name_cmp name) e.name) (files_are es 
     by true later = all.0
     by false later = later
 
--- an entry that is mended stands for the same file
+-- an entry that is mended denotes the same file
 same_element_of : (e : Entry) (content : Content) → element_of (mended_by content e) ≡ element_of e
 same_element_of e (Good value) = refl
 same_element_of e (Bad salvage) = refl

@@ -21,7 +21,7 @@ use Rattle.file_storage.specs.Walks.{passing, removed, walked}
 abbrev nothing : List Entry
 nothing = []
 
--- a change that there may be, behind those so far
+-- a change that there may be, after those so far
 joined : (done rest : List Change) (o : Option Change) → (done ++ option_to_list o) ++ rest ≡ done ++ cons_option o rest
 joined done rest None = append_assoc done [] rest
 joined done rest (Some change) = append_assoc done (change ∷ []) rest

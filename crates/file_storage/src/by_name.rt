@@ -103,7 +103,7 @@ impl Files {
         ensures refused { IfErr result (λ error. IsRefusal
             (calls.recover_file (storage_of self.old.config) self.old.session name.now now
             (initial_of self.old.config name.now)) error) }
-        // Want of memory stands for no refusal, and comes only where the initial content is taken.
+        // `OutOfMemory` never replaces a refusal; it comes only where the initial content is taken.
         ensures memory { IfErr result (λ error. error ≡ PerError.OutOfMemory
             → IsDue (calls.recover_file (storage_of self.old.config) self.old.session name.now now
             (initial_of self.old.config name.now))) }

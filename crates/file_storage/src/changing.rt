@@ -22,7 +22,7 @@ impl Files {
             bytes.now ≡ Ok self.new.session) }
         ensures refused { IfErr result (λ error. IsRefusal
             (calls.write (storage_of self.old.config) self.old.session self.old.moment handle bytes.now) error) }
-        // Want of memory stands for no refusal, and comes only where the file grows.
+        // `OutOfMemory` never replaces a refusal; it comes only where the file grows.
         ensures due { IfErr result (λ error. error ≡ PerError.OutOfMemory
             → IsDue (calls.write (storage_of self.old.config) self.old.session self.old.moment handle bytes.now)) }
         ensures memory { IfErr result (λ error. error ≡ PerError.OutOfMemory

@@ -62,7 +62,7 @@ fn remove_all(list: &mut Vec<Change>, entries: &[Entry]) -> Result<(), AllocErro
     Ok(())
 }
 
-/// The changes up to the working file of this name, and at it; what is given back of the entries lies behind it.
+/// The changes up to the working file of this name, and at it; what is given back of the entries follows it.
 fn pass<'a>(
     alloc: Global,
     list: &mut Vec<Change>,

@@ -35,7 +35,7 @@ impl Files {
         self.table.get_byte(handle)
     }
 
-    /// So many bytes, or the rest where fewer are left; the position passes them.
+    /// That many bytes, or the rest where fewer are left; the position passes them.
     ///
     /// # Errors
     ///

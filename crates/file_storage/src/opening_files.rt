@@ -128,7 +128,7 @@ impl Files {
         self.table.can_open(name, kind, mode)
     }
 
-    /// Whether the storage has a file of this length under this name. Changes nothing, and takes no memory.
+    /// Whether the storage has a file of this length under this name. Changes nothing, and does not allocate.
     ///
     /// # Errors
     ///

@@ -91,7 +91,7 @@ impl Files {
             (λ o. o.refused ≡ None → length (index_text (index_in o.files.store))
             ≡ index_length (shape_of self.store).kind (view_in o.files.store).entries) }
 
-        // A want of memory hands the storage back, and then nothing happened. Only a disk that failed closes it.
+        // Running out of memory hands the storage back, and then nothing happened. Only a disk that failed closes it.
         ensures memory { IfErr result (λ fault. HandsBack self fault (disk.new ≡ disk.old)) }
         ensures cause { IfErr result (λ fault. IsDeviceFault fault
             → Rose (D.medium disk.old).faults (D.medium disk.new).faults) }
@@ -149,7 +149,7 @@ impl Files {
             (D.medium disk.old) (D.medium disk.new))) }
         ensures at_most { WritesAtMost self (D.medium disk.old) (D.medium disk.new) }
 
-        // A want of memory hands the storage back, and then nothing happened. Only a disk that failed closes it.
+        // Running out of memory hands the storage back, and then nothing happened. Only a disk that failed closes it.
         ensures memory { IfErr result (λ fault. HandsBack self fault (disk.new ≡ disk.old)) }
         ensures cause { IfErr result (λ fault. IsDeviceFault fault
             → Rose (D.medium disk.old).faults (D.medium disk.new).faults) }

@@ -1,4 +1,4 @@
--- What is kept stays fit when a record comes to lie in the block that is being filled.
+-- What is kept stays fit when a record comes to be in the block that is being filled.
 use Rattle.std.proofs.Common.{◌≡◌, ◌≢◌, ◌⊎◌, ℕ, ◌+◌, ◌/◌, ◌<◌, ◌≤◌, List, Bool, true, false, cond, refl, sym, ap, subst}
 use Rattle.std.proofs.Common.{◌∙◌, inl, inr, ⊎_elim, arith, true≢false, eq-eqb}
 use Rattle.std.specs.Prelude.{Option, Some, None, IsTrue, IsFalse, IsSome, max, is_some, is_none, vec_capacity}
@@ -97,7 +97,7 @@ adds_usable old new blocks s place r sound adds has apart =
           (λ same. apart (sym (number_block place adds.small) ∙ same));
     }
 
--- each newest record lies outside the spare block, or an equal one does
+-- each newest record is outside the spare block, or an equal one does
 pub lies_elsewhere : (pages : Pages) (blocks : ℕ) (s : LayerState) → Sound pages blocks s → IsFalse s.disputed
     → LiesElsewhere pages (places blocks) s.spare
 lies_elsewhere pages blocks s sound agreed = λ file page x is.
@@ -213,7 +213,7 @@ module _ (m now : FlashMedium) (s t : LayerState) (place : Place) (holds : IsDes
   over_now P holds_there = subst (λ b. P now.state.pages b) (sym blocks)
       (subst (λ p. P p m.blocks) (sym pages) holds_there)
 
-  -- no record lies in it
+  -- no record is in it
   pub nothing_there : record_in page ≡ None → Sound now.state.pages now.blocks sure_state
   nothing_there none = over_now (λ p b. Sound p b sure_state)
       (same_sound holds.sure m.state.pages m.blocks sure_state was_sound
@@ -223,7 +223,7 @@ module _ (m now : FlashMedium) (s t : LayerState) (place : Place) (holds : IsDes
       (still_blank holds.sure m.state.pages place.block place.page t.current t.fill pends.elsewhere
       (subst (λ (q : LayerState). place.block ≡ q.current → place.page < q.fill) (sym state) pends.behind)))
 
-  -- a record came to lie in it
+  -- a record came to be in it
   pub one_there : (r : PageRecord) → record_in page ≡ Some r → (after : LayerState)
       → ((old new : Pages) (b : ℕ) → Sound old b sure_state → IsFalse t.disputed → Enters old new b sure_state place r
       → Sound new b after)

@@ -127,7 +127,7 @@ module _ (old new : Pages) (n : ℕ) (place : Place) (r : PageRecord) (adds : Ad
       (sym (and_left (nat_eq file r.file) (nat_eq (i / 256) r.page) (ne_eqb file r.file other))))
       (cases_eq file r.file)
 
-  -- no byte past the end of a file came to show, if none of the record lies past the length that it says
+  -- no byte past the end of a file came to show, if none of the record is past the length that it says
   pub adds_strayless : file_len old n r.file ≤ r.len → (from : ℕ) → IsStrayless old n from
       → ((j : ℕ) → j < 256 → r.len ≤ 256 * r.page + j → get_or r.bytes j 0 ≡ 0) → IsStrayless new n from
   adds_strayless no_shorter from strayless zeros = λ file i past from_there. ⊎_elim
@@ -142,7 +142,7 @@ module _ (old new : Pages) (n : ℕ) (place : Place) (r : PageRecord) (adds : Ad
       (let same = adds_other_len file other in omega (arith, past, same)) from_there)
       (cases_eq file r.file)
 
-  -- where each newest record lies outside a block, and so does this one
+  -- where each newest record is outside a block, and so does this one
   pub adds_elsewhere : (block : ℕ) → LiesElsewhere old n block → number place / 64 ≢ block → LiesElsewhere new n block
   adds_elsewhere block elsewhere apart = λ file page x found. ⊎_elim
       (λ own. (let is : placed old new n place r adds ≡ x =
@@ -156,7 +156,7 @@ module _ (old new : Pages) (n : ℕ) (place : Place) (r : PageRecord) (adds : Ad
   pub adds_spare : (block : ℕ) → LiesElsewhere old n block → number place / 64 ≢ block → IsSpare new n block
   adds_spare block elsewhere apart = spare_of new n block (adds_elsewhere block elsewhere apart)
 
-  -- a spare block in which it does not lie is still spare
+  -- a spare block in which it is not is still spare
   pub adds_is_spare : (block : ℕ) → IsSpare old n block → number place / 64 ≢ block → IsSpare new n block
   adds_is_spare block spare apart = λ x needed at. ⊎_elim
       (λ own. (let is : placed old new n place r adds ≡ x =
@@ -173,7 +173,7 @@ module _ (old new : Pages) (n : ℕ) (place : Place) (r : PageRecord) (adds : Ad
       }) at)
       (by_page x.says.file x.says.page)
 
--- whether a byte lies in a page
+-- whether a byte is in a page
 in_page : (page i : ℕ) → i / 256 ≡ page → in_range (256 * page) 256 i ≡ true
 in_page page i here = and_from (nat_le (256 * page) i) (nat_lt i (256 * page + 256))
     (le-leb (256 * page) i (omega (arith, here))) (lt-ltb i (256 * page + 256) (omega (arith, here)))

@@ -167,7 +167,7 @@ ends_more lens key k entry e es all stray next end is end_is more within before 
     (λ ends. inr (λ page filled. ⊎_elim (λ a. inl a) (λ b. inr (omega (arith, b, more))) (ends page filled)))
     before
 
--- one entry more lies in a block of its copy
+-- one entry more is in a block of its copy
 pub owns_more : (copies : List ℕ) (key k : FilePage) (entry e : Newest) (es all : List Entry) → all ≡ (k, e) ∷ es
     → slice_index copies e.place.block ≡ copy_of k.file
     → (lookup (same_page key) all ≡ Some entry) ⊎ (slice_index copies entry.place.block ≡ copy_of key.file)

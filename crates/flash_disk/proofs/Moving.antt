@@ -83,7 +83,7 @@ kept_sound old new blocks s sound agreed full keeps there =
       fresh = λ room. absurd (omega (arith, room, full));
     }
 
--- the pages stand for the files that they stood for
+-- the pages denote the files that they denoted
 pub kept_stands : (m : FlashMedium) (new : Pages) (s : LayerState) → IsSound m s → IsFalse s.disputed
     → KeepsRecords m.state.pages new (places m.blocks) → Sound new m.blocks s
     → StandsFor m new
@@ -101,7 +101,7 @@ stands_now m s sound = record {
       λ all. all;
 }
 
--- what the pages stand for since a flash they stand for since the one before it
+-- what the pages denote since a flash they denote since the one before it
 stands_since : (a b : FlashMedium) → b.blocks ≡ a.blocks → StandsFor a b.state.pages → (pages : Pages)
     → StandsFor b pages → StandsFor a pages
 stands_since a b blocks mid pages stands =

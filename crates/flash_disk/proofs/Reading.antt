@@ -83,7 +83,7 @@ module _ (pages : Pages) (n : ℕ) (table : Table) (knows : Knows pages n table)
           cuts j small ∙ (ap (λ b. cond b (record_byte (record_in page) j) 0) test
           ∙ ap (λ v. cond (nat_lt (256 * key.page + j) (file_len pages n key.file)) v 0) byte)
 
--- one page more was read: bytes of the page in which byte `start` lies
+-- one page more was read: bytes of the page in which byte `start` is
 pub page_more : (pages : Pages) (n file start from j : ℕ) (content : List ℕ) → from ≡ start % 256 → from + j < 256
     → start + j < file_len pages n file
     → IsContent pages n (record { file = file; page = start / 256 }) content

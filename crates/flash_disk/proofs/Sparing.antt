@@ -1,4 +1,4 @@
--- A block is spare where each newest record, or an equal one, also lies in another block.
+-- A block is spare where each newest record, or an equal one, also is in another block.
 use Rattle.std.proofs.Common.{◌≡◌, ◌≢◌, ℕ, ◌/◌, ◌+◌, ◌*◌, ◌<◌, refl, sym, ap, subst, ◌∙◌, arith}
 use Rattle.std.specs.Prelude.{Option, Some, None}
 use Rattle.flash_model.specs.Pages.{Pages}
@@ -14,7 +14,7 @@ use Rattle.flash_disk.specs.Sound.{LeavesOut}
 use Rattle.flash_disk.specs.Standing.{IsAgreed, KeepsRecords}
 use Rattle.flash_disk.proofs.Standing.{said_before, keeps_said}
 
--- each newest record, or an equal one, lies outside the block
+-- each newest record, or an equal one, is outside the block
 abbrev pub LiesElsewhere : Pages → (n block : ℕ) → Type 0
 LiesElsewhere pages n block = (file page : ℕ) (x : Placed) → newest pages file page n ≡ Some x
     → (k : ℕ) × (k < n) × (k / 64 ≢ block) × (record_at pages k ≡ Some x.says)
@@ -25,7 +25,7 @@ spare_of pages n block elsewhere x needed at =
     let copy = elsewhere x.says.file x.says.page x needed.newest_is in
     needed.alone copy.0 (record { within = copy.1; apart = λ same. copy.2 (same ∙ at); same = copy.3 })
 
--- each newest record still lies outside the block, if what lies outside it stays
+-- each newest record still is outside the block, if what is outside it stays
 pub elsewhere_kept : (old new : Pages) (n block : ℕ) → IsAgreed old n → KeepsRecords old new n
     → LiesElsewhere old n block
     → ((j : ℕ) (q : PageRecord) → j / 64 ≢ block → record_at old j ≡ Some q → record_at new j ≡ Some q)
@@ -47,7 +47,7 @@ module _ (pages : Pages) (n : ℕ) (table : Table) (led : IsLed pages n table) w
   led_by file page x None is says = absurd says
   led_by file page x (Some e) is says = (e, is, says.leads.small, says.within, says.leads.there)
 
-  -- where the table has no entry that leads into a block each newest record, or an equal one, lies outside it
+  -- where the table has no entry that leads into a block each newest record, or an equal one, is outside it
   pub led_elsewhere : (block : ℕ) → LeavesOut table block → LiesElsewhere pages n block
   led_elsewhere block leaves file page x found =
       let key : FilePage = record { file = file; page = page } in

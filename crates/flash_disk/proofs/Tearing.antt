@@ -104,7 +104,7 @@ torn_is old left i r q torn there = ⊎_elim
 
 module _ (old left : Pages) (i : ℕ) (r : Option PageRecord) (nothing : record_at old i ≡ None)
     (torn : IsTorn old left i r) where
-  -- where no record came to lie none changed
+  -- where no record came to be none changed
   pub torn_same : record_at left i ≡ None → HasSameRecords old left
   torn_same none j = ⊎_elim
       (λ here. subst (λ k. record_at left k ≡ record_at old k) (sym here) (none ∙ sym nothing))

@@ -45,7 +45,7 @@ module _ (sure pages : Pages) (blocks : ℕ) (s : LayerState) (sound : Sound sur
       (let count = records_count sure pages same (places blocks) in let fits = sure_fits in omega (arith, count, fits))
       (records_spare sure pages same (places blocks) s.spare sound.is_spare)
 
-  -- a record that came to lie in a page has an entry, or room for one
+  -- a record that came to be in a page has an entry, or room for one
   added_fits : (place : Place) (r : PageRecord) → Enters sure pages blocks s place r
       → page_count pages (places blocks) ≤ page_limit blocks
   added_fits place r enters =

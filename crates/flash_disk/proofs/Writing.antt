@@ -279,7 +279,7 @@ module _ (a : FlashMedium) (s : LayerState) (sound : IsSound a s) (file page len
         agreed = leaves.agreed;
       }
 
-      -- and wipes what lies past the end
+      -- and wipes what is past the end
       pub wiped_by : (d : FlashMedium) → length was ≡ 256 → PutPart file (256 * page) was len (files_of a) (files_of d)
           → ShowsPage a d file page was
           → WipesPage a d file page

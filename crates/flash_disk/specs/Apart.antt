@@ -9,13 +9,13 @@ use Rattle.flash_disk.specs.FlashFiles.{flash_files}
 abbrev pub copy_of : ℕ → ℕ
 copy_of file = file / 4 % 8
 
--- a block in which nothing counts but files of one copy: each newest record of another copy, or an equal one, lies in
+-- a block in which nothing counts but files of one copy: each newest record of another copy, or an equal one, is in
 -- another block
 abbrev pub IsOfCopy : Pages → (n block copy : ℕ) → Type 0
 IsOfCopy pages n block copy = (file page : ℕ) (x : Placed) → newest pages file page n ≡ Some x → copy_of file ≢ copy
     → (j : ℕ) × (j < n) × (j / 64 ≢ block) × (record_at pages j ≡ Some x.says)
 
--- each block of a flash of so many blocks is of one copy
+-- each block of a flash of that many blocks is of one copy
 abbrev pub IsApart : Pages → ℕ → Type 0
 IsApart pages blocks = (block : ℕ) → (copy : ℕ) × IsOfCopy pages (places blocks) block copy
 

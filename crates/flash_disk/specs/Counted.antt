@@ -31,7 +31,7 @@ missing table file from zero = 0
 missing table file from (suc n) = missing table file from n
     + (if is_none (known table (record { file = file; page = from + n })) then 1 else 0)
 
--- an entry leads into one of these blocks, and its twin lies in one
+-- an entry leads into one of these blocks, and its twin is in one
 pub record IsInside (blocks : ℕ) (entry : Newest) : Type 0 where
   pub place : entry.place.block < blocks
   pub twin : IfSome entry.twin (λ twin. twin.block < blocks)

@@ -1,4 +1,4 @@
--- What is said of a disk over a flash: its files are those that the newest records stand for, and what a crash of the
+-- What is said of a disk over a flash: its files are those that the newest records denote, and what a crash of the
 -- flash leaves is what a crash of the disk leaves, where no page passes its hash by chance.
 use Rattle.std.specs.Prelude.{◌≡◌, ℕ, ◌+◌, Bool, IsTrue, List, [], ◌∷◌, if◌then◌else◌}
 use Rattle.disk_model.specs.Image.{Image, put_image}

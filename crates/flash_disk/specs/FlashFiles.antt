@@ -1,4 +1,4 @@
--- What a flash stands for as files: each has the bytes of its newest records, cut to the greatest length that one of
+-- What a flash denotes as files: each has the bytes of its newest records, cut to the greatest length that one of
 -- these says.
 use Rattle.std.specs.Prelude.{◌≡◌, ◌⊎◌, ℕ, zero, suc, ◌/◌, ◌%◌, ◌≤◌, ◌==◌, ◌&&◌, Bool, false, max, map, Option, Some}
 use Rattle.std.specs.Prelude.{None, slice_index, if◌then◌else◌}
@@ -40,7 +40,7 @@ longest_below pages n file (suc k) = max (longest_below pages n file k) (len_at 
 unfoldable pub file_len : Pages → (n file : ℕ) → ℕ
 file_len pages n file = longest_below pages n file n
 
--- the files of a flash of so many blocks
+-- the files of a flash of that many blocks
 unfoldable pub flash_files : Pages → ℕ → Image
 flash_files pages blocks file = map (file_byte pages (places blocks) file)
     (range_with_len 0 (file_len pages (places blocks) file))

@@ -65,7 +65,7 @@ LearnsNext pages n old new false = limit_of old < page_count pages n
 abbrev pub SaysTheSame : PageRecord → PageRecord → Type 0
 SaysTheSame a b = (a.len ≡ b.len) × (a.bytes ≡ b.bytes)
 
--- where the twin lies after a record with the newest one's number was found in this place: there, if it is equal and in
+-- where the twin is after a record with the newest one's number was found in this place: there, if it is equal and in
 -- another block
 pub record TwinAt (first : Option PageRecord) (r : PageRecord) (old : Newest) (place : Place)
     (twin : Option Place) : Type 0 where
@@ -141,7 +141,7 @@ IsContent pages n key bytes = (j : ℕ) → j < 256
     → slice_index bytes j ≡ (if nat_lt (256 * key.page + j) (file_len pages n key.file) then file_byte pages n key.file
     (256 * key.page + j) else 0)
 
--- a record came to lie where none was, newer than all others
+-- a record came to be where none was, newer than all others
 pub record Adds (old new : Pages) (n : ℕ) (place : Place) (r : PageRecord) : Type 0 where
   pub small : place.page < 64
   pub within : number place < n

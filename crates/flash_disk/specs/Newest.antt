@@ -40,11 +40,11 @@ abbrev pub page_count : Pages → ℕ → ℕ
 page_count pages zero = 0
 page_count pages (suc n) = page_count pages n + opens_page pages n (record_at pages n)
 
--- how many places a flash of so many blocks has
+-- how many places a flash of that many blocks has
 abbrev pub places : ℕ → ℕ
 places blocks = 64 * blocks
 
--- the record in place j is the same, and lies in another block
+-- the record in place j is the same, and is in another block
 pub record IsCopyOf (pages : Pages) (n : ℕ) (x : Placed) (j : ℕ) : Type 0 where
   pub within : j < n
   pub apart : j / 64 ≢ x.place / 64
@@ -59,7 +59,7 @@ pub record IsNeeded (pages : Pages) (n : ℕ) (x : Placed) : Type 0 where
 abbrev pub IsSpare : Pages → ℕ → ℕ → Type 0
 IsSpare pages n block = (x : Placed) → IsNeeded pages n x → x.place / 64 ≢ block
 
--- a disk keeps at most so many pages on a flash
+-- a disk keeps at most that many pages on a flash
 abbrev pub page_limit : ℕ → ℕ
 page_limit blocks = 64 * (blocks - 2)
 
@@ -94,7 +94,7 @@ abbrev pub IsNewestOf : Pages → (file page n : ℕ) → Option Placed → Type
 IsNewestOf pages file page n None = HasNone pages file page n
 IsNewestOf pages file page n (Some x) = IsNewest pages file page n x
 
--- a needed record lies in this place
+-- a needed record is in this place
 abbrev pub NeedsPlace : Pages → (n i : ℕ) → Type 0
 NeedsPlace pages n i = (x : Placed) × IsNeeded pages n x × (x.place ≡ i)
 

@@ -1,10 +1,10 @@
--- What a write makes of the files of a disk part by part: a range has these bytes, the file is so long, and what lies
+-- What a write makes of the files of a disk part by part: a range has these bytes, the file is so long, and what is
 -- between is zeros.
 use Rattle.std.specs.Prelude.{◌≡◌, ◌≢◌, ◌⊎◌, ℕ, ◌+◌, ◌-◌, ◌<◌, ◌≤◌, ◌&&◌, Bool, List, length, slice_index, nat_le}
 use Rattle.std.specs.Prelude.{nat_lt, if◌then◌else◌}
 use Rattle.disk_model.specs.Image.{Image}
 
--- whether byte i lies in a range of n bytes
+-- whether byte i is in a range of n bytes
 abbrev pub in_range : (at n i : ℕ) → Bool
 in_range at n i = nat_le at i && nat_lt i (at + n)
 

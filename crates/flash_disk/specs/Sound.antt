@@ -30,7 +30,7 @@ LeavesOut table block = (key : FilePage) (entry : Newest) → known table key �
 abbrev pub SameFill : LayerState → LayerState → Type 0
 SameFill old new = (new.fill ≡ old.fill) × (new.unsure ≡ old.unsure) × (new.moved ≡ old.moved)
 
--- the page that is to be filled next is blank, and does not lie in the spare block
+-- the page that is to be filled next is blank, and is not in the spare block
 pub record IsFresh (pages : Pages) (blocks : ℕ) (s : LayerState) : Type 0 where
   pub agreed : IsFalse s.disputed
   pub within : s.current < blocks
@@ -71,7 +71,7 @@ pub record Fits (pages : Pages) (blocks : ℕ) (s : LayerState) (file page len :
 abbrev pub FitsIn : FlashMedium → LayerState → (file page len : ℕ) → List ℕ → Type 0
 FitsIn m s file page len bytes = Fits m.state.pages m.blocks s file page len bytes
 
--- the record came to lie in this place of the block that is being filled
+-- the record came to be in this place of the block that is being filled
 pub record Enters (old new : Pages) (blocks : ℕ) (s : LayerState) (place : Place) (r : PageRecord) : Type 0 where
   pub adds : Adds old new (places blocks) place r
   pub fits : Fits old blocks s r.file r.page r.len r.bytes

@@ -1,4 +1,4 @@
--- What stays of a flash when pages change: the records that count, and the files that they stand for.
+-- What stays of a flash when pages change: the records that count, and the files that they denote.
 use Rattle.std.specs.Prelude.{◌≡◌, ◌≢◌, ℕ, ◌/◌, ◌<◌, ◌≤◌, true, Option, Some, None}
 use Rattle.flash_model.specs.Pages.{Pages}
 use Rattle.flash_record.specs.PageRecord.{PageRecord}
@@ -42,13 +42,13 @@ pub record KeepsRecords (old new : Pages) (n : ℕ) : Type 0 where
 abbrev pub StaysAgreed : FlashMedium → Pages → Type 0
 StaysAgreed old pages = IsAgreed old.state.pages (places old.blocks) → IsAgreed pages (places old.blocks)
 
--- the pages stand for the files that a flash stood for, they can be opened, and no rivals came
+-- the pages denote the files that a flash denoted, they can be opened, and no rivals came
 pub record StandsFor (old : FlashMedium) (pages : Pages) : Type 0 where
   pub files_are : flash_files pages old.blocks ≡ flash_files old.state.pages old.blocks
   pub usable : IsUsable pages old.blocks
   pub agreed : StaysAgreed old pages
 
--- no byte shows that lies past the end of its file, from this byte on
+-- no byte shows that is past the end of its file, from this byte on
 abbrev pub IsStrayless : Pages → (n from : ℕ) → Type 0
 IsStrayless pages n from = (file i : ℕ) → file_len pages n file ≤ i → from ≤ i → file_byte pages n file i ≡ 0
 

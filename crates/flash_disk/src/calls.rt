@@ -142,7 +142,7 @@ impl<F: Flash> Disk for FlashDisk<F> {
     }
 }
 
-// So many bytes more. They can be counted, since each sequence number was used for at most 256.
+// That many bytes more. They can be counted, since each sequence number was used for at most 256.
 fn with_more(written: u128, more: usize, _sequence: u64) -> u128
     requires { written + more ≤ 256 * _sequence }
     ensures { result ≡ written + more }

@@ -54,7 +54,7 @@ impl<F: Flash> Model for FlashDisk<F> {
 }
 
 impl<F: Flash> FlashDisk<F> {
-    /// The flash, as it is. It takes no memory.
+    /// The flash, as it is. It does not allocate.
     pub fn into_flash(self) -> F
         ensures { result ≡ self.flash }
     {
@@ -62,7 +62,7 @@ impl<F: Flash> FlashDisk<F> {
     }
 
     /// Whether the copies are kept apart on the flash as it is: then no loss of pages of one block costs files of two
-    /// of them. It takes no memory, and no call of the flash.
+    /// of them. It does not allocate, and no call of the flash.
     pub fn keeps_copies_apart(&self) -> bool
         ensures { IsTrue F.told → IsTrue result → IsApart (F.medium self.now.flash).state.pages
             (F.medium self.now.flash).blocks }
@@ -71,7 +71,7 @@ impl<F: Flash> FlashDisk<F> {
     }
 
     /// How many writes since the opening failed though the flash did not, up to the greatest u64: `FailsAlone` says
-    /// where. It takes no memory.
+    /// where. It does not allocate.
     pub fn own_faults(&self) -> u64
         ensures { result ≡ self.now.own }
     {

@@ -8,7 +8,7 @@ ghost use Rattle.flash_disk.specs.Fresh.{IsBlankFlash};
 use crate::filling::is_blank;
 use flash_model::{BLANK_PAGE, BLOCK_PAGES, Flash, FlashFailed};
 
-/// Makes every page of a flash blank. Blocks that are blank are not erased. It takes no memory.
+/// Makes every page of a flash blank. Blocks that are blank are not erased. It does not allocate.
 ///
 /// # Errors
 ///

@@ -167,7 +167,7 @@ impl<F: Flash> Layer<F> {
         }
     }
 
-    // Finds the page that is to be filled next with a record of a file: the one behind the last of the same copy, or
+    // Finds the page that is to be filled next with a record of a file: the one after the last of the same copy, or
     // one of a block that is made free.
     fn make_room(&mut self, file: u32) -> Result<(), DiskFailed>
         requires ready { IsSure F.told F.medium self.old }
@@ -218,7 +218,7 @@ impl<F: Flash> Layer<F> {
         Err(self.fault())
     }
 
-    // Whether a page may be filled next: records may be added, it lies outside the spare block, and it is blank.
+    // Whether a page may be filled next: records may be added, it is outside the spare block, and it is blank.
     fn is_fresh(&mut self, place: Place) -> Result<bool, DiskFailed>
         ensures reads { LearnsNothing F.told F.medium self.old self.new result }
         ensures page { IfOk result (λ fresh. IsTrue fresh → place.page < 64) }

@@ -1,4 +1,4 @@
-//! What lies between the files of a disk and the pages of its flash, and the calls of the flash that it makes.
+//! What is between the files of a disk and the pages of its flash, and the calls of the flash that it makes.
 
 ghost use Rattle.std.specs.Prelude.{◌≡◌, ◌⊎◌, ◌↔◌, ◌≤◌, ◌<◌, ◌+◌, IsTrue, OnOk, OnErr};
 ghost use Rattle.per_base.specs.Causes.{Rose};
@@ -64,7 +64,7 @@ impl<F: Flash> Layer<F> {
         DiskFailed
     }
 
-    // Whether nothing is unsure, and each newest record lies in a block with records of its copy alone.
+    // Whether nothing is unsure, and each newest record is in a block with records of its copy alone.
     pub(crate) fn is_apart(&self) -> bool
         ensures { IsTrue F.told → IsDescribedBy (F.medium self.now.flash) self.now.state → IsTrue result
             → IsApart (F.medium self.now.flash).state.pages (F.medium self.now.flash).blocks }

@@ -1,6 +1,6 @@
 //! A disk over the erase blocks of raw flash.
 //!
-//! [`FlashDisk`] gives the trait `Disk` over any `Flash`. Each page of 256 bytes of a file lies in a record on the
+//! [`FlashDisk`] gives the trait `Disk` over any `Flash`. Each page of 256 bytes of a file is in a record on the
 //! flash; a newer record of it takes the place of the older one, whose block may be erased once nothing in it is
 //! needed. A table in memory leads from a page of a file to its record, so a read or a write of one page costs a
 //! look-up and no walk over the flash. All the memory that it ever needs is taken at its opening, which reads every
@@ -16,7 +16,7 @@
 //! are moved for a copy is one that holds records of that copy alone, or none that count; where no such block leaves as
 //! much as a quarter of the pages that another leaves, it is the one where they are fewest, and copies mix. A disk says
 //! of its flash whether they are apart ([`FlashDisk::keeps_copies_apart`]); then the loss of pages of one block costs
-//! files of one copy ([`lost_pages_cost_one_copy`]). An opening goes on behind the newest record of each copy, but for
+//! files of one copy ([`lost_pages_cost_one_copy`]). An opening goes on after the newest record of each copy, but for
 //! one page that a stop may have torn. [`erase_all`] makes a flash blank.
 //!
 //! A flash that another program wrote may hold what this one never writes. Of two records of one page with one number
@@ -24,7 +24,7 @@
 //! write of some bytes fails. Bytes that a record has past the end of its file are rewritten as zeros before the file
 //! grows over them.
 //!
-//! Where the flash tells its pages, the disk tells its bytes: they are the files that the newest records stand for, and
+//! Where the flash tells its pages, the disk tells its bytes: they are the files that the newest records denote, and
 //! every clause of the trait is proved, what a crash or a failed call leaves at any moment included, if no page passes
 //! its hash by chance. Limits: files of at most 1,099,511,627,776 bytes, as many pages as all blocks but two hold, and
 //! numbers up to 2^64 - 1; wear is not even. A write that would break one of them fails, and so does one that finds

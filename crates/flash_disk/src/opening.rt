@@ -109,7 +109,7 @@ impl<F: Flash> FlashDisk<F> {
     }
 }
 
-// What is known of a flash of so many blocks before it is read, with all the memory that it will ever need.
+// What is known of a flash of that many blocks before it is read, with all the memory that it will ever need.
 fn empty_state(alloc: Global, blocks: u32) -> Result<LayerState, AllocError>
     ensures table { IfOk result (λ state. IsEmptyTable state.table × (limit_of state.table ≡ page_limit blocks)) }
     ensures full { IfOk result (λ state. state.fill ≡ 64) }
@@ -450,7 +450,7 @@ fn filled_of(bytes: &[u8]) -> u32
     filled.min(256) as u32
 }
 
-// Where the twin of a newest record lies, after another with its number was found in this place.
+// Where the twin of a newest record is, after another with its number was found in this place.
 fn twin_at(page: &[u8], found: Record<'_>, old: Newest, place: Place) -> Option<Place>
     ensures at { TwinAt (record_in page.now) (stated found.entry) old place result }
     ensures one { (result ≡ old.twin) ⊎ (result ≡ Some place) }

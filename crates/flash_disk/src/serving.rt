@@ -324,7 +324,7 @@ impl<F: Flash> Layer<F> {
     }
 }
 
-// Copies so many bytes from a place in a page to a place in `out`.
+// Copies that many bytes from a place in a page to a place in `out`.
 fn copy_part(out: &mut [u8], to: usize, page: &[u8], from: usize, count: usize)
     requires room { to + count ≤ length out.old }
     requires within { from + count ≤ length page.now }

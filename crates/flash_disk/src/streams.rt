@@ -30,7 +30,7 @@ pub struct Streams {
 }
 
 impl Streams {
-    /// Streams of a flash of so many blocks of which nothing is known.
+    /// Streams of a flash of that many blocks of which nothing is known.
     pub fn new(alloc: Global, blocks: u32) -> Result<Streams, AllocError> {
         let nowhere = Place {
             block: 0,
@@ -44,7 +44,7 @@ impl Streams {
         })
     }
 
-    /// Learns of a record of a file that was found in a place. The page behind it may have been torn, so the copy goes
+    /// Learns of a record of a file that was found in a place. The page after it may have been torn, so the copy goes
     /// on with the one after that.
     pub fn learn(&mut self, file: u32, sequence: u64, place: Place) {
         let copy = self.copy_of(file);
@@ -63,7 +63,7 @@ impl Streams {
         self.next[self.copy_of(file) as usize]
     }
 
-    /// Goes on behind a place with the records of a file's copy.
+    /// Goes on after a place with the records of a file's copy.
     pub fn go_on(&mut self, file: u32, place: Place) {
         let copy = self.copy_of(file);
         self.mark(copy, place.block);
@@ -146,14 +146,14 @@ impl Streams {
         }
     }
 
-    /// Whether each newest record lies in a block with records of its copy alone.
+    /// Whether each newest record is in a block with records of its copy alone.
     pub fn are_apart(&self, table: &Table) -> bool
         ensures { IsTrue result → IsLedApart table.now }
     {
         table.is_apart(&self.copies)
     }
 
-    // A record of a copy lies in a block.
+    // A record of a copy is in a block.
     fn mark(&mut self, copy: u8, block: u32) {
         if let Some(was) = self.copies.get_mut(block as usize) {
             *was = if *was == NONE || *was == copy {

@@ -1,4 +1,4 @@
-//! Where the newest record of each page of a file lies, and how long each file is.
+//! Where the newest record of each page of a file is, and how long each file is.
 
 ghost use Rattle.std.specs.Prelude.{◌≡◌, ◌≢◌, ◌⊎◌, ◌↔◌, ◌≤◌, ◌<◌, ◌+◌, ◌-◌, ◌*◌, ◌==◌, ℕ, IfOk, IsSome, IsTrue};
 ghost use Rattle.std.specs.Prelude.{IsFalse, Some, None, All, length, max, slice_index, if◌then◌else◌};
@@ -55,7 +55,7 @@ impl Table {
     ghost use Rattle.flash_disk.specs.Known.{known, page_len, limit_of, len_known, HasLen, load_known, Puts, PutsAll};
     ghost use Rattle.flash_disk.specs.Known.{SameRecords, SameBounds, Lengthens, SameLens, IsEmptyTable, HasRoom};
 
-    /// An empty table for a flash of so many blocks.
+    /// An empty table for a flash of that many blocks.
     pub fn new(alloc: Global, blocks: u32) -> Result<Table, AllocError>
         ensures empty { IfOk result IsEmptyTable }
         ensures limit { IfOk result (λ table. limit_of table ≡ 64 * (blocks - 2)) }
@@ -249,7 +249,7 @@ impl Table {
         self.newest.values().any(|newest| newest.rivalled)
     }
 
-    /// Whether each newest record lies in a block that is said to be of its file's copy.
+    /// Whether each newest record is in a block that is said to be of its file's copy.
     pub fn is_apart(&self, copies: &[u8]) -> bool
         ensures { IsTrue result → (key : FilePage) (entry : Newest) → known self.now key ≡ Some entry
             → slice_index copies.now entry.place.block ≡ copy_of key.file }
@@ -262,7 +262,7 @@ impl Table {
         true
     }
 
-    /// Where the last byte other than zero ends that lies past the end of its file; 0 where there is none.
+    /// Where the last byte other than zero ends that is past the end of its file; 0 where there is none.
     pub fn stray_end(&self) -> u64
         ensures { (key : FilePage) (entry : Newest) → known self.now key ≡ Some entry
             → EndsBy self.now.lens key entry result }

@@ -66,7 +66,7 @@ begin_failed old new begins same = failed old new same begins.later (begins.fail
       stopped = begins.stopped;
     })
 
--- want of memory makes a call fail
+-- OutOfMemory makes a call fail
 pub want_failed : (old mid new : MemFlash) → Begins old mid false → SameRecord old mid → Wants mid new
     → SameRecord mid new → Fails old new
 want_failed old mid new begins first wants next =
@@ -128,7 +128,7 @@ pub left_alone : (done : Pages) (Tears : Pages → Pages → Type 0) (old new : 
 left_alone done Tears old new torn same = subst (λ s. IsLeftBy done Tears old s) (sym same)
     (record { torn = torn; plain = λ b p g body v. inl v; settled = refl; announced = refl })
 
--- want of memory in the rest of a call makes it fail
+-- OutOfMemory in the rest of a call makes it fail
 pub want_after : (old mid next new : MemFlash) → Begins old mid false → SameRecord old mid → SameRecord mid next
     → Succeeds mid next
     → SameRecord next new → Wants next new → Fails old new

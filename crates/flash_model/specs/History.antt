@@ -7,7 +7,7 @@ use Rattle.flash_model.specs.State.{FlashState, FlashCase, IsStill, ProgramCase,
 use Rattle.flash_model.specs.State.{settle_pages, programmed, erased}
 use Rattle.flash_model.specs.FlashMedium.{FlashMedium}
 
--- the pages that lie one after the other in a list, 64 for each block
+-- the pages that are one after the other in a list, 64 for each block
 abbrev pub pages_of : List (List ℕ) → Pages
 pages_of items b p = if nat_lt p 64 then slice_index_or items (64 * b + p) blank_page else blank_page
 

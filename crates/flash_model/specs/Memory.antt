@@ -12,7 +12,7 @@ use Rattle.flash_model.specs.History.{blank_state, recorded}
 abbrev pub mem_flash : MemFlash → FlashMedium
 mem_flash flash = recorded flash.blocks flash.calls.items flash.faults
 
--- how many calls failed for want of memory
+-- how many calls failed because memory ran out
 abbrev pub starved_count : MemFlash → ℕ
 starved_count flash = flash.starved
 
@@ -52,8 +52,8 @@ pub record KeepsCounts (old new : MemFlash) : Type 0 where
   pub faults : (mem_flash new).faults ≡ (mem_flash old).faults
   pub starved : starved_count new ≡ starved_count old
 
--- How a call answers: it fails where the plan names it and where it comes after the stop, and else for want of memory
--- alone, which is counted beside the fault.
+-- How a call answers: it fails where the plan names it and where it comes after the stop, and else because memory ran
+-- out alone, which is counted beside the fault.
 pub record Answers (old new : MemFlash) (failed : Bool) : Type 0 where
   pub due : IsTrue (is_due old) → IsTrue failed × (starved_count new ≡ starved_count old)
   pub starves : IsFalse (is_due old) → IsTrue failed → starved_count new ≡ raised (starved_count old)
@@ -97,7 +97,7 @@ pub record Succeeds (old new : MemFlash) : Type 0 where
   pub counts : KeepsCounts old new
   pub orders : new.orders ≡ old.orders
 
--- the rest of a call fails for want of memory
+-- the rest of a call fails because memory ran out
 pub record Wants (old new : MemFlash) : Type 0 where
   pub later : (mem_flash old).faults ≤ (mem_flash new).faults
   pub faults : (mem_flash new).faults ≡ raised (mem_flash old).faults

@@ -35,11 +35,11 @@ impl MemFlash {
     ghost use Rattle.flash_model.specs.Memory.{IsUnchanged, KeepsCounts, Shows, SameRecord, Begins, Succeeds, Wants};
     ghost use Rattle.flash_model.specs.Memory.{Passes, Fails};
 
-    /// A flash of so many blocks, all blank.
+    /// A flash of that many blocks, all blank.
     ///
     /// # Errors
     ///
-    /// Only want of memory.
+    /// Only `OutOfMemory`.
     pub fn new(alloc: Global, blocks: u32) -> Result<MemFlash, AllocError>
         ensures blocks { IfOk result (λ flash. (mem_flash flash).blocks ≡ blocks) }
         ensures fresh { IfOk result IsFresh }
@@ -75,7 +75,7 @@ impl MemFlash {
         self.orders.stop(k);
     }
 
-    /// Takes the plan and the stop away. It changes no byte and takes no memory.
+    /// Takes the plan and the stop away. It changes no byte and does not allocate.
     pub fn restart(&mut self)
         ensures orders { HasNoOrders self.new }
         ensures unchanged { IsUnchanged (mem_flash self.old) (mem_flash self.new) }
@@ -84,7 +84,7 @@ impl MemFlash {
         self.orders = Orders::none(self.alloc);
     }
 
-    /// How many calls failed for want of memory, up to the greatest u64.
+    /// How many calls failed because memory ran out, up to the greatest u64.
     pub fn starved(&self) -> u64
         ensures { result ≡ starved_count self.now }
     {
@@ -124,7 +124,7 @@ impl MemFlash {
         Ok(())
     }
 
-    // Counts a want of memory.
+    // Counts a failed allocation.
     fn starve(&mut self) -> FlashFailed
         ensures record { SameRecord self.old self.new }
         ensures wants { Wants self.old self.new }

@@ -23,7 +23,7 @@ pub enum FlashCall {
 /// The pages of one block after the other.
 pub type PageList = Vec<[u8; PAGE_BYTES]>;
 
-/// So many blank pages.
+/// That many blank pages.
 pub fn blank_pages(alloc: Global, count: usize) -> Result<PageList, AllocError>
     ensures len { IfOk result (λ pages. vec_len pages ≡ count) }
     ensures blank { IfOk result (λ pages. pages_of pages.items ≡ (λ b p. blank_page)) }
@@ -32,7 +32,7 @@ pub fn blank_pages(alloc: Global, count: usize) -> Result<PageList, AllocError>
     Ok(pages)
 }
 
-// So many copies of one page.
+// That many copies of one page.
 fn copies_of(alloc: Global, page: &[u8; PAGE_BYTES], count: usize) -> Result<PageList, AllocError>
     ensures { IfOk result (λ pages. pages.items ≡ replicate count page.now) }
 {

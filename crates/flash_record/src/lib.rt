@@ -2,7 +2,7 @@
 //!
 //! A record is a page of flash whose front is a sealed text: its generation is the record's sequence number, and its
 //! body has 272 bytes: the number of the file (4 bytes), the number of the page in the file (4), the length of the file
-//! (8), and the 256 bytes of that page. Numbers are little-endian. What stands behind the text does not matter.
+//! (8), and the 256 bytes of that page. Numbers are little-endian. What follows the text does not matter.
 //!
 //! [`read_record`] answers a record exactly where a page is one, and [`record_page`] makes the page that reads as what
 //! it was given. A blank page is no record. Neither call takes memory.

@@ -8,7 +8,7 @@ use byteorder::{ByteOrder, LittleEndian};
 use flash_model::{BLANK_PAGE, PAGE_BYTES};
 use hash_guard::{HEADER, seal_into};
 
-/// The page of flash that keeps these bytes of a file of `len` bytes under this sequence number. What stands behind the
+/// The page of flash that keeps these bytes of a file of `len` bytes under this sequence number. What follows the
 /// text is as in a blank page.
 pub fn record_page(
     sequence: u64,

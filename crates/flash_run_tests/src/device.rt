@@ -42,7 +42,7 @@ impl Leaves {
 pub(crate) struct Cut {
     pub(crate) call: u64,
     pub(crate) leaves: Leaves,
-    /// Whether all calls behind it fail and leave nothing.
+    /// Whether all calls after it fail and leave nothing.
     pub(crate) is_last: bool,
 }
 
@@ -60,7 +60,7 @@ pub(crate) struct Device {
 }
 
 impl Device {
-    /// So many blocks, all blank.
+    /// That many blocks, all blank.
     pub(crate) fn new(alloc: Global, blocks: u32) -> Result<Device, AllocError> {
         let count = BLOCK_PAGES as usize * blocks as usize;
         Ok(Device {
@@ -122,13 +122,13 @@ impl Device {
         self.pages.len()
     }
 
-    /// Whether so many pages from one on are all blank.
+    /// Whether that many pages from one on are all blank.
     pub(crate) fn is_blank(&self, first: usize, count: usize) -> bool {
         let mut pages = self.pages.iter().skip(first).take(count);
         pages.all(|page| *page == BLANK_PAGE)
     }
 
-    /// Loses so many pages from one on: they read as zeros.
+    /// Loses that many pages from one on: they read as zeros.
     pub(crate) fn lose(&mut self, first: usize, count: usize) {
         for page in self.pages.iter_mut().skip(first).take(count) {
             *page = [0; PAGE_BYTES];

@@ -24,8 +24,8 @@ struct Found {
 }
 
 impl<'a> Losses<'a> {
-    /// What a look finds with nothing lost; and how often it finds what with so many pages lost, from each on that is a
-    /// multiple of the step, unless all of them are blank.
+    /// What a look finds with nothing lost; and how often it finds what with that many pages lost, from each on that is
+    /// a multiple of the step, unless all of them are blank.
     pub(crate) fn shown(&self, count: usize, step: usize) -> Result<String, AllocError> {
         let mut shown = String::new(self.alloc);
         write!(shown, "< {}\n", self.found(0, 0)?)?;
@@ -47,7 +47,7 @@ impl<'a> Losses<'a> {
         Ok(tally)
     }
 
-    /// What a look finds with so many pages lost from one on.
+    /// What a look finds with that many pages lost from one on.
     fn found(&self, first: usize, count: usize) -> Result<String, AllocError> {
         let mut flash = self.flash.copy(self.alloc, None)?;
         flash.lose(first, count);

@@ -1,9 +1,9 @@
 //! Sessions with the program over raw flash in memory, beside a disk in memory: rows in, and the same rows out with
 //! what the program wrote.
 //!
-//! | row | what it does, and what is printed behind it |
+//! | row | what it does, and what is printed after it |
 //! |---|---|
-//! | `flash BLOCKS` | begins with a fresh flash of so many blocks, and an empty disk |
+//! | `flash BLOCKS` | begins with a fresh flash of that many blocks, and an empty disk |
 //! | `full` | each page of the flash becomes a record of another page of file 1 |
 //! | `> LINE` | a line of the next run |
 //! | `times COUNT` | the lines so far, so many times |
@@ -14,7 +14,7 @@
 //! | `outages WORDS` | the lines so far on such a flash, with power going off in each call that changes pages: `Sweep` says what is expected |
 //! | `failures WORDS` | the same with each call of the flash failing alone |
 //! | `cost WORDS` | the lines so far on such a flash: how many pages were programmed, and how many blocks erased |
-//! | `losses COUNT STEP WORDS` | such a flash with so many pages lost, from each on that is a multiple of the step: how often the look finds what |
+//! | `losses COUNT STEP WORDS` | such a flash with that many pages lost, from each on that is a multiple of the step: how often the look finds what |
 //! | any other | nothing |
 //!
 //! Between two runs the flash and the disk restart with all that was written.
@@ -44,7 +44,7 @@ struct Printing<'a, R: Input + Print> {
 impl<'a, R: Input + Print> WithConverters for Printing<'a, R> {
     type Answer = anyhow::Result<()>;
 
-    /// Prints each row, and what comes behind it.
+    /// Prints each row, and what comes after it.
     fn with_converters(self, migrations: &Migrations) -> anyhow::Result<()> {
         let Printing { rt, alloc } = self;
         let mut session = Session::new(alloc);

@@ -26,7 +26,7 @@ impl Ran {
         self.status == other.status && self.output.as_str() == other.output.as_str()
     }
 
-    /// Each line of the output behind a mark, and the status.
+    /// Each line of the output after a mark, and the status.
     pub(crate) fn shown(&self, alloc: Global) -> Result<String, AllocError> {
         let mut shown = String::new(alloc);
         for line in self.output.lines() {

@@ -16,7 +16,7 @@ struct Past {
     input: String,
 }
 
-/// What was run on a flash of so many blocks, the lines of the next run, and lines that look at what is left.
+/// What was run on a flash of that many blocks, the lines of the next run, and lines that look at what is left.
 #[derive(Drop)]
 pub(crate) struct Script {
     alloc: Global,
@@ -29,7 +29,7 @@ pub(crate) struct Script {
 }
 
 impl Script {
-    /// The script of a fresh flash of so many blocks.
+    /// The script of a fresh flash of that many blocks.
     pub(crate) fn new(alloc: Global, blocks: u32) -> Script {
         Script {
             alloc,
@@ -207,7 +207,7 @@ impl Script {
         Ok(flash)
     }
 
-    /// A run of which so many calls of the flash pass, and the flash.
+    /// A run of which that many calls of the flash pass, and the flash.
     fn stopped(
         &self,
         migrations: &Migrations,

@@ -192,7 +192,7 @@ fn answered(output: &str) -> usize {
     count
 }
 
-/// What stands in an output behind the replies to so many lines.
+/// What stands in an output after the replies to that many lines.
 fn behind(output: &str, lines: usize) -> &str {
     let mut length = 0usize;
     let mut count = 0usize;

@@ -122,7 +122,7 @@ impl Bench {
         }
     }
 
-    // Puts a fresh flash of so many blocks onto the bench, and says how many it has.
+    // Puts a fresh flash of that many blocks onto the bench, and says how many it has.
     fn make(&mut self, blocks: u32) -> Option<u64> {
         let flash = MemFlash::new(self.alloc, blocks).ok()?;
         let made = flash.blocks();

@@ -55,7 +55,7 @@ fn is_blank(page: &[u8]) -> bool
     page == [0xff; 512].as_slice()
 }
 
-/// Programs a page with the first so many bytes of a record, and leaves the others blank.
+/// Programs a page with the first that many bytes of a record, and leaves the others blank.
 pub fn plant_part(flash: &mut MemFlash, record: Planted, count: usize) -> bool {
     let whole = record_page(
         record.sequence.max(1),
@@ -67,7 +67,7 @@ pub fn plant_part(flash: &mut MemFlash, record: Planted, count: usize) -> bool {
     plant(flash, record.block, record.at, &part_of(&whole, count))
 }
 
-// The first so many bytes of a page, and the others blank.
+// The first that many bytes of a page, and the others blank.
 fn part_of(whole: &[u8; PAGE_BYTES], count: usize) -> [u8; PAGE_BYTES] {
     let mut page = BLANK_PAGE;
     for i in 0..count.min(PAGE_BYTES) {
@@ -99,7 +99,7 @@ pub fn plant_everywhere(flash: &mut MemFlash) -> bool {
     true
 }
 
-/// How many pages of file 2 lie in each of the first three blocks of a crowded flash.
+/// How many pages of file 2 are in each of the first three blocks of a crowded flash.
 pub const COLD: u32 = 42;
 
 /// Fills three blocks of a flash. Each has 42 pages of file 2, which are needed; its other records are of page 0 of

@@ -22,7 +22,7 @@ fn page_in(step: &Step<'_>) -> [u8; PAGE_BYTES] {
     )
 }
 
-/// The bytes of a record's page behind its hash.
+/// The bytes of a record's page after its hash.
 pub fn behind_hash(alloc: Global, step: &Step<'_>) -> Result<String, AllocError> {
     let page = page_in(step);
     runs(alloc, &page[32..])

@@ -40,7 +40,7 @@ pub fn expected(file: u32, at: u32, writes: u32, but: Option<u32>) -> u8 {
     byte
 }
 
-/// So many writes of one byte, which counts round, at one place of a file, and how many were Ok.
+/// That many writes of one byte, which counts round, at one place of a file, and how many were Ok.
 pub fn repeated(disk: &mut MemDisk, times: u32, file: u32, at: u64) -> u32 {
     let mut done: u32 = 0;
     for i in 0..times {
@@ -51,7 +51,7 @@ pub fn repeated(disk: &mut MemDisk, times: u32, file: u32, at: u64) -> u32 {
     done
 }
 
-/// Writes a byte into each of so many pages of a file, and says how many writes were Ok.
+/// Writes a byte into each of that many pages of a file, and says how many writes were Ok.
 pub fn filled(disk: &mut MemDisk, pages: u32, file: u32) -> u32 {
     let mut done: u32 = 0;
     for page in 0..pages {

@@ -2,7 +2,7 @@
 
 use std::alloc::{AllocError, Global};
 
-/// A step: its word, and the numbers behind it.
+/// A step: its word, and the numbers after it.
 #[derive(Drop)]
 pub struct Step<'a> {
     pub word: &'a str,
@@ -10,7 +10,7 @@ pub struct Step<'a> {
 }
 
 impl<'a> Step<'a> {
-    /// Reads a step: its first word, and behind it the words that are numbers.
+    /// Reads a step: its first word, and after it the words that are numbers.
     pub fn read(alloc: Global, text: &'a str) -> Result<Step<'a>, AllocError> {
         let mut numbers = Vec::new(alloc);
         let mut words = text.split_whitespace();

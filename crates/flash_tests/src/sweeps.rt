@@ -97,7 +97,7 @@ fn stops(alloc: Global, call: u64) -> Option<Outcome> {
     Some(what_came(good, done == WRITES))
 }
 
-// So many writes of one byte at one place, up to the first that fails.
+// That many writes of one byte at one place, up to the first that fails.
 fn writes_of_a_byte(disk: &mut MemDisk) -> u32 {
     for i in 0..3 {
         if disk.write_at(1, 9, &[i as u8]).is_err() {

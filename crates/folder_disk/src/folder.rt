@@ -1,4 +1,4 @@
-//! What lies between the calls of a disk and those of the system.
+//! What is between the calls of a disk and those of the system.
 
 ghost use Rattle.std.specs.Prelude.{◌≡◌, ◌⊎◌, ℕ, ◌≤◌, ◌<◌, ◌+◌, ◌-◌, ◌^◌, IsTrue, IsFalse, IfOk, OnOk, OnErr, length};
 ghost use Rattle.std.specs.Prelude.{take};

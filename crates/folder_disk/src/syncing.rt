@@ -362,7 +362,7 @@ impl<S: System> Folder<S> {
     }
 }
 
-/// Reads what lies in the ranges of a file.
+/// Reads what is in the ranges of a file.
 fn held_of<S: System>(
     system: &mut Opened<S>,
     alloc: Global,
@@ -388,7 +388,7 @@ fn held_of<S: System>(
     Ok(held)
 }
 
-/// Reads what lies in a range.
+/// Reads what is in a range.
 fn held_in<S: System>(system: &mut Opened<S>, alloc: Global, range: Range) -> io::Result<Held>
     requires whole { IsTrue S.told → (f : ℕ) → IsWhole (S.medium system.old) f }
     ensures looks { Looks (S.medium system.old) (S.medium system.new) }

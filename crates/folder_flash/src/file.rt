@@ -31,7 +31,7 @@ pub(crate) struct FlashFile<S: System> {
     alloc: Global,
     /// How many bytes it has, where the disk was asked for it and no write failed since: only this flash writes it.
     size: Option<u64>,
-    /// Whether the last call failed for want of memory.
+    /// Whether the last call failed because memory ran out.
     is_starved: bool,
 }
 

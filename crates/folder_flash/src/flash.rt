@@ -14,7 +14,7 @@ use system_model::{Failure, System};
 /// counts its failures.
 ///
 /// A program is a write and a sync of the file, an erase likewise; both are durable before they are answered. Where a
-/// page lies behind the end of the file, what is missing up to it is written as blank before.
+/// page follows the end of the file, what is missing up to it is written as blank before.
 #[derive(Drop)]
 pub struct FolderFlash<S: System> {
     file: FlashFile<S>,
@@ -23,7 +23,7 @@ pub struct FolderFlash<S: System> {
 }
 
 impl<S: System> FolderFlash<S> {
-    /// The flash of so many blocks in the one file of this disk.
+    /// The flash of that many blocks in the one file of this disk.
     pub fn new(alloc: Global, disk: FolderDisk<S>, blocks: u32) -> FolderFlash<S> {
         FolderFlash {
             file: FlashFile::new(alloc, disk),

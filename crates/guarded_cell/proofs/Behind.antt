@@ -1,4 +1,4 @@
--- What stands behind a blanked front, and what the next text over it costs.
+-- What follows a blanked front, and what the next text over it costs.
 use Rattle.std.proofs.Common.{◌≡◌, ℕ, zero, suc, ◌+◌, ◌-◌, ◌*◌, ◌<◌, ◌≤◌, min, List, length, take, drop}
 use Rattle.std.proofs.Common.{cond, Bool, true, false, get_or, refl, sym, ap, ◌∙◌, subst, inr, ⊎_elim, arith}
 use Rattle.std.proofs.lemmas.List.{ext_get_or, length-take, length-drop, get_or-take, get_or-drop}

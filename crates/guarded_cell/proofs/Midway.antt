@@ -48,7 +48,7 @@ look_tells slot out count blank is short same =
     ∙ ap (λ (xs : List ℕ). bytes_eq (take 44 slot) xs)
     (ap (λ (n : ℕ). take n (replicate {A = ℕ} 44 0)) f ∙ take_min (length slot) (replicate {A = ℕ} 44 0))
 
--- so it is after a write behind the first run
+-- so it is after a write after the first run
 pub behind_blank : (slot b : List ℕ) (j : ℕ) → front_is_blank slot ≡ true
     → IsBlank (put_bytes slot (0 + 256 * suc j) b)
 behind_blank slot b j blank = zeros_hold_none (put_bytes slot (0 + 256 * suc j) b)

@@ -280,7 +280,7 @@ module _ (place : Place) (parity : ℕ) (chosen : List Bool) (bytes : List ℕ) 
     all_during tells quiet c past = let (d, was, texts) = w.during tells quiet c past in
         (d, was, texts_more (Below k) (IsChosen place parity chosen) (to_chosen k within') bytes d c texts)
 
-  -- a sync behind it
+  -- a sync after it
   pub synced_texts : {told : Bool} {old mid new : Medium} (done : Type 0) → IsLawful told mid → Elapses old mid
       → Elapses mid new
       → Follows (TextsCase (IsChosen place parity chosen) bytes) old.now (mid.since old.moment)

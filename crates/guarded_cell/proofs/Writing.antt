@@ -198,7 +198,7 @@ module _ (place : Place) (parity : ℕ) (chosen : List Bool) (bytes : List ℕ) 
       → IsTrue told → FrontsPut place parity chosen bytes start.image new.image
   all_put k le w tells = record { some = w.some tells; put = λ copy lt flag. w.put tells copy (le_trans lt le) flag }
 
-  -- a sync behind the writes
+  -- a sync after the writes
   pub synced_case : {told : Bool} {old mid new : Medium} (done : Type 0) → IsLawful told mid → Elapses old mid
       → Elapses mid new
       → Follows (FrontsCase place parity chosen bytes) old.now (mid.since old.moment) → WritesNothing mid new

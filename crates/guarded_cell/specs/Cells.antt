@@ -5,7 +5,7 @@ use Rattle.disk_model.specs.Image.{Image}
 use Rattle.guarded_cell.specs.declared.cell.Cell.{Cell}
 use Rattle.guarded_cell.specs.Register.{IsAlone}
 
--- where a cell lies
+-- where a cell is
 abbrev pub place_of : Cell → Place
 place_of cell = cell.place
 

@@ -32,7 +32,8 @@ use Rattle.guarded_cell.specs.Fronts.{IsChosen}
 abbrev pub front_is_blank : List ℕ → Bool
 front_is_blank slot = bytes_eq (take 44 slot) (take (length slot) (replicate 44 0))
 
--- at most so many bytes are written for a text over the front of a slot: where the front is blank, the runs that differ
+-- at most that many bytes are written for a text over the front of a slot: where the front is blank, the runs that
+-- differ
 abbrev pub front_cost : List ℕ → List ℕ → ℕ
 front_cost slot bytes = if front_is_blank slot then changed_len slot 0 bytes else length bytes
 
@@ -66,7 +67,7 @@ abbrev pub IsTextsCase : Place → (parity : ℕ) → List Bool → List ℕ →
 IsTextsCase place parity chosen bytes old new done c =
     ((d : Case) × old.now d × TextsCase (IsChosen place parity chosen) bytes d c) ⊎ (done × IsSettledAt new.image c)
 
--- just the chosen slots took the text and the zeros at their fronts; behind these they are as they were
+-- just the chosen slots took the text and the zeros at their fronts; after these they are as they were
 pub record PutsOver (place : Place) (generation : ℕ) (lacking stale : List Bool) (bytes : List ℕ)
     (old new : Image) : Type 0 where
   pub own_slots : (copy : ℕ) → copy < place.copies → get_or lacking copy false ≡ true

@@ -16,7 +16,7 @@ pub record IsBefore (t : Text) (seen : Seen) : Type 0 where
   pub differs : is_seen t seen ≡ false
   pub greater : t.0 ≤ seen.generation
 
--- it belongs at this place: behind all that come before it, where it stands itself or texts begin that come after it
+-- it belongs at this place: after all that come before it, where it stands itself or texts begin that come after it
 pub record IsPlaceOf (t : Text) (seens : List Seen) (at : ℕ) : Type 0 where
   pub within : at ≤ length seens
   pub before : (i : ℕ) → i < at → (d : Seen) → IsBefore t (slice_index_or seens i d)

@@ -11,7 +11,7 @@ use Rattle.guarded_cell.specs.declared.slots.Slots.{Slots}
 use Rattle.guarded_cell.specs.declared.slots.Pick.TheVariants.{Lacking, Verifying, Others}
 use Rattle.guarded_cell.specs.Register.{IsBlank}
 
--- so many bytes of a slot are read
+-- that many bytes of a slot are read
 abbrev pub front : ℕ
 front = 524288
 

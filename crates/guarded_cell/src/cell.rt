@@ -16,7 +16,7 @@ use hash_guard::{HEADER, seal_into};
 use per_base::Fault;
 use std::alloc::{AllocError, Global};
 
-/// A register in use on its disk: where it lies, and under which generation each of its copies holds its text.
+/// A register in use on its disk: where it is, and under which generation each of its copies holds its text.
 #[derive(Debug, Drop)]
 pub struct Cell {
     place: Place,
@@ -40,7 +40,7 @@ impl Cell {
         self.generation
     }
 
-    /// Room for writing a text of so many bytes later, with [`Cell::write_in`].
+    /// Room for writing a text of that many bytes later, with [`Cell::write_in`].
     pub fn room(alloc: Global, len: usize) -> Result<Vec<u8>, AllocError>
         requires { len ≤ max_body }
         ensures { IfOk result (λ room. length room.items ≡ header + len) }
@@ -69,7 +69,8 @@ impl Cell {
         ensures held { IsTrue D.told → IfOk result (λ cell. CellAt (D.medium disk.new).image cell text.now) }
         ensures quiet { OnOk result (Quiet (D.medium disk.new)) }
 
-        // A want of memory hands the cell back, and then nothing happened. Only a disk that failed closes the cell.
+        // Running out of memory hands the cell back, and then nothing happened. Only a disk that failed closes the
+        // cell.
         ensures memory { IfErr result (λ fault. HandsBack self fault (disk.new ≡ disk.old)) }
         ensures cause { IfErr result (λ fault. IsDeviceFault fault
             → Rose (D.medium disk.old).faults (D.medium disk.new).faults) }
@@ -90,7 +91,7 @@ impl Cell {
         }
     }
 
-    /// Writes the next text as [`Cell::write`] does, in room that [`Cell::room`] made. It takes no memory, and a
+    /// Writes the next text as [`Cell::write`] does, in room that [`Cell::room`] made. It does not allocate, and a
     /// failure of the disk closes the cell.
     pub fn write_in<D: Disk>(
         self,

@@ -12,7 +12,7 @@ use disk_model::{Disk, DiskFailed, Place};
 use hash_guard::{HEADER, MAX_BODY, Sealed, verify};
 use std::alloc::{AllocError, Global};
 
-/// At most so many bytes of a slot are read: those of the longest sealed text.
+/// At most that many bytes of a slot are read: those of the longest sealed text.
 pub(crate) const FRONT: usize = HEADER + MAX_BODY;
 
 /// The greatest number of copies of a place.

@@ -65,7 +65,7 @@ joined xs a b c n p q r =
     let grouped = append_assoc a b c in
     cc
 
--- what is hashed is what lies behind the hash
+-- what is hashed is what follows the hash
 numbered-read : (slot : List ℕ) (g : ℕ) (body : List ℕ) → ((i : ℕ) → slice_index slot i < 256)
     → VerifiesAs slot g body
     → numbered g body ≡ take (12 + length_in slot) (drop 32 slot)

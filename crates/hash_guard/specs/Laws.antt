@@ -103,7 +103,7 @@ length-body slot g body v =
     let room : length_in slot ≤ length (drop 44 slot) = omega (arith, length-drop 44 slot, v.front.whole) in
     ap length v.body_is ∙ length-take-le (length_in slot) (drop 44 slot) room
 
--- what verifies has a generation of at least 1 and a body of at most the greatest length, and lies within the slot
+-- what verifies has a generation of at least 1 and a body of at most the greatest length, and is within the slot
 pub generation_positive : (slot : List ℕ) (g : ℕ) (body : List ℕ) → VerifiesAs slot g body → 1 ≤ g
 generation_positive slot g body v = omega (arith, v.front.generation, v.generation_is)
 
@@ -146,12 +146,12 @@ length_in-take n slot le =
     ap (little_from 0 4) (drop-take_within 40 n slot (omega arith))
     ∙ little_from-take 0 4 (n - 40) (drop 40 slot) (omega arith)
 
--- what lies from place k on, as far as n, is the same in the first n bytes
+-- what is from place k on, as far as n, is the same in the first n bytes
 part-take : (k m n : ℕ) (slot : List ℕ) → k + m ≤ n → take m (drop k (take n slot)) ≡ take m (drop k slot)
 part-take k m n slot le =
     ap (take m) (drop-take_within k n slot (omega arith)) ∙ take-take m (n - k) (drop k slot) (omega arith)
 
--- a slot verifies as its first n bytes do, where the text lies within them
+-- a slot verifies as its first n bytes do, where the text is within them
 pub verifies-take : (n : ℕ) (slot : List ℕ) (g : ℕ) (body : List ℕ) → header + length body ≤ n
     → VerifiesAs slot g body → VerifiesAs (take n slot) g body
 verifies-take n slot g body le v =

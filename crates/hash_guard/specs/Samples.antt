@@ -1,4 +1,4 @@
--- The empty text of generation 1, computed: it has 44 bytes and verifies, with a byte behind it too, and 44 zeros do
+-- The empty text of generation 1, computed: it has 44 bytes and verifies, with a byte after it too, and 44 zeros do
 -- not.
 use Rattle.std.specs.Prelude.{◌≡◌, [], ◌∷◌, ◌++◌, Some, None, length, replicate}
 use Rattle.std.proofs.Common.{refl}

@@ -42,7 +42,7 @@ pub record IsSealed (slot : List ℕ) : Type 0 where
   pub whole : header + length_in slot ≤ length slot
   pub hash : take 32 slot ≡ sha256 (take (12 + length_in slot) (drop 32 slot))
 
--- the slot verifies as this generation and body; what stands behind the body does not matter
+-- the slot verifies as this generation and body; what follows the body does not matter
 pub record VerifiesAs (slot : List ℕ) (generation : ℕ) (body : List ℕ) : Type 0 where
   pub front : IsSealed slot
   pub generation_is : generation ≡ generation_in slot

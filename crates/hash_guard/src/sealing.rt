@@ -10,12 +10,12 @@ use std::alloc::{AllocError, Global};
 ///
 /// # Errors
 ///
-/// Only want of memory.
+/// Only `OutOfMemory`.
 pub fn seal(alloc: Global, generation: u64, body: &[u8]) -> Result<Vec<u8>, AllocError>
     requires positive { 1 ≤ generation }
     requires short { length body.now ≤ max_body }
     ensures text { IfOk result (λ text. text.items ≡ sealed generation body.now) }
-    // The text verifies as what was sealed, whatever stands behind it.
+    // The text verifies as what was sealed, whatever follows it.
     ensures verifies { IfOk result (λ text. (rest : List ℕ)
         → VerifiesAs (text.items ++ rest) generation body.now) }
 {

@@ -16,7 +16,7 @@ pub struct Sealed<'a> {
 }
 
 /// The generation and the body of the sealed text at the slot's front; `None` exactly where no such
-/// text stands there. It takes no memory and reads nothing behind the text.
+/// text stands there. It does not allocate and reads nothing after the text.
 pub fn verify(slot: &[u8]) -> Option<Sealed<'_>>
     ensures some { IfSome result (λ found. VerifiesAs slot.now found.generation found.body.now) }
     ensures none { IfNone result ((generation : ℕ) (body : List ℕ)

@@ -31,7 +31,7 @@ text_length i = 4 + sum_by (entry_length i.format i.kind) i.entries
 abbrev pub area_blocks : ℕ → ℕ
 area_blocks allowed = 2 * (allowed / 256 + 1024)
 
--- an index of this kind whose names and contents are within the allowed bytes and whose blocks lie in the area
+-- an index of this kind whose names and contents are within the allowed bytes and whose blocks are in the area
 abbrev pub fits : StoreKind → ℕ → Index → Bool
 fits kind allowed i = kind_code i.kind == kind_code kind && nat_le (size_of i.entries) allowed
     && list_all (λ b. nat_lt b (area_blocks allowed)) (blocks_of i.entries)

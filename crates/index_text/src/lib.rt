@@ -1,4 +1,4 @@
-//! The text of an index: which elements a storage has, and where their contents lie.
+//! The text of an index: which elements a storage has, and where their contents are.
 //!
 //! An index lists the elements of one storage by name, each with the length and the hash of its content and with the
 //! numbers of the blocks that hold it; an element of a file storage has its info too. Format 2 also gives each element

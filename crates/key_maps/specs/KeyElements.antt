@@ -1,4 +1,4 @@
--- A key: an element without an info. What lies on the disk is judged: bytes that encode no value are unreadable, and no
+-- A key: an element without an info. What is on the disk is judged: bytes that encode no value are unreadable, and no
 -- salvage.
 use Rattle.std.specs.Prelude.{◌≡◌, ℕ, ◌≤◌, List, length, map, Bool, true, false, cond, Option, None, Some, IsTrue}
 use Rattle.per_base.specs.declared.elements.Content.{Content}
@@ -37,7 +37,7 @@ pub record IsKey (key : Element) : Type 0 where
   pub measured : Encodes key.content key.len
   pub small : key.len ≤ 65536
 
--- ---- what lies on the disk
+-- ---- what is on the disk
 
 abbrev pub element_of : Entry → Element
 element_of entry = record { info = entry.info; len = entry.len; content = entry.content }

@@ -84,7 +84,7 @@ pub record IsMarkedSynced (old new : KeyStates) : Type 0 where
   pub visible : visible_map new ≡ visible_map old
   pub kept : AreKeyStates new
 
--- the states of what lies on the disk, with nothing pending
+-- the states of what is on the disk, with nothing pending
 abbrev pub opened_state : Entry → List ℕ × KeyState
 opened_state entry = (entry.name, record { synced = Some (judged (element_of entry)); pending = Same })
 

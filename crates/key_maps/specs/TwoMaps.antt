@@ -6,7 +6,7 @@ use Rattle.per_base.specs.Maps.{Map, element_at, names_of, size_of}
 use Rattle.per_base.specs.Names.{name_cmp}
 use Rattle.key_maps.specs.KeyElements.{IsKey, is_readable}
 
--- what lies on the disk, and what calls see
+-- what is on the disk, and what calls see
 pub record TwoMaps : Type 0 where
   pub synced : Map
   pub visible : Map

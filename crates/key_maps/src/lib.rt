@@ -1,8 +1,8 @@
 //! The two maps of a session of keys: what is synchronised, and what calls see.
 //!
 //! A [`KeyMaps`] keeps both in one ordered map of key states, so that a look-up and a change take logarithmic time, and
-//! so that discarding all pending changes, removing all keys and marking all as synchronised take no memory. The number
-//! and the size of the visible keys are kept, never counted anew.
+//! so that discarding all pending changes, removing all keys and marking all as synchronised do not allocate. The
+//! number and the size of the visible keys are kept, never counted anew.
 //!
 //! A map holds encodings, each beside the value that it encodes ([`Stored`]): a value is decoded once, when it comes
 //! from the disk, and encoded once, when it is put. What comes from the disk is judged: bytes that encode no value are

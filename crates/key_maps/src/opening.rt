@@ -1,4 +1,4 @@
-//! The maps of what lies on the disk.
+//! The maps of what is on the disk.
 
 ghost use Rattle.std.specs.Prelude.{◌≡◌, ◌≤◌, ◌+◌, IfOk, length, sum_by};
 ghost use Rattle.std.specs.List.{All};

@@ -1,4 +1,4 @@
--- Answers of calls: refusals in their order, and an answer that may be want of memory.
+-- Answers of calls: refusals in their order, and an answer that may be OutOfMemory.
 use Rattle.std.specs.Prelude.{◌≡◌, ◌≢◌, Bool, cond, Result, Ok, Err}
 use Rattle.per_base.specs.declared.errors.Holder.{Holder}
 use Rattle.per_base.specs.declared.errors.Holder.TheVariants as holder
@@ -12,7 +12,7 @@ use Rattle.per_base.specs.declared.errors.Unit.TheVariants as unit
 abbrev pub refuse : {A : Type 0} → Bool → PerError → Result A PerError → Result A PerError
 refuse test error rest = cond test (Err error) rest
 
--- the error is the one that is due, but for want of memory, which may come at any time
+-- the error is the one that is due, or OutOfMemory, which may come at any time
 abbrev pub IsRefusal : {A : Type 0} → Result A PerError → PerError → Type 0
 IsRefusal due error = error ≢ OutOfMemory → due ≡ Err error
 

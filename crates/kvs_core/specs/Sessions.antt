@@ -8,7 +8,7 @@ use Rattle.key_maps.specs.TwoMaps.{TwoMaps}
 
 pub record Session : Type 0 where
   pub config : StorageData
-  -- what lies on the disk
+  -- what is on the disk
   pub synced : Map
   -- what the calls see
   pub visible : Map

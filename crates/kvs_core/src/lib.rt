@@ -1,12 +1,12 @@
 //! A session of a key-value storage, over maps alone.
 //!
-//! A [`KeySession`] holds what lies on the disk and what the calls see, as two maps from names to keys. Reads see the
+//! A [`KeySession`] holds what is on the disk and what the calls see, as two maps from names to keys. Reads see the
 //! visible one, writes change it, and nothing here touches a disk: a sync takes the changes that make the one map into
 //! the other ([`KeySession::changes`]), and marks what is visible as synchronised once they are written.
 //!
 //! Each call answers exactly by its definition: every refusal in its order with what it carries, and a refused call
-//! changes nothing; neither does want of memory. Reading and writing a key take logarithmic time in the number of keys,
-//! and touch no other key. The calls that say so take no memory. At most 1,024 keys stand, and they never take more
+//! changes nothing; neither does `OutOfMemory`. Reading and writing a key take logarithmic time in the number of keys,
+//! and touch no other key. The calls that say so do not allocate. At most 1,024 keys stand, and they never take more
 //! than the storage is allowed.
 #![tactic(auto)]
 

@@ -66,7 +66,7 @@ impl KeySession {
         ensures valid { IfOk result (λ value. IsValue value.now) }
         ensures refused { IfErr result (λ error. IsRefusal (calls.get_any self.now.config self.now.visible name.now)
             error) }
-        // A value takes no memory, nor does that there is none.
+        // A value is not allocated, nor is the answer that there is none.
         ensures memory { IfErr result (λ error. error ≡ PerError.OutOfMemory
             → IsTextRefusal (calls.get_any self.now.config self.now.visible name.now)) }
     {

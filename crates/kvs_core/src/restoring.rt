@@ -24,7 +24,7 @@ impl KeySession {
         ensures ok { OnOk result (calls.recover_key self.old.config self.old.visible name.now ≡ Ok self.new.visible) }
         ensures refused { IfErr result (λ error. IsRefusal (calls.recover_key self.old.config self.old.visible name.now)
             error) }
-        // Want of memory stands for no refusal, and comes only where a salvage or an initial value is taken.
+        // `OutOfMemory` never replaces a refusal; it comes only where a salvage or an initial value is taken.
         ensures memory { IfErr result (λ error. error ≡ PerError.OutOfMemory
             → NeedsMemory (calls.recover_key self.old.config self.old.visible name.now)) }
         ensures copies { IfErr result (λ error. error ≡ PerError.OutOfMemory → (key : Element)
@@ -105,7 +105,7 @@ impl KeySession {
         ensures ok { OnOk result (calls.reset_key self.old.config self.old.visible name.now ≡ Ok self.new.visible) }
         ensures refused { IfErr result (λ error. IsRefusal (calls.reset_key self.old.config self.old.visible name.now)
             error) }
-        // Want of memory stands for no refusal.
+        // `OutOfMemory` never replaces a refusal.
         ensures memory { IfErr result (λ error. error ≡ PerError.OutOfMemory
             → NeedsMemory (calls.reset_key self.old.config self.old.visible name.now)) }
         ensures beside { self.new ≡ record self.old { visible = self.new.visible } }

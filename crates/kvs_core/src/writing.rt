@@ -32,7 +32,7 @@ impl KeySession {
         ensures ok { OnOk result (calls.set_any self.old.config self.old.visible name.now value ≡ Ok self.new.visible) }
         ensures refused { IfErr result (λ error. IsRefusal
             (calls.set_any self.old.config self.old.visible name.now value) error) }
-        // Want of memory stands for want of room alone.
+        // `OutOfMemory` replaces `OutOfStorageSpace` alone.
         ensures memory { IfErr result (λ error. error ≡ PerError.OutOfMemory
             → NeedsMemory (calls.takes_any self.old.config self.old.visible name.now (type_of value))) }
         ensures beside { self.new ≡ record self.old { visible = self.new.visible } }
@@ -55,7 +55,7 @@ impl KeySession {
             ≡ Ok self.new.visible) }
         ensures refused { IfErr result (λ error. IsRefusal
             (calls.set_value self.old.config self.old.visible name.now (T.tree value.now)) error) }
-        // Want of memory stands for want of room alone, but where the value itself takes memory, which is made first.
+        // `OutOfMemory` replaces `OutOfStorageSpace` alone, but where the value itself is allocated, which comes first.
         ensures memory { IfErr result (λ error. error ≡ PerError.OutOfMemory
             → TakesMemory T.kind ⊎ NeedsMemory (calls.takes_any self.old.config self.old.visible name.now
             (type_of (T.tree value.now)))) }

@@ -109,7 +109,7 @@ same_judged (Good bytes) = refl
 same_judged (Bad None) = refl
 same_judged (Bad (Some salvage)) = same_salvage salvage (is_encoding salvage)
 
--- the keys of these entries are the map that a view of them stands for
+-- the keys of these entries are the map that a view of them denotes
 pub judged_synchronised : (v : View) → judged_map v.entries ≡ synchronised is_encoding v
 judged_synchronised v = each v.entries
   where

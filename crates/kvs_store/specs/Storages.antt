@@ -30,7 +30,7 @@ showing kvs m = record kvs { session = record kvs.session { visible = m } }
 abbrev pub keys_in : View → Map
 keys_in v = synchronised is_encoding v
 
--- the session of a storage of keys that lies as it is configured; what is synchronised is what the storage shows
+-- the session of a storage of keys that is as it is configured; what is synchronised is what the storage shows
 pub record IsOpen (store : Store) (session : Session) : Type 0 where
   pub configured : IsConfigured Keys session.config (shape_of store)
   pub synced : session.synced ≡ keys_in (view_in store)

@@ -5,7 +5,7 @@
 //! [`Kvs::sync_to_storage`] works on what the calls see alone and touches no disk; a sync hands down exactly the keys
 //! that differ, all at once.
 //!
-//! The promises: an opening shows just what the storage stands for, and reports just what was lacking or unreadable
+//! The promises: an opening shows just what the storage denotes, and reports just what was lacking or unreadable
 //! before it. A sync that answers Ok has made what the calls see the storage's content, and one that hands the storage
 //! back has done nothing. A stop at any moment leaves the storage of before or that of after, and no file outside its
 //! place changes.

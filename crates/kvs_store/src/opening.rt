@@ -71,7 +71,7 @@ pub fn open_kvs<D: Disk>(
     ensures unwritten { IsErrOf result StoreError.Corrupt → (D.medium disk.new).written ≡ (D.medium disk.old).written }
     ensures settled { IsErrOf result StoreError.Corrupt → Quiet (D.medium disk.new) }
 
-    // A failure is that of a call of the disk, and nothing else stands for one.
+    // A failure is that of a call of the disk, and nothing else is reported as one.
     ensures cause { IsErrOf result StoreError.Device → Rose (D.medium disk.old).faults (D.medium disk.new).faults }
     ensures passes { OnOk result ((D.medium disk.new).faults ≡ (D.medium disk.old).faults) }
     ensures fed { IsErrOf result StoreError.OutOfMemory → (D.medium disk.new).faults ≡ (D.medium disk.old).faults }

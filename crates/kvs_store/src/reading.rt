@@ -52,7 +52,7 @@ impl Kvs {
         ensures valid { IfOk result (λ value. IsValue value.now) }
         ensures refused { IfErr result (λ error.
             IsRefusal (calls.get_any (session_of self.now).config (session_of self.now).visible name.now) error) }
-        // A value takes no memory, nor does that there is none.
+        // A value is not allocated, nor is the answer that there is none.
         ensures memory { IfErr result (λ error. error ≡ PerError.OutOfMemory
             → IsTextRefusal (calls.get_any (session_of self.now).config (session_of self.now).visible name.now)) }
     {

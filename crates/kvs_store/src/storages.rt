@@ -18,7 +18,7 @@ use std::marker::Model;
 #[derive(Drop)]
 pub struct Kvs {
     pub(crate) alloc: Global,
-    /// What lies on the disk.
+    /// What is on the disk.
     pub(crate) store: Store,
     /// What the calls see, beside what is synchronised.
     pub(crate) session: KeySession,

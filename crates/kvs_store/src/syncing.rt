@@ -1,4 +1,4 @@
-//! The sync: what the calls see becomes what lies on the disk.
+//! The sync: what the calls see becomes what is on the disk.
 
 ghost use Rattle.std.specs.Prelude.{◌≡◌, ◌≢◌, ◌↔◌, ◌<◌, [], true, false, IsTrue, IfOk, IfErr, length};
 ghost use Rattle.per_base.specs.Causes.{Rose};
@@ -25,7 +25,7 @@ pub enum SyncFault {
     Device,
     /// No generation is left for the changes: the storage is handed back, and nothing happened.
     WornOut(Kvs),
-    /// Want of memory hands the storage back, and nothing happened.
+    /// `OutOfMemory` hands the storage back, and nothing happened.
     OutOfMemory(Kvs),
 }
 

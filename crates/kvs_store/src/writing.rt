@@ -29,7 +29,7 @@ impl Kvs {
             value ≡ Ok (session_of self.new).visible) }
         ensures refused { IfErr result (λ error.
             IsRefusal (calls.set_any (session_of self.old).config (session_of self.old).visible name.now value) error) }
-        // Want of memory stands for want of room alone.
+        // `OutOfMemory` replaces `OutOfStorageSpace` alone.
         ensures memory { IfErr result (λ error. error ≡ PerError.OutOfMemory
             → NeedsMemory (calls.takes_any (session_of self.old).config (session_of self.old).visible name.now
             (type_of value))) }
@@ -50,7 +50,7 @@ impl Kvs {
         ensures refused { IfErr result (λ error.
             IsRefusal (calls.set_value (session_of self.old).config (session_of self.old).visible name.now
             (T.tree value.now)) error) }
-        // Want of memory stands for want of room alone, but where the value itself takes memory, which is made first.
+        // `OutOfMemory` replaces `OutOfStorageSpace` alone, but where the value itself is allocated, which comes first.
         ensures memory { IfErr result (λ error. error ≡ PerError.OutOfMemory → TakesMemory T.kind
             ⊎ NeedsMemory (calls.takes_any (session_of self.old).config (session_of self.old).visible name.now
             (type_of (T.tree value.now)))) }
@@ -103,7 +103,7 @@ impl Kvs {
             ≡ Ok (session_of self.new).visible) }
         ensures refused { IfErr result (λ error.
             IsRefusal (calls.recover_key (session_of self.old).config (session_of self.old).visible name.now) error) }
-        // Want of memory stands for no refusal, and comes only where a salvage or an initial value is taken.
+        // `OutOfMemory` never replaces a refusal; it comes only where a salvage or an initial value is taken.
         ensures memory { IfErr result (λ error. error ≡ PerError.OutOfMemory
             → NeedsMemory (calls.recover_key (session_of self.old).config (session_of self.old).visible name.now)) }
         ensures copies { IfErr result (λ error. error ≡ PerError.OutOfMemory → (key : Element)
@@ -126,7 +126,7 @@ impl Kvs {
             ≡ Ok (session_of self.new).visible) }
         ensures refused { IfErr result (λ error.
             IsRefusal (calls.reset_key (session_of self.old).config (session_of self.old).visible name.now) error) }
-        // Want of memory stands for no refusal.
+        // `OutOfMemory` never replaces a refusal.
         ensures memory { IfErr result (λ error. error ≡ PerError.OutOfMemory
             → NeedsMemory (calls.reset_key (session_of self.old).config (session_of self.old).visible name.now)) }
         ensures beside { self.new ≡ showing self.old (session_of self.new).visible }

@@ -4,7 +4,7 @@
 //! m copies, the one whose first copy comes first wins, so that every reader of the same copies comes
 //! to the same answer.
 //!
-//! [`vote`] takes no memory. It compares each copy with every other, which is cheap for the few copies
+//! [`vote`] does not allocate. It compares each copy with every other, which is cheap for the few copies
 //! that a storage has.
 #![tactic(auto)]
 

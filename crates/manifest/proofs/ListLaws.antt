@@ -1,4 +1,4 @@
--- Lists of values, and the data that they stand for.
+-- Lists of values, and the data that they denote.
 use Rattle.std.proofs.Common.{◌≡◌, Bool, ◌&&◌, List, [], ◌∷◌, map, ℕ, refl, ap, sym, ◌∙◌, String, Global, string_bytes}
 use Rattle.std.proofs.Common.{Option, Some, option_map, is_some}
 use Rattle.std.specs.Prelude.{option_and_then, unwrap_or}

@@ -46,7 +46,7 @@ said_in d rule = None
 unfoldable pub deployment_in : List ℕ → Option DeploymentData
 deployment_in text = said_in (value_of text) (broken_rule text)
 
--- what an error says of the least broken rule: want of memory says nothing
+-- what an error says of the first violated rule: OutOfMemory says nothing
 abbrev pub Refuses : Option ℕ → ManifestError → Type 0
 Refuses broken (Rejected rule) = broken ≡ Some rule
 Refuses broken OutOfMemory = ⊤

@@ -50,7 +50,7 @@ is_named l = is_name (name_in l.1)
 unfoldable pub are_named : List Listed → Bool
 are_named ls = list_all is_named ls
 
--- no name stands again behind its place
+-- no name stands again after its place
 abbrev pub all_differ : List (List ℕ) → Bool
 all_differ [] = true
 all_differ (name ∷ names) = not (list_any (bytes_eq name) names) && all_differ names

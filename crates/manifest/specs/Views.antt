@@ -1,4 +1,4 @@
--- What stands for a part of a manifest: its kind and the value that it is.
+-- What denotes a part of a manifest: its kind and the value that it is.
 use Rattle.std.specs.Prelude.{ℕ, List, map}
 use denote.Ref.{Bor}
 use Rattle.serde_json.specs.View.{view}

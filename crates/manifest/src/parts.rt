@@ -134,7 +134,7 @@ pub(crate) fn maximum_of(storage: &Value) -> u64
     whole_number(storage, "maximumAllowedSize").unwrap_or(DEFAULT_MAXIMUM)
 }
 
-/// The strategy of a storage that the word stands for.
+/// The strategy of a storage that the word denotes.
 #[tactic(auto, unfolding(crate::specs::Parts::collection_said))]
 pub(crate) fn collection_said(word: &str) -> Option<CollectionStrategy>
     ensures { result ≡ collection_said word.now }
@@ -185,7 +185,7 @@ pub(crate) fn copies_of(redundancy: &Value) -> Option<u32>
     small_number(redundancy, "n")
 }
 
-/// The scope that the word stands for.
+/// The scope that the word denotes.
 #[tactic(auto, unfolding(crate::specs::Parts::scope_said))]
 pub(crate) fn scope_said(word: &str) -> Option<Scope>
     ensures { result ≡ scope_said word.now }
@@ -209,7 +209,7 @@ pub(crate) fn scope_of(redundancy: &Value) -> Option<Scope>
     }
 }
 
-/// The strategy of an element that the word stands for.
+/// The strategy of an element that the word denotes.
 #[tactic(auto, unfolding(crate::specs::Parts::strategy_said))]
 pub(crate) fn strategy_said(word: &str) -> Option<ElementStrategy>
     ensures { result ≡ strategy_said word.now }

@@ -27,7 +27,7 @@ const MAX_BYTES: usize = 65_536;
 ///
 /// `Rejected` with the least rule that the text breaks, exactly where it breaks one; `OutOfMemory`.
 pub fn read_manifest(alloc: Global, bytes: &[u8]) -> Result<Deployment, ManifestError>
-    // the text decides: which rule is the least broken, and which deployment it says where none is
+    // the text decides: which rule is the first violated, and which deployment it says where none is
     ensures rejected { IfErr result (Refuses (broken_rule bytes.now)) }
     ensures accepted { OnOk result (broken_rule bytes.now ≡ None) }
     ensures read { IfOk result (λ d. deployment_in bytes.now ≡ Some (deployment_data d)) }

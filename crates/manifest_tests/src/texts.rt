@@ -17,7 +17,7 @@ pub(crate) fn deployment_text(
 }
 
 /// The name and the kind of a storage; its minimum, its maximum, its strategy, whether it is read-only, its copies and
-/// their scope; and each element behind a comma.
+/// their scope; and each element after a comma.
 pub(crate) fn storage_text(alloc: Global, storage: &StorageConfig) -> Result<String, AllocError> {
     let name = storage.name.as_str();
     let mut text = format!(in alloc; "{name} {:?}", storage.kind)?;
@@ -30,7 +30,7 @@ pub(crate) fn storage_text(alloc: Global, storage: &StorageConfig) -> Result<Str
     Ok(text)
 }
 
-/// The name of an element; its type in parentheses, what it starts with behind `=`, and its strategy, of each where it
+/// The name of an element; its type in parentheses, what it starts with after `=`, and its strategy, of each where it
 /// has one.
 pub(crate) fn element_text(alloc: Global, element: &ElementConfig) -> Result<String, AllocError> {
     let mut text = String::from_str(alloc, element.name.as_str())?;

@@ -33,7 +33,7 @@ impl Left {
         }
     }
 
-    /// The part that is not left, of so many bytes: from where to where.
+    /// The part that is not left, of that many bytes: from where to where.
     fn missing(self, len: u64) -> (u64, u64) {
         match self {
             Left::Nothing => (0, len),

@@ -16,7 +16,7 @@ pub(crate) fn bytes_of(files: &Files, file: u32) -> &[u8] {
     }
 }
 
-/// Copies what lies from `at` on, as much as there is and as there is room for, and says how much that is.
+/// Copies what is from `at` on, as much as there is and as there is room for, and says how much that is.
 pub(crate) fn read_from(bytes: &[u8], at: u64, out: &mut [u8]) -> usize
     ensures { result ≤ length out.old }
 {

@@ -74,8 +74,8 @@ impl MemSystem {
         self.files == other.files
     }
 
-    /// So many bytes of a file, as far as it has them, cannot be read until they are written. They are zeros to any who
-    /// reads over them. Nothing of the folder may be pending: what is counts as durable from here on.
+    /// That many bytes of a file, as far as it has them, cannot be read until they are written. They are zeros to any
+    /// who reads over them. Nothing of the folder may be pending: what is counts as durable from here on.
     pub fn spoil(&mut self, file: u32, at: u64, len: u64) -> Result<(), AllocError> {
         let there = (bytes_of(&self.files, file).len() as u64).saturating_sub(at);
         let stretch = Stretch {
@@ -110,7 +110,7 @@ impl MemSystem {
         })
     }
 
-    /// The folder after a power loss behind the first of the changes. Of each write that was not synced there, two bits
+    /// The folder after a power loss after the first of the changes. Of each write that was not synced there, two bits
     /// of the seed, from the lowest on and over again after 32 writes, say what is left: nothing, all, the first half
     /// or the second; of each name that was not, whether it is. What a sync failed to write is lost.
     pub fn power_loss(&self, changes: usize, seed: u64) -> Result<MemSystem, AllocError> {

@@ -30,7 +30,7 @@ pub(crate) fn unreadable_from(unreadable: &[Stretch], file: u32, at: u64) -> u64
     count
 }
 
-/// How many bytes from `at` on lie before the next that cannot be read.
+/// How many bytes from `at` on are before the next that cannot be read.
 pub(crate) fn readable_from(unreadable: &[Stretch], file: u32, at: u64) -> u64 {
     let mut count = u64::MAX;
     for stretch in unreadable {

@@ -371,7 +371,7 @@ module _ (rules : List Rule) where
         elim (links rules element to n from) as (λ o. o ≡ behind [] o) [ None ↦ refl | Some is ↦ refl ]
         ∙ ap (λ ps. behind ps (links rules element to n from)) (sym none)
 
-    -- what is left of the way from the start, when these places are behind
+    -- what is left of the way from the start, when these places are after
     pub record Left (kinds : List Kind) (places : List ℕ) (n a : ℕ) (all : Option (List ℕ)) : Type 0 where
       pub at : Kind
       pub number : slice_get kinds a ≡ Some at

@@ -29,7 +29,7 @@ differ_push kinds k differ new i j x at there = elim (at_end kinds k x i at) [
   ]
 ]
 
--- marked types seen as kinds, with one more type behind them
+-- marked types seen as kinds, with one more type after them
 abbrev pub seen : Marked → Kind
 seen t = kind_of t.value_type.now
 

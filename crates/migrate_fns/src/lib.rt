@@ -2,7 +2,7 @@
 //! version.
 //!
 //! A [`Migration`] keeps a function beside its fact: it may be called on every value of the type `from`, and answers
-//! only values of the type `to`, or want of memory. Whoever makes one shows that fact, and nobody tests a type after a
+//! only values of the type `to`, or `OutOfMemory`. Whoever makes one shows that fact, and nobody tests a type after a
 //! conversion.
 //!
 //! [`Migrations`] is a list of them. `find` gives the first with two types that names an element or none. `find_chain`

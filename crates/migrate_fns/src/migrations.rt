@@ -34,7 +34,7 @@ impl Migration {
     ghost use Rattle.migrate_fns.specs.Stored.{MayGive, rule_of};
 
     /// A converter. The function may be called on every value of the type `from`, and answers only values of the type
-    /// `to`, or want of memory: whoever makes one shows this. Takes no memory.
+    /// `to`, or `OutOfMemory`: whoever makes one shows this. Takes no memory.
     pub fn new(
         element: Option<Name>,
         from: ValueType,

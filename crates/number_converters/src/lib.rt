@@ -23,8 +23,8 @@ pub trait WithConverters {
     fn with_converters(self, migrations: &Migrations) -> Self::Answer;
 }
 
-/// Makes the six converters, and does something with them. Want of memory for them is the one error; then it is not
-/// done.
+/// Makes the six converters, and does something with them. Running out of memory for them is the one error; then it is
+/// not done.
 pub fn with_converters<T: WithConverters + Drop>(
     alloc: Global,
     what: T,

@@ -57,7 +57,7 @@ abbrev IsFineOption : Option PerError → Type 0
 IsFineOption None = ⊤
 IsFineOption (Some error) = IsCallers error
 
--- an error that stands for the row's, or for want of memory
+-- an error that denotes the row's, or because memory ran out
 pub fine_refusal : {A : Type 0} (row : Result A PerError) (error : PerError) → IsFine row → IsRefusal row error
     → error ≢ PhysicalStorageFailure
 fine_refusal {A} row error fine due is =

@@ -7,7 +7,7 @@ use Rattle.command_text.specs.declared.calls.Call.TheVariants as call
 use Rattle.command_text.specs.declared.replies.Answer.{Answer}
 use Rattle.command_text.specs.Replies.{HasText}
 
--- The answer is the row's, and so is what the calls see afterwards. A refusal is the row's, but for want of memory, and
+-- The answer is the row's, and so is what the calls see afterwards. A refusal is the row's, or OutOfMemory, and
 -- changes nothing.
 abbrev pub IsAnswered : {S : Type 0} → (row : Result (Answer × S) PerError) → (old new : S) → Result Answer PerError
     → Type 0

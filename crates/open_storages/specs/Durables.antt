@@ -15,7 +15,7 @@ use Rattle.open_storages.specs.declared.closing.Closing.TheVariants as left
 use Rattle.open_storages.specs.Opens.{config_in, session_in, store_in}
 use Rattle.open_storages.specs.Refusals.{durable_view}
 
--- a later storage in whose place what the calls saw lies on the disk, and all else is as it was
+-- a later storage in whose place what the calls saw is on the disk, and all else is as it was
 pub record IsDurable (told : Bool) (image : Image) (before later : Open) : Type 0 where
   pub session : session_in later ≡ made_durable (session_in before)
   pub config : config_in later ≡ config_in before

@@ -37,7 +37,7 @@ abbrev pub OnCorrupt : Opening → Type 0 → Type 0
 OnCorrupt (given.Opened o reported) P = ⊤
 OnCorrupt (given.Corrupt report) P = P
 
--- it lies where it is configured to
+-- it is where it is configured to
 pub record IsPlaced (shape : Shape) (config : StorageData) (o : Open) : Type 0 where
   pub configured : config_in o ≡ config
   pub placed : shape_of (store_in o) ≡ shape

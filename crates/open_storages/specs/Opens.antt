@@ -9,7 +9,7 @@ use Rattle.run_model.specs.Sessions.{Session, KeySession, FileSession, keys, fil
 use Rattle.open_storages.specs.declared.opens.Open.{Open}
 use Rattle.open_storages.specs.declared.opens.Open.TheVariants.{Keys, Files}
 
--- what lies on the disk, and what the calls see
+-- what is on the disk, and what the calls see
 abbrev pub keys_of : stored.KvsSession → KeySession
 keys_of k = record { synced = k.session.synced; visible = k.session.visible }
 

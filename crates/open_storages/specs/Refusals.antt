@@ -14,7 +14,7 @@ use Rattle.open_storages.specs.declared.opens.Open.{Open}
 use Rattle.open_storages.specs.declared.opens.Open.TheVariants.{Keys, Files}
 use Rattle.open_storages.specs.Opens.{session_in, store_in}
 
--- what the calls see is what lies on the disk
+-- what the calls see is what is on the disk
 abbrev pub is_still : Open → Bool
 is_still o = same_map (synced_of (session_in o)) (seen_of (session_in o))
 

@@ -36,7 +36,7 @@ pub enum Opening {
     Corrupt(Report),
 }
 
-/// Opens the storage that lies at a shape, as it is configured: every copy is brought to the text at which it opens,
+/// Opens the storage that is at a shape, as it is configured: every copy is brought to the text at which it opens,
 /// and each element on which enough copies agree is written again where it lacks. Nothing is then pending, and no
 /// handle is open.
 ///

@@ -18,7 +18,7 @@ pub enum Open {
 }
 
 impl Open {
-    /// What always holds of an open storage: it lies as it is configured, its session is one of its kind, and what is
+    /// What always holds of an open storage: it is as it is configured, its session is one of its kind, and what is
     /// synchronised is what the storage below shows.
     pub fn invariants(&self)
         ensures configured { IsConfigured (config_in self.now).kind (config_in self.now)

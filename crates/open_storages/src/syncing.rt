@@ -24,7 +24,7 @@ use per_base::{Fault, Limit, PerError};
 /// Whether what the calls see was made durable.
 #[derive(Drop)]
 pub enum Durable {
-    /// It lies on the disk.
+    /// It is on the disk.
     Done(Open),
     /// It is refused for this cause: nothing changed.
     Refused(Open, PerError),

@@ -11,7 +11,7 @@ use Rattle.per_base.specs.declared.errors.PerError.TheVariants.{NotOpen, LimitRe
 use Rattle.per_base.specs.declared.errors.PerError.TheVariants.{UpdateNotFinished, VersionNotNewer, BadName}
 use Rattle.per_base.specs.declared.errors.PerError.TheVariants.{NoUpdateInProgress, ExportRejected, OutOfMemory}
 
--- the number of an error; want of memory has none
+-- the number of an error; OutOfMemory has none
 abbrev pub error_number : PerError → Option ℕ
 error_number StorageNotFound = Some 1
 error_number KeyNotFound = Some 2

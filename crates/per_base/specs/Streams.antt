@@ -28,7 +28,7 @@ pub record SinkState : Type 0 where
 abbrev pub is_failing : List ℕ → ℕ → Bool
 is_failing failing call = list_any (λ n. nat_eq n call) failing
 
--- a failure of a sink that the plan has, and one for want of memory
+-- a failure of a sink that the plan has, and one because memory ran out
 abbrev pub FailsAsPlanned : SinkState → SinkState → Type 0
 FailsAsPlanned old new = IsTrue (is_failing old.failing old.calls) × (new.starved ≡ old.starved)
 

@@ -60,7 +60,7 @@ pub struct Element {
     pub content: Content,
 }
 
-/// An element as it lies on the disk: besides, the generation of its last change and the copies that lack it,
+/// An element as it is on the disk: besides, the generation of its last change and the copies that lack it,
 /// ascending.
 #[derive(Debug, Drop)]
 pub struct Entry {
@@ -160,7 +160,7 @@ impl Fresh {
     }
 }
 
-/// The bytes of a block of an area, in which contents lie.
+/// The bytes of a block of an area, in which contents are.
 pub const BLOCK: usize = 256;
 
 /// No element is larger, in bytes: 255 for the name and what a `u32` counts.

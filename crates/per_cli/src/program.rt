@@ -194,7 +194,10 @@ fn run_over<'a, R: Files<File = File>, S: Source, K: Sink>(
 ) -> Outcome {
     let disk = match FolderDisk::open(alloc, system) {
         Ok(disk) => disk,
-        Err(refused) if target.flash.is_some() => return not_held(notes, refused.failure.map(of_flash)),
+        Err(refused) if target.flash.is_some() => return not_held(
+            notes,
+            refused.failure.map(of_flash),
+        ),
         Err(refused) => return not_held(notes, refused.failure),
     };
     match target.flash {

@@ -11,7 +11,7 @@ pub record Version : Type 0 where
   pub text : List ℕ
   pub deployment : DeploymentData
 
--- nothing is installed; or the active version in its bank, and the previous one, which lies in the other bank
+-- nothing is installed; or the active version in its bank, and the previous one, which is in the other bank
 pub data Root : Type 0 where
   absent : Root
   installed : (bank : ℕ) (active : Version) (previous : Option Version) → Root
@@ -46,7 +46,7 @@ previous_text (Some text) = long_text text
 abbrev pub parts_text : Parts → List ℕ
 parts_text p = p.bank ∷ flag_of p.previous ∷ long_text p.active ++ previous_text p.previous
 
--- the format is 1, and then 0 stands for absent and 1 for installed
+-- the format is 1, and then 0 means absent and 1 installed
 unfoldable pub root_text : Root → List ℕ
 root_text absent = 1 ∷ 0 ∷ []
 root_text (installed bank active previous) = 1 ∷ 1 ∷ parts_text (parts_of bank active previous)

@@ -12,7 +12,7 @@ pub fn one_root()
     ensures taken { (text : List ℕ) (r : Root) → IsBytes text → root_of text ≡ Some r → text ≡ root_text r }
     ensures again { (r : Root) → IsRoot r → root_of (root_text r) ≡ Some r }
 
-    // what is said lies in bank 0 or 1, and its texts are manifests
+    // what is said is in bank 0 or 1, and its texts are manifests
     ensures is_root { (text : List ℕ) (r : Root) → root_of text ≡ Some r → IsRoot r }
 
     // and a text is short enough for a register

@@ -20,7 +20,7 @@ use std::alloc::Global;
 ///
 /// `NotARoot` exactly where the bytes are the text of no root; `OutOfMemory`.
 pub fn read_root(alloc: Global, text: &[u8]) -> Result<RootSays, RootError>
-    // What is read lies in its bank, its texts are manifests, and it is spelled so.
+    // What is read is in its bank, its texts are manifests, and it is spelled so.
     ensures rules { IfOk result (λ says. IsRoot (root_said says)) }
     ensures spelled { IfOk result (λ says. text.now ≡ root_text (root_said says)) }
 
@@ -149,7 +149,7 @@ fn fields_at(bytes: &[u8]) -> Result<(Fields, &[u8]), RootError>
     Ok((fields, rest))
 }
 
-/// A length and so many bytes.
+/// A length and that many bytes.
 #[tactic(auto, unfolding(crate::specs::RootText::text_at))]
 fn text_of(bytes: &[u8]) -> Result<(&[u8], &[u8]), RootError>
     ensures { Gives (λ x. (x.0.now, x.1.now)) result (text_at bytes.now) }

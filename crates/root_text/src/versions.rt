@@ -17,6 +17,6 @@ pub struct VersionText {
 pub enum RootSays {
     /// Nothing is installed.
     Absent,
-    /// The bank of the active version, 0 or 1; the active version; and the previous one, which lies in the other bank.
+    /// The bank of the active version, 0 or 1; the active version; and the previous one, which is in the other bank.
     Installed(u32, VersionText, Option<VersionText>),
 }

@@ -3,8 +3,8 @@
 /// What a read gave.
 #[derive(Clone, Copy, Debug, PartialEq, Eq)]
 pub enum Reading {
-    /// So many bytes: none only at the end of the file, or where there was no room.
+    /// That many bytes: none only at the end of the file, or where there was no room.
     Bytes(usize),
-    /// So many bytes from here on, one at least, cannot be read, though the device answers. They count as zeros.
+    /// That many bytes from here on, one at least, cannot be read, though the device answers. They count as zeros.
     Unreadable(usize),
 }

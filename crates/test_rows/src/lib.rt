@@ -1,7 +1,7 @@
 //! Rows of tests: short texts for long inputs.
 //!
 //! In a row a part and its count stand between backquotes: ``"ab`c`3`"`` spells `abccc`, and in the part `#` is the
-//! number of each, counted from 1. Behind the word `hex` a row spells bytes, in two digits each.
+//! number of each, counted from 1. After the word `hex` a row spells bytes, in two digits each.
 #![tactic(auto)]
 
 use std::alloc::{AllocError, AllocFailed, Global};

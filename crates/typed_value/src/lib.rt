@@ -2,7 +2,7 @@
 //!
 //! A [`Value`] is a tree of truth values, integers, texts, bytes, lists and groups of fields. Every value has one
 //! encoding ([`encode`], [`decode`]) and one text ([`print_value`], [`parse_value`]), and every type one text
-//! ([`print_type`], [`parse_type`]). Reading is exact on every input: the value that the bytes or the text stand for,
+//! ([`print_type`], [`parse_type`]). Reading is exact on every input: the value that the bytes or the text denote,
 //! or `NotAValue` where there is none. Its type is read off either.
 //!
 //! A value's type nests at most [`MAX_DEPTH`] deep, its groups have 1 to [`MAX_MEMBERS`] members, and its encoding has

@@ -66,7 +66,7 @@ pub stored_of_kind : (old : DeploymentData) (contents : List Stored) (s : Storag
 stored_of_kind old contents s h = of_kind s.kind (storage_named old s.name) (contents_named contents s.name)
     (found_of old contents s.name h)
 
--- ---- an item of a list and what is left behind it
+-- ---- an item of a list and what is left after it
 
 all_drop : {A : Type 0} (P : A → Type 0) (xs : List A) (i : ℕ) → AllByRecursion P xs → AllByRecursion P (drop i xs)
 all_drop P [] zero h = tt

@@ -107,7 +107,7 @@ Becomes answers name (converted v places) new = (w : Tree) × ConvertsTo answers
     × (new ≡ Some (record { name = name; info = None; bytes = encoding w }))
 Becomes answers name (refused e) new = ⊥
 
--- an error is the refusal, or want of memory
+-- an error is the refusal, or OutOfMemory
 abbrev pub Refuses : Fate → PerError → Type 0
 Refuses f e = e ≢ OutOfMemory → refusal f ≡ Some e
 

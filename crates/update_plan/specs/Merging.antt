@@ -21,7 +21,7 @@ only_configured c = record { name = c.name; stored = None; configured = Some c }
 abbrev pub both : Entry → ElementData → Item
 both e c = record { name = e.name; stored = Some e; configured = Some c }
 
--- the entry before, with or behind the first of the configured elements
+-- the entry before, with or after the first of the configured elements
 abbrev pub by_order : Ordering → List Item → List Item → List Item → List Item
 by_order Less first same behind = first
 by_order Equal first same behind = same

@@ -22,7 +22,7 @@ pub(crate) fn plan_text(
     Ok(text)
 }
 
-/// Each element behind a space: `name=value` of a key, `name=bytes` of a file.
+/// Each element after a space: `name=value` of a key, `name=bytes` of a file.
 fn push_elements(
     alloc: Global,
     text: &mut String,

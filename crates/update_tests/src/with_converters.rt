@@ -65,7 +65,7 @@ fn element_of(alloc: Global, converter: &str) -> Result<Option<Name>, RowError> 
     }
 }
 
-/// What stands behind it.
+/// What follows it.
 fn types_of(converter: &str) -> &str {
     match converter.split_once(':') {
         None => converter,

@@ -27,7 +27,7 @@ abbrev pub Gives : {X Y : Type 0} → (X → Y) → Result X DecodeError → Opt
 Gives view (Ok x) read = read ≡ Some (view x)
 Gives view (Err e) read = Fails e read
 
--- ---- what stands in front, and the bytes behind it
+-- ---- what stands in front, and the bytes after it
 
 abbrev pub byte_at : List ℕ → Option (ℕ × List ℕ)
 byte_at [] = None
@@ -71,13 +71,13 @@ kinds_by f (suc n) bytes = do
   others ← kinds_by f n first.1
   Some (kind_then first.0 others.0, others.1)
 
--- behind the code of a list, with the item's kind read by f
+-- after the code of a list, with the item's kind read by f
 unfoldable pub list_kind_by : (List ℕ → Option (Kind × List ℕ)) → List ℕ → Option (Kind × List ℕ)
 list_kind_by f bytes = do
   item ← f bytes
   Some (list_kind item.0, item.1)
 
--- behind the code of a group of fields: how many members, and their kinds
+-- after the code of a group of fields: how many members, and their kinds
 unfoldable pub group_kind_by : (List ℕ → Option (Kind × List ℕ)) → List ℕ → Option (Kind × List ℕ)
 group_kind_by f bytes = do
   count ← byte_at bytes

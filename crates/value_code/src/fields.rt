@@ -59,7 +59,7 @@ pub(crate) fn u64_at(bytes: &[u8]) -> Result<(u64, &[u8]), DecodeError>
     Ok((number, rest))
 }
 
-/// The bytes behind a length, as many as it says.
+/// The bytes after a length, as many as it says.
 #[tactic(auto, unfolding(crate::specs::Reading::counted_at))]
 pub(crate) fn counted_at(bytes: &[u8]) -> Result<(&[u8], &[u8]), DecodeError>
     ensures { Gives (λ x. (x.0.now, x.1.now)) result (counted_at bytes.now) }

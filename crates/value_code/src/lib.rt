@@ -1,4 +1,4 @@
-//! The encoding of typed values: the code of the type, and behind it the payload.
+//! The encoding of typed values: the code of the type, and after it the payload.
 //!
 //! [`encode`] writes a value's one encoding. [`decode`] gives the value that the bytes encode, and `NotAValue` exactly
 //! where there is none; [`encodes`] tells whether there is one. Reading a type stops at the greatest depth of a value,

@@ -9,7 +9,7 @@ ghost use Rattle.value_model.specs.Views.{tree_of, trees_view};
 use std::alloc::AllocError;
 use value_model::Node;
 
-/// Writes the payload of a node behind what is written.
+/// Writes the payload of a node after what is written.
 #[cycle(put_payload)]
 pub(crate) fn put_payload(node: &Node, out: &mut Vec<u8>) -> Result<(), AllocError>
     requires typed { IsTyped (tree_of node.now) }

@@ -10,7 +10,7 @@ use crate::fields::byte_at;
 use std::alloc::{AllocError, Global};
 use value_model::{DecodeError, MAX_MEMBERS, ValueType};
 
-/// The type in front of the bytes, of at most this depth, and the bytes behind it.
+/// The type in front of the bytes, of at most this depth, and the bytes after it.
 #[cycle(type_at)]
 #[tactic(auto, unfolding(crate::specs::Reading::kind_at))]
 pub(crate) fn type_at(
@@ -34,7 +34,7 @@ pub(crate) fn type_at(
     Ok((scalar, rest))
 }
 
-/// Behind the code of a list.
+/// After the code of a list.
 #[cycle(type_at)]
 #[tactic(auto, unfolding(crate::specs::Reading::list_kind_by))]
 fn list_type_at(alloc: Global, depth: u32, bytes: &[u8]) -> Result<(ValueType, &[u8]), DecodeError>
@@ -45,7 +45,7 @@ fn list_type_at(alloc: Global, depth: u32, bytes: &[u8]) -> Result<(ValueType, &
     Ok((ValueType::List(Box::new(alloc, item)?), rest))
 }
 
-/// Behind the code of a group of fields.
+/// After the code of a group of fields.
 #[cycle(type_at)]
 #[tactic(auto, unfolding(crate::specs::Reading::group_kind_by))]
 fn group_type_at(alloc: Global, depth: u32, bytes: &[u8]) -> Result<(ValueType, &[u8]), DecodeError>
@@ -101,7 +101,7 @@ fn scalar_type(code: u8) -> Result<ValueType, DecodeError>
     }
 }
 
-/// Writes the code of a type behind what is written.
+/// Writes the code of a type after what is written.
 #[cycle(put_type)]
 pub(crate) fn put_type(value_type: &ValueType, out: &mut Vec<u8>) -> Result<(), AllocError>
     requires fits { IsTrue (kind_fits (kind_of value_type.now)) }

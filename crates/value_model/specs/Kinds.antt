@@ -81,7 +81,7 @@ signed_code two = 7
 signed_code four = 8
 signed_code eight = 9
 
--- the code of a type: one byte, behind it the item's code, or the number of members and their codes
+-- the code of a type: one byte, after it the item's code, or the number of members and their codes
 abbrev mutual
   pub type_code : Kind → List ℕ
   type_code bool_kind = 1 ∷ []

@@ -1,4 +1,4 @@
--- The kind that a `ValueType` stands for, and the tree that a `Node` stands for: pointers and capacities are left out.
+-- The kind that a `ValueType` denotes, and the tree that a `Node` denotes: pointers and capacities are left out.
 use Rattle.std.specs.Prelude.{List, [], ◌∷◌, map}
 use Rattle.value_model.specs.declared.types.ValueType.{ValueType, fold-ValueType}
 use Rattle.value_model.specs.declared.types.ValueType.TheOpen.{ValueType-F}

@@ -12,10 +12,10 @@ pub const MAX_DEPTH: u32 = 8;
 /// The greatest number of bytes of a value's encoding.
 pub const MAX_LENGTH: usize = 65_536;
 
-/// A depth that stands for every depth above the limit.
+/// A depth that denotes every depth above the limit.
 pub(crate) const OVER_DEPTH: u32 = MAX_DEPTH + 1;
 
-/// A length that stands for every length above the limit.
+/// A length that denotes every length above the limit.
 pub(crate) const OVER_LENGTH: usize = MAX_LENGTH + 1;
 
 /// Whether a group of fields may have this many members.

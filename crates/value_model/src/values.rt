@@ -43,9 +43,9 @@ impl Value {
     ///
     /// Errors, the first that fits: `IllTyped` where a list item has not the list's item type or a group of fields,
     /// also in an item type, has not 1 to 32 members; `TooDeep` where the type nests more than 8 deep; `TooLong` where
-    /// the encoding has more than 65,536 bytes. It takes no memory. The checks recurse as deep as the node and its item
-    /// types nest, as dropping them does, since a fault deep inside comes before `TooDeep`: limit the depth of what
-    /// comes from outside.
+    /// the encoding has more than 65,536 bytes. It does not allocate. The checks recurse as deep as the node and its
+    /// item types nest, as dropping them does, since a fault deep inside comes before `TooDeep`: limit the depth of
+    /// what comes from outside.
     pub fn new(node: Node) -> Result<Value, ValueError>
         ensures value { IfOk result (λ v. (v ≡ tree_of node) × IsValue (tree_of node)) }
 

@@ -35,7 +35,7 @@ fn node_of(alloc: Global, word: &str, count: u32) -> Result<Node, RowError> {
     }
 }
 
-/// So many truths.
+/// That many truths.
 fn truths(alloc: Global, count: u32) -> Result<Vec<Node>, AllocError> {
     let mut nodes = Vec::new(alloc);
     for _ in 0..count {
@@ -53,7 +53,7 @@ fn nested(alloc: Global, depth: u32) -> Result<ValueType, AllocError> {
     Ok(item)
 }
 
-/// So many bytes.
+/// That many bytes.
 fn octets(alloc: Global, count: u32) -> Result<Node, AllocError> {
     Ok(Node::Bytes(Bytes::new(vec![in alloc; 0u8; count as usize]?)))
 }
@@ -67,7 +67,7 @@ fn members(alloc: Global, count: u32) -> Result<ValueType, AllocError> {
     Ok(ValueType::Fields(types))
 }
 
-/// So many numbers of 8 bits, and behind them one of 16.
+/// That many numbers of 8 bits, and after them one of 16.
 fn items(alloc: Global, count: u32) -> Result<Vec<Node>, AllocError> {
     let mut nodes = Vec::new(alloc);
     for _ in 0..count {

@@ -36,7 +36,7 @@ all_bytes front n i rest total le so_far =
 
 -- ---- how many there are
 
--- behind so many bytes, the number of those that are read and of those
+-- after that many bytes, the number of those that are read and of those
 abbrev pub counted : ℕ → Read → Option ℕ
 counted i read = option_map (λ x. i + length x.0) read
 

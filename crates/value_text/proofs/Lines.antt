@@ -195,7 +195,7 @@ bool_line : (b : Bool) → IsLine (value_text (bool_tree b))
 bool_line true = plain (codes "bool:true") refl
 bool_line false = plain (codes "bool:false") refl
 
--- behind a word of ASCII
+-- after a word of ASCII
 behind : (word text : List ℕ) → list_all is_plain word ≡ true → IsLine text → IsLine (word ++ text)
 behind word text e line = joined word text (plain word e) line
 

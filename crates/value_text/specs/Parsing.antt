@@ -28,7 +28,7 @@ first_word (w ∷ ws) bytes = branch (literal_at w.0 bytes) (λ rest. Some (w.1,
 unfoldable pub scalar_at : List ℕ → Option (Kind × List ℕ)
 scalar_at bytes = first_word words bytes
 
--- behind `list<`, and behind an opening brace, where the function reads a type
+-- after `list<`, and after an opening brace, where the function reads a type
 unfoldable pub list_kind_at : (List ℕ → Option (Kind × List ℕ)) → List ℕ → Option (Kind × List ℕ)
 list_kind_at kind bytes = do
   item ← kind bytes
@@ -74,7 +74,7 @@ abbrev pub bool_at : List ℕ → Option (Tree × List ℕ)
 bool_at bytes = branch (literal_at (codes "true") bytes) (λ rest. Some (bool_tree true, rest))
     (literal_at (codes "false") bytes >>= λ rest. Some (bool_tree false, rest))
 
--- behind the word of a scalar type and a colon
+-- after the word of a scalar type and a colon
 unfoldable pub content_at : Kind → List ℕ → Option (Tree × List ℕ)
 content_at bool_kind bytes = bool_at bytes
 content_at (unsigned_kind s) bytes = unsigned_at (unsigned_limit s) bytes >>= λ n. Some (unsigned_tree s n.0, n.1)
@@ -96,7 +96,7 @@ unfoldable pub items_at : (List ℕ → Option (Tree × List ℕ)) → List ℕ 
 items_at tree bytes = branch (literal_at (codes "]") bytes) (λ rest. Some ([], rest))
     (separated tree 93 (length bytes) bytes)
 
--- behind `list<`, and behind an opening brace, where the function reads a tree
+-- after `list<`, and after an opening brace, where the function reads a tree
 unfoldable pub list_tree_at : ℕ → (List ℕ → Option (Tree × List ℕ)) → List ℕ → Option (Tree × List ℕ)
 list_tree_at depth tree bytes = do
   item ← kind_at depth bytes

@@ -32,7 +32,7 @@ abbrev pub Finds : {X Y : Type 0} → (X → Y) → Option X → Option Y → Ty
 Finds view (Some x) read = read ≡ Some (view x)
 Finds view None read = read ≡ None
 
--- what stands behind the word, where the bytes begin with it
+-- what follows the word, where the bytes begin with it
 abbrev pub literal_at : List ℕ → List ℕ → Option (List ℕ)
 literal_at [] bytes = Some bytes
 literal_at (w ∷ ws) [] = None
@@ -82,7 +82,7 @@ byte_at [] = None
 byte_at (a ∷ []) = None
 byte_at (a ∷ b ∷ rest) = hex_value a >>= λ high. hex_value b >>= λ low. Some (16 * high + low, rest)
 
--- what was read before, and what is read behind it
+-- what was read before, and what is read after it
 abbrev pub with_front : {A : Type 0} → List A → Option (List A × List ℕ) → Option (List A × List ℕ)
 with_front front read = read >>= λ x. Some (front ++ x.0, x.1)
 
@@ -91,7 +91,7 @@ unfoldable pub bytes_at : ℕ → List ℕ → Option (List ℕ × List ℕ)
 bytes_at zero bytes = Some ([], bytes)
 bytes_at (suc n) bytes = branch (byte_at bytes) (λ x. with_front (x.0 ∷ []) (bytes_at n x.1)) (Some ([], bytes))
 
--- the byte that a byte behind a backslash stands for
+-- the byte that a byte after a backslash denotes
 abbrev pub meant_by : ℕ → Option ℕ
 meant_by b = if b == 34 then Some 34 else (if b == 92 then Some 92 else (if b == 110 then Some 10 else None))
 
@@ -102,7 +102,7 @@ quoted_at true (b ∷ bytes) = meant_by b >>= λ m. with_front (m ∷ []) (quote
 quoted_at false (b ∷ bytes) = if b == 34 then Some ([], bytes) else
     (if b == 92 then quoted_at true bytes else (if b == 10 then None else with_front (b ∷ []) (quoted_at false bytes)))
 
--- behind one thing: the closing byte, which makes it the last, or a comma
+-- after one thing: the closing byte, which makes it the last, or a comma
 abbrev pub punctuation_at : ℕ → List ℕ → Option (Bool × List ℕ)
 punctuation_at close [] = None
 punctuation_at close (b ∷ rest) = if b == close then Some (true, rest) else

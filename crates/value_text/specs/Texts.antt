@@ -33,7 +33,7 @@ abbrev mutual
   further_types_text no_kinds = []
   further_types_text (kind_then k ks) = codes "," ++ type_text k ++ further_types_text ks
 
--- a quote, a backslash and a line feed stand behind a backslash; no other byte does
+-- a quote, a backslash and a line feed follow a backslash; no other byte does
 abbrev pub escaped_byte : ℕ → List ℕ
 escaped_byte b = if b == 34 then codes "\\\"" else (if b == 92 then codes "\\\\" else
     (if b == 10 then codes "\\n" else (b ∷ [])))

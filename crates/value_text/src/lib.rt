@@ -3,7 +3,7 @@
 //! Every type and every value has one text: `u16:513`, `text:"é"`, `list<u8>[u8:1,u8:2]`, `{u8:7,text:"a"}`.
 //! [`print_type`] and [`print_value`] give it; [`parse_type`] and [`parse_value`] read it and refuse every other text.
 //! Numbers are decimal without a plus sign and without leading zeros. Inside a text value a quote, a backslash and a
-//! line feed stand behind a backslash; nothing else is escaped, so that the text of a value is one line of UTF-8.
+//! line feed follow a backslash; nothing else is escaped, so that the text of a value is one line of UTF-8.
 //!
 //! [`parse_unsigned`], [`parse_signed`] and [`parse_hex`] read a number or bytes that stand alone, and [`push_hex`]
 //! writes such bytes.

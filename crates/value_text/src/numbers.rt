@@ -70,7 +70,7 @@ pub(crate) fn unsigned(max: u64, bytes: &[u8]) -> Result<(u64, &[u8]), DecodeErr
     Ok((n, rest))
 }
 
-/// The number behind a minus.
+/// The number after a minus.
 fn negative(max: u64, n: u64) -> Result<i64, DecodeError>
     requires { max < 2 ^ 63 }
     ensures read { Gives (λ z. z) result (negative (max + 1) n) }

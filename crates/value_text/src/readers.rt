@@ -5,14 +5,14 @@ ghost use Rattle.value_text.specs.Readers.{Finds, Gives, literal_at, punctuation
 
 use value_model::DecodeError;
 
-/// What stands behind the word, where the bytes begin with it.
+/// What follows the word, where the bytes begin with it.
 pub(crate) fn after<'a>(word: &[u8], bytes: &'a [u8]) -> Option<&'a [u8]>
     ensures { Finds (λ rest. rest.now) result (literal_at word.now bytes.now) }
 {
     bytes.strip_prefix(word)
 }
 
-/// What stands behind a thing of a list: whether it is the closing byte and not a comma, and the rest.
+/// What follows a thing of a list: whether it is the closing byte and not a comma, and the rest.
 pub(crate) fn punctuation(close: u8, bytes: &[u8]) -> Result<(bool, &[u8]), DecodeError>
     ensures { Gives (λ x. (x.0, x.1.now)) result (punctuation_at close bytes.now) }
 {

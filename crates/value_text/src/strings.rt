@@ -16,7 +16,7 @@ const BACKSLASH: u8 = b'\\';
 /// No text holds it as it is, so that a value stays on one line.
 const LINE_FEED: u8 = b'\n';
 
-/// The byte that a byte behind a backslash stands for.
+/// The byte that a byte after a backslash denotes.
 fn meant_by(byte: u8) -> Result<u8, DecodeError>
     ensures { Gives (λ b. b) result (meant_by byte) }
 {

@@ -51,7 +51,7 @@ pub(crate) fn scalar_at(bytes: &[u8]) -> Option<(ValueType, &[u8])>
     Some((ValueType::Bytes, rest))
 }
 
-/// The type of a list, whose item type stands behind `list<`.
+/// The type of a list, whose item type follows `list<`.
 #[cycle(types)]
 #[tactic(auto, unfolding(crate::specs::Parsing::list_kind_at))]
 fn list_type(alloc: Global, depth: u32, bytes: &[u8]) -> Result<(ValueType, &[u8]), DecodeError>
@@ -62,7 +62,7 @@ fn list_type(alloc: Global, depth: u32, bytes: &[u8]) -> Result<(ValueType, &[u8
     Ok((ValueType::List(Box::new(alloc, item)?), rest))
 }
 
-/// The members of a group, behind its opening brace, up to the closing one.
+/// The members of a group, after its opening brace, up to the closing one.
 #[cycle(types)]
 fn members(alloc: Global, depth: u32, bytes: &[u8]) -> Result<(Vec<ValueType>, &[u8]), DecodeError>
     ensures { Gives (λ x. (map kind_of x.0.items, x.1.now)) result (separated (kind_at depth) 125 32 bytes.now) }

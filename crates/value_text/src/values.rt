@@ -30,7 +30,7 @@ fn boolean(bytes: &[u8]) -> Result<(Node, &[u8]), DecodeError>
     Err(DecodeError::NotAValue)
 }
 
-/// What stands behind the word of a scalar type and a colon.
+/// What follows the word of a scalar type and a colon.
 #[tactic(auto, unfolding(crate::specs::Parsing::content_at))]
 fn content<'a>(
     alloc: Global,
@@ -125,7 +125,7 @@ fn nodes(
     Err(DecodeError::NotAValue)
 }
 
-/// The items of a list, behind its opening bracket.
+/// The items of a list, after its opening bracket.
 #[cycle(values)]
 #[tactic(auto, unfolding(crate::specs::Parsing::items_at))]
 fn items(alloc: Global, depth: u32, bytes: &[u8]) -> Result<(Vec<Node>, &[u8]), DecodeError>
@@ -137,7 +137,7 @@ fn items(alloc: Global, depth: u32, bytes: &[u8]) -> Result<(Vec<Node>, &[u8]), 
     nodes(alloc, depth, b']', bytes.len(), bytes)
 }
 
-/// A list, behind `list<`.
+/// A list, after `list<`.
 #[cycle(values)]
 #[tactic(auto, unfolding(crate::specs::Parsing::list_tree_at))]
 fn list_value(alloc: Global, depth: u32, bytes: &[u8]) -> Result<(Node, &[u8]), DecodeError>

@@ -29,7 +29,7 @@ fn unsigned_in(max: u64, text: &[u8]) -> Result<u64, DecodeError>
 ///
 /// # Errors
 ///
-/// `NotAValue` exactly where the text is that of no such number. It takes no memory.
+/// `NotAValue` exactly where the text is that of no such number. It does not allocate.
 pub fn parse_unsigned(max: u64, text: &[u8]) -> Result<u64, DecodeError>
     ensures found { IfOk result (λ n. (n ≤ max) × (text.now ≡ decimal n)) }
     ensures only { IsErrOf result DecodeError.NotAValue → (n : ℕ) → n ≤ max → text.now ≢ decimal n }
@@ -58,7 +58,7 @@ fn signed_in(max: u64, text: &[u8]) -> Result<i64, DecodeError>
 ///
 /// # Errors
 ///
-/// `NotAValue` exactly where the text is that of no such number. It takes no memory.
+/// `NotAValue` exactly where the text is that of no such number. It does not allocate.
 pub fn parse_signed(max: u64, text: &[u8]) -> Result<i64, DecodeError>
     requires { max < 2 ^ 63 }
     ensures found { IfOk result (λ z. (mag z ≤ max) × (text.now ≡ signed_decimal z)) }

@@ -71,7 +71,7 @@ shared_none file blocks bytes i lt same j small inside =
 pub apart_none : (blocks bytes was : List ℕ) (k : ℕ) → IsApart blocks k → IsApartFromChanged blocks bytes was k
 apart_none blocks bytes was k apart i lt differ = apart i lt
 
--- so many copies, each of which writes no more than all of its blocks
+-- that many copies, each of which writes no more than all of its blocks
 pub whole_le : (bytes : List ℕ) (copies count : ℕ) → length bytes ≤ 256 * count
     → copies * (256 * changed bytes []) ≤ copies * (256 * count)
 whole_le bytes copies count room =

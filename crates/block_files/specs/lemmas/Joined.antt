@@ -1,4 +1,4 @@
--- What is read from the blocks of a content, byte by byte, and when they lie within a file.
+-- What is read from the blocks of a content, byte by byte, and when they are within a file.
 use Rattle.std.proofs.Common.{◌≡◌, ℕ, suc, zero, ◌+◌, ◌-◌, ◌*◌, ◌/◌, ◌%◌, ◌<◌, ◌≤◌, min, List, [], ◌∷◌, ◌++◌, length}
 use Rattle.std.proofs.Common.{get_or, drop, replicate, true, ◌&&◌, nat_eq, nat_le, refl, sym, ap, ◌∙◌, arith, ⊎_elim}
 use Rattle.std.specs.Prelude.{flat_map}
@@ -53,7 +53,7 @@ read_joined file blocks len q r lt small inside = get_or-take len (flat_map (blo
 
 -- ---- within a file
 
--- each byte of a content lies below the size
+-- each byte of a content is below the size
 abbrev pub Reaches : (size : ℕ) (blocks : List ℕ) (len : ℕ) → Type 0
 Reaches size blocks len = (m j : ℕ) → m < length blocks → j < 256 → 256 * m + j < len
     → 256 * get_or blocks m 0 + j < size
@@ -85,7 +85,7 @@ reaches_from size (k ∷ blocks) len is (suc m) j lt small inside = ⊎_elim
     reaches_from size blocks (len - 256) parts.1 m j (omega arith) small (omega arith)))
     (or_cases (nat_eq len 0) (nat_le (256 * k + min 256 len) size && is_within size blocks (len - 256)) is)
 
--- ---- a content that lies in its blocks byte by byte
+-- ---- a content that is in its blocks byte by byte
 
 module _ (file blocks bytes : List ℕ) (room : length bytes ≤ 256 * length blocks) (holds : HoldsBytes file blocks bytes)
   where

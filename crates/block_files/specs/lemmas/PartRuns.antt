@@ -55,7 +55,7 @@ module _ (blocks bytes was : List ℕ) (first end : ℕ) (room : length bytes �
   abbrev low : ℕ
   low = get_or blocks first 0
 
-  -- the block of a part that is not of the run lies before its blocks or behind them
+  -- the block of a part that is not of the run is before its blocks or after them
   pub run_other : (m : ℕ) → AreDistinct blocks → m < length blocks → (m < first) ⊎ (end ≤ m)
       → (get_or blocks m 0 < low) ⊎ (low + (end - first) ≤ get_or blocks m 0)
   run_other m distinct lt outside = ⊎_elim

@@ -72,7 +72,7 @@ module _ (bytes was old fresh : List ℕ) where
         λ m lt. now.each m (omega (arith, now.count));
   }
 
--- a part that is as in the earlier content lies within both
+-- a part that is as in the earlier content is within both
 pub same_inside : (bytes was : List ℕ) (i j : ℕ) → is_changed bytes was i ≡ false → j < 256 → 256 * i + j < length bytes
     → 256 * i + j < length was
 same_inside bytes was i j same small inside = omega (

@@ -84,7 +84,7 @@ case_less files blocks keeps = record {
 
 -- ---- one write
 
--- the write lies in no spared file and in no block apart
+-- the write is in no spared file and in no block apart
 pub record IsApart (spared apart : ℕ → Type 0) (file at n : ℕ) : Type 0 where
   pub files : (f : ℕ) → spared f → f ≢ file
   pub bytes : (k j : ℕ) → j < 256 → apart k → (256 * k + j < at) ⊎ (at + n ≤ 256 * k + j)

@@ -236,7 +236,7 @@ module _ (shape : Shape) (old : Image) (g : ℕ) (t : List ℕ) (i : Index) wher
     pub enough_lacking : HasEnough shape damaged (numbers_lacking shape.scope)
     enough_lacking = subst (λ (xs : List ℕ). HasEnough shape damaged xs) lacking_view enough
 
-    -- so many copies outside the damage held the text
+    -- that many copies outside the damage held the text
     pub enough_held : AtLeast (λ c. IsUndamaged damaged shape.place c × Holds old shape.place c g t)
         shape.place.copies shape.m
     enough_held = at_least_map (IsSpared shape damaged (numbers_lacking shape.scope))
@@ -290,7 +290,7 @@ module _ (shape : Shape) (old new : Image) (damaged : List ℕ) (positive : 1 �
       ])
       (backed_now shape.m n positive f (its_alike e h))
 
-  -- the text stands for what it stood for
+  -- the text denotes what it denoted
   pub stands_left : StandsFor shape new g i (view_of old shape was)
   unfolding view_of
   stands_left = record {

@@ -167,7 +167,7 @@ abbrev lacking_at : Shape → Image → Where → List ℕ
 lacking_at shape image at = lacking (value_at image shape at) shape.place at.blocks at.len
     at.hash image
 
--- what is seen of an entry goes by where its content lies
+-- what is seen of an entry goes by where its content is
 seen_by : (shape : Shape) (image : Image) (a b : IndexEntry) → where_of a ≡ where_of b
     → ((entry_view image shape.place shape.m a).content ≡ (entry_view image shape.place shape.m b).content)
     × ((entry_view image shape.place shape.m a).lacking ≡ (entry_view image shape.place shape.m b).lacking)

@@ -35,7 +35,7 @@ gift_of image shape at copy = counting_at image shape.place copy at
 abbrev pub index_heading : IndexEntry → List ℕ × Option FileInfo × ℕ × ℕ
 index_heading e = (e.name, e.info, e.len, e.changed)
 
--- a text that may be found, beside a view that it stands for
+-- a text that may be found, beside a view that it denotes
 pub record StandsFor (shape : Shape) (image : Image) (generation : ℕ) (index : Index) (there : View) : Type 0 where
   pub generation_is : generation ≡ there.generation
   pub headings : map index_heading index.entries ≡ map heading there.entries
@@ -172,7 +172,7 @@ module _ (shape : Shape) (image : Image) (damaged : List ℕ) (positive : 1 ≤ 
       (zip_both (λ e f. Backed shape.m shape.place.copies (gift_of image shape (where_of e)) f.content)
       (HasEach shape image damaged) i.entries there.entries s.backed n))
 
-  -- the text that is found, and the view that it stands for: that of before, or, of another generation, that of after
+  -- the text that is found, and the view that it denotes: that of before, or, of another generation, that of after
   pub record Found (v : View) (after : State) : Type 0 where
     pub generation : ℕ
     pub text : List ℕ
@@ -212,7 +212,7 @@ module _ (shape : Shape) (image : Image) (damaged : List ℕ) (positive : 1 ≤ 
         ],
       )
 
-  -- each text that may be found stands for a view of before, or for that of after
+  -- each text that may be found denotes a view of before, or for that of after
   abbrev pub EachStands : State → State → Type 0
   EachStands before after = (copy g : ℕ) (t : List ℕ) (i : Index) → copy < shape.place.copies
       → Holds image shape.place copy g t

@@ -126,7 +126,7 @@ module _ (shape : Shape) (start new : Image) (damaged : List ℕ) (positive : 1 
     alike = λ at a b s t is la lb ga gb. alike_at at a b s t is la lb ga gb;
   }
 
-  -- an old text stands for what it stood for
+  -- an old text denotes what it denoted
   old_counted : (copy h : ℕ) (u : List ℕ) (j : Index) → copy < shape.place.copies → Holds new shape.place copy h u
       → fit_index shape u ≡ Some j → WasHeld shape start h u → (h ≡ g → ⊥)
       → (e : IndexEntry) → In e j.entries → (c : ℕ) (w : List ℕ) → c < shape.place.copies

@@ -18,7 +18,7 @@ pub none_kept : UntouchedLaw → (told : Bool) (shape : Shape) (state : State) (
 none_kept untouched told shape state old is law quiet clean = goes_none (IsKeptCase shape old.image state) law
     (λ c here. untouched shape old.image state c is.some clean (settled_on (IsOfPlace shape.place) (quiet c here)))
 
--- what lies outside a place stays at every moment
+-- what is outside a place stays at every moment
 pub none_around : (told : Bool) (place : Place) (old : Medium) → IsLawful told old → Quiet old
     → EachCase (IsSettledOn (IsOutside place) old.image) old old
 none_around told place old law quiet = goes_none (IsSettledOn (IsOutside place) old.image) law

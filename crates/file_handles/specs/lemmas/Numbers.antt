@@ -36,7 +36,7 @@ below a b less = ⊎_elim
     (cases_eq a b))
     (cases_lt a b)
 
--- what lies in order behind a number has no handle of a lower one, nor of itself
+-- what is in order after a number has no handle of a lower one, nor of itself
 gone_below : (n k : ℕ) (es : Handles) → IsStrictlySortedBy nat_cmp (k ∷ keys_of es) → n ≤ k → handle_at es n ≡ None
 gone_below n k [] sorted le = refl
 gone_below n k (e ∷ es) sorted le =

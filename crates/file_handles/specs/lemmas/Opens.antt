@@ -124,7 +124,7 @@ pub file_put_removed : (files : Map) (name : List ℕ) (new : Element) → eleme
     → without (with_element files name new) name ≡ files
 file_put_removed files name new none = put_removed nat_list_cmp_total name new files none
 
--- a new place lies in the file
+-- a new place is in the file
 pub placed_inside : (kind : OpenKind) (mode : OpenMode) (size : ℕ) → (placed kind mode size).position ≤ size
 placed_inside kind mode size = by (at_end mode)
   where

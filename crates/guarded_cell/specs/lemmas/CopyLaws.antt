@@ -1,5 +1,5 @@
 -- Laws of the copies that pass a test: which they are, which is the first, and that they are so many exactly where at
--- least so many copies pass.
+-- least that many copies pass.
 use Rattle.std.proofs.Common.{◌≡◌, ℕ, zero, suc, ◌+◌, ◌<◌, ◌≤◌, List, [], ◌∷◌, ◌++◌, length, get_or, Bool, true, false}
 use Rattle.std.proofs.Common.{cond, sym, ap, ◌∙◌, subst, inl, inr, ⊎_elim, length-append, refl, arith}
 use Rattle.std.proofs.lemmas.Bool.{cases_Bool, false_from_ne_true, cases_lt, cond-true, cond-false, eqb-true, eq-eqb}

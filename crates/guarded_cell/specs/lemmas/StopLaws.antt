@@ -69,7 +69,7 @@ module _ (place : Place) (m g : ℕ) (text next damaged : List ℕ) (start image
 
 -- ---- an opening, or an adoption of the text that stands
 
--- where so many copies that held the text that stands are not damaged, it stands
+-- where that many copies that held the text that stands are not damaged, it stands
 pub put_stands : (place : Place) (m g : ℕ) (text damaged : List ℕ) (start image : Image)
     → IsStanding start place m g text → IsOldOrNew place g text damaged start image
     → AtLeast (λ c. IsUndamaged damaged place c × Holds start place c g text) place.copies m
@@ -90,8 +90,8 @@ put_stands place m g text damaged start image stands stop safe = record {
       (cases_lt g h);
 }
 
--- The next text after the one that stands is adopted, and no greater generation is held: where so many copies that held
--- what stands are not damaged, something stands, and it is that text or the adopted one.
+-- The next text after the one that stands is adopted, and no greater generation is held: where that many copies that
+-- held what stands are not damaged, something stands, and it is that text or the adopted one.
 module _ (place : Place) (m g : ℕ) (text next damaged : List ℕ) (start image : Image) (positive : 1 ≤ m)
     (one : IsOneEach start place) (stands : IsStanding start place m g text)
     (least : (copy : ℕ) → copy < place.copies → (h : ℕ) (t : List ℕ) → Holds start place copy h t → h ≤ g)

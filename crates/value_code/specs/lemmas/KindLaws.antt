@@ -11,7 +11,7 @@ use Rattle.value_code.specs.Reading.{group_kind_by, kind_at}
 use Rattle.value_code.specs.lemmas.Fronts.{AreBytes, bind_some, some_is, let_pass, either_way, Takes, Takes-then}
 use Rattle.value_code.specs.lemmas.Fronts.{byte_takes}
 
--- a kind of at most depth d that was read from bytes, with the bytes behind it
+-- a kind of at most depth d that was read from bytes, with the bytes after it
 pub record KindRead (d : ℕ) (bytes : List ℕ) (k : Kind) (rest : List ℕ) : Type 0 where
   pub takes : Takes bytes (type_code k) rest
   pub fits : IsTrue (kind_fits k)
@@ -53,7 +53,7 @@ kinds_take d f law (suc n) bytes x small e =
       count = ap suc others.count;
     })
 
--- ---- behind each first byte
+-- ---- after each first byte
 
 record ScalarRow (code : ℕ) (k : Kind) : Type 0 where
   spelled : type_code k ≡ code ∷ []

@@ -42,7 +42,7 @@ signed_below eight z fits = omega (arith, Fits-of_z {w = w64} fits)
 
 -- ---- what is read
 
--- a tree of kind k that was read from bytes, with the bytes behind it
+-- a tree of kind k that was read from bytes, with the bytes after it
 pub record TreeRead (k : Kind) (bytes : List ℕ) (t : Tree) (rest : List ℕ) : Type 0 where
   pub takes : Takes bytes (payload t) rest
   pub of_type : type_of t ≡ k
@@ -241,7 +241,7 @@ signed_again s z rest fits = rw (
   to_z-of_z (width s) z fits,
 ) refl
 
--- what stands behind a length or a count is shorter than the limit
+-- what follows a length or a count is shorter than the limit
 tail_short : (n : ℕ) (xs : List ℕ) → length (to_le_bytes w32 n ++ xs) ≤ 65536 → length xs ≤ 65536
 tail_short n xs short = omega (arith, length-append (to_le_bytes w32 n) xs)
 

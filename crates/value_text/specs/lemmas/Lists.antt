@@ -8,7 +8,7 @@ use Rattle.std.proofs.lemmas.List.{append-nil}
 use Rattle.value_text.specs.Readers.{◌>>=◌, hex_value, with_front, punctuation_at, separated}
 use Rattle.value_text.specs.lemmas.Steps.{bind_some, if_some, chosen, some_is}
 
--- the texts of things, separated by commas, and those of the things behind another one
+-- the texts of things, separated by commas, and those of the things after another one
 abbrev pub further : {A : Type 0} → (A → List ℕ) → List A → List ℕ
 further text [] = []
 further text (x ∷ xs) = 44 ∷ (text x ++ further text xs)

@@ -20,7 +20,7 @@ module _ {A : Type 0} (thing : List ℕ → Option (A × List ℕ)) (close : ℕ
       let none : with_front front (separated thing close (most - i) rest) ≡ None = rw (k, e) refl in
       sym so_far ∙ none
 
-  -- neither the closing byte nor a comma stands behind a thing
+  -- neither the closing byte nor a comma follows a thing
   pub breaks : (front : List A) (most i : ℕ) (rest : List ℕ) (x : A) (behind : List ℕ)
       (total : Option (List A × List ℕ)) → i < most → thing rest ≡ Some (x, behind) → punctuation_at close behind ≡ None
       → with_front front (separated thing close (most - i) rest) ≡ total → total ≡ None

@@ -51,7 +51,7 @@ length-trees_list (tree_then t ts) = ap suc (length-trees_list ts)
 
 -- ---- what is read is spelled so
 
--- a type's word, a colon and what was read behind it spell the tree
+-- a type's word, a colon and what was read after it spell the tree
 abbrev SpelledBehind : Kind → List ℕ → Tree × List ℕ → Type 0
 SpelledBehind k bytes x = (type_text k ++ 58 ∷ bytes ≡ value_text x.0 ++ x.1) × InRange x.0
 

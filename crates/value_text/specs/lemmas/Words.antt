@@ -36,7 +36,7 @@ pub stripped : (word bytes : List ℕ) (r : Option (Bor (List ℕ)))
 stripped word bytes None h = literal_no word bytes h
 stripped word bytes (Some x) h = literal_yes word bytes h.0 ∙ ap (λ (t : List ℕ). Some t) (sym h.1)
 
--- what is read behind a word stands behind it
+-- what is read after a word follows it
 pub literal_takes : (word bytes rest : List ℕ) → literal_at word bytes ≡ Some rest → bytes ≡ word ++ rest
 literal_takes [] bytes rest e = cc
 literal_takes (w ∷ ws) [] rest e = absurd cc

@@ -5,7 +5,7 @@ use Rattle.update_plan.specs.Plans.{stored_for}
 use Rattle.update_plan.proofs.AllPlans.{Planning}
 use Rattle.update_plan.proofs.planning.plan.Given as goal
 
--- what was planned, and behind it the plans of the rest
+-- what was planned, and after it the plans of the rest
 abbrev pub invariant-loop-storage : goal.invariant-loop-storage
 invariant-loop-storage g l = Planning (rules_of l.migrations) (answers_of l.migrations) l.now
     (stored_for (deployment_data l.old) l.contents)

@@ -5,7 +5,7 @@ use Rattle.update_plan.specs.Merging.{merged}
 use Rattle.update_plan.proofs.Updating.{Renewing}
 use Rattle.update_plan.proofs.renewing.Update.updated.Given as goal
 
--- what was made, and behind it what the rest becomes
+-- what was made, and after it what the rest becomes
 abbrev pub invariant-loop-first : goal.invariant-loop-first
 invariant-loop-first g l = Renewing (rules_of l.self.migrations.now) (answers_of l.self.migrations.now) l.self.moment
     (storage_data l.self.storage.now)
