@@ -30,7 +30,7 @@ use Rattle.deploy_rows.specs.Rows as rows
 use Rattle.deploy_rows.specs.Rows.{after}
 use Rattle.run_model.specs.Calls.{active_storages, first_open, least_open, session_at}
 use Rattle.run_model.specs.Found.{Found, storage_in}
-use Rattle.run_model.specs.Runtimes.{IsUnwritten, WritesWithin, is_durable, is_refusal}
+use Rattle.run_model.specs.Runtimes.{IsUnwritten, WritesWithin, is_durable, is_refusal, only_plans}
 use Rattle.run_model.specs.Sessions.{Session}
 use Rattle.run_model.specs.Steps.{after_failure, found_named, storage_named, uses_device}
 use Rattle.run_model.specs.Worlds.{Application, none_open}
@@ -39,6 +39,7 @@ use Rattle.app_storages.specs.declared.slots.Slots.{Slots}
 use Rattle.app_storages.specs.Slots.{AreOpenOn, IsResting, resting_with, sessions_in}
 use Rattle.deploy_laws.specs.Stands.{IsLater}
 use Rattle.app_storages.specs.Answers.{CallsTo}
+use Rattle.app_storages.specs.Handled.{StaysInPlace}
 use Rattle.app_runtime.specs.declared.running.Running.{Running}
 use Rattle.app_runtime.specs.declared.running.Stage.{Stage}
 use Rattle.app_runtime.specs.declared.running.Stage.TheVariants.{ToOpen, AtRest, Updating}
@@ -88,6 +89,14 @@ marked_running told image b after lt app stage none = record {
 -- no storage is named
 pub none_found : (r : Application) (c : _) → storage_named c ≡ None → found_named r c ≡ None
 none_found r c none = ap (λ (n : Option (List ℕ)). option_map (λ m. storage_in r.disk m None) n) none
+
+none_some : {A : Type 0} (x : Option A) (a : A) → x ≡ None → x ≡ Some a → ⊥
+none_some x a none some = cc
+
+-- and so there is none whose place it could leave
+pub names_none : (app : ℕ) (c : Call) (r : Application) → storage_named c ≡ None → (old new : Image)
+    → StaysInPlace app c r old new
+names_none app c r none old new f named = absurd (none_some (found_named r c) (Ok f) (none_found r c none) named)
 
 -- ---- a row of a deployment
 
@@ -156,7 +165,9 @@ module _ (told : Bool) (rules : List Rule) (answers : Answers) (now : ℕ) (c : 
       quiet = m.quiet;
       idle = λ tells calm. absurd (true≢false (sym word.uses ∙ calm));
       unwritten = not_written o.refused refl;
+      looks = λ plans. absurd (true≢false (sym plans ∙ word.no_plan));
       written = λ tells durable. absurd (true≢false (sym durable ∙ word.not_durable));
+      place = λ tells. names_none b.app c r word.no_storage old.image new.image;
       cause = λ bad. absurd cc;
       passes = m.passes;
       unfailed = (plain o.refused refl).0;
@@ -186,7 +197,9 @@ module _ (told : Bool) (rules : List Rule) (answers : Answers) (now : ℕ) (c : 
         quiet = λ quiet. tt;
         idle = λ tells calm. absurd (true≢false (sym word.uses ∙ calm));
         unwritten = tt;
+        looks = λ plans. absurd (true≢false (sym plans ∙ word.no_plan));
         written = λ tells durable. absurd (true≢false (sym durable ∙ word.not_durable));
+        place = λ tells. names_none b.app c r word.no_storage old.image new.image;
         cause = λ bad. m.cause refl;
         passes = tt;
         unfailed = tt;
@@ -210,7 +223,9 @@ module _ (told : Bool) (rules : List Rule) (answers : Answers) (now : ℕ) (c : 
         quiet = λ quiet. tt;
         idle = λ tells calm. absurd (true≢false (sym word.uses ∙ calm));
         unwritten = tt;
+        looks = λ plans. absurd (true≢false (sym plans ∙ word.no_plan));
         written = λ tells durable. absurd (true≢false (sym durable ∙ word.not_durable));
+        place = λ tells. names_none b.app c r word.no_storage old.image new.image;
         cause = λ bad. absurd cc;
         passes = tt;
         unfailed = tt;
@@ -301,7 +316,9 @@ module _ (told : Bool) (rules : List Rule) (answers : Answers) (now : ℕ) (c : 
     quiet = λ quiet. quiet;
     idle = λ tells calm. same;
     unwritten = λ refused. (refl, refl);
+    looks = λ plans. (refl, refl);
     written = λ tells durable f x found there. writes_nothing s.app f x m;
+    place = λ tells f named file beside. refl;
     cause = λ bad. absurd cc;
     passes = refl;
     unfailed = sound;
@@ -327,7 +344,9 @@ module _ (told : Bool) (rules : List Rule) (answers : Answers) (now : ℕ) (c : 
         quiet = λ quiet. tt;
         idle = λ tells calm. same;
         unwritten = tt;
+        looks = λ plans. (refl, refl);
         written = λ tells durable f x found there. writes_nothing s.app f x m;
+        place = λ tells f named file beside. refl;
         cause = λ bad. absurd cc;
         passes = tt;
         unfailed = tt;

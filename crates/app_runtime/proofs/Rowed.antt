@@ -24,7 +24,7 @@ use Rattle.deploy_rows.specs.Rows as rows
 use Rattle.deploy_rows.specs.Rows.{after}
 use Rattle.run_model.specs.Calls as calls
 use Rattle.run_model.specs.Calls.{answered, done_with, concluded}
-use Rattle.run_model.specs.Runtimes.{is_durable}
+use Rattle.run_model.specs.Runtimes.{is_durable, only_plans}
 use Rattle.run_model.specs.Steps.{reaches_device, storage_named, uses_device}
 use Rattle.run_model.specs.Worlds.{Application}
 use Rattle.app_storages.specs.Answers.{CallsTo}
@@ -85,6 +85,7 @@ pub record IsWord (told : Bool) (rules : List Rule) (answers : Answers) (app now
   pub reaches : IsTrue told → IsOk (row r.disk) → IsTrue (reaches_device app r now c)
   pub no_storage : storage_named c ≡ None
   pub not_durable : is_durable c ≡ false
+  pub no_plan : only_plans c ≡ false
   pub uses : uses_device r.disk c ≡ true
 
 module _ (told : Bool) (rules : List Rule) (answers : Answers) (app now : ℕ) (c : Call) (r : Application)

@@ -36,7 +36,7 @@ use Rattle.deploy_rows.specs.Rows.{◌>>=◌, InProgress, installing, updated_ap
 use Rattle.run_model.specs.Calls as calls
 use Rattle.run_model.specs.Calls.{StepBeside, answered, app_step, beside_update, done_with, next_step, commit_step}
 use Rattle.run_model.specs.Calls.{abort_step, one_more, progress_of, remaining, concluded}
-use Rattle.run_model.specs.Runtimes.{IsUnwritten, is_durable, is_refusal}
+use Rattle.run_model.specs.Runtimes.{IsUnwritten, is_durable, is_refusal, only_plans}
 use Rattle.run_model.specs.Steps.{after_failure, reaches_device, storage_named, uses_device}
 use Rattle.run_model.specs.Worlds.{Application}
 use Rattle.run_model.specs.Worlds as worlds
@@ -50,7 +50,7 @@ use Rattle.app_runtime.specs.Answers.{HasRow, MayLead}
 use Rattle.app_runtime.specs.Promises.{Promises}
 use Rattle.app_runtime.specs.Running.{IsRunning, IsStageAt, NoneOpen, application, stage_in}
 use Rattle.app_runtime.specs.Stages.{reply_of, reply_with, root_of, staged_in, status_of, without_update}
-use Rattle.app_runtime.proofs.Ended.{failed_app, idle_promises, marked_running, none_found}
+use Rattle.app_runtime.proofs.Ended.{failed_app, idle_promises, marked_running, names_none, none_found}
 use Rattle.app_runtime.proofs.InWorld.{fit_length}
 use Rattle.app_runtime.proofs.Kept.{open_by_none}
 use Rattle.app_runtime.proofs.LeadOn.{still}
@@ -296,7 +296,7 @@ module _ (told : Bool) (rules : List Rule) (answers : Answers) (now : ℕ) (b : 
       (leads : IsTrue told → MayLead rules answers b.app now c r next) (later : IsTrue told → IsLater r.disk next)
       (calls : IsTrue told → CallsTo b.app next old new)
       (reaches : IsTrue told → IsTrue (reaches_device b.app r now c)) (no_storage : storage_named c ≡ None)
-      (not_durable : is_durable c ≡ false) (uses : uses_device r.disk c ≡ true)
+      (not_durable : is_durable c ≡ false) (no_plan : only_plans c ≡ false) (uses : uses_device r.disk c ≡ true)
       (time : Elapses old new) where
     pub failed_step : (e : Stop) → (e ≡ stop.Device → Rose old.faults new.faults)
         → Promises told rules answers now c before after' Untouched old new (Err e)
@@ -317,7 +317,9 @@ module _ (told : Bool) (rules : List Rule) (answers : Answers) (now : ℕ) (b : 
       quiet = λ quiet. tt;
       idle = λ tells calm. absurd (true≢false (sym uses ∙ calm));
       unwritten = tt;
+      looks = λ plans. absurd (true≢false (sym plans ∙ no_plan));
       written = λ tells durable. absurd (true≢false (sym durable ∙ not_durable));
+      place = λ tells. names_none b.app c r no_storage old.image new.image;
       cause = λ bad. cause refl;
       passes = tt;
       unfailed = tt;
@@ -333,7 +335,9 @@ module _ (told : Bool) (rules : List Rule) (answers : Answers) (now : ℕ) (b : 
       quiet = λ quiet. tt;
       idle = λ tells calm. absurd (true≢false (sym uses ∙ calm));
       unwritten = tt;
+      looks = λ plans. absurd (true≢false (sym plans ∙ no_plan));
       written = λ tells durable. absurd (true≢false (sym durable ∙ not_durable));
+      place = λ tells. names_none b.app c r no_storage old.image new.image;
       cause = λ bad. absurd cc;
       passes = tt;
       unfailed = tt;
@@ -358,8 +362,8 @@ module _ (told : Bool) (rules : List Rule) (answers : Answers) (now : ℕ) (b : 
       (clean : IsTrue told → IsCleanApp b.app old.image → IsCleanApp b.app new.image) (quiet : Quiet old → Quiet new)
       (done : is_refusal reply.answer ≡ false) (sound : reply.answer ≢ answer.Error error.PhysicalStorageFailure)
       (text : HasText reply.answer)
-      (not_durable : is_durable c ≡ false) (uses : uses_device r.disk c ≡ true) (passes : new.faults ≡ old.faults)
-      (time : Elapses old new) where
+      (not_durable : is_durable c ≡ false) (no_plan : only_plans c ≡ false) (no_storage : storage_named c ≡ None)
+      (uses : uses_device r.disk c ≡ true) (passes : new.faults ≡ old.faults) (time : Elapses old new) where
     pub done_step : Promises told rules answers now c before (record b { stage = stage }) Untouched old new (Ok reply)
     done_step = record {
       app = refl;
@@ -370,7 +374,9 @@ module _ (told : Bool) (rules : List Rule) (answers : Answers) (now : ℕ) (b : 
       quiet = quiet;
       idle = λ tells calm. absurd (true≢false (sym uses ∙ calm));
       unwritten = λ refused. absurd (true≢false (sym refused ∙ done));
+      looks = λ plans. absurd (true≢false (sym plans ∙ no_plan));
       written = λ tells durable. absurd (true≢false (sym durable ∙ not_durable));
+      place = λ tells. names_none b.app c r no_storage old.image new.image;
       cause = λ bad. absurd cc;
       passes = passes;
       unfailed = sound;
@@ -386,7 +392,7 @@ module _ (told : Bool) (rules : List Rule) (answers : Answers) (now : ℕ) (b : 
   next_failed e after' is_after cause calls time = failed_step call.UpdateNext after'
       (ap (λ (x : Running). x.app) is_after) (ap (λ (x : Running). x.stage) is_after)
       (subst (λ (x : Running). NoneOpen x.slots) (sym is_after) none) r.disk (λ tells. inl refl) (λ tells. still r.disk)
-      calls next_reaches refl refl refl time e cause
+      calls next_reaches refl refl refl refl time e cause
 
   pub next_done : (t : Staged) (count : ℕ) → progress_in t ≡ building.one_more (progress_in s)
       → count ≡ remaining (progress_in t) → StagedAt told new.image b.app t
@@ -418,7 +424,7 @@ module _ (told : Bool) (rules : List Rule) (answers : Answers) (now : ℕ) (b : 
       (same tells))))
       (at, none) (λ tells. subst (λ (a : App). IsLater r.disk a) (sym (same tells)) (still r.disk))
       (λ tells. subst (λ (a : App). CallsTo b.app a old new) (sym (same tells)) (calls tells))
-      clean quiet refl (λ e. cc) tt refl refl passes time
+      clean quiet refl (λ e. cc) tt refl refl refl refl passes time
 
   -- ---- the commit
 
@@ -437,7 +443,7 @@ module _ (told : Bool) (rules : List Rule) (answers : Answers) (now : ℕ) (b : 
           commit_row tells (answered answer.Done (record r { disk = next; stage = worlds.at_rest })) refl,
           refl,
         ))
-        (λ tells. update_later (progress_in s) r.disk) calls commit_reaches refl refl refl time e cause
+        (λ tells. update_later (progress_in s) r.disk) calls commit_reaches refl refl refl refl time e cause
 
     pub commit_done : (root : Root) → RootAt told new.image b.app root → (IsTrue told → app_at new.image b.app ≡ next)
         → (IsTrue told → CallsTo b.app next old new)
@@ -458,7 +464,7 @@ module _ (told : Bool) (rules : List Rule) (answers : Answers) (now : ℕ) (b : 
         })
         (λ tells. subst (λ (a : App). IsLater r.disk a) (sym (is_next tells)) (update_later (progress_in s) r.disk))
         (λ tells. subst (λ (a : App). CallsTo b.app a old new) (sym (is_next tells)) (calls tells)) clean quiet refl
-        (λ e. cc) tt refl refl passes time
+        (λ e. cc) tt refl refl refl refl passes time
 
 -- ---- an install beside an update
 

@@ -1,6 +1,6 @@
 -- A call that names a storage, of an application at rest.
 use Rattle.std.proofs.Common.{◌≡◌, ◌≢◌, ◌⊎◌, ℕ, List, Bool, true, false, IsTrue, Some, IfOk, IsErrOf, OnOk, Result, Ok}
-use Rattle.std.proofs.Common.{Err, refl, sym, ap, subst, inl, inr}
+use Rattle.std.proofs.Common.{Err, refl, sym, ap, subst, inl, inr, true≢false}
 use Rattle.per_base.specs.Causes.{Rose}
 use Rattle.per_base.specs.declared.errors.PerError.TheVariants as error
 use Rattle.disk_model.specs.Medium.{Elapses, Medium, Quiet}
@@ -17,13 +17,14 @@ use Rattle.deploy_laws.specs.Apps.{App, app_at}
 use Rattle.deploy_laws.specs.Stands.{IsLater}
 use Rattle.run_model.specs.Calls.{CallStep, Outcome, app_step, beside_update, goes_beside, session_at, concluded}
 use Rattle.run_model.specs.Found.{Found}
-use Rattle.run_model.specs.Runtimes.{IsUnwritten, WritesWithin, is_durable, is_refusal}
+use Rattle.run_model.specs.Runtimes.{IsUnwritten, WritesWithin, is_durable, is_refusal, only_plans}
 use Rattle.run_model.specs.Sessions.{Session}
 use Rattle.run_model.specs.Steps.{found_named, uses_device}
 use Rattle.run_model.specs.Worlds.{Application}
 use Rattle.app_storages.specs.declared.slots.Slots.{Slots}
 use Rattle.app_storages.specs.Answers.{is_on_storage}
 use Rattle.app_storages.specs.Answers as stored
+use Rattle.app_storages.specs.Handled.{StaysInPlace}
 use Rattle.app_storages.specs.Slots.{IsResting, resting_with}
 use Rattle.app_runtime.specs.declared.running.Running.{Running}
 use Rattle.app_runtime.specs.declared.running.Stage.TheVariants.{AtRest}
@@ -37,6 +38,11 @@ call_step : (rules : List Rule) (answers : Answers) (app now : ℕ) (r : Applica
 call_step rules answers app now r (call.Update text) o on row = absurd cc
 call_step rules answers app now r (call.UpdateBegin text) o on row = absurd cc
 call_step rules answers app now r other o on row = row
+
+-- and plans none
+no_plan : (c : Call) → IsTrue (is_on_storage c) → only_plans c ≡ true → ⊥
+no_plan (call.UpdateBegin text) on plans = absurd cc
+no_plan other on plans = true≢false (sym plans)
 
 on_each : {T E : Type 0} (P Q : T → Type 0) (result : Result T E) → ((x : T) → P x → Q x) → IfOk result P
     → IfOk result Q
@@ -59,6 +65,7 @@ pub record Stores (told : Bool) (app now : ℕ) (c : Call) (root : Root) (before
   pub written : IsTrue told → is_durable c ≡ true → (f : Found) (s : Session)
       → found_named (resting_with old.image app before) c ≡ Some (Ok f)
       → session_at (resting_with old.image app before) f.number ≡ Some s → WritesWithin app f s old new
+  pub place : IsTrue told → StaysInPlace app c (resting_with old.image app before) old.image new.image
   pub cause : IsErrOf result stop.Device → Rose old.faults new.faults
   pub passes : OnOk result (new.faults ≡ old.faults)
   pub unfailed : IfOk result (λ reply. reply.answer ≢ answer.Error error.PhysicalStorageFailure)
@@ -127,7 +134,9 @@ module _ (told : Bool) (rules : List Rule) (answers : Answers) (now : ℕ) (c : 
     quiet = s.quiet;
     idle = s.idle;
     unwritten = s.unwritten;
+    looks = λ plans. absurd (no_plan c on plans);
     written = s.written;
+    place = s.place;
     cause = s.cause;
     passes = s.passes;
     unfailed = s.unfailed;

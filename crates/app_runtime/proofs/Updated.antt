@@ -50,7 +50,7 @@ use Rattle.app_runtime.specs.Answers.{HasRow, MayLead}
 use Rattle.app_runtime.specs.Promises.{Promises}
 use Rattle.app_runtime.specs.Running.{IsRunning, NoneOpen, application}
 use Rattle.app_runtime.specs.Stages.{Concludes, ConcludesBegun, reply_of, root_of}
-use Rattle.app_runtime.proofs.Ended.{failed_app, marked_running, refused_plain, resting_in, stage_back}
+use Rattle.app_runtime.proofs.Ended.{failed_app, marked_running, names_none, refused_plain, resting_in, stage_back}
 use Rattle.app_runtime.proofs.Frames.{beside_next, calls_reading, calls_to}
 use Rattle.app_runtime.proofs.Kept.{free_kept, free_slots, none_taken}
 use Rattle.app_runtime.proofs.LeadOn.{still}
@@ -251,7 +251,9 @@ module _ (told : Bool) (rules : List Rule) (answers : Answers) (now : ℕ) (text
         quiet = u.quiet;
         idle = λ tells calm. absurd (true≢false calm);
         unwritten = not_written o.refused refl;
+        looks = λ plans. absurd (true≢false (sym plans));
         written = λ tells durable. absurd (true≢false (sym durable));
+        place = λ tells. names_none b.app (call.Update text) r refl old.image new.image;
         cause = λ bad. absurd cc;
         passes = u.passes;
         unfailed = (plain o.refused refl).0;
@@ -286,7 +288,9 @@ module _ (told : Bool) (rules : List Rule) (answers : Answers) (now : ℕ) (text
         quiet = λ quiet. tt;
         idle = λ tells calm. absurd (true≢false calm);
         unwritten = tt;
+        looks = λ plans. absurd (true≢false (sym plans));
         written = λ tells durable. absurd (true≢false (sym durable));
+        place = λ tells. names_none b.app (call.Update text) r refl old.image new.image;
         cause = λ bad. u.cause refl;
         passes = tt;
         unfailed = tt;
@@ -310,7 +314,9 @@ module _ (told : Bool) (rules : List Rule) (answers : Answers) (now : ℕ) (text
         quiet = λ quiet. tt;
         idle = λ tells calm. absurd (true≢false calm);
         unwritten = tt;
+        looks = λ plans. absurd (true≢false (sym plans));
         written = λ tells durable. absurd (true≢false (sym durable));
+        place = λ tells. names_none b.app (call.Update text) r refl old.image new.image;
         cause = λ bad. absurd cc;
         passes = tt;
         unfailed = tt;
@@ -421,7 +427,9 @@ module _ (told : Bool) (rules : List Rule) (answers : Answers) (now : ℕ) (text
     quiet = quiet_after (Ok (begin.Ready s)) x;
     idle = λ tells calm. absurd (true≢false calm);
     unwritten = λ refused. absurd (true≢false (sym refused));
+    looks = λ plans. (x.image, x.written);
     written = λ tells durable. absurd (true≢false (sym durable));
+    place = λ tells. names_none b.app c here refl old.image new.image;
     cause = λ bad. absurd cc;
     passes = x.passes;
     unfailed = λ e. cc;
@@ -468,7 +476,9 @@ module _ (told : Bool) (rules : List Rule) (answers : Answers) (now : ℕ) (text
     quiet = quiet_after (Ok (begin.Refused same e)) x;
     idle = λ tells calm. absurd (true≢false calm);
     unwritten = λ refused. (x.image, x.written);
+    looks = λ plans. (x.image, x.written);
     written = λ tells durable. absurd (true≢false (sym durable));
+    place = λ tells. names_none b.app c here refl old.image new.image;
     cause = λ bad. absurd cc;
     passes = x.passes;
     unfailed = (begins_plain rules answers now busy text (root_app root x.begins.0) (Err e) x.begins.2).sound;
@@ -497,7 +507,9 @@ module _ (told : Bool) (rules : List Rule) (answers : Answers) (now : ℕ) (text
         quiet = λ quiet. tt;
         idle = λ tells calm. absurd (true≢false calm);
         unwritten = tt;
+        looks = λ plans. (x.image, x.written);
         written = λ tells durable. absurd (true≢false (sym durable));
+        place = λ tells. names_none b.app c here refl old.image new.image;
         cause = λ bad. x.cause refl;
         passes = tt;
         unfailed = tt;
@@ -518,7 +530,9 @@ module _ (told : Bool) (rules : List Rule) (answers : Answers) (now : ℕ) (text
         quiet = λ quiet. tt;
         idle = λ tells calm. absurd (true≢false calm);
         unwritten = tt;
+        looks = λ plans. (x.image, x.written);
         written = λ tells durable. absurd (true≢false (sym durable));
+        place = λ tells. names_none b.app c here refl old.image new.image;
         cause = λ bad. absurd cc;
         passes = tt;
         unfailed = tt;

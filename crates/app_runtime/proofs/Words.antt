@@ -33,6 +33,7 @@ module _ (told : Bool) (rules : List Rule) (answers : Answers) (app now : ℕ) (
     reaches = λ tells is. done_ok r (installing now text r.disk) is;
     no_storage = refl;
     not_durable = refl;
+    no_plan = refl;
     uses = refl;
   }
 
@@ -46,6 +47,7 @@ module _ (told : Bool) (rules : List Rule) (answers : Answers) (app now : ℕ) (
     reaches = λ tells is. done_ok r (finishing r.disk) is;
     no_storage = refl;
     not_durable = refl;
+    no_plan = refl;
     uses = refl;
   }
 
@@ -63,6 +65,7 @@ module _ (told : Bool) (rules : List Rule) (answers : Answers) (app now : ℕ) (
           (subst (λ (b : Option (List ℕ)). IsOk (rolling_back b r.disk)) (busy_is tells) is);
       no_storage = refl;
       not_durable = refl;
+      no_plan = refl;
       uses = refl;
     }
 
@@ -79,5 +82,6 @@ module _ (told : Bool) (rules : List Rule) (answers : Answers) (app now : ℕ) (
           (subst (λ (b : Option (List ℕ)). IsOk (wiping b r.disk)) (busy_is tells) is);
       no_storage = refl;
       not_durable = refl;
+      no_plan = refl;
       uses = refl;
     }

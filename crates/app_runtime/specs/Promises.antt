@@ -13,9 +13,10 @@ use Rattle.deploy.specs.declared.errors.Stop.TheVariants as stop
 use Rattle.deploy_laws.specs.Apps.{app_at}
 use Rattle.run_model.specs.Calls.{session_at}
 use Rattle.run_model.specs.Found.{Found}
-use Rattle.run_model.specs.Runtimes.{IsUnwritten, WritesWithin, is_durable, is_refusal}
+use Rattle.run_model.specs.Runtimes.{IsUnwritten, WritesWithin, is_durable, is_refusal, only_plans}
 use Rattle.run_model.specs.Sessions.{Session}
 use Rattle.run_model.specs.Steps.{found_named, uses_device}
+use Rattle.app_storages.specs.Handled.{StaysInPlace}
 use Rattle.app_runtime.specs.declared.running.Running.{Running}
 use Rattle.app_runtime.specs.Answers.{HasFailed, HasStopped, IsAnswered}
 use Rattle.app_runtime.specs.Running.{IsRunning, application}
@@ -34,9 +35,13 @@ pub record Promises (told : Bool) (rules : List Rule) (answers : Answers) (now :
   pub quiet : Quiet old → OnOk result (Quiet new)
   pub idle : IsTrue told → uses_device (app_at old.image before.app) c ≡ false → Untouched
   pub unwritten : IfOk result (λ reply. is_refusal reply.answer ≡ true → IsUnwritten old new)
+  -- a call that begins an update only plans, however it ends
+  pub looks : only_plans c ≡ true → IsUnwritten old new
   pub written : IsTrue told → is_durable c ≡ true → (f : Found) (s : Session)
       → found_named (application old.image before) c ≡ Some (Ok f)
       → session_at (application old.image before) f.number ≡ Some s → WritesWithin before.app f s old new
+  -- no file changes beside those of a storage that the call names
+  pub place : IsTrue told → StaysInPlace before.app c (application old.image before) old.image new.image
   pub cause : IsErrOf result stop.Device → Rose old.faults new.faults
   pub passes : OnOk result (new.faults ≡ old.faults)
   pub unfailed : IfOk result (λ reply. reply.answer ≢ answer.Error error.PhysicalStorageFailure)

@@ -4,8 +4,10 @@ ghost use Rattle.std.specs.Prelude.{◌≡◌, ◌≢◌, ◌<◌, ◌&&◌, ◌
 ghost use Rattle.std.specs.Prelude.{OnOk, Some, false, true};
 ghost use Rattle.per_base.specs.Causes.{Rose};
 ghost use Rattle.per_base.specs.declared.errors.PerError.{PerError};
+ghost use Rattle.disk_model.specs.Frame.{Spares};
 ghost use Rattle.disk_model.specs.Image.{Image};
 ghost use Rattle.disk_model.specs.Medium.{Elapses, Quiet};
+ghost use Rattle.disk_model.specs.Place.{IsNoSlot};
 ghost use Rattle.guarded_cell.specs.Register.{IsAlone};
 ghost use Rattle.migrate_fns.specs.Stored.{answers_of, rules_of};
 ghost use Rattle.command_text.specs.declared.replies.Answer.{Answer};
@@ -16,11 +18,12 @@ ghost use Rattle.deploy_laws.specs.Stands.{IsLater};
 ghost use Rattle.run_model.specs.AppLaws.{OpensRoot};
 ghost use Rattle.run_model.specs.Calls.{beside_update, session_at};
 ghost use Rattle.run_model.specs.Found.{Found};
-ghost use Rattle.run_model.specs.Runtimes.{IsUnwritten, WritesWithin, is_durable, is_refusal};
+ghost use Rattle.run_model.specs.Runtimes.{IsUnwritten, WritesWithin, is_durable, is_refusal, only_plans};
 ghost use Rattle.run_model.specs.Sessions.{Session};
 ghost use Rattle.run_model.specs.Steps.{calls_device, found_named, uses_device};
 ghost use Rattle.run_model.specs.Worlds.{at_rest, is_to_open, none_open, to_open, update_in};
 ghost use Rattle.app_storages.specs.Answers.{CallsTo};
+ghost use Rattle.app_storages.specs.Handled.{StaysInPlace};
 ghost use Rattle.app_runtime.specs.Answers.{HasFailed, HasStopped, IsAnswered};
 ghost use Rattle.app_runtime.specs.Promises.{Promises};
 ghost use Rattle.app_runtime.specs.Running.{IsRunning, application, running_in, stage_in};
@@ -109,10 +112,12 @@ impl Running {
         ensures already { IsTrue D.told → (generation : ℕ) (text : List ℕ)
             → IsAlone (D.medium disk.old).image (root_place self.old.app) generation text
             → IsUnwritten (D.medium disk.old) (D.medium disk.new) }
-        // However it ends: at every moment the application is on its way to whatever may come of it, and no other file
-        // changes.
+        // However it ends: at every moment the application is on its way to whatever may come of it, no file of another
+        // changes, and of its own none but slots of the root.
         ensures on_the_way { IsTrue D.told → (next : App) → IsLater (app_at (D.medium disk.old).image self.old.app) next
             → CallsTo self.old.app next (D.medium disk.old) (D.medium disk.new) }
+        ensures slots { IsTrue D.told
+            → Spares (IsNoSlot (root_place self.old.app)) (D.medium disk.old).image (D.medium disk.new).image }
         ensures quiet { OnOk result (Quiet (D.medium disk.new)) }
         ensures cause { IsErrOf result Stop.Device → Rose (D.medium disk.old).faults (D.medium disk.new).faults }
         ensures passes { OnOk result ((D.medium disk.new).faults ≡ (D.medium disk.old).faults) }
@@ -157,10 +162,14 @@ impl Running {
             → disk.new ≡ disk.old }
         ensures unwritten { IfOk result (λ reply. is_refusal reply.answer ≡ true
             → IsUnwritten (D.medium disk.old) (D.medium disk.new)) }
+        ensures looks { only_plans call.now ≡ true → IsUnwritten (D.medium disk.old) (D.medium disk.new) }
         ensures written { IsTrue D.told → is_durable call.now ≡ true → (f : Found) (s : Session)
             → found_named (application (D.medium disk.old).image self.old) call.now ≡ Some (Ok f)
             → session_at (application (D.medium disk.old).image self.old) f.number ≡ Some s
             → WritesWithin self.old.app f s (D.medium disk.old) (D.medium disk.new) }
+        // However it ends, no file changes beside those of a storage that it names.
+        ensures place { IsTrue D.told → StaysInPlace self.old.app call.now
+            (application (D.medium disk.old).image self.old) (D.medium disk.old).image (D.medium disk.new).image }
         ensures cause { IsErrOf result Stop.Device → Rose (D.medium disk.old).faults (D.medium disk.new).faults }
         ensures passes { OnOk result ((D.medium disk.new).faults ≡ (D.medium disk.old).faults) }
         ensures unfailed { IfOk result (λ reply. reply.answer ≢ Answer.Error PerError.PhysicalStorageFailure) }

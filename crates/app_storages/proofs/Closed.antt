@@ -134,6 +134,7 @@ module _ (laws : StorageLaws) (texts : TextLaw) (told : Bool) (app now : ℕ) (r
       };
       idle = λ tells idle. same;
       written = λ tells. none_written app c before old;
+      place = λ tells f is file beside. refl;
       time = elapses_none law;
     }
       where

@@ -47,12 +47,12 @@ use Rattle.run_model.specs.Worlds.{Application, at_rest}
 use Rattle.app_storages.specs.Answers.{MayLead}
 use Rattle.app_storages.specs.Durables.{IsSet, Says}
 use Rattle.app_storages.specs.Finding.{IsLocated, config_of, found_on, shape_at}
-use Rattle.app_storages.specs.Handled.{IsHandled, MayWrite}
+use Rattle.app_storages.specs.Handled.{IsHandled, MayWrite, StaysInPlace}
 use Rattle.app_storages.specs.Slots.{IsOpenAt, IsResting, resting_with, sessions_in, slot_at}
 use Rattle.app_storages.specs.StorageLaws.{StorageLaws}
 use Rattle.app_storages.specs.declared.finding.Located.{Located}
 use Rattle.app_storages.specs.declared.slots.Slots.{Slots}
-use Rattle.app_storages.proofs.Ended.{TextLaw, answered_so, lost, stopped}
+use Rattle.app_storages.proofs.Ended.{TextLaw, answered_so, lost, placed, stopped}
 use Rattle.app_storages.proofs.SlotLaws.{none_there, session_slot, set_again, set_same}
 use Rattle.app_storages.proofs.Storing.{open_there}
 
@@ -216,6 +216,9 @@ module _ (laws : StorageLaws) (texts : TextLaw) (told : Bool) (app now : ℕ) (r
     module _ (new : Medium) (Same : Type 0) (idle : IsTrue told → uses_device (app_at old.image app) c ≡ false → Same)
         (written : IsTrue told → MayWrite app c before old new)
         (storing : IsStoring told (shape_at l) next old new) where
+      in_place : IsTrue told → StaysInPlace app c before old.image new.image
+      in_place tells = placed laws told app now root c was was old new l located resting next storing tells named
+
       -- memory ran out, or the device failed
       pub stopped_handled : (is : Slots) → IsSet l.number None was is → (e : Stop) → refused ≡ None
           → (e ≡ Device → Rose old.faults new.faults)
@@ -226,12 +229,14 @@ module _ (laws : StorageLaws) (texts : TextLaw) (told : Bool) (app now : ℕ) (r
             (cause refl);
         idle = idle;
         written = written;
+        place = in_place;
         time = storing.time;
       }
       stopped_handled is emptied OutOfMemory none cause = record {
         ends = stopped laws told app now root c was is old new l located resting next storing (leads none);
         idle = idle;
         written = written;
+        place = in_place;
         time = storing.time;
       }
 
@@ -254,6 +259,7 @@ module _ (laws : StorageLaws) (texts : TextLaw) (told : Bool) (app now : ℕ) (r
         };
         idle = idle;
         written = written;
+        place = in_place;
         time = storing.time;
       }
         where

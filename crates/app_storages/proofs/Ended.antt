@@ -1,7 +1,7 @@
 -- How a call ends that works on one storage: with nothing called; in progress; or answered, with the storage in its
 -- next state.
 use Rattle.std.proofs.Common.{◌≡◌, ℕ, List, Bool, refl, sym, ap, ◌∙◌, subst, inl}
-use Rattle.std.specs.Prelude.{◌≢◌, IsTrue, Option, Some, None, Ok, Err, length, map, slice_get, option_map}
+use Rattle.std.specs.Prelude.{◌≢◌, IsTrue, Option, Some, None, Result, Ok, Err, length, map, slice_get, option_map}
 use Rattle.per_base.specs.Causes.{Rose}
 use Rattle.per_base.specs.declared.errors.PerError.{PerError}
 use Rattle.per_base.specs.declared.errors.PerError.TheVariants as error
@@ -15,6 +15,7 @@ use Rattle.command_text.specs.declared.replies.Answer.TheVariants as answer
 use Rattle.command_text.specs.declared.replies.Reply.{Reply}
 use Rattle.command_text.specs.Replies.{HasText}
 use Rattle.deploy_laws.specs.Apps.{App, app_at}
+use Rattle.deploy_laws.specs.Places.{IsBeside}
 use Rattle.deploy.specs.declared.errors.Stop.TheVariants.{OutOfMemory}
 use Rattle.deploy.specs.declared.roots.Root.{Root}
 use Rattle.deploy.specs.Roots.{root_says}
@@ -27,8 +28,8 @@ use Rattle.run_model.specs.Steps.{after_failure, found_named, reaches_device}
 use Rattle.run_model.specs.Worlds.{Application, Stage, at_rest}
 use Rattle.app_storages.specs.Answers.{CallsTo, HasStopped, IsAnswered, MayLead}
 use Rattle.app_storages.specs.Durables.{IsSet, Says}
-use Rattle.app_storages.specs.Finding.{IsEarly, IsLocated, found_on, shape_at}
-use Rattle.app_storages.specs.Handled.{IsHandled, IsLost}
+use Rattle.app_storages.specs.Finding.{IsEarly, IsLocated, config_of, found_on, shape_at}
+use Rattle.app_storages.specs.Handled.{IsHandled, IsLost, StaysInPlace}
 use Rattle.app_storages.specs.Slots.{IsResting, resting_with, sessions_in}
 use Rattle.app_storages.specs.StorageLaws.{StorageLaws}
 use Rattle.app_storages.specs.declared.finding.Located.{Located}
@@ -87,6 +88,7 @@ module _ (laws : StorageLaws) (told : Bool) (app now : ℕ) (root : Root) (c : C
     };
     idle = λ tells idle. same;
     written = λ tells. none_written app c (resting_with m.image app was) m;
+    place = λ tells f is file beside. refl;
     time = elapses_none law;
   }
 
@@ -101,6 +103,7 @@ module _ (laws : StorageLaws) (told : Bool) (app now : ℕ) (root : Root) (c : C
     };
     idle = λ tells idle. same;
     written = λ tells. none_written app c (resting_with m.image app was) m;
+    place = λ tells f is file beside. refl;
     time = elapses_none law;
   }
 
@@ -144,6 +147,19 @@ module _ (laws : StorageLaws) (told : Bool) (app now : ℕ) (root : Root) (c : C
         emptied (λ o none. absurd cc);
     cause = rose;
   }
+
+  same_found : (x : Option (Result Found PerError)) (g h : Found) → x ≡ Some (Ok g) → x ≡ Some (Ok h) → h ≡ g
+  same_found x g h one other = cc
+
+  -- no file changes beside those of its place
+  pub placed : (tells : IsTrue told) → (IsTrue told → found_named before c ≡ Some (Ok f))
+      → StaysInPlace app c before old.image new.image
+  placed tells named g is file beside = storing.elsewhere tells file
+      (laws.beside l.app l.bank l.number file (config_of l) located.within.below located.within.in_bank
+      located.within.in_slots
+      (subst (λ (k : ℕ). IsBeside k l.bank l.number file) (sym located.app_is)
+      (subst (λ (h : Found). IsBeside app h.bank h.number file)
+      (same_found (found_named before c) f g (named tells) is) beside)))
 
   pub stopped : (IsTrue told → MayLead app now c before next_app) → IsTrue told → HasStopped app now c before old new
   stopped leads tells = record { next = next_app; leads = leads tells; calls = calls tells }

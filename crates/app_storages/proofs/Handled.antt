@@ -152,5 +152,6 @@ refused_handled untouched told app now root c slots m Same law resting same e re
   };
   idle = λ tells idle. same;
   written = λ tells. none_written app c (resting_with m.image app slots) m;
+  place = λ tells f is file beside. refl;
   time = elapses_none law;
 }

@@ -69,6 +69,7 @@ idle_handled laws told app now root c was is m Same same law was_resting is_rest
   };
   idle = λ tells idle. same;
   written = λ tells. none_written app c (resting_with m.image app was) m;
+  place = λ tells f is file beside. refl;
   time = elapses_none law;
 }
 

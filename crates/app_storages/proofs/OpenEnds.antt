@@ -34,19 +34,19 @@ use Rattle.open_storages.specs.Opens.{session_in, store_in}
 use Rattle.command_text.specs.Replies.{HasText}
 use Rattle.run_model.specs.Calls.{app_step, opened, session_at, concluded}
 use Rattle.run_model.specs.Runtimes.{is_refusal}
-use Rattle.run_model.specs.Steps.{uses_device}
+use Rattle.run_model.specs.Steps.{found_named, uses_device}
 use Rattle.run_model.specs.Found.{Found, shape_in, storage_in, with_state}
 use Rattle.run_model.specs.Sessions.{Session, session_of}
 use Rattle.run_model.specs.Worlds.{Application, at_rest}
 use Rattle.app_storages.specs.Durables.{IsSet, IsShown}
 use Rattle.app_storages.specs.Finding.{IsEarly, IsLocated, config_of, found_on, shape_at}
-use Rattle.app_storages.specs.Handled.{IsHandled, MayWrite}
+use Rattle.app_storages.specs.Handled.{IsHandled, MayWrite, StaysInPlace}
 use Rattle.app_storages.specs.Openings.{corrupt_reply, open_call}
 use Rattle.app_storages.specs.Slots.{IsOpenAt, IsResting, resting_with, slot_at}
 use Rattle.app_storages.specs.StorageLaws.{StorageLaws}
 use Rattle.app_storages.specs.declared.finding.Located.{Located}
 use Rattle.app_storages.specs.declared.slots.Slots.{Slots}
-use Rattle.app_storages.proofs.Ended.{answered_so, lost, stopped}
+use Rattle.app_storages.proofs.Ended.{answered_so, lost, placed, stopped}
 use Rattle.app_storages.proofs.OpenRows.{open_named, open_not_durable, open_reaches, open_row, open_uses}
 use Rattle.app_storages.proofs.SlotLaws.{none_there, session_slot, sessions_set, set_same}
 use Rattle.app_storages.proofs.Storing.{resting_after, shape_is, stays_so}
@@ -115,6 +115,14 @@ module _ (laws : StorageLaws) (told : Bool) (app now : ℕ) (root : Root) (kind 
     never_idle : IsTrue told → uses_device (app_at old.image app) (open_call kind name) ≡ false → Same
     never_idle tells idle = absurd (true≢false (sym (open_uses (app_at old.image app) kind name) ∙ idle))
 
+    named_so : IsTrue told → found_named before (open_call kind name) ≡ Some (Ok f)
+    named_so tells = open_named before kind name ∙ ap (λ (x : Result Found PerError). Some x)
+        (named old.image (resting.root_at.disk tells))
+
+    in_place : IsTrue told → StaysInPlace app (open_call kind name) before old.image new.image
+    in_place tells = placed laws told app now root (open_call kind name) was was old new l located resting
+        (store_at old.image (shape_at l)) (storing (store_at old.image (shape_at l))) tells named_so
+
     none_due : MayWrite app (open_call kind name) before old new
     none_due durable g s is there = absurd (true≢false (sym durable ∙ open_not_durable kind name))
 
@@ -130,11 +138,10 @@ module _ (laws : StorageLaws) (told : Bool) (app now : ℕ) (root : Root) (kind 
           (store_at old.image (shape_at l)) (storing (store_at old.image (shape_at l)))
           (λ tells. open_reaches app now before kind name (opened app before f f.state) refl (row tells))
           (λ tells. inl (same_app tells))
-          (λ tells. open_named before kind name ∙ ap (λ (x : Result Found PerError). Some x)
-          (named old.image (resting.root_at.disk tells)))
-          emptied (rose refl);
+          named_so emptied (rose refl);
       idle = never_idle;
       written = λ tells. none_due;
+      place = in_place;
       time = (storing (store_at old.image (shape_at l))).time;
     }
     open_failed OutOfMemory rose = record {
@@ -142,6 +149,7 @@ module _ (laws : StorageLaws) (told : Bool) (app now : ℕ) (root : Root) (kind 
           (store_at old.image (shape_at l)) (storing (store_at old.image (shape_at l))) (λ tells. inl (same_app tells));
       idle = never_idle;
       written = λ tells. none_due;
+      place = in_place;
       time = (storing (store_at old.image (shape_at l))).time;
     }
 
@@ -173,6 +181,7 @@ module _ (laws : StorageLaws) (told : Bool) (app now : ℕ) (root : Root) (kind 
       };
       idle = never_idle;
       written = λ tells. none_due;
+      place = in_place;
       time = (storing (store_at old.image (shape_at l))).time;
     }
 
@@ -229,6 +238,7 @@ module _ (laws : StorageLaws) (told : Bool) (app now : ℕ) (root : Root) (kind 
       };
       idle = never_idle;
       written = λ tells. none_due;
+      place = in_place;
       time = (storing (store_at old.image (shape_at l))).time;
     }
       where

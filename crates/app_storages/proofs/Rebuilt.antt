@@ -46,13 +46,13 @@ use Rattle.open_storages.specs.Opens.{session_in}
 use Rattle.app_storages.specs.Answers.{IsAnswered, MayLead}
 use Rattle.app_storages.specs.Durables.{IsSet, Says, done_or}
 use Rattle.app_storages.specs.Finding.{IsEarly, IsLocated, config_of, found_on, shape_at}
-use Rattle.app_storages.specs.Handled.{IsHandled, MayWrite}
+use Rattle.app_storages.specs.Handled.{IsHandled, MayWrite, StaysInPlace}
 use Rattle.app_storages.specs.Slots.{IsResting, resting_with, slot_at}
 use Rattle.app_storages.specs.StorageLaws.{StorageLaws}
 use Rattle.app_storages.specs.declared.finding.Located.{Located}
 use Rattle.app_storages.specs.declared.slots.Slots.{Slots}
 use Rattle.app_storages.proofs.DurableRows.{recover_reaches, recover_row, reset_reaches, reset_row}
-use Rattle.app_storages.proofs.Ended.{TextLaw, answered_so, lost, stopped}
+use Rattle.app_storages.proofs.Ended.{TextLaw, answered_so, lost, placed, stopped}
 use Rattle.app_storages.proofs.SlotLaws.{none_there, session_slot, set_same}
 use Rattle.app_storages.proofs.Storing.{resting_after, stays_so}
 use Rattle.app_storages.proofs.Synced.{early_same, worn_early}
@@ -158,6 +158,9 @@ module _ (laws : StorageLaws) (texts : TextLaw) (told : Bool) (app now : ℕ) (r
     written : IsTrue told → MayWrite app c before old new
     written tells durable g s found there = absurd (true≢false (sym durable ∙ no_durable))
 
+    in_place : IsTrue told → StaysInPlace app c before old.image new.image
+    in_place tells = placed laws told app now root c was was old new l located resting next storing tells named
+
     -- an empty slot stays so
     same_slot : IsSet l.number None was was
     same_slot = let room = resting.open_on.room in let within = located.within.in_slots in
@@ -187,12 +190,14 @@ module _ (laws : StorageLaws) (texts : TextLaw) (told : Bool) (app now : ℕ) (r
           (rebuilds.cause err);
       idle = idle;
       written = written;
+      place = in_place;
       time = rebuilds.time;
     }
     rebuilt_err OutOfMemory err = record {
       ends = stopped laws told app now root c was was old new l located resting next storing leads;
       idle = idle;
       written = written;
+      place = in_place;
       time = rebuilds.time;
     }
 
@@ -224,6 +229,7 @@ module _ (laws : StorageLaws) (texts : TextLaw) (told : Bool) (app now : ℕ) (r
       };
       idle = idle;
       written = written;
+      place = in_place;
       time = rebuilds.time;
     }
       where

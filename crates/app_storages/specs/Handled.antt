@@ -2,12 +2,15 @@
 use Rattle.std.specs.Prelude.{◌≡◌, ◌≢◌, ℕ, Bool, true, false, IsTrue, Some, Result, Ok, Err}
 use Rattle.per_base.specs.Causes.{Rose}
 use Rattle.per_base.specs.declared.errors.PerError.TheVariants as error
+use Rattle.disk_model.specs.Frame.{Spares}
+use Rattle.disk_model.specs.Image.{Image}
 use Rattle.disk_model.specs.Medium.{Elapses, Medium, Quiet}
 use Rattle.command_text.specs.declared.calls.Call.{Call}
 use Rattle.command_text.specs.declared.replies.Answer.TheVariants as answer
 use Rattle.command_text.specs.declared.replies.Reply.{Reply}
 use Rattle.command_text.specs.Replies.{HasText}
 use Rattle.deploy_laws.specs.Apps.{app_at}
+use Rattle.deploy_laws.specs.Places.{IsBeside}
 use Rattle.deploy.specs.declared.errors.Stop.{Stop}
 use Rattle.deploy.specs.declared.errors.Stop.TheVariants.{Device, OutOfMemory}
 use Rattle.deploy.specs.declared.roots.Root.{Root}
@@ -25,6 +28,11 @@ use Rattle.app_storages.specs.declared.slots.Slots.{Slots}
 abbrev pub MayWrite : (app : ℕ) → Call → (before : Application) → (old new : Medium) → Type 0
 MayWrite app c before old new = is_durable c ≡ true → (f : Found) (s : Session) → found_named before c ≡ Some (Ok f)
     → session_at before f.number ≡ Some s → WritesWithin app f s old new
+
+-- no file changes beside those of the storage that the call names
+abbrev pub StaysInPlace : (app : ℕ) → Call → (before : Application) → (old new : Image) → Type 0
+StaysInPlace app c before old new = (f : Found) → found_named before c ≡ Some (Ok f)
+    → Spares (IsBeside app f.bank f.number) old new
 
 -- the call was answered: no call of the disk failed
 pub record IsReplied (told : Bool) (app now : ℕ) (root : Root) (c : Call) (was is : Slots) (old new : Medium)
@@ -59,4 +67,5 @@ pub record IsHandled (told : Bool) (app now : ℕ) (root : Root) (c : Call) (was
   pub ends : EndsSo told app now root c was is old new result
   pub idle : IsTrue told → uses_device (app_at old.image app) c ≡ false → Same
   pub written : IsTrue told → MayWrite app c (resting_with old.image app was) old new
+  pub place : IsTrue told → StaysInPlace app c (resting_with old.image app was) old.image new.image
   pub time : Elapses old new

@@ -12,7 +12,7 @@ ghost use Rattle.run_model.specs.Runtimes.{IsUnwritten, WritesWithin, is_durable
 ghost use Rattle.run_model.specs.Sessions.{Session};
 ghost use Rattle.run_model.specs.Steps.{found_named, uses_device};
 ghost use Rattle.app_storages.specs.Answers.{HasFailed, HasStopped, IsAnswered, is_on_storage};
-ghost use Rattle.app_storages.specs.Handled.{IsHandled};
+ghost use Rattle.app_storages.specs.Handled.{IsHandled, StaysInPlace};
 ghost use Rattle.app_storages.specs.Slots.{IsResting, resting_with};
 
 use crate::slots::Slots;
@@ -69,6 +69,9 @@ impl Slots {
             → found_named (resting_with (D.medium disk.old).image app self.old) call.now ≡ Some (Ok f)
             → session_at (resting_with (D.medium disk.old).image app self.old) f.number ≡ Some s
             → WritesWithin app f s (D.medium disk.old) (D.medium disk.new) }
+        // However it ends, no file changes beside those of the storage that it names.
+        ensures place { IsTrue D.told → StaysInPlace app call.now
+            (resting_with (D.medium disk.old).image app self.old) (D.medium disk.old).image (D.medium disk.new).image }
         ensures cause { IsErrOf result Stop.Device → Rose (D.medium disk.old).faults (D.medium disk.new).faults }
         ensures passes { OnOk result ((D.medium disk.new).faults ≡ (D.medium disk.old).faults) }
         ensures unfailed { IfOk result (λ reply. reply.answer ≢ Answer.Error PerError.PhysicalStorageFailure) }

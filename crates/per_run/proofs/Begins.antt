@@ -55,6 +55,7 @@ pub unbegun : (told : Bool) (m : Medium) → IsLawful told m → StartKeeps m m
 unbegun told m lawful = record {
   always = λ app lt clean c since. inl (lawful.only_now c since);
   at_exit = inl (reads_none lawful);
+  roots = λ f is. refl;
 }
 
 -- a run that did not come to its lines

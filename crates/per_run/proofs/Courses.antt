@@ -16,7 +16,7 @@ use Rattle.run_model.specs.Lines.{IsBad}
 use Rattle.run_model.specs.RunLaws.{ends_disk, stops_disk}
 use Rattle.run_model.specs.Runs.{DiskSide}
 use Rattle.run_model.specs.Runtimes.{Memory}
-use Rattle.run_model.specs.Turns.{Turn, events_of, AreBlamed, CountsFailures}
+use Rattle.run_model.specs.Turns.{Turn, turn, events_of, AreBlamed, CountsFailures}
 use Rattle.run_model.specs.Worlds.{World}
 use Rattle.per_run.specs.declared.endings.Ending.{Ending}
 use Rattle.per_run.specs.declared.endings.Ending.TheVariants.{AllRead, EndLine, BadLine, OutOfMemory, Source, Sink}
@@ -24,7 +24,7 @@ use Rattle.per_run.specs.declared.endings.Ending.TheVariants.{TooLong}
 use Rattle.per_run.specs.Jobs.{IsFront}
 use Rattle.per_run.specs.Steps.{Goes, IsGoing, Handled, Course, IsAnswered, IsStopped, Puts, Refuses, ending_of}
 use Rattle.per_run.proofs.Gives.{front_says, give_nothing, give_turn, has_end, text_on}
-use Rattle.per_run.proofs.Goes.{goes_on, turn}
+use Rattle.per_run.proofs.Goes.{goes_on}
 
 -- what the front of a line gave is what the line gave
 pub answered_front : {told : Bool} {rules : List Rule} {answers : Answers} {text : List ℕ} {memory after : Memory}
@@ -85,11 +85,11 @@ module _ (told : Bool) (rules : List Rule) (answers : Answers) (start : Medium) 
       → IsAnswered told rules answers text memory after reply old new → Appends now later (reply_text reply)
       → Handled told rules answers start before (lines ++ text ∷ []) later after new
   handled_reply lines now later memory after old new text reply lawful time handled a wrote =
-      let more : (w : World) × Goes told rules answers start (handled.turns ++ turn a.event reply new.faults w ∷ [])
+      let more : (w : World) × Goes told rules answers start (handled.turns ++ turn a.event reply new w ∷ [])
       after new =
       goes_on rules answers start told handled.turns a.event reply memory after old new lawful time handled.goes
       a.blamed a.stepped in
-      let t : Turn = turn a.event reply new.faults more.0 in
+      let t : Turn = turn a.event reply new more.0 in
       record {
         turns = handled.turns ++ t ∷ [];
         gives = give_turn lines handled.turns text t handled.gives a.spelled;
@@ -279,13 +279,13 @@ module _ (told : Bool) (rules : List Rule) (answers : Answers) (start : Medium) 
   course_in_reply laws ending lines others now later memory after old new text reply lawful time handled a puts =
       go ending puts
     where
-      more : (w : World) × Goes told rules answers start (handled.turns ++ turn a.event reply new.faults w ∷ []) after
+      more : (w : World) × Goes told rules answers start (handled.turns ++ turn a.event reply new w ∷ []) after
           new
       more = goes_on rules answers start told handled.turns a.event reply memory after old new lawful time handled.goes
           a.blamed a.stepped
 
       t : Turn
-      t = turn a.event reply new.faults more.0
+      t = turn a.event reply new more.0
 
       go : (e : Ending) → Puts {T = Unit {0}} (reply_text reply) now later (Err e)
           → Course told rules answers (ending_of e) start before (lines ++ text ∷ others) later new

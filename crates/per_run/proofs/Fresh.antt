@@ -7,11 +7,12 @@ use Rattle.migrate_fns.specs.Rules.{Rule, Answers}
 use Rattle.command_text.specs.Generated.{generated}
 use Rattle.deploy_laws.specs.Apps.{App, app_at}
 use Rattle.deploy_rows.specs.Rows.{empty_app}
+use Rattle.run_model.specs.Bounds.{AreBounded}
 use Rattle.run_model.specs.Moments.{last_of}
 use Rattle.run_model.specs.RunLaws.{ends_settled}
 use Rattle.run_model.specs.Runs.{IsSettled}
 use Rattle.run_model.specs.Runtimes.{Memory}
-use Rattle.run_model.specs.Turns.{Turn, AreBlamed, Follow, replies_of, worlds_of}
+use Rattle.run_model.specs.Turns.{Turn, AreBlamed, Follow, bytes_of, replies_of, worlds_of}
 use Rattle.run_model.specs.Worlds.{Application, World, all_resting, formatted, resting, started, world_at}
 use Rattle.per_run.specs.declared.tally.Tally.{Tally}
 use Rattle.per_run.specs.Jobs.{FailsAtThree, Formats, Generates, Writes, summary}
@@ -61,6 +62,7 @@ generates_none told rules answers n status now old new is later = record {
     passes = λ done. absurd (not_done status is done);
   };
   follow = λ tells. tt;
+  bounded = λ tells. (bytes_of new, tt);
   settled = λ tells done. absurd (not_done status is done);
   clean = λ tells done. absurd (not_done status is done);
 }
@@ -107,6 +109,11 @@ generates_all told rules answers n status before now memory after tally old midd
   follow = λ tells.
       let g : IsGoing rules answers middle counted.turns after new = counted.goes.disk tells in
       follow_from rules answers (started (world_at middle.image)) formatted counted.turns (here tells) g.2.follow;
+  bounded = λ tells.
+      let g : IsGoing rules answers middle counted.turns after new = counted.goes.disk tells in (
+        g.2.begun,
+        subst (λ (w : World). AreBounded w g.2.begun counted.turns) (here tells) g.2.bounded,
+      );
   settled = λ tells done.
       let g : IsGoing rules answers middle counted.turns after new = counted.goes.disk tells in
       subst (λ (w : World). IsSettled (last_of w (worlds_of counted.turns)) new) (here tells)

@@ -6,13 +6,9 @@ use Rattle.command_text.specs.declared.calls.Event.{Event}
 use Rattle.command_text.specs.declared.replies.Reply.{Reply}
 use Rattle.run_model.specs.RunLaws.{blamed_on, starts_going, steps_going}
 use Rattle.run_model.specs.Runtimes.{Memory, IsDoubt, Starts, Stepped, world_of}
-use Rattle.run_model.specs.Turns.{Turn, IsBlamed}
+use Rattle.run_model.specs.Turns.{Turn, turn, IsBlamed}
 use Rattle.run_model.specs.Worlds.{Doubt, World, formatted}
 use Rattle.per_run.specs.Steps.{Goes, IsGoing}
-
--- the turn of a command, with the world after it
-abbrev pub turn : Event → Reply → ℕ → World → Turn
-turn e reply faults w = record { event = e; reply = reply; faults = faults; world = w }
 
 module _ (rules : List Rule) (answers : Answers) (start : Medium) where
   -- the doubt after a command whose disk tells its bytes
@@ -20,7 +16,7 @@ module _ (rules : List Rule) (answers : Answers) (start : Medium) where
       → IsLawful true new → Elapses now new
       → (g : IsGoing rules answers start turns before now)
       → (s : Stepped rules answers e reply before after g.0 now new)
-      → IsGoing rules answers start (turns ++ turn e reply new.faults (world_of new.image after s.doubt') ∷ []) after
+      → IsGoing rules answers start (turns ++ turn e reply new (world_of new.image after s.doubt') ∷ []) after
       new
   told_on turns e reply before after now new lawful time g s = (
     s.doubt',
@@ -35,11 +31,11 @@ module _ (rules : List Rule) (answers : Answers) (start : Medium) where
       → Goes told rules answers start turns before now → IsBlamed now.faults new.faults reply
       → (IsTrue told → (doubt : Option Doubt) → IsDoubt before doubt
       → Stepped rules answers e reply before after doubt now new)
-      → (w : World) × Goes told rules answers start (turns ++ turn e reply new.faults w ∷ []) after new
+      → (w : World) × Goes told rules answers start (turns ++ turn e reply new w ∷ []) after new
   goes_on false turns e reply before after now new lawful time goes blamed stepped = (
     formatted,
     record {
-      blamed = blamed_on start.faults turns (turn e reply new.faults formatted) now.faults goes.blamed blamed;
+      blamed = blamed_on start.faults turns (turn e reply new formatted) now.faults goes.blamed blamed;
       disk = λ tells. let bad : false ≡ true = tells in cc;
     },
   )
@@ -49,7 +45,7 @@ module _ (rules : List Rule) (answers : Answers) (start : Medium) where
       let w : World = world_of new.image after s.doubt' in (
         w,
         record {
-          blamed = blamed_on start.faults turns (turn e reply new.faults w) now.faults goes.blamed blamed;
+          blamed = blamed_on start.faults turns (turn e reply new w) now.faults goes.blamed blamed;
           disk = λ tells. told_on turns e reply before after now new lawful time g s;
         },
       )

@@ -14,14 +14,14 @@ use Rattle.command_text.specs.declared.replies.Reply.{Reply}
 use Rattle.command_text.specs.Generated.{first_lines, generated, generated_line, generated_lines, last_lines}
 use Rattle.command_text.specs.Generated.{next_number}
 use Rattle.run_model.specs.Runtimes.{Memory}
-use Rattle.run_model.specs.Turns.{Turn, replies_of}
+use Rattle.run_model.specs.Turns.{Turn, turn, replies_of}
 use Rattle.run_model.specs.Worlds.{World}
 use Rattle.per_run.specs.declared.tally.Tally.{Tally}
 use Rattle.per_run.specs.Jobs.{done_in, error_in, number_in, is_done, is_error, is_other, size_given, summary}
 use Rattle.per_run.specs.Jobs.{summary_text}
 use Rattle.per_run.specs.Steps.{Counted, Goes, IsAnswered, Tallies}
 use Rattle.per_run.proofs.Gives.{give_turn, replies_on}
-use Rattle.per_run.proofs.Goes.{goes_on, turn}
+use Rattle.per_run.proofs.Goes.{goes_on}
 
 -- ---- one reply more
 
@@ -144,11 +144,11 @@ module _ (told : Bool) (rules : List Rule) (answers : Answers) (start : Medium) 
       → Tallies (replies ++ reply ∷ []) tally')
       → Counted told rules answers start (lines ++ text ∷ []) after tally' new
   counted_more lines text reply memory after tally tally' old new lawful time few counted a tallies =
-      let more : (w : World) × Goes told rules answers start (counted.turns ++ turn a.event reply new.faults w ∷ [])
+      let more : (w : World) × Goes told rules answers start (counted.turns ++ turn a.event reply new w ∷ [])
       after new =
       goes_on rules answers start told counted.turns a.event reply memory after old new lawful time counted.goes
       a.blamed a.stepped in
-      let t : Turn = turn a.event reply new.faults more.0 in
+      let t : Turn = turn a.event reply new more.0 in
       record {
         turns = counted.turns ++ t ∷ [];
         gives = give_turn lines counted.turns text t counted.gives a.spelled;

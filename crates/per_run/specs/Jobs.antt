@@ -16,13 +16,14 @@ use Rattle.command_text.specs.declared.replies.Reply.{Reply}
 use Rattle.command_text.specs.Generated.{generated}
 use Rattle.command_text.specs.Replies.{answer_text}
 use Rattle.deploy_laws.specs.Apps.{App, IsCleanApp}
+use Rattle.run_model.specs.Bounds.{AreBounded}
 use Rattle.run_model.specs.Endings.{Failed}
 use Rattle.run_model.specs.Lines.{Give}
 use Rattle.run_model.specs.Lives.{LooksOnly}
 use Rattle.run_model.specs.Moments.{AreSoundDoubts, last_of}
 use Rattle.run_model.specs.Runs as runs
 use Rattle.run_model.specs.Runs.{IsSettled}
-use Rattle.run_model.specs.Turns.{Turn, events_of, replies_of, worlds_of, CountsFailures, Follow}
+use Rattle.run_model.specs.Turns.{Bytes, Turn, events_of, replies_of, worlds_of, CountsFailures, Follow}
 use Rattle.run_model.specs.Worlds.{world_at, formatted}
 use Rattle.per_audit.specs.Audits.{elements_at, findings_at}
 use Rattle.per_audit.specs.AuditText.{audit_text}
@@ -120,6 +121,8 @@ pub record Generates (told : Bool) (rules : List Rule) (answers : Answers) (n st
   pub output : Writes status before now (summary (length (generated n)) (replies_of turns))
   pub failures : CountsFailures (IsDone status) old.faults turns new.faults
   pub follow : IsTrue told → Follow rules answers formatted turns
+  -- what each command wrote, from the bytes that the start left on
+  pub bounded : IsTrue told → (begun : Bytes) × AreBounded formatted begun turns
   pub settled : IsTrue told → IsDone status → IsSettled (last_of formatted (worlds_of turns)) new
   pub clean : IsTrue told → IsDone status → (app : ℕ) → app < 8 → AreSoundDoubts app (worlds_of turns)
       → IsCleanApp app new.image

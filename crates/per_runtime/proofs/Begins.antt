@@ -5,14 +5,16 @@ use Rattle.std.proofs.Common.{refl, sym, ap, ◌∙◌, subst, inl, inr, ⊎_eli
 use Rattle.std.specs.declared.alloc.Global.{Global}
 use Rattle.per_base.specs.Causes.{Rose}
 use Rattle.disk_model.specs.Case.{Case}
-use Rattle.disk_model.specs.Frame.{IsSettledOn}
+use Rattle.disk_model.specs.Frame.{IsSettledOn, Spares}
+use Rattle.disk_model.specs.Image.{Image}
 use Rattle.disk_model.specs.Laws.{cases_on, elapses_on}
 use Rattle.disk_model.specs.Medium.{Medium, Quiet, IsLawful, Elapses, EachCase, OnlyReads, WritesNothing}
+use Rattle.disk_model.specs.Place.{IsNoSlot}
 use Rattle.disk_model.specs.lemmas.Frames.{settled_on}
 use Rattle.deploy.specs.declared.errors.Stop.{Stop}
 use Rattle.deploy.specs.declared.errors.Stop.TheVariants.{Device, OutOfMemory}
 use Rattle.deploy_laws.specs.Apps.{App, app_at, IsCleanApp}
-use Rattle.deploy_laws.specs.Places.{IsFileOf}
+use Rattle.deploy_laws.specs.Places.{IsFileOf, root_place}
 use Rattle.deploy_laws.specs.Stands.{IsLater, StandsCase, same_root}
 use Rattle.deploy_rows.specs.Rows.{reopened}
 use Rattle.run_model.specs.AppLaws.{AppLaws, OpensRoot}
@@ -37,6 +39,7 @@ is_reopened a = same_root refl refl
 -- the sync failed
 pub unsynced_keeps : (old new : Medium) → OnlyReads old new → StartKeeps old new
 unsynced_keeps old new reads = keeps_worlds old new (λ b lt clean c s. inl (reads.during c s)) (inl reads)
+    (λ f is. ap (λ (i : Image). i f) reads.image)
 
 -- what any opening promises, however it ends
 abbrev pub IsOnTheWay : ℕ → (old new : Medium) → Type 0
@@ -45,18 +48,23 @@ IsOnTheWay a old new = (next : App) → IsLater (app_at old.image a) next → Ca
 pub way_at : (k a : ℕ) (old new : Medium) → k ≡ a → IsOnTheWay k old new → IsOnTheWay a old new
 way_at k a old new is way = subst (λ (n : ℕ). IsOnTheWay n old new) is way
 
+pub slots_at : (k a : ℕ) (old new : Medium) → k ≡ a → Spares (IsNoSlot (root_place k)) old.image new.image
+    → Spares (IsNoSlot (root_place a)) old.image new.image
+slots_at k a old new is slots = subst (λ (n : ℕ). Spares (IsNoSlot (root_place n)) old.image new.image) is slots
+
 pub root_at : (k a : ℕ) (old new : Medium) → k ≡ a → OpensRoot k old new → OpensRoot a old new
 root_at k a old new is opens = subst (λ (n : ℕ). OpensRoot n old new) is opens
 
 -- the opening of one root failed, or memory ran out in it
 pub stops_at : AppLaws → (told : Bool) (a : ℕ) (old now new : Medium) → a < 8 → IsLawful told new → Opened a old now
-    → Elapses now new → IsOnTheWay a now new → StartKeeps old new
-stops_at laws told a old now new lta lawful o time way = keeps_worlds old new
+    → Elapses now new → IsOnTheWay a now new → Spares (IsNoSlot (root_place a)) now.image new.image → StartKeeps old new
+stops_at laws told a old now new lta lawful o time way slots = keeps_worlds old new
     (λ b lt clean c s. ⊎_elim
     (λ was. o.moments b lt clean c was)
     (λ at. inr (here b lt clean c at (which a b)))
     (cases_on o.time time c s))
     (inr (λ b lt clean c at. here b lt clean c (lawful.counts_now now.moment c time.later at) (which a b)))
+    (λ f is. slots f (is a lta) ∙ o.roots f is)
   where
     calls : CallsTo a (reopened (app_at now.image a)) now new
     calls = way (reopened (app_at now.image a)) (is_reopened (app_at now.image a))

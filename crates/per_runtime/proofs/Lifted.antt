@@ -4,6 +4,7 @@ use Rattle.std.specs.Prelude.{Option, Some, None, Ok, is_some, is_none, slice_ge
 use Rattle.std.proofs.Common.{refl, sym, ap, ◌∙◌, subst, inl, inr, ⊎_elim, le_refl, true≢false}
 use Rattle.per_base.specs.declared.errors.PerError.TheVariants as error
 use Rattle.std.proofs.lemmas.List.{length-map}
+use Rattle.disk_model.specs.Frame.{Spares}
 use Rattle.disk_model.specs.Medium.{Medium, Quiet, Elapses, EachCase, IsLawful, OnlyReads}
 use Rattle.migrate_fns.specs.Rules.{Rule, Answers}
 use Rattle.command_text.specs.declared.calls.Call.{Call}
@@ -12,6 +13,7 @@ use Rattle.command_text.specs.declared.calls.Event.TheVariants as event
 use Rattle.command_text.specs.declared.replies.Answer.TheVariants as answer
 use Rattle.command_text.specs.declared.replies.Reply.{Reply}
 use Rattle.deploy_laws.specs.Apps.{App, app_at, IsCleanApp}
+use Rattle.deploy_laws.specs.Places.{IsBeside}
 use Rattle.deploy_laws.specs.Stands.{StandsCase}
 use Rattle.run_model.specs.AppLaws.{AppLaws, Calls}
 use Rattle.run_model.specs.Calls.{beside_update, session_at}
@@ -20,8 +22,10 @@ use Rattle.run_model.specs.KeepLaws.{call_fails, call_keeps, each_moment, idle_k
 use Rattle.run_model.specs.Later.{set_length}
 use Rattle.run_model.specs.Lasting.{IsWorld}
 use Rattle.run_model.specs.Moments.{IsReady, KeepsApplication}
-use Rattle.run_model.specs.Runtimes.{Memory, IsDoubt, IsUnwritten, StaysAside, Stepped, Stopped, WritesWithin}
-use Rattle.run_model.specs.Runtimes.{WrittenBy, calls_none, is_durable, is_refusal, opens_root, writes_none}
+use Rattle.run_model.specs.Runtimes.{Memory, IsBesideNamed, IsDoubt, IsUnwritten, StaysAside, Stepped, Stopped}
+use Rattle.run_model.specs.Runtimes.{WritesWithin}
+use Rattle.run_model.specs.Runtimes.{WrittenBy, calls_none, is_durable, is_refusal, only_looks, only_plans, opens_root}
+use Rattle.run_model.specs.Runtimes.{writes_none}
 use Rattle.run_model.specs.Sessions.{Session}
 use Rattle.run_model.specs.Starting.{which}
 use Rattle.run_model.specs.Steps.{AppStep, FailsAs, Leads, calls_device, doubt_after, failure, found_named, goes_on}
@@ -30,6 +34,7 @@ use Rattle.run_model.specs.Turns.{IsBlamed}
 use Rattle.run_model.specs.Worlds.{Application, Disks, Doubt, World, app_of, disk_at, disks, is_to_open, update_in}
 use Rattle.run_model.specs.Worlds.{with_app, world_at}
 use Rattle.app_storages.specs.Answers.{CallsTo}
+use Rattle.app_storages.specs.Handled.{StaysInPlace}
 use Rattle.app_runtime.specs.declared.running.Running.{Running}
 use Rattle.app_runtime.specs.Running.{application, running_in, stage_in}
 use Rattle.per_runtime.specs.Handled.{IsAnswered, IsFailed, IsInProgress, IsLedTo}
@@ -103,6 +108,7 @@ now_steps laws makes rules answers told m now t apps b tells lawful are quiet do
   quiet = λ none. quiet (sym is ∙ ap is_some none);
   aside = record { elsewhere = λ f inside. refl; elsewhere_always = λ q c s. inl (lawful.only_now c s) };
   unwritten = λ none. (refl, refl);
+  place = λ f beside. refl;
   written = tt;
   blamed = record { later = le_refl m.faults; cause = λ four. absurd (not_four four); passes = λ other. refl };
 }
@@ -115,7 +121,10 @@ module _ (laws : AppLaws) (rules : List Rule) (answers : Answers) (told : Bool) 
     (time : Elapses old new)
     (idle : calls_device (application old.image a) c ≡ false → OnlyReads old new)
     (written : is_durable c ≡ true → (f : Found) (s : Session) → found_named (application old.image a) c ≡ Some (Ok f)
-    → session_at (application old.image a) f.number ≡ Some s → WritesWithin a.app f s old new) where
+    → session_at (application old.image a) f.number ≡ Some s → WritesWithin a.app f s old new)
+    (looks : only_plans c ≡ true → is_to_open (stage_in a.stage) ≡ false → IsUnwritten old new)
+    (place : is_to_open (stage_in a.stage) ≡ false
+    → StaysInPlace a.app c (application old.image a) old.image new.image) where
   -- the world before, and what lies on the disk then
   before : Option Doubt → World
   before doubt = world old.image now apps doubt
@@ -172,6 +181,13 @@ module _ (laws : AppLaws) (rules : List Rule) (answers : Answers) (told : Bool) 
       (subst (λ (r : Application). found_named r c ≡ Some (Ok f)) (it_is doubt) found)
       (subst (λ (r : Application). session_at r f.number ≡ Some s) (it_is doubt) open_there))
 
+  place_on : (doubt : Option Doubt) → Spares (IsBesideNamed (before doubt) e) old.image new.image
+  unfolding e
+  place_on doubt file beside = place
+      (subst (λ (r : Application). is_to_open r.stage ≡ false) (it_is doubt) beside.0)
+      beside.1.0 (subst (λ (r : Application). found_named r c ≡ Some (Ok beside.1.0)) (it_is doubt) beside.1.1)
+      file (subst (λ (k : ℕ). IsBeside k beside.1.0.bank beside.1.0.number file) (sym number) beside.1.2)
+
   -- a call that calls no device only reads
   reads_on : (doubt : Option Doubt) → calls_none (before doubt) e ≡ true → OnlyReads old new
   unfolding e
@@ -181,16 +197,25 @@ module _ (laws : AppLaws) (rules : List Rule) (answers : Answers) (told : Bool) 
   unwritten_on : (doubt : Option Doubt) → calls_none (before doubt) e ≡ true → IsUnwritten old new
   unwritten_on doubt none = let reads = reads_on doubt none in (reads.image, reads.written)
 
+  looked_on : (doubt : Option Doubt) → only_looks (before doubt) e ≡ true → IsUnwritten old new
+  unfolding e
+  looked_on doubt looked = ⊎_elim
+      (λ idle. unwritten_on doubt idle)
+      (λ plans. let two = both (only_plans c) (not (opens_root (before doubt) e)) plans in
+      looks two.0 (subst (λ (r : Application). is_to_open r.stage ≡ false) (it_is doubt)
+      (is_no (opens_root (before doubt) e) two.1)))
+      (either (calls_none (before doubt) e) (only_plans c && not (opens_root (before doubt) e)) looked)
+
   refused_on : (doubt : Option Doubt) (reply : Reply)
       → (is_refusal reply.answer ≡ true → is_to_open (stage_in a.stage) ≡ false → IsUnwritten old new)
       → writes_none (before doubt) e reply ≡ true → IsUnwritten old new
   unfolding e
   refused_on doubt reply refused none = ⊎_elim
-      (λ idle. unwritten_on doubt idle)
+      (λ looked. looked_on doubt looked)
       (λ refusal. let two = both (is_refusal reply.answer) (not (opens_root (before doubt) e)) refusal in
       refused two.0 (subst (λ (r : Application). is_to_open r.stage ≡ false) (it_is doubt)
       (is_no (opens_root (before doubt) e) two.1)))
-      (either (calls_none (before doubt) e) (is_refusal reply.answer && not (opens_root (before doubt) e)) none)
+      (either (only_looks (before doubt) e) (is_refusal reply.answer && not (opens_root (before doubt) e)) none)
 
   -- ---- where it leads
 
@@ -289,6 +314,7 @@ module _ (laws : AppLaws) (rules : List Rule) (answers : Answers) (told : Bool) 
         quiet = λ none. h.quiet quiet;
         aside = aside_on (app_at new.image n) calls;
         unwritten = refused_on None reply h.unwritten;
+        place = place_on None;
         written = written_on None;
         blamed = blamed_on reply h;
       }
@@ -339,6 +365,7 @@ module _ (laws : AppLaws) (rules : List Rule) (answers : Answers) (told : Bool) 
         quiet = λ none. absurd (none_some d (sym none));
         aside = aside_doubt d reads;
         unwritten = λ none. (reads.image, reads.written);
+        place = place_on (Some d);
         written = written_on (Some d);
         blamed = blamed_on reply h;
       }
@@ -393,8 +420,9 @@ module _ (laws : AppLaws) (rules : List Rule) (answers : Answers) (told : Bool) 
             (read.1, read.2));
         quiet = λ none. absurd (none_some d (sym none));
         aside = aside_on progress.next calls;
-        unwritten = λ none. unwritten_on None (⊎_elim (λ idle. idle) (λ refusal. absurd (true≢false (sym refusal)))
-            (either (calls_none (before None) e) false none));
+        unwritten = λ none. looked_on None (⊎_elim (λ looked. looked) (λ refusal. absurd (true≢false (sym refusal)))
+            (either (only_looks (before None) e) false none));
+        place = place_on None;
         written = written_on None;
         blamed = record { later = time.faults; cause = λ four. h.cause; passes = λ other. absurd (other refl) };
       }
@@ -414,7 +442,8 @@ module _ (laws : AppLaws) (rules : List Rule) (answers : Answers) (told : Bool) 
             (world_calls progress.next calls)
             (λ j differs. same_after progress.next j differs) k lt (is_on k lt) quiet ready.clean (which n k) c s);
         aside = aside_on progress.next calls;
-        unwritten = unwritten_on None;
+        unwritten = looked_on None;
+        place = place_on None;
         written = written_on None;
       }
 
@@ -429,5 +458,6 @@ module _ (laws : AppLaws) (rules : List Rule) (answers : Answers) (told : Bool) 
         keeps = λ k lt ready c s. inl (tt, reads.during c s);
         aside = aside_doubt d reads;
         unwritten = λ none. (reads.image, reads.written);
+        place = place_on (Some d);
         written = written_on (Some d);
       }

@@ -217,7 +217,7 @@ module _ (mend : RootMendLaw) (told : Bool) (rules : List Rule) (answers : Answe
     (old mid : Medium)
     (marked : stage_in a.stage ≡ to_open) (same : b.app ≡ a.app)
     (closed : IsTrue told → running_in a ≡ record { stage = to_open; sessions = none_open }) where
-  not_in_use : {A : Type 0} → is_to_open (stage_in a.stage) ≡ false → A
+  pub not_in_use : {A : Type 0} → is_to_open (stage_in a.stage) ≡ false → A
   not_in_use rests = absurd (true≢false (sym (ap is_to_open marked) ∙ rests))
 
   pub none_idle : (Untouched : Type 0) → calls_device (application old.image a) c ≡ false → Untouched

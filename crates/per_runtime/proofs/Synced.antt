@@ -4,7 +4,7 @@ use Rattle.std.specs.Prelude.{Some, None, Result, Ok, Err}
 use Rattle.std.proofs.Common.{refl, sym, ap, ◌∙◌, subst, inl, inr, ⊎_elim, le_refl, le_trans, arith, true≢false}
 use Rattle.std.proofs.lemmas.List.{length-map}
 use Rattle.disk_model.specs.Case.{Case, IsSettledAt}
-use Rattle.disk_model.specs.Frame.{IsSettledOn}
+use Rattle.disk_model.specs.Frame.{IsSettledOn, Spares}
 use Rattle.disk_model.specs.Image.{Image}
 use Rattle.disk_model.specs.Laws.{cases_on, elapses_on, rose_before}
 use Rattle.disk_model.specs.Medium.{Medium, Quiet, Elapses, EachCase, IsLawful, OnlyReads, WritesNothing}
@@ -25,7 +25,8 @@ use Rattle.deploy_laws.specs.Apps.{IsCleanApp}
 use Rattle.run_model.specs.KeepLaws.{after_sync_keeps, failed_sync_keeps}
 use Rattle.run_model.specs.Moments.{IsMoment, IsReady, StepKeeps, StopKeeps}
 use Rattle.run_model.specs.Runtimes.{Memory, IsDoubt, IsElsewhere, IsUnwritten, StaysAside, Stepped, StepsOn, Stopped}
-use Rattle.run_model.specs.Runtimes.{WrittenBy, WritesWithin, calls_none, world_of, writes_none}
+use Rattle.run_model.specs.Runtimes.{IsBesideNamed, WrittenBy, WritesWithin, calls_none, only_looks, world_of}
+use Rattle.run_model.specs.Runtimes.{writes_none}
 use Rattle.run_model.specs.Turns.{IsBlamed}
 use Rattle.run_model.specs.Steps.{Leads, calls_device, doubt_after, failure}
 use Rattle.run_model.specs.Lasting.{IsWorld}
@@ -124,6 +125,12 @@ module _ (rules : List Rule) (answers : Answers) (told : Bool) (n : ℕ) (c : Ca
               old.written new.written nothing.written (within.at_most v others opens);
         }
 
+    place_on : Spares (IsBesideNamed (world_of mid.image (sure m) None) (event.App n c)) mid.image new.image
+        → Spares (IsBesideNamed before (event.App n c)) old.image new.image
+    unfolding before
+    place_on place file beside = place file (subst (λ (w : World). IsBesideNamed w (event.App n c) file) (sym synced_is)
+        beside) ∙ ap (λ (i : Image). i file) nothing.image
+
     -- where it leads
     step_on : (reply : Reply) (w' : World) → StepsOn rules answers (without_doubt before) (event.App n c) reply w' mid
         new → StepsOn rules answers before (event.App n c) reply w' old new
@@ -160,6 +167,7 @@ module _ (rules : List Rule) (answers : Answers) (told : Bool) (n : ℕ) (c : Ca
           aside = aside_on s.aside;
           unwritten = λ none. unwritten_on (s.unwritten (subst
               (λ (w : World). writes_none w (event.App n c) reply ≡ true) (sym synced_is) none));
+          place = place_on s.place;
           written = written_on s.written;
           blamed = blamed_behind reply old mid new time.faults passes s.blamed;
         }
@@ -188,8 +196,9 @@ module _ (rules : List Rule) (answers : Answers) (told : Bool) (n : ℕ) (c : Ca
           (λ since. behind x since)
           (cases_on time later x at);
       aside = aside_on s.aside;
-      unwritten = λ none. unwritten_on (s.unwritten (subst (λ (w : World). calls_none w (event.App n c) ≡ true)
+      unwritten = λ none. unwritten_on (s.unwritten (subst (λ (w : World). only_looks w (event.App n c) ≡ true)
           (sym synced_is) none));
+      place = place_on s.place;
       written = written_on s.written;
     }
 
@@ -214,6 +223,7 @@ module _ (rules : List Rule) (answers : Answers) (told : Bool) (n : ℕ) (c : Ca
           elsewhere_always =
               λ no_doubt x s. inl (reads.during x s);
         };
+        place = λ file beside. ap (λ (i : Image). i file) reads.image;
         unwritten = λ none. (reads.image, reads.written);
         written = λ durable f s found there. record {
           same = λ same. reads.written;

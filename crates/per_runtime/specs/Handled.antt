@@ -17,8 +17,9 @@ use Rattle.run_model.specs.Sessions.{Session}
 use Rattle.run_model.specs.Found.{Found}
 use Rattle.run_model.specs.Calls.{Outcome, session_at}
 use Rattle.run_model.specs.Steps.{AppStep, FailsAs, calls_device, found_named}
-use Rattle.run_model.specs.Runtimes.{IsUnwritten, WritesWithin, is_refusal, is_durable}
+use Rattle.run_model.specs.Runtimes.{IsUnwritten, WritesWithin, is_refusal, is_durable, only_plans}
 use Rattle.app_storages.specs.Answers.{CallsTo}
+use Rattle.app_storages.specs.Handled.{StaysInPlace}
 use Rattle.app_runtime.specs.declared.running.Running.{Running}
 use Rattle.app_runtime.specs.Running.{IsRunning, application, stage_in}
 
@@ -75,9 +76,14 @@ pub record IsHandled (told : Bool) (rules : List Rule) (answers : Answers) (now 
   pub end : IfEnded result (IsAnswered told rules answers now c a a' old new)
       (IsFailed told rules answers now c a a' old new)
       (IsTrue told → IsInProgress rules answers a.app now c (application old.image a) old new)
+  -- a call that begins an update only plans, however it ends
+  pub looks : only_plans c ≡ true → is_to_open (stage_in a.stage) ≡ false → IsUnwritten old new
   -- a call that needs no device calls none
   pub idle : IsTrue told → calls_device (application old.image a) c ≡ false → Untouched
   pub written : IsTrue told → is_durable c ≡ true → (f : Found) (s : Session)
       → found_named (application old.image a) c ≡ Some (Ok f)
       → session_at (application old.image a) f.number ≡ Some s → WritesWithin a.app f s old new
+  -- no file changes beside those of a storage that the call names
+  pub place : IsTrue told → is_to_open (stage_in a.stage) ≡ false
+      → StaysInPlace a.app c (application old.image a) old.image new.image
   pub time : Elapses old new

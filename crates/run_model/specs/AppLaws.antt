@@ -2,7 +2,8 @@
 use Rattle.std.specs.Prelude.{◌≡◌, ℕ}
 use Rattle.disk_model.specs.Frame.{Spares, IsSettledOn}
 use Rattle.disk_model.specs.Medium.{Medium, Quiet, EachCase, Elapses}
-use Rattle.deploy_laws.specs.Places.{IsNoFileOf}
+use Rattle.disk_model.specs.Place.{IsNoSlot}
+use Rattle.deploy_laws.specs.Places.{IsNoFileOf, root_place}
 use Rattle.deploy_laws.specs.Apps.{App, app_at, IsCleanApp}
 use Rattle.deploy_laws.specs.Stands.{StandsCase, IsLater}
 use Rattle.deploy_laws.specs.Laws.{UntouchedAppLaw, StillAppLaw, OthersLaw, OthersCaseLaw, StandsCleanLaw, RootMendLaw}
@@ -38,6 +39,8 @@ pub record OpensRoot (a : ℕ) (old new : Medium) : Type 0 where
       → EachCase (StandsCase a (app_at old.image a) after) old new
   pub outside : Quiet old → EachCase (IsSettledOn (IsNoFileOf a) old.image) old new
   pub elsewhere : Spares (IsNoFileOf a) old.image new.image
+  -- and of its own none but slots of the root
+  pub slots : Spares (IsNoSlot (root_place a)) old.image new.image
   pub clean : IsCleanApp a old.image → IsCleanApp a new.image
   pub quiet : Quiet new
   pub time : Elapses old new

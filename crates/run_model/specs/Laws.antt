@@ -33,7 +33,7 @@ use Rattle.run_model.specs.Lasting.{IsWorld}
 use Rattle.run_model.specs.LastingLaws.{AreSeenAgain, synchronises, IsReadBeside}
 use Rattle.run_model.specs.Runtimes.{Memory, world_of, Stepped, Stopped, Starts, StartKeeps}
 use Rattle.run_model.specs.Endings.{Ending, HasStarted, HasEnded}
-use Rattle.run_model.specs.Turns.{Turn, text_of, IsBlamed, AreBlamed}
+use Rattle.run_model.specs.Turns.{Turn, turn, text_of, IsBlamed, AreBlamed}
 use Rattle.run_model.specs.Runs.{DiskSide}
 use Rattle.run_model.specs.RunLaws.{Going}
 use Rattle.run_model.specs.Lives.{Known, Life, Pair}
@@ -230,8 +230,7 @@ RunGoesOnLaw rules answers old now new = (turns : List Turn) (e : Event) (reply 
     → Going rules answers (world_at old.image) (started (world_at old.image)) turns memory doubt old now
     → (s : Stepped rules answers e reply memory memory' doubt now new)
     → Going rules answers (world_at old.image) (started (world_at old.image))
-    (turns ++ record { event = e; reply = reply; faults = new.faults; world = world_of new.image memory' s.doubt' }
-    ∷ []) memory' s.doubt' old new
+    (turns ++ turn e reply new (world_of new.image memory' s.doubt') ∷ []) memory' s.doubt' old new
 
 -- where every command has ended, all that is promised follows
 abbrev pub RunEndsLaw : List Rule → Answers → (old now : Medium) → Type 0

@@ -8,6 +8,7 @@ pub mod Moments
 pub mod Runtimes
 pub mod Lines
 pub mod Turns
+pub mod Bounds
 pub mod Endings
 pub mod Runs
 pub mod AppLaws

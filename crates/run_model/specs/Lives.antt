@@ -35,7 +35,7 @@ use Rattle.run_model.specs.RunLaws.{imaged_last}
 use Rattle.run_model.specs.Starting.{at_entry, between_worlds}
 use Rattle.run_model.specs.Lines.{lines_of}
 use Rattle.run_model.specs.Runs.{DiskSide, Run, Progress, starting, between, within}
-use Rattle.run_model.specs.Turns.{Turn, worlds_of}
+use Rattle.run_model.specs.Turns.{Bytes, Turn, bytes_of, worlds_of}
 use Rattle.run_model.specs.Worlds.{Disks, Doubt, World, disk_at, disks, started, world_at}
 
 -- ---- the pairs between which an application may stand
@@ -562,11 +562,15 @@ abbrev pub HasFirst : (start : World) → (reached : List World) → (next : Dis
 HasFirst start reached next = ((reached ≡ []) × (next ≡ disks start)) ⊎ ((ws : List World) × (reached ≡ start ∷ ws))
 
 first_of : (rules : List Rule) (answers : Answers) (how : Ending) (start : World) (lines all : List (List ℕ))
-    (turns : List Turn) (before now : Option (List ℕ)) (reached : List World) (next : Disks)
-    → Progress rules answers how start lines all turns before now reached next → HasFirst start reached next
-first_of rules answers _ start lines all turns before now reached next (starting a b c d none is) = inl (none, is)
-first_of rules answers _ start lines all turns before now reached next (between a is b) = inr (worlds_of turns, is)
-first_of rules answers _ start lines all turns before now reached next (within a b c is d) = inr (worlds_of turns, is)
+    (turns : List Turn) (before now : Option (List ℕ)) (reached : List World) (next : Disks) (begun held : Bytes)
+    → Progress rules answers how start lines all turns before now reached next begun held
+    → HasFirst start reached next
+first_of rules answers _ start lines all turns before now reached next begun held (starting a b c d none is e) =
+    inl (none, is)
+first_of rules answers _ start lines all turns before now reached next begun held (between a is b c) =
+    inr (worlds_of turns, is)
+first_of rules answers _ start lines all turns before now reached next begun held (within a b c is d) =
+    inr (worlds_of turns, is)
 
 first_moment : (app : ℕ) (entry start : World) (reached : List World) (next : Disks) (c : Case) → start.doubt ≡ None
     → Between app (disks entry) (disks start) c → HasFirst start reached next → IsMomentOf app entry reached next c
@@ -591,8 +595,8 @@ quiet_always laws rules answers app lt _ lines all turns before now old new run 
     (start_calm old.image)
     (between_worlds old.image app lt c (laws.still app old.image (reopened (app_at old.image app)) c lt clean
     (settled_on (IsFileOf app) (quiet c was)) (same_root refl refl)))
-    (first_of rules answers _ (started (world_at old.image)) lines all turns before now run.reached run.next
-    run.progress))
+    (first_of rules answers _ (started (world_at old.image)) lines all turns before now run.reached run.next run.begun
+    (bytes_of new) run.progress))
     (λ moment. moment)
     (run.everywhen.always app lt clean sound c s)
 

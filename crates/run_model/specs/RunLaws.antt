@@ -3,7 +3,7 @@
 use Rattle.std.specs.Prelude.{◌≡◌, ◌⊎◌, ℕ, zero, suc, ◌+◌, ◌≤◌, ◌<◌, List, [], ◌∷◌, ◌++◌, length, map, Option, Some}
 use Rattle.std.specs.Prelude.{None, Bool, IsTrue, true, false}
 use Rattle.std.specs.List.{AllByRecursion}
-use Rattle.std.proofs.Common.{refl, sym, ap, ◌∙◌, subst, le_trans, inl, inr, ⊎_elim, arith}
+use Rattle.std.proofs.Common.{refl, sym, ap, ap₂, ◌∙◌, subst, le_trans, inl, inr, ⊎_elim, arith}
 use Rattle.std.specs.Io.KnownBytes.{Appends}
 use Rattle.disk_model.specs.Case.{Case}
 use Rattle.disk_model.specs.Laws.{elapses_on}
@@ -37,9 +37,10 @@ use Rattle.run_model.specs.Steps.{calls_device, doubt_after}
 use Rattle.run_model.specs.MomentLaws.{last_is, start_stays, step_stays, end_stays, stop_stays, sound_front}
 use Rattle.run_model.specs.KeepLaws.{rests}
 use Rattle.run_model.specs.Runtimes.{Running, Memory, with_disk, world_of, StepsOn, Stepped, Stopped, Starts}
-use Rattle.run_model.specs.Runtimes.{StartKeeps}
+use Rattle.run_model.specs.Runtimes.{StartKeeps, IsUnwritten, writes_none}
+use Rattle.run_model.specs.Bounds.{AreBounded, IsBounded, IsBegunWithin, StartsWithin, bytes_behind}
 use Rattle.run_model.specs.Endings.{Ending, HasStarted, HasEnded, has_started}
-use Rattle.run_model.specs.Turns.{Turn, Follow, worlds_of, text_of, IsBlamed, AreBlamed}
+use Rattle.run_model.specs.Turns.{Bytes, Turn, Follow, bytes_of, turn, worlds_of, text_of, IsBlamed, AreBlamed}
 use Rattle.run_model.specs.Runs.{AreCases, IsCaseOfDoubt, IsReadSince, Everywhen, IsSettled, starting, between, within}
 use Rattle.run_model.specs.Runs.{DiskSide}
 
@@ -78,6 +79,11 @@ pub record Going (rules : List Rule) (answers : Answers) (entry start : World) (
   pub imaged : (app : ℕ) → app < 8 → AreImaged app (start ∷ worlds_of turns)
   pub stayed : (app : ℕ) → app < 8 → IsCleanApp app old.image → AreSoundDoubts app (worlds_of turns)
       → Stayed app entry start (worlds_of turns) old now
+  -- what each command wrote, from the bytes that the start left on
+  pub begun : Bytes
+  pub starts : StartsWithin (bytes_of old) begun
+  pub bounded : AreBounded start begun turns
+  pub held : bytes_of now ≡ bytes_behind begun turns
   pub time : Elapses old now
 
 -- ---- what applications came from
@@ -184,21 +190,66 @@ read_now : (told : Bool) (old now new : Medium) → IsTrue told → IsLawful tol
 read_now told old now new tells lawful time later c at left =
     lawful.gave_counts old.moment c (le_trans time.later later.later) (lawful.gives tells c at left)
 
+-- ---- what was written
+
+behind_on : (b : Bytes) (ts : List Turn) (t : Turn) → bytes_behind b (ts ++ t ∷ []) ≡ t.bytes
+behind_on b [] t = refl
+behind_on b (u ∷ us) t = behind_on u.bytes us t
+
+bounded_on : (w : World) (b : Bytes) (ts : List Turn) (t : Turn) → AreBounded w b ts
+    → IsBounded (last_of w (worlds_of ts)) t.event
+    (writes_none (last_of w (worlds_of ts)) t.event t.reply) (bytes_behind b ts) t.bytes
+    → AreBounded w b (ts ++ t ∷ [])
+bounded_on w b [] t are is = (is, tt)
+bounded_on w b (u ∷ us) t are is = (are.0, bounded_on u.world u.bytes us t are.1 is)
+
+same_bytes : (old new : Medium) → IsUnwritten old new → bytes_of new ≡ bytes_of old
+same_bytes old new is = ap₂ (λ (i : Image) (n : ℕ). record { image = i; written = n }) is.0 is.1
+
 module _ (rules : List Rule) (answers : Answers) (entry start : World) (calm : start.doubt ≡ None) where
+  -- the command that was answered, from the last world
+  bounded_here : (turns : List Turn) (e : Event) (reply : Reply) (memory memory' : Memory) (doubt : Option Doubt)
+      (old now new : Medium) → Elapses now new
+      → (going : Going rules answers entry start turns memory doubt old now)
+      → Stepped rules answers e reply memory memory' doubt now new
+      → IsBounded (last_of start (worlds_of turns)) e (writes_none (last_of start (worlds_of turns)) e reply)
+      (bytes_behind going.begun turns) (bytes_of new)
+  bounded_here turns e reply memory memory' doubt old now new time going s =
+      subst (λ (w : World). IsBounded w e (writes_none w e reply) (bytes_behind going.begun turns) (bytes_of new))
+      (sym going.last)
+      (subst (λ (b : Bytes). IsBounded (world_of now.image memory doubt) e
+      (writes_none (world_of now.image memory doubt) e reply) b (bytes_of new)) going.held (record {
+        elsewhere = s.aside.elsewhere;
+        place = s.place;
+        unwritten = λ none. same_bytes now new (s.unwritten none);
+        written = s.written;
+        later = time.written;
+      }))
+
+  -- and one in progress
+  begun_here : (turns : List Turn) (e : Event) (memory : Memory) (doubt : Option Doubt) (old now new : Medium)
+      → Elapses now new → (going : Going rules answers entry start turns memory doubt old now)
+      → Stopped rules answers e memory doubt now new
+      → IsBegunWithin (last_of start (worlds_of turns)) e (bytes_behind going.begun turns) (bytes_of new)
+  begun_here turns e memory doubt old now new time going s =
+      subst (λ (w : World). IsBegunWithin w e (bytes_behind going.begun turns) (bytes_of new)) (sym going.last)
+      (subst (λ (b : Bytes). IsBegunWithin (world_of now.image memory doubt) e b (bytes_of new)) going.held (record {
+        elsewhere = s.aside.elsewhere;
+        place = s.place;
+        unwritten = λ none. same_bytes now new (s.unwritten none);
+        written = s.written;
+        later = time.written;
+      }))
+
   pub goes_on : (turns : List Turn) (e : Event) (reply : Reply) (memory memory' : Memory) (doubt : Option Doubt)
       (told : Bool) (old now new : Medium) → IsTrue told
       → IsLawful told new → Elapses now new → Going rules answers entry start turns memory doubt old now
       → (s : Stepped rules answers e reply memory memory' doubt now new)
-      → Going rules answers entry start (turns ++ record {
-        event = e;
-        reply = reply;
-        faults = new.faults;
-        world =
-            world_of new.image memory' s.doubt';
-      } ∷ []) memory' s.doubt' old new
+      → Going rules answers entry start (turns ++ turn e reply new (world_of new.image memory' s.doubt') ∷ []) memory'
+      s.doubt' old new
   goes_on turns e reply memory memory' doubt told old now new tells lawful time going s =
       let w' : World = world_of new.image memory' s.doubt' in
-      let t : Turn = record { event = e; reply = reply; faults = new.faults; world = w' } in
+      let t : Turn = turn e reply new w' in
       record {
         eight = s.eight;
         follow = follow_on rules answers start turns t going.follow
@@ -242,6 +293,11 @@ module _ (rules : List Rule) (answers : Answers) (entry start : World) (calm : s
             (s.case d is)) sound'
             (subst (λ w. StepKeeps app w w' now new) (sym going.last) (s.keeps app lt))
             (going.stayed app lt clean (sound_front app (worlds_of turns) w' sound')));
+        begun = going.begun;
+        starts = going.starts;
+        bounded = bounded_on start going.begun turns t going.bounded (bounded_here turns e reply memory memory' doubt
+            old now new time going s);
+        held = sym (behind_on going.begun turns t);
         time = elapses_on going.time time;
       }
 
@@ -354,6 +410,10 @@ starts_going rules answers memory old new time s = record {
   stayed = λ app lt clean sound. start_stays app (world_at old.image) (started (world_at old.image)) old new
       (start_calm old) (s.keeps.always app lt clean)
       (record { clean = s.clean app lt clean; quiet = λ none. s.quiet });
+  begun = bytes_of new;
+  starts = record { roots = s.keeps.roots; later = time.written };
+  bounded = tt;
+  held = refl;
   time = time;
 }
 
@@ -364,8 +424,7 @@ pub steps_going : (rules : List Rule) (answers : Answers) (turns : List Turn) (e
     → Going rules answers (world_at old.image) (started (world_at old.image)) turns memory doubt old now
     → (s : Stepped rules answers e reply memory memory' doubt now new)
     → Going rules answers (world_at old.image) (started (world_at old.image))
-    (turns ++ record { event = e; reply = reply; faults = new.faults; world = world_of new.image memory' s.doubt' }
-    ∷ []) memory' s.doubt' old new
+    (turns ++ turn e reply new (world_of new.image memory' s.doubt') ∷ []) memory' s.doubt' old new
 steps_going rules answers turns e reply memory memory' doubt told old now new tells lawful time going s =
     goes_on rules answers (world_at old.image) (started (world_at old.image)) (start_calm old) turns e reply memory
     memory' doubt told old now new tells lawful time going s
@@ -382,7 +441,10 @@ start_disk rules answers how before after told old new lawful time open_end keep
   settled = λ over. absurd (open_end (has_started how over));
   reached = [];
   next = disks (started (world_at old.image));
-  progress = starting open_end refl refl refl refl refl;
+  begun = bytes_of new;
+  starts = record { roots = keeps.roots; later = time.written };
+  bounded = tt;
+  progress = starting open_end refl refl refl refl refl refl;
   clean = λ over. absurd (open_end (has_started how over));
   everywhen = record {
     always = λ app lt clean sound c s. ⊎_elim (λ before. inl before) (λ b. inr (inl b)) (keeps.always app lt clean c s);
@@ -407,7 +469,10 @@ ends_disk laws rules answers _ lines all turns before after memory doubt old now
       turns memory doubt old now going;
   reached = started (world_at old.image) ∷ worlds_of turns;
   next = disks (last_of (started (world_at old.image)) (worlds_of turns));
-  progress = between started_well refl refl;
+  begun = going.begun;
+  starts = going.starts;
+  bounded = going.bounded;
+  progress = between started_well refl refl going.held;
   clean = λ over app lt clean sound. (going.stayed app lt clean sound).ready.clean;
   everywhen = ends_everywhen rules answers (world_at old.image) (started (world_at old.image)) (start_calm old) laws
       turns memory doubt old now going;
@@ -433,6 +498,9 @@ stops_disk rules answers _ lines all others text turns before after e memory dou
       settled = λ over. absurd (open_end over);
       reached = started (world_at old.image) ∷ worlds_of turns;
       next = s.after;
+      begun = going.begun;
+      starts = going.starts;
+      bounded = going.bounded;
       progress = within started_well open_end wrote refl (record {
         text = text;
         others = others;
@@ -440,6 +508,8 @@ stops_disk rules answers _ lines all others text turns before after e memory dou
         is_next = is_next;
         spelled = spelled;
         leads = subst (λ w. Leads rules answers w e s.after) (sym going.last) s.leads;
+        bounded = begun_here rules answers (world_at old.image) (started (world_at old.image)) (start_calm old) turns e
+            memory doubt old now new time going s;
       });
       clean = λ over. absurd (open_end over);
       everywhen = stops_everywhen rules answers (world_at old.image) (started (world_at old.image)) (start_calm old)

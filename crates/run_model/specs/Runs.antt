@@ -9,12 +9,13 @@ use Rattle.command_text.specs.declared.calls.Event.{Event}
 use Rattle.command_text.specs.declared.lines.Line.TheVariants as line
 use Rattle.command_text.specs.Grammar.{IsLine}
 use Rattle.deploy_laws.specs.Apps.{IsCleanApp}
+use Rattle.run_model.specs.Bounds.{AreBounded, IsBegunWithin, StartsWithin, bytes_behind}
 use Rattle.run_model.specs.Endings.{Ending, status_of, HasStarted, HasEnded, HasCauseOf, EndsBy, IsInput}
 use Rattle.run_model.specs.Lasting.{IsWorld}
 use Rattle.run_model.specs.Lines.{lines_of, Give}
 use Rattle.run_model.specs.Moments.{AreImaged, IsMomentOf, OrBefore, last_of, AreSoundDoubts, AreDecided}
 use Rattle.run_model.specs.Steps.{Leads}
-use Rattle.run_model.specs.Turns.{Turn, events_of, worlds_of, text_of, Follow, CountsFailures}
+use Rattle.run_model.specs.Turns.{Bytes, Turn, bytes_of, events_of, worlds_of, text_of, Follow, CountsFailures}
 use Rattle.run_model.specs.Worlds.{Disks, Doubt, World, disks, world_at, started, closed}
 
 -- ---- doubts
@@ -55,32 +56,35 @@ pub record IsSettled (w : World) (new : Medium) : Type 0 where
   pub world : world_at new.image ≡ closed w
   pub quiet : w.doubt ≡ None → Quiet new
 
--- a command in progress is that of the next line, and leads there
+-- a command in progress is that of the next line, and leads there; it began at the bytes `left`
 pub record IsInProgress (rules : List Rule) (answers : Answers) (w : World) (lines all : List (List ℕ))
-    (next : Disks) : Type 0 where
+    (next : Disks) (left now : Bytes) : Type 0 where
   pub text : List ℕ
   pub others : List (List ℕ)
   pub event : Event
   pub is_next : all ≡ lines ++ text ∷ others
   pub spelled : IsLine text (line.Event event)
   pub leads : Leads rules answers w event next
+  pub bounded : IsBegunWithin w event left now
 
 -- How far a run came, through the commands that were answered, of the lines `all`: `reached` are the worlds, and `next`
--- is what was in progress; `before` and `now` are the bytes written.
+-- is what was in progress; `before` and `now` are the bytes written, and the disk's bytes were `begun` behind the start
+-- and are `held` at the end.
 pub data Progress (rules : List Rule) (answers : Answers) (ending : Ending) (start : World) (lines all : List (List ℕ))
     (turns : List Turn) (before now : Option (List ℕ))
-    (reached : List World) (next : Disks) : Type 0 where
+    (reached : List World) (next : Disks) (begun held : Bytes) : Type 0 where
   -- the start did not end: no line was taken, and nothing was handled
   starting : ¬ (HasStarted ending) → lines ≡ [] → all ≡ [] → turns ≡ [] → reached ≡ [] → next ≡ disks start
-      → Progress rules answers ending start lines all turns before now reached next
-  -- nothing is in progress
+      → held ≡ begun → Progress rules answers ending start lines all turns before now reached next begun held
+  -- nothing is in progress, and nothing was written behind the last command
   between : HasStarted ending → reached ≡ start ∷ worlds_of turns → next ≡ disks (last_of start (worlds_of turns))
-      → Progress rules answers ending start lines all turns before now reached next
+      → held ≡ bytes_behind begun turns
+      → Progress rules answers ending start lines all turns before now reached next begun held
   -- the command of the next line is, and the text of every reply was written before it was begun
   within : HasStarted ending → ¬ (HasEnded ending) → Appends before now (text_of turns)
       → reached ≡ start ∷ worlds_of turns
-      → IsInProgress rules answers (last_of start (worlds_of turns)) lines all next
-      → Progress rules answers ending start lines all turns before now reached next
+      → IsInProgress rules answers (last_of start (worlds_of turns)) lines all next (bytes_behind begun turns) held
+      → Progress rules answers ending start lines all turns before now reached next begun held
 
 -- What a run promises of a disk that tells its bytes, for the lines that were handled, of the lines `all`, the commands
 -- that they gave, and the bytes that were written before and now.
@@ -95,7 +99,12 @@ pub record DiskSide (rules : List Rule) (answers : Answers) (ending : Ending) (l
   pub settled : HasEnded ending → IsSettled (last_of (started (world_at old.image)) (worlds_of turns)) new
   pub reached : List World
   pub next : Disks
+  -- what the start and each command wrote; `begun` are the bytes that the start left, however it ended
+  pub begun : Bytes
+  pub starts : StartsWithin (bytes_of old) begun
+  pub bounded : AreBounded (started (world_at old.image)) begun turns
   pub progress : Progress rules answers ending (started (world_at old.image)) lines all turns before now reached next
+      begun (bytes_of new)
   -- each application, and what lay there before a command that left a doubt, is what some image stands for
   pub imaged : (app : ℕ) → app < 8 → AreImaged app reached
   -- where every command has ended, the places that were clean are clean again

@@ -7,6 +7,7 @@ use Rattle.disk_model.specs.Frame.{Spares, IsSettledOn}
 use Rattle.disk_model.specs.Image.{Image}
 use Rattle.disk_model.specs.Case.{Case}
 use Rattle.disk_model.specs.Medium.{Medium, Quiet, OnlyReads, EachCase}
+use Rattle.disk_model.specs.Place.{IsNoSlot}
 use Rattle.element_state.specs.declared.shapes.View.{View}
 use Rattle.element_state.specs.States.{Opens}
 use Rattle.element_state.specs.Written.{IsWithin, map_cost}
@@ -21,7 +22,7 @@ use Rattle.command_text.specs.declared.replies.Answer.{Answer}
 use Rattle.command_text.specs.declared.replies.Answer.TheVariants as answer
 use Rattle.command_text.specs.declared.replies.Reply.{Reply}
 use Rattle.deploy_laws.specs.Apps.{App, app_at, IsCleanApp}
-use Rattle.deploy_laws.specs.Places.{IsNoFileOf}
+use Rattle.deploy_laws.specs.Places.{IsBeside, IsNoFileOf, root_place}
 use Rattle.run_model.specs.Calls.{session_at}
 use Rattle.run_model.specs.Found.{Found, shape_in}
 use Rattle.run_model.specs.Lasting.{IsWorld}
@@ -63,6 +64,10 @@ IsDoubt memory doubt = is_some doubt ≡ memory.in_doubt
 
 -- ---- the start
 
+-- the file is no slot of a root
+abbrev pub IsNoRoot : ℕ → Type 0
+IsNoRoot file = (app : ℕ) → app < 8 → IsNoSlot (root_place app) file
+
 -- at each moment each application stands between what it was and itself with its root mended, also where the start does
 -- not end; until the start has synchronised the disk, a crash may also leave what one before the start might have left
 pub record StartKeeps (old new : Medium) : Type 0 where
@@ -72,6 +77,8 @@ pub record StartKeeps (old new : Medium) : Type 0 where
   -- one that ended before it had synchronised the disk did nothing; behind any other nothing from before it is left
   pub at_exit : OnlyReads old new ⊎ ((app : ℕ) → app < 8 → IsCleanApp app old.image → (c : Case) → new.now c
       → Between app (disks (world_at old.image)) (disks (started (world_at old.image))) c)
+  -- only slots of roots change
+  pub roots : Spares IsNoRoot old.image new.image
 
 -- a start that ended well
 pub record Starts (memory : Memory) (old new : Medium) : Type 0 where
@@ -97,6 +104,13 @@ pub record StaysAside (e : Event) (doubt : Option Doubt) (old new : Medium) : Ty
   pub elsewhere_always : (doubt ≡ None → Quiet old) → EachCase
       (λ c. old.now c ⊎ IsSettledOn (IsElsewhere e) old.image c) old new
 
+-- A file beside those of the storage that a command names, of an application whose root is in use: the command leaves
+-- it as it was.
+abbrev pub IsBesideNamed : World → Event → ℕ → Type 0
+IsBesideNamed w (event.Now t) file = ⊤
+IsBesideNamed w (event.App app c) file = (is_to_open (app_of w app).stage ≡ false)
+    × ((f : Found) × (found_named (app_of w app) c ≡ Some (Ok f)) × IsBeside app f.bank f.number file)
+
 -- no byte is written, and reads give what they gave
 abbrev pub IsUnwritten : (old new : Medium) → Type 0
 IsUnwritten old new = (new.image ≡ old.image) × (new.written ≡ old.written)
@@ -115,9 +129,22 @@ abbrev pub opens_root : World → Event → Bool
 opens_root w (event.Now t) = false
 opens_root w (event.App app c) = is_to_open (app_of w app).stage
 
--- a command that calls no device; and one that is refused, where no root is to be opened before
+-- a call that begins an update reads what the storages hold, and plans
+abbrev pub only_plans : Call → Bool
+only_plans (call.UpdateBegin text) = true
+only_plans other = false
+
+abbrev pub plans_update : Event → Bool
+plans_update (event.Now t) = false
+plans_update (event.App app c) = only_plans c
+
+-- a command that calls no device; and one that only plans, where no root is to be opened before
+abbrev pub only_looks : World → Event → Bool
+only_looks w e = calls_none w e || (plans_update e && not (opens_root w e))
+
+-- and one that is refused
 abbrev pub writes_none : World → Event → Reply → Bool
-writes_none w e reply = calls_none w e || (is_refusal reply.answer && not (opens_root w e))
+writes_none w e reply = only_looks w e || (is_refusal reply.answer && not (opens_root w e))
 
 -- the calls that make a session durable
 abbrev pub is_durable : Call → Bool
@@ -128,19 +155,24 @@ is_durable other = false
 
 -- nothing where both maps are the same; and never more, in each copy, than the contents that are new or differ and the
 -- next index
-pub record WritesWithin (app : ℕ) (f : Found) (s : Session) (old new : Medium) : Type 0 where
-  pub same : same_map (synced_of s) (seen_of s) ≡ true → new.written ≡ old.written
+pub record CostsWithin (app : ℕ) (f : Found) (s : Session) (before now : ℕ) : Type 0 where
+  pub same : same_map (synced_of s) (seen_of s) ≡ true → now ≡ before
   pub at_most : (v : View) (others : List View) → f.state ≡ Opens v others
       → IsWithin (shape_in app f).place.copies (map_cost f.config.kind (synced_of s) (seen_of s))
-      (index_length f.config.kind (synced_view (shape_in app f) v (synced_of s) (seen_of s)).entries) old.written
-      new.written
+      (index_length f.config.kind (synced_view (shape_in app f) v (synced_of s) (seen_of s)).entries) before now
+
+abbrev pub WritesWithin : (app : ℕ) → Found → Session → (old new : Medium) → Type 0
+WritesWithin app f s old new = CostsWithin app f s old.written new.written
 
 -- however a call ends that is to make an open storage durable
-abbrev pub WrittenBy : World → Event → (old new : Medium) → Type 0
-WrittenBy w (event.Now t) old new = ⊤
-WrittenBy w (event.App app c) old new = is_durable c ≡ true → (f : Found) (s : Session)
+abbrev pub CostsBy : World → Event → (before now : ℕ) → Type 0
+CostsBy w (event.Now t) before now = ⊤
+CostsBy w (event.App app c) before now = is_durable c ≡ true → (f : Found) (s : Session)
     → found_named (app_of w app) c ≡ Some (Ok f)
-    → session_at (app_of w app) f.number ≡ Some s → WritesWithin app f s old new
+    → session_at (app_of w app) f.number ≡ Some s → CostsWithin app f s before now
+
+abbrev pub WrittenBy : World → Event → (old new : Medium) → Type 0
+WrittenBy w e old new = CostsBy w e old.written new.written
 
 -- ---- one command
 
@@ -165,6 +197,7 @@ pub record Stepped (rules : List Rule) (answers : Answers) (e : Event) (reply : 
   pub case : (d : Doubt) → doubt' ≡ Some d → (doubt ≡ Some d) ⊎ (new.now d.case × (d.case.left ≡ new.image))
   pub quiet : doubt' ≡ None → Quiet new
   pub aside : StaysAside e doubt old new
+  pub place : Spares (IsBesideNamed (world_of old.image old_memory doubt) e) old.image new.image
   pub unwritten : writes_none (world_of old.image old_memory doubt) e reply ≡ true → IsUnwritten old new
   pub written : WrittenBy (world_of old.image old_memory doubt) e old new
   -- the reply that the device failed has its cause in this command
@@ -177,5 +210,6 @@ pub record Stopped (rules : List Rule) (answers : Answers) (e : Event) (memory :
   pub leads : Leads rules answers (world_of old.image memory doubt) e after
   pub keeps : (app : ℕ) → app < 8 → StopKeeps app (world_of old.image memory doubt) after old new
   pub aside : StaysAside e doubt old new
-  pub unwritten : calls_none (world_of old.image memory doubt) e ≡ true → IsUnwritten old new
+  pub place : Spares (IsBesideNamed (world_of old.image memory doubt) e) old.image new.image
+  pub unwritten : only_looks (world_of old.image memory doubt) e ≡ true → IsUnwritten old new
   pub written : WrittenBy (world_of old.image memory doubt) e old new

@@ -38,6 +38,7 @@ opened_first = record {
   reply =
       (stepped no_plan at_first (on (call.OpenKvs fav))).0;
   faults = 0;
+  bytes = record { image = λ f. []; written = 0 };
   world =
       (stepped no_plan at_first (on (call.OpenKvs fav))).1;
 }

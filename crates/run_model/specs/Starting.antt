@@ -6,7 +6,7 @@ use Rattle.std.proofs.lemmas.Bool.{cases_Bool}
 use Rattle.std.proofs.lemmas.Bool.Decides.{nat_tests}
 use Rattle.disk_model.specs.Image.{Image}
 use Rattle.disk_model.specs.Case.{Case, IsSettledAt}
-use Rattle.disk_model.specs.Frame.{IsSettledOn}
+use Rattle.disk_model.specs.Frame.{IsSettledOn, Spares}
 use Rattle.disk_model.specs.Laws.{cases_on, elapses_on}
 use Rattle.disk_model.specs.Medium.{Medium, Quiet, EachCase, Elapses, OnlyReads, WritesNothing}
 use Rattle.disk_model.specs.lemmas.Frames.{settled_on}
@@ -16,7 +16,7 @@ use Rattle.deploy_laws.specs.Stands.{StandsCase, IsLater, same_root}
 use Rattle.deploy_rows.specs.Rows.{reopened}
 use Rattle.run_model.specs.AppLaws.{AppLaws, OpensRoot}
 use Rattle.run_model.specs.Moments.{Between, OrBefore}
-use Rattle.run_model.specs.Runtimes.{StartKeeps}
+use Rattle.run_model.specs.Runtimes.{IsNoRoot, StartKeeps}
 use Rattle.run_model.specs.Worlds.{Application, disks, disk_at, all_resting, world_at, started}
 
 -- ---- the worlds of the start
@@ -53,6 +53,7 @@ pub record Opened (count : ℕ) (old now : Medium) : Type 0 where
   pub opened : (b : ℕ) → b < count → b < 8 → app_at now.image b ≡ reopened (app_at old.image b)
   pub closed : (b : ℕ) → count ≤ b → b < 8 → app_at now.image b ≡ app_at old.image b
   pub clean : (b : ℕ) → b < 8 → IsCleanApp b old.image → IsCleanApp b now.image
+  pub roots : Spares IsNoRoot old.image now.image
   pub quiet : Quiet now
   pub time : Elapses old now
 
@@ -85,6 +86,7 @@ open_next laws a old now new lta o r = record {
   opened = λ b below lt. opened b below lt (which a b);
   closed = λ b above lt. elsewhere b lt (λ e. omega (arith, e, above)) ∙ o.closed b (omega (arith, above)) lt;
   clean = λ b lt clean. clean_on b lt clean (which a b);
+  roots = λ f is. r.slots f (is a lta) ∙ o.roots f is;
   quiet = r.quiet;
   time = elapses_on o.time r.time;
 }
@@ -138,6 +140,7 @@ open_none laws old now time nothing quiet = record {
   opened = λ b below lt. absurd (omega (arith, below));
   closed = λ b above lt. ap (λ (i : Image). app_at i b) nothing.image;
   clean = λ b lt clean. subst (λ i. IsCleanApp b i) (sym nothing.image) clean;
+  roots = λ f is. ap (λ (i : Image). i f) nothing.image;
   quiet = quiet;
   time = time;
 }
@@ -174,13 +177,15 @@ pub keeps_worlds : (old new : Medium) → ((b : ℕ) → b < 8 → IsCleanApp b 
     → EachCase (OrBefore old (StandsCase b (app_at old.image b) (reopened (app_at old.image b)))) old new)
     → OnlyReads old new ⊎ ((b : ℕ) → b < 8 → IsCleanApp b old.image → (c : Case) → new.now c
     → StandsCase b (app_at old.image b) (reopened (app_at old.image b)) c)
+    → Spares IsNoRoot old.image new.image
     → StartKeeps old new
-keeps_worlds old new moments exit = record {
+keeps_worlds old new moments exit roots = record {
   always = λ b lt clean c s. ⊎_elim (λ before. inl before) (λ stands. inr (between_worlds old.image b lt c stands))
       (moments b lt clean c s);
   at_exit = ⊎_elim (λ reads. inl reads)
       (λ each. inr (λ b lt clean c at. between_worlds old.image b lt c (each b lt clean c at))) exit;
+  roots = roots;
 }
 
 pub opened_keeps : AppLaws → (count : ℕ) (old now : Medium) → Opened count old now → StartKeeps old now
-opened_keeps laws count old now o = keeps_worlds old now o.moments (inr (opened_rests laws count old now o))
+opened_keeps laws count old now o = keeps_worlds old now o.moments (inr (opened_rests laws count old now o)) o.roots

@@ -1,6 +1,8 @@
 -- The commands of a run that were answered, with their replies and the worlds after them.
 use Rattle.std.specs.Prelude.{◌≡◌, ◌≢◌, ◌≤◌, ℕ, List, [], ◌∷◌, map, ⊤}
 use Rattle.std.specs.List.{flat_map}
+use Rattle.disk_model.specs.Image.{Image}
+use Rattle.disk_model.specs.Medium.{Medium}
 use Rattle.per_base.specs.Causes.{Rose}
 use Rattle.per_base.specs.declared.errors.PerError.TheVariants as error
 use Rattle.migrate_fns.specs.Rules.{Rule, Answers}
@@ -11,13 +13,27 @@ use Rattle.command_text.specs.Replies.{reply_text}
 use Rattle.run_model.specs.Steps.{StepsTo}
 use Rattle.run_model.specs.Worlds.{World}
 
+-- the bytes of a disk at one moment: what reads give, and how many were written up to then
+pub record Bytes : Type 0 where
+  pub image : Image
+  pub written : ℕ
+
+abbrev pub bytes_of : Medium → Bytes
+bytes_of m = record { image = m.image; written = m.written }
+
 -- a command that was answered: its reply, and the world after it
 pub record Turn : Type 0 where
   pub event : Event
   pub reply : Reply
   -- the disk's count of failures behind it
   pub faults : ℕ
+  -- the disk's bytes behind it
+  pub bytes : Bytes
   pub world : World
+
+-- the turn that ends here
+abbrev pub turn : Event → Reply → Medium → World → Turn
+turn e reply m w = record { event = e; reply = reply; faults = m.faults; bytes = bytes_of m; world = w }
 
 abbrev pub events_of : List Turn → List Event
 events_of turns = map (λ (t : Turn). t.event) turns

@@ -13,6 +13,8 @@ returns g c =
           said.quiet said.unwritten said.cause said.passes said.unfailed said.text;
       idle = λ tells. none_called (g.D.Disk.medium c.args.disk.now).image c.args.running.now c.args.call.now
           (said.idle tells);
+      looks = λ plans closed. said.looks plans;
       written = said.written;
+      place = λ tells opened. said.place tells;
       time = said.time;
     }

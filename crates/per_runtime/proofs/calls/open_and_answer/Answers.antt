@@ -3,7 +3,7 @@ use Rattle.std.proofs.lemmas.Result.{err_from_is_err_and}
 use Rattle.disk_model.specs.Laws.{elapses_on}
 use Rattle.deploy.specs.declared.errors.Stop.{Stop}
 use Rattle.migrate_fns.specs.Stored.{answers_of, rules_of}
-use Rattle.per_runtime.proofs.Single.{marked_at, none_idle, none_written, opened_first, opening_failed}
+use Rattle.per_runtime.proofs.Single.{marked_at, none_idle, none_written, not_in_use, opened_first, opening_failed}
 use Rattle.per_runtime.proofs.calls.open_and_answer.Goals as goal
 
 pub returns-in_err-open_root : goal.returns-in_err-open_root
@@ -24,6 +24,14 @@ returns-in_err-open_root g c =
       idle = λ tells. none_idle c.applications_stand.ensures.mend g.D.Disk.told (rules_of c.args.migrations.now)
           (answers_of c.args.migrations.now) c.args.now c.args.call.now a c.open_root.new.self old mid
           c.requires.marked said.app closed _;
+      place = λ tells opened. not_in_use c.applications_stand.ensures.mend g.D.Disk.told
+          (rules_of c.args.migrations.now)
+          (answers_of c.args.migrations.now) c.args.now c.args.call.now a c.open_root.new.self old mid
+          c.requires.marked said.app closed opened;
+      looks = λ plans opened. not_in_use c.applications_stand.ensures.mend g.D.Disk.told
+          (rules_of c.args.migrations.now)
+          (answers_of c.args.migrations.now) c.args.now c.args.call.now a c.open_root.new.self old mid
+          c.requires.marked said.app closed opened;
       written = none_written c.applications_stand.ensures.mend g.D.Disk.told (rules_of c.args.migrations.now)
           (answers_of c.args.migrations.now) c.args.now c.args.call.now a c.open_root.new.self old mid
           c.requires.marked said.app closed mid;
@@ -47,6 +55,14 @@ returns g c =
       idle = λ tells. none_idle c.applications_stand.ensures.mend g.D.Disk.told (rules_of c.args.migrations.now)
           (answers_of c.args.migrations.now) c.args.now c.args.call.now a c.open_root.new.self old mid
           c.requires.marked said.app closed _;
+      place = λ tells opened. not_in_use c.applications_stand.ensures.mend g.D.Disk.told
+          (rules_of c.args.migrations.now)
+          (answers_of c.args.migrations.now) c.args.now c.args.call.now a c.open_root.new.self old mid
+          c.requires.marked said.app closed opened;
+      looks = λ plans opened. not_in_use c.applications_stand.ensures.mend g.D.Disk.told
+          (rules_of c.args.migrations.now)
+          (answers_of c.args.migrations.now) c.args.now c.args.call.now a c.open_root.new.self old mid
+          c.requires.marked said.app closed opened;
       written = none_written c.applications_stand.ensures.mend g.D.Disk.told (rules_of c.args.migrations.now)
           (answers_of c.args.migrations.now) c.args.now c.args.call.now a c.open_root.new.self old mid
           c.requires.marked said.app closed new;

@@ -4,7 +4,7 @@ use Rattle.disk_model.specs.Laws.{elapses_on, rose_before}
 use Rattle.deploy.specs.declared.errors.Stop.{Stop}
 use Rattle.run_model.specs.Starting.{opened_keeps}
 use Rattle.per_runtime.proofs.Begins.{all_begun, none_opened, one_opened, root_at, stopped_by, stops_at}
-use Rattle.per_runtime.proofs.Begins.{unsynced_keeps, way_at}
+use Rattle.per_runtime.proofs.Begins.{slots_at, unsynced_keeps, way_at}
 use Rattle.per_runtime.proofs.Places.{on_err, on_ok}
 use Rattle.per_runtime.proofs.starting.open_all.Goals as goal
 
@@ -52,7 +52,8 @@ returns-in_err-open_root g c =
       keeps = λ tells. stops_at c.applications_stand.ensures g.D.Disk.told c.loop-app.app old now new lt
           (g.met.D.Disk.lawful c.open_root.new.disk) (it.opened tells) said.time
           (way_at c.in_ok-running.running.app c.loop-app.app now new c.in_ok-running.ensures.app
-          (said.on_the_way tells));
+          (said.on_the_way tells))
+          (slots_at c.in_ok-running.running.app c.loop-app.app now new c.in_ok-running.ensures.app (said.slots tells));
       time = elapses_on it.time said.time;
     })
 
@@ -70,7 +71,8 @@ returns-in_err-push g c =
       keeps = λ tells. stops_at c.applications_stand.ensures g.D.Disk.told c.loop-app.app old now new lt
           (g.met.D.Disk.lawful c.open_root.new.disk) (it.opened tells) said.time
           (way_at c.in_ok-running.running.app c.loop-app.app now new c.in_ok-running.ensures.app
-          (said.on_the_way tells));
+          (said.on_the_way tells))
+          (slots_at c.in_ok-running.running.app c.loop-app.app now new c.in_ok-running.ensures.app (said.slots tells));
       time = elapses_on it.time said.time;
     })
 

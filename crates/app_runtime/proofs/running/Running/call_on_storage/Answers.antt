@@ -44,6 +44,7 @@ returns g c =
       idle = c.call.ensures.idle;
       unwritten = c.call.ensures.unwritten;
       written = c.call.ensures.written;
+      place = c.call.ensures.place;
       cause = c.call.ensures.cause;
       passes = c.call.ensures.passes;
       unfailed = c.call.ensures.unfailed;

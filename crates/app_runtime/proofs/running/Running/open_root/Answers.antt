@@ -31,7 +31,14 @@ returns-clause-root g c = λ tells. record {
   elsewhere = aside_at_the_end g.D.Disk.told c.args.self.now.app (IsNoRootSlot c.args.self.now.app)
       (g.D.Disk.medium c.args.disk.now) (g.D.Disk.medium c.open_root.new.disk) tells
       (λ f is. no_root c.args.self.now.app f c.requires.memory.below is) c.open_root.ensures.outside;
+  slots = c.open_root.ensures.outside.at_the_end tells;
   clean = λ clean. c.in_ok-root.ensures.clean tells clean;
   quiet = c.in_ok-root.ensures.quiet;
   time = c.open_root.ensures.time;
 }
+
+pub returns-in_err-root-clause-slots : goal.returns-in_err-root-clause-slots
+returns-in_err-root-clause-slots g c = c.open_root.ensures.outside.at_the_end
+
+pub returns-clause-slots : goal.returns-clause-slots
+returns-clause-slots g c = c.open_root.ensures.outside.at_the_end

@@ -12,6 +12,7 @@ returns g c = record {
   idle = c.handle.ensures.idle;
   unwritten = unwritten_of c.handle.result c.handle.ensures;
   written = c.handle.ensures.written;
+  place = c.handle.ensures.place;
   cause = cause_of c.handle.result c.handle.ensures;
   passes = passes_of c.handle.result c.handle.ensures;
   unfailed = unfailed_of c.handle.result c.handle.ensures;
