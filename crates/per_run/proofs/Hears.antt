@@ -24,7 +24,7 @@ use Rattle.run_model.specs.Moments.{last_of}
 use Rattle.run_model.specs.RunLaws.{ends_settled, stops_disk}
 use Rattle.run_model.specs.Runs.{DiskSide, IsSettled}
 use Rattle.run_model.specs.Runtimes.{Memory}
-use Rattle.run_model.specs.Turns.{Turn, AreBlamed, worlds_of}
+use Rattle.run_model.specs.Turns.{Turn, turn, worlds_of}
 use Rattle.run_model.specs.Worlds.{World, started, world_at}
 use Rattle.per_run.specs.declared.endings.Ending.{Ending}
 use Rattle.per_run.specs.declared.endings.Ending.TheVariants.{AllRead, EndLine, BadLine, OutOfMemory, Source, Sink}
@@ -35,9 +35,9 @@ use Rattle.per_run.specs.Serves.{text_in, texts_behind, texts_in, turn_in, turns
 use Rattle.per_run.specs.Serving.{Hearing, HearsOne, Service}
 use Rattle.per_run.specs.Steps.{Goes, IsAnswered, IsGoing, IsStopped, Puts, ending_of}
 use Rattle.per_run.proofs.Courses as courses
-use Rattle.per_run.proofs.Courses.{blamed_later}
+use Rattle.per_run.proofs.Courses.{counts_whole}
 use Rattle.per_run.proofs.Gives.{has_end}
-use Rattle.per_run.proofs.Goes.{goes_on, turn}
+use Rattle.per_run.proofs.Goes.{goes_on}
 
 -- ---- one more line
 
@@ -135,7 +135,7 @@ module _ (told : Bool) (rules : List Rule) (answers : Answers) (start : Medium) 
       (reply : Reply) → IsLawful told new → Elapses old new
       → Hearing told rules answers start before heard now memory old
       → (a : IsAnswered told rules answers text memory after reply old new)
-      → (w : World) × Goes told rules answers start (turns_in heard ++ turn a.event reply new.faults w ∷ []) after new
+      → (w : World) × Goes told rules answers start (turns_in heard ++ turn a.event reply new w ∷ []) after new
   turned heard now memory after old new text reply lawful time hearing a =
       goes_on rules answers start told (turns_in heard) a.event reply memory after old new lawful time hearing.goes
       a.blamed a.stepped
@@ -148,7 +148,7 @@ module _ (told : Bool) (rules : List Rule) (answers : Answers) (start : Medium) 
       → HearsOne told rules answers start before heard text later after new
   hears_reply heard number now later memory after old new text reply counts lawful time hearing a wrote =
       let more = turned heard now memory after old new text reply lawful time hearing a in
-      let h : Heard = answered text (turn a.event reply new.faults more.0) in (
+      let h : Heard = answered text (turn a.event reply new more.0) in (
         h,
         refl,
         hears heard h number now later memory after old new counts hearing a.spelled wrote more.1,
@@ -175,7 +175,7 @@ module _ (told : Bool) (rules : List Rule) (answers : Answers) (start : Medium) 
     heard = heard;
     are = are;
     ends = ends;
-    blamed = goes.blamed;
+    failures = counts_whole goes.blamed;
     disk = courses.rests told rules answers start None laws ending begun (lines_in heard) all (turns_in heard) None
         memory medium goes;
   }
@@ -220,7 +220,12 @@ module _ (told : Bool) (rules : List Rule) (answers : Answers) (start : Medium) 
     heard = heard;
     are = hearing.are;
     ends = inl (record { others = text ∷ others; next = refl; wrote = hearing.wrote });
-    blamed = blamed_later start.faults (turns_in heard) old.faults new.faults time.faults hearing.goes.blamed;
+    failures = record {
+      behind = old.faults;
+      blamed = hearing.goes.blamed;
+      later = time.faults;
+      passes = λ over. absurd over;
+    };
     disk = λ tells.
         let g : IsGoing rules answers start (turns_in heard) memory old = hearing.goes.disk tells in
         stops_disk rules answers endings.memory (lines_in heard) (lines_in heard ++ text ∷ others) others text
@@ -296,7 +301,7 @@ module _ (told : Bool) (rules : List Rule) (answers : Answers) (start : Medium) 
   service_in_reply laws ending heard number others now later memory after old new text reply counts lawful time hearing
       a puts =
       let more = turned heard now memory after old new text reply lawful time hearing a in
-      service_cut laws ending heard (answered text (turn a.event reply new.faults more.0)) number others now later
+      service_cut laws ending heard (answered text (turn a.event reply new more.0)) number others now later
       memory after old new counts (has_end reply) hearing a.spelled puts more.1
 
   pub service_in_refusal : {D : Type 0} (medium : D → Medium) → AppLaws → (ending : Ending) (heard : List Heard)

@@ -1,8 +1,7 @@
 -- The disk that a run which stays starts on, and the run as a whole.
 use Rattle.std.proofs.Common.{ℕ, List, [], ◌∷◌, length, ◌≡◌, ◌≤◌, ◌<◌, ◌+◌, ◌⊎◌, inl, inr, ⊎_elim, refl, sym, ◌∙◌, ap}
 use Rattle.std.proofs.Common.{subst, arith, Option, None, Bool, true, false, IsTrue, eq-or-lt_of_le, le_refl}
-use Rattle.std.proofs.Common.{le_trans, Result}
-use Rattle.std.proofs.Common.{Ok, Err, IfOk, OnErr}
+use Rattle.std.proofs.Common.{Result, Ok, Err, IfOk, OnErr, OnOk}
 use Rattle.std.proofs.KnownBytes.{Appends-nil, Consumes-nil, Keeps-refl}
 use Rattle.per_base.specs.Causes.{Rose}
 use Rattle.disk_model.specs.Case.{Case}
@@ -58,7 +57,7 @@ pub earlier_start : {D : Type 0} (told : Bool) (medium : D → Medium) (old star
     → IsPrepared told medium old start → (medium old).faults ≤ (medium start).faults
 earlier_start told medium old start (as_it_was some same) =
     subst (λ d. (medium old).faults ≤ (medium d).faults) (sym same) (le_refl _)
-earlier_start told medium old start (formatted_first blank fresh) = fresh.earlier
+earlier_start told medium old start (formatted_first blank fresh) = omega (arith, fresh.passes)
 
 -- ---- the start
 
@@ -79,6 +78,7 @@ keeps_on {a} {b} {c} first reads later keeps = record {
       subst (λ (i : Image). Between app (disks (world_at i)) (disks (started (world_at i))) x) reads.image
       (each app lt (subst (IsCleanApp app) (sym reads.image) clean) x now)))
       keeps.at_exit;
+  roots = λ f spared. keeps.roots f spared ∙ ap (λ (i : Image). i f) reads.image;
 }
 
 pub starts_on : {a b c : Medium} (memory : Memory) → Elapses a b → OnlyReads a b → Elapses b c → Starts memory b c
@@ -94,34 +94,37 @@ starts_on {a} {b} {c} memory first reads later s = record {
 
 -- behind the formatting
 pub readied_first : {D : Type 0} (told : Bool) (medium : D → Medium) (r : Result Runtime Stop) (old mid new : D)
-    → (IsTrue told → IsBlank (medium old).image) → (medium old).faults ≤ (medium mid).faults
+    → (IsTrue told → IsBlank (medium old).image) → (medium mid).faults ≡ (medium old).faults
     → IfOk r (λ x. (m : D) × IsBegun told (memory_of x) (medium mid) (medium m) (medium new))
     → IfOk r (λ x. IsReadied told medium (memory_of x) old new)
-readied_first told medium (Ok x) old mid new blank le begun = record {
+readied_first told medium (Ok x) old mid new blank same begun = record {
   start = begun.0;
   prepared = formatted_first blank (record {
     world = begun.1.world;
     clean = begun.1.clean;
-    earlier = le_trans le begun.1.earlier;
+    passes = begun.1.passes ∙ same;
   });
+  passes = begun.1.started;
   starts = begun.1.starts;
   time = begun.1.time;
 }
-readied_first told medium (Err e) old mid new blank le begun = tt
+readied_first told medium (Err e) old mid new blank same begun = tt
 
 -- on the disk as it was
 pub readied_as : {D : Type 0} (told : Bool) (medium : D → Medium) (r : Result Runtime Stop) (old mid new : D)
     → (IsTrue told → IsBlank (medium old).image → ⊥) → Elapses (medium old) (medium mid)
-    → OnlyReads (medium old) (medium mid) → Elapses (medium mid) (medium new)
+    → OnlyReads (medium old) (medium mid) → (medium mid).faults ≡ (medium old).faults
+    → Elapses (medium mid) (medium new) → OnOk r ((medium new).faults ≡ (medium mid).faults)
     → (IsTrue told → IfOk r (λ x. Starts (memory_of x) (medium mid) (medium new)))
     → IfOk r (λ x. IsReadied told medium (memory_of x) old new)
-readied_as told medium (Ok x) old mid new some first reads later starts = record {
+readied_as told medium (Ok x) old mid new some first reads same later passes starts = record {
   start = old;
   prepared = as_it_was some refl;
+  passes = passes ∙ same;
   starts = λ tells. starts_on (memory_of x) first reads later (starts tells);
   time = elapses_on first later;
 }
-readied_as told medium (Err e) old mid new some first reads later starts = tt
+readied_as told medium (Err e) old mid new some first reads same later passes starts = tt
 
 pub on_err : {T E P : Type 0} (r : Result T E) → P → OnErr r P
 on_err (Ok x) p = tt
@@ -130,12 +133,12 @@ on_err (Err e) p = p
 -- ---- the run
 
 pub hearing_none : (told : Bool) (rules : List Rule) (answers : Answers) (now : Option (List ℕ)) (memory : Memory)
-    (old new : Medium) → Elapses old new → (IsTrue told → Starts memory old new)
+    (old new : Medium) → Elapses old new → new.faults ≡ old.faults → (IsTrue told → Starts memory old new)
     → Hearing told rules answers old now [] now memory new
-hearing_none told rules answers now memory old new time starts = record {
+hearing_none told rules answers now memory old new time passes starts = record {
   are = tt;
   wrote = Appends-nil now;
-  goes = goes_none told rules answers memory old new time starts;
+  goes = goes_none told rules answers memory old new time passes starts;
 }
 
 -- one that came to its lines
@@ -159,7 +162,7 @@ serve_from told rules answers ending left_before left_now before now source_befo
       are = s.course.are;
       ends = s.course.ends;
       cause = cause_of ending source blamed.sink;
-      blamed = s.course.blamed;
+      failures = s.course.failures;
       time = time;
       disk = s.course.disk;
     }
@@ -224,7 +227,7 @@ serve_none told rules answers endings.device status left before source sink old 
       are = tt;
       ends = record { no_line = refl; wrote = Appends-nil before };
       cause = cause;
-      blamed = time.faults;
+      failures = record { behind = old.faults; blamed = refl; later = time.faults; passes = λ over. absurd over };
       time = time;
       disk = λ tells. start_disk rules answers endings.device None None told old new lawful time (λ begun. begun)
           (keeps tells);
@@ -242,7 +245,7 @@ serve_none told rules answers endings.start_memory status left before source sin
       are = tt;
       ends = record { no_line = refl; wrote = Appends-nil before };
       cause = cause;
-      blamed = time.faults;
+      failures = record { behind = old.faults; blamed = refl; later = time.faults; passes = λ over. absurd over };
       time = time;
       disk = λ tells. start_disk rules answers endings.start_memory None None told old new lawful time
           (λ begun. begun) (keeps tells);

@@ -13,11 +13,11 @@ use Rattle.command_text.specs.Grammar.{IsLine}
 use Rattle.command_text.specs.Replies.{reply_text}
 use Rattle.deploy_laws.specs.Apps.{IsCleanApp}
 use Rattle.run_model.specs.Endings as endings
-use Rattle.run_model.specs.Endings.{Ending, HasCauseOf, bad_line_text, status_of}
+use Rattle.run_model.specs.Endings.{Ending, HasCauseOf, HasEnded, bad_line_text, status_of}
 use Rattle.run_model.specs.Lines.{IsBad, lines_of}
 use Rattle.run_model.specs.Moments.{last_of}
 use Rattle.run_model.specs.Runs.{DiskSide, IsSettled}
-use Rattle.run_model.specs.Turns.{Turn, AreBlamed, worlds_of}
+use Rattle.run_model.specs.Turns.{Turn, CountsFailures, worlds_of}
 use Rattle.run_model.specs.Worlds.{formatted, started, world_at}
 
 -- ---- the lines that were handled
@@ -151,7 +151,7 @@ pub record Serve (told : Bool) (rules : List Rule) (answers : Answers) (status :
       ending heard (lines_of false given) before now
   pub cause : HasCauseOf ending (record { disk = old.faults; source = source_before; sink = sink_before })
       (record { disk = new.faults; source = source_now; sink = sink_now })
-  pub blamed : AreBlamed old.faults (turns_in heard) new.faults
+  pub failures : CountsFailures (HasEnded ending) old.faults (turns_in heard) new.faults
   pub time : Elapses old new
   pub disk : IsTrue told → DiskSide rules answers ending (lines_in heard) (lines_of false given) (turns_in heard) None
       None old new
@@ -166,7 +166,7 @@ IsBlank image = (file : ℕ) → file < 32768 → image file ≡ []
 pub record IsFresh (told : Bool) (old start : Medium) : Type 0 where
   pub world : IsTrue told → world_at start.image ≡ formatted
   pub clean : IsTrue told → (app : ℕ) → app < 8 → IsCleanApp app start.image
-  pub earlier : old.faults ≤ start.faults
+  pub passes : start.faults ≡ old.faults
 
 -- it starts on the disk as it was; or on one that it formatted, since nothing lay there
 pub data IsPrepared {D : Type 0} (told : Bool) (medium : D → Medium) (old start : D) : Type 0 where

@@ -10,7 +10,7 @@ use Rattle.run_model.specs.Lines.{lines_of}
 use Rattle.run_model.specs.Moments.{last_of}
 use Rattle.run_model.specs.Runs.{DiskSide, IsSettled}
 use Rattle.run_model.specs.Runtimes.{Memory, StartKeeps, Starts}
-use Rattle.run_model.specs.Turns.{AreBlamed, worlds_of}
+use Rattle.run_model.specs.Turns.{CountsFailures, worlds_of}
 use Rattle.run_model.specs.Worlds.{started, world_at}
 use Rattle.per_run.specs.declared.endings.Ending.{Ending}
 use Rattle.per_run.specs.Serves.{HadNothing, Heard, IsBlank, IsHeard, IsPrepared, IsServedInput, ServesBy, line_in}
@@ -28,6 +28,7 @@ Says false P = P → ⊥
 pub record IsReadied {D : Type 0} (told : Bool) (medium : D → Medium) (memory : Memory) (old new : D) : Type 0 where
   pub start : D
   pub prepared : IsPrepared told medium old start
+  pub passes : (medium new).faults ≡ (medium start).faults
   pub starts : IsTrue told → Starts memory (medium start) (medium new)
   pub time : Elapses (medium start) (medium new)
 
@@ -59,7 +60,7 @@ pub record Service (told : Bool) (rules : List Rule) (answers : Answers) (ending
   pub ends : ServesBy (IsTrue told
       → IsSettled (last_of (started (world_at start.image)) (worlds_of (turns_in heard))) medium)
       ending heard all before now
-  pub blamed : AreBlamed start.faults (turns_in heard) medium.faults
+  pub failures : CountsFailures (endings.HasEnded ending) start.faults (turns_in heard) medium.faults
   pub disk : IsTrue told → DiskSide rules answers ending (lines_in heard) all (turns_in heard) None None start medium
 
 -- ---- bytes

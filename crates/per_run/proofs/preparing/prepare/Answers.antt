@@ -9,7 +9,7 @@ returns-in-Ok-true-clause-readied g c =
     readied_first _ g.D.Disk.medium c.start_formatted.result c.args.disk.now c.is_blank.new.disk
     c.start_formatted.new.disk
     (λ tells. says_true _ _ c.in-Ok-true.field-0-test (c.in-Ok-true.ensures.says tells))
-    c.is_blank.ensures.time.faults c.start_formatted.ensures.begun
+    c.in-Ok-true.ensures.passes c.start_formatted.ensures.begun
 
 pub returns-in-Ok-true-clause-unready : goal.returns-in-Ok-true-clause-unready
 returns-in-Ok-true-clause-unready g c = on_err c.start_formatted.result
@@ -26,7 +26,8 @@ pub returns-in-Ok-false-clause-readied : goal.returns-in-Ok-false-clause-readied
 returns-in-Ok-false-clause-readied g c =
     readied_as _ g.D.Disk.medium c.start.result c.args.disk.now c.is_blank.new.disk c.start.new.disk
     (λ tells. says_false _ _ c.in-Ok-false.field-0-test (c.in-Ok-false.ensures.says tells))
-    c.is_blank.ensures.time c.is_blank.ensures.reads c.start.ensures.time c.start.ensures.starts
+    c.is_blank.ensures.time c.is_blank.ensures.reads c.in-Ok-false.ensures.passes c.start.ensures.time
+    c.start.ensures.passes c.start.ensures.starts
 
 pub returns-in-Ok-false-clause-unready : goal.returns-in-Ok-false-clause-unready
 returns-in-Ok-false-clause-unready g c = on_err c.start.result (inl (
