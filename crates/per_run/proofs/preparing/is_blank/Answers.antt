@@ -58,7 +58,7 @@ returns-in_err-size-clause-reads g c =
 
 pub returns-in_err-size-clause-cause : goal.returns-in_err-size-clause-cause
 returns-in_err-size-clause-cause g c = on_err _
-    (subst (λ (n : ℕ). Rose n (g.D.Disk.medium c.size.new.disk).faults) c.loop-file.invariant.passes
+    (subst (λ (n : ℕ). Rose n (g.D.Disk.medium c.size.new.self).faults) c.loop-file.invariant.passes
     c.in_err-size.ensures.cause)
 
 pub returns-in_err-size-clause-time : goal.returns-in_err-size-clause-time

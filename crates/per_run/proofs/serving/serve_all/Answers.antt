@@ -4,9 +4,6 @@ use Rattle.disk_model.specs.Laws.{elapses_on}
 use Rattle.per_run.proofs.Listens.{served_long, served_piece, served_read, served_source, taken_more, taken_none}
 use Rattle.per_run.proofs.serving.serve_all.Goals as goal
 
-pub loop-pieces-init-field-goes_on : goal.loop-pieces-init-field-goes_on
-loop-pieces-init-field-goes_on g c = λ start before l. taken_none _ _ _ _ _ before _ _ _ _ _ l
-
 pub returns-in-Ok-eq0-clause-served : goal.returns-in-Ok-eq0-clause-served
 returns-in-Ok-eq0-clause-served g c = λ laws start before l.
     served_read _ _ _ _ _ before laws _ _ _ _ _ _ _ _ c.in-Ok-eq0.field-0 c.read_piece.new.buffer
