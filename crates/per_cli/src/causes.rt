@@ -6,7 +6,7 @@ use system_model::{Asked, Failure};
 
 /// The line where the words are refused.
 const USAGE: &str =
-    "usage: per --dir DIR [--flash N] [--format | --generate N | --audit | --export A:S | --import A:S]";
+    "usage: per --dir DIR [--flash N] [--serve | --format | --generate N | --audit | --export A:S | --import A:S]";
 
 /// Why calls of the disk failed.
 #[derive(Clone, Copy, Debug)]
@@ -54,6 +54,18 @@ pub(crate) fn say_answered<R: Eprint>(rt: &R, dir: &str, fault: Option<Fault>) -
         dir,
         fault,
     )
+}
+
+/// Says that a folder is not formatted, since files of others lie in it.
+pub(crate) fn say_foreign<R: Eprint>(rt: &R, dir: &str, flash: Option<u32>) -> io::Result<()> {
+    match flash {
+        Some(blocks) => eprintln!(rt;
+            "per: the folder {dir} holds other files and no flash: ./per --format --flash {blocks} --dir {dir}"
+        ),
+        None => eprintln!(rt;
+            "per: the folder {dir} holds other files, and is not formatted: ./per --format --dir {dir}"
+        ),
+    }
 }
 
 /// Says why a run ended where its status is not 0. At status 0 it says that a folder is not there or was not formatted,

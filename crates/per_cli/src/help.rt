@@ -7,12 +7,14 @@ const HELP: &str =
 
   ./per --format --dir DIR        makes a folder ready; what was kept there is lost
   ./per --dir DIR                 handles the lines of standard input
+  ./per --serve --dir DIR         the same for a program that stays: any number of lines, a bad one is answered and passed over, and
+                                  an empty folder is made ready first
   ./per --generate N --dir DIR    formats, and handles a large input that is made from N, 1 to 100000
   ./per --audit --dir DIR         lists what is kept, and what is damaged or lost; mends nothing
   ./per --export A:S --dir DIR    writes storage S of application A, 0 to 7, as one text; mends nothing
   ./per --import A:S --dir DIR    makes that storage anew of such a text on standard input, whole or not at all
   ./per --flash N --dir DIR       the same as without --flash, in one file of the folder that stands for raw flash of N blocks, 4 to 4096;
-                                  beside --format, --generate, --audit, --export or --import too
+                                  beside --serve, --format, --generate, --audit, --export or --import too
   ./per --demo                    shows a first session, in a folder of its own
   ./per --help                    shows this
 
@@ -107,13 +109,13 @@ Errors
 Status
   0 all lines were handled and answered, or the job was done
   1 the words are refused
-  2 a line is outside the grammar; bad-line and its number are the last reply
+  2 a line is outside the grammar; bad-line and its number are the last reply; not with --serve
   3 the disk failed while the program started or formatted, or in an audit, an export or an import,
-    or another run holds the folder
+    or another run holds the folder, or --serve found nothing but other files in it
   4 memory ran out
   5 the input failed
   6 the output failed
-  7 the first 67108864 bytes of the input have neither the line `end` nor the input's end
+  7 the first 67108864 bytes of the input have neither the line `end` nor the input's end; with --serve no bytes are too many
   8 the audit found something; its lines say what
   9 the export or the import was refused; its line says why
  10 the flash cannot be opened: too many pages of files, or no spare block

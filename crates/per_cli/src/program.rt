@@ -1,6 +1,6 @@
 //! A run of the program over a folder, or a flash in it, and two streams.
 
-use crate::causes::{Ended, Fault, say};
+use crate::causes::{Ended, Fault, say, say_foreign};
 use crate::telling::Telling;
 use crate::{NO_DISK, NO_MEMORY, WRONG_SIZE};
 use flash_disk::erase_all;
@@ -11,21 +11,24 @@ use migrate_fns::Migrations;
 use number_converters::{WithConverters, with_converters};
 use per_base::{Sink, Source};
 use per_run::{FlashRun, JobKind, WordsError, per_flash, per_run, read_words};
-use per_system::{Access, Content, HostSystem, Noted, NotedFlash, Notes, StdSink, StdSource};
+use per_system::{
+    Access, Content, HostSystem, Noted, NotedFlash, Notes, StdSink, StdSource, holds_only_others,
+};
 use std::alloc::{AllocError, Global};
 use std::fs::File;
 use std::io::{Read, Write};
 use std::rt::Files;
 use system_model::{Failure, System};
 
-/// The folder that the words name, for what it is held, whether it is formatted or lines are to be handled in it, and
-/// how many blocks its flash has, where it has one.
+/// The folder that the words name, for what it is held, whether it is formatted, whether lines are to be handled in it,
+/// whether it may be formatted for them, and how many blocks its flash has, where it has one.
 #[derive(Drop)]
 struct Target {
     dir: String,
     access: Access,
     formats: bool,
     takes_lines: bool,
+    formats_blank: bool,
     flash: Option<u32>,
 }
 
@@ -119,6 +122,11 @@ fn run_noting<'a, R: Files<File = File> + Eprint, I: Read + Drop, O: Write + Dro
     dir: String,
     notes: &'a Notes,
 ) -> u8 {
+    if is_foreign(rt, alloc, target) {
+        let dir = target.dir.as_str();
+        let _ = say_foreign(rt, dir, target.flash);
+        return NO_DISK;
+    }
     let mut source = StdSource::new(input);
     let mut sink = StdSink::new(Telling {
         rt,
@@ -127,10 +135,7 @@ fn run_noting<'a, R: Files<File = File> + Eprint, I: Read + Drop, O: Write + Dro
         otherwise: target.flash.map(|_| Fault::Full),
         output,
     });
-    let content = match target.flash {
-        Some(_) => Content::Flash,
-        None => Content::Disk,
-    };
+    let content = content_of(target);
     let outcome = match HostSystem::hold(rt, alloc, dir, content, target.access) {
         Ok(system) => run_over(
             alloc,
@@ -156,6 +161,24 @@ fn run_noting<'a, R: Files<File = File> + Eprint, I: Read + Drop, O: Write + Dro
     };
     let _ = say(rt, &ended);
     outcome.status
+}
+
+/// What the folder holds.
+fn content_of(target: &Target) -> Content {
+    match target.flash {
+        Some(_) => Content::Flash,
+        None => Content::Disk,
+    }
+}
+
+/// Whether the folder would be formatted though only files of others are in it. Where it cannot be listed the run says
+/// why.
+fn is_foreign<R: Files<File = File>>(rt: &R, alloc: Global, target: &Target) -> bool {
+    target.formats_blank
+        && matches!(
+            holds_only_others(rt, alloc, target.dir.as_str(), content_of(target)),
+            Ok(true)
+        )
 }
 
 /// Runs the program over the folder: as a disk, or as a flash.
@@ -264,9 +287,11 @@ fn outcome_of<Y: System + Drop>(
 fn access_of(kind: &JobKind) -> Access {
     match kind {
         JobKind::Audit | JobKind::Export(_, _) => Access::Read,
-        JobKind::Run | JobKind::Format | JobKind::Generate(_) | JobKind::Import(_, _) => {
-            Access::Write
-        }
+        JobKind::Run
+        | JobKind::Serve
+        | JobKind::Format
+        | JobKind::Generate(_)
+        | JobKind::Import(_, _) => Access::Write,
     }
 }
 
@@ -282,7 +307,8 @@ fn target_of(alloc: Global, words: &[String]) -> Result<(Target, String), AllocE
         Ok(job) => {
             let access = access_of(&job.kind);
             let formats = matches!(job.kind, JobKind::Format | JobKind::Generate(_));
-            let takes_lines = matches!(job.kind, JobKind::Run);
+            let takes_lines = matches!(job.kind, JobKind::Run | JobKind::Serve);
+            let formats_blank = matches!(job.kind, JobKind::Serve);
             let flash = job.flash;
             let dir = job.dir.into_string();
             let copy = dir.clone()?;
@@ -291,6 +317,7 @@ fn target_of(alloc: Global, words: &[String]) -> Result<(Target, String), AllocE
                 access,
                 formats,
                 takes_lines,
+                formats_blank,
                 flash,
             };
             Ok((target, copy))
@@ -302,6 +329,7 @@ fn target_of(alloc: Global, words: &[String]) -> Result<(Target, String), AllocE
                 access: Access::Read,
                 formats: false,
                 takes_lines: false,
+                formats_blank: false,
                 flash: None,
             };
             Ok((target, dir))

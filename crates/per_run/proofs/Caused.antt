@@ -15,7 +15,7 @@ use Rattle.clap.specs.declared.builder.value_parser.ValueParser.TheVariants as v
 use Rattle.per_base.specs.Causes.{Rose}
 use Rattle.per_base.specs.Fields.{◌>>=◌, only_if}
 use Rattle.per_base.specs.Names.{is_name}
-use Rattle.disk_model.specs.Laws.{elapses_none}
+use Rattle.disk_model.specs.Laws.{elapses_none, reads_none, rose_before}
 use Rattle.disk_model.specs.Medium.{Medium, IsLawful}
 use Rattle.migrate_fns.specs.Rules.{Rule, Answers}
 use Rattle.run_model.specs.AppLaws.{AppLaws}
@@ -28,8 +28,9 @@ use Rattle.per_run.specs.declared.endings.Ending as parts
 use Rattle.per_run.specs.declared.endings.Ending.TheVariants as part
 use Rattle.per_run.specs.declared.words.Job.{Job}
 use Rattle.per_run.specs.declared.words.JobKind.{JobKind}
-use Rattle.per_run.specs.declared.words.JobKind.TheVariants.{Run, Format, Generate, Audit, Export, Import}
+use Rattle.per_run.specs.declared.words.JobKind.TheVariants.{Run, Serve, Format, Generate, Audit, Export, Import}
 use Rattle.per_run.specs.Jobs.{IsCaused, JobDone, by_disk, by_itself, by_sink, by_source, statuses_of}
+use Rattle.per_run.specs.Serves.{Heard, Serves, ServesBy, served, unprepared}
 use Rattle.per_run.specs.Steps.{IsCut, IsInRange, ending_of}
 use Rattle.per_run.specs.Words.{command, dir_of, export_of, flagged, flash_of, generate_of, has_matches, import_of}
 use Rattle.per_run.specs.Words.{is_application, is_set, job_in, job_of, kind_in, modes, only_mode, reads_input}
@@ -39,6 +40,7 @@ use Rattle.per_run.proofs.Begins.{run_short, unbegun}
 use Rattle.per_run.proofs.Completes.{OneLine, completes}
 use Rattle.per_run.proofs.Fresh.{formats_none, generates_none}
 use Rattle.per_run.proofs.Inputs.{not_seen}
+use Rattle.per_run.proofs.Prepared.{earlier_start, serves_short}
 
 -- ---- statuses
 
@@ -67,6 +69,54 @@ pub run_caused : (told : Bool) (rules : List Rule) (answers : Answers) (status :
 run_caused told rules answers status left_before left_now before now source_before source_now sink_before sink_now old
     new r = ended_so r.ending status _ _ r.status_is r.cause
 
+-- a run that stays
+stayed_so : (P : Type 0) (ending : Ending) (heard : List Heard) (all : List (List ℕ)) (before now : Option (List ℕ))
+    (status : ℕ) (b n : Failed) → ServesBy P ending heard all before now → status ≡ status_of ending
+    → HasCauseOf ending b n → IsCaused Serve status b n
+stayed_so P endings.all_read heard all before now status b n ends is cause =
+    by_itself (among status 0 (statuses_of Serve) is (0, omega arith, refl))
+stayed_so P endings.end_line heard all before now status b n ends is cause =
+    by_itself (among status 0 (statuses_of Serve) is (0, omega arith, refl))
+stayed_so P endings.bad_line heard all before now status b n ends is cause = absurd ends
+stayed_so P endings.device heard all before now status b n ends is cause = by_disk is cause
+stayed_so P endings.start_memory heard all before now status b n ends is cause =
+    by_itself (among status 4 (statuses_of Serve) is (1, omega arith, refl))
+stayed_so P endings.memory heard all before now status b n ends is cause =
+    by_itself (among status 4 (statuses_of Serve) is (1, omega arith, refl))
+stayed_so P endings.source heard all before now status b n ends is cause = by_source is refl cause
+stayed_so P endings.sink heard all before now status b n ends is cause = by_sink is cause
+stayed_so P endings.too_long heard all before now status b n ends is cause =
+    by_itself (among status 7 (statuses_of Serve) is (2, omega arith, refl))
+
+-- what rose since a later count of the disk
+since_earlier : (kind : JobKind) (status earlier later source sink : ℕ) (n : Failed) → earlier ≤ later
+    → IsCaused kind status (record { disk = later; source = source; sink = sink }) n
+    → IsCaused kind status (record { disk = earlier; source = source; sink = sink }) n
+since_earlier kind status earlier later source sink n le (by_itself has) = by_itself has
+since_earlier kind status earlier later source sink n le (by_disk is rose) =
+    by_disk is (rose_before earlier later n.disk le rose)
+since_earlier kind status earlier later source sink n le (by_source is reads rose) = by_source is reads rose
+since_earlier kind status earlier later source sink n le (by_sink is rose) = by_sink is rose
+
+pub serve_caused : {D : Type 0} (told : Bool) (medium : D → Medium) (rules : List Rule) (answers : Answers)
+    (status : ℕ) (left_before left_now before now : Option (List ℕ))
+    (source_before source_now sink_before sink_now : ℕ) (old new : D)
+    → Serves told medium rules answers status left_before left_now before now source_before source_now sink_before
+    sink_now old new
+    → IsCaused Serve status
+    (record { disk = (medium old).faults; source = source_before; sink = sink_before })
+    (record { disk = (medium new).faults; source = source_now; sink = sink_now })
+serve_caused told medium rules answers status left_before left_now before now source_before source_now sink_before
+    sink_now old new (served start prepared s) =
+    since_earlier Serve status (medium old).faults (medium start).faults source_before sink_before _
+    (earlier_start told medium old start prepared)
+    (stayed_so _ s.ending s.heard _ before now status _ _ s.ends s.status_is s.cause)
+serve_caused told medium rules answers status left_before left_now before now source_before source_now sink_before
+    sink_now old new (unprepared nothing (inl failed) left_same same) = by_disk failed.0 failed.1
+serve_caused told medium rules answers status left_before left_now before now source_before source_now sink_before
+    sink_now old new (unprepared nothing (inr four) left_same same) =
+    by_itself (among status 4 (statuses_of Serve) four (1, omega arith, refl))
+
 -- a job that writes once
 pub written_caused : (kind : JobKind) (status : ℕ) (b n : Failed) → statuses_of kind ≡ 0 ∷ 4 ∷ []
     → (status ≡ 0) ⊎ ((status ≡ 4) ⊎ (((status ≡ 3) × Rose b.disk n.disk) ⊎ ((status ≡ 6) × Rose b.sink n.sink)))
@@ -80,6 +130,7 @@ written_caused kind status b n has (inr (inr (inr sink))) = by_sink sink.0 sink.
 
 pub short_caused : (kind : JobKind) (b n : Failed) → IsCaused kind 4 b n
 short_caused Run b n = by_itself (2, omega arith, refl)
+short_caused Serve b n = by_itself (1, omega arith, refl)
 short_caused Format b n = by_itself (1, omega arith, refl)
 short_caused (Generate k) b n = by_itself (1, omega arith, refl)
 short_caused Audit b n = by_itself (1, omega arith, refl)
@@ -152,6 +203,7 @@ others_than_one Run = (
     (λ is. omega (arith, is), (λ is. omega (arith, is), tt)),
   ),
 )
+others_than_one Serve = (λ is. omega (arith, is), (λ is. omega (arith, is), (λ is. omega (arith, is), tt)))
 others_than_one Format = (λ is. omega (arith, is), (λ is. omega (arith, is), tt))
 others_than_one (Generate k) = (λ is. omega (arith, is), (λ is. omega (arith, is), tt))
 others_than_one Audit = (λ is. omega (arith, is), (λ is. omega (arith, is), (λ is. omega (arith, is), tt)))
@@ -175,12 +227,14 @@ not_one kind status b n (by_sink six rose) is = omega (arith, six, is)
 
 -- ---- the same of a kind by another name
 
-pub done_as : (told : Bool) (kind same : JobKind) (rules : List Rule) (answers : Answers) (status : ℕ)
-    (left left_now before now : Option (List ℕ)) (b n : Failed) (old new : Medium) → kind ≡ same
-    → JobDone told same rules answers status left left_now before now b n old new
-    → JobDone told kind rules answers status left left_now before now b n old new
-done_as told kind same rules answers status left left_now before now b n old new is done =
-    subst (λ (k : JobKind). JobDone told k rules answers status left left_now before now b n old new) (sym is) done
+pub done_as : {D : Type 0} (told : Bool) (medium : D → Medium) (kind same : JobKind) (rules : List Rule)
+    (answers : Answers) (status : ℕ)
+    (left left_now before now : Option (List ℕ)) (b n : Failed) (old new : D) → kind ≡ same
+    → JobDone told medium same rules answers status left left_now before now b n old new
+    → JobDone told medium kind rules answers status left left_now before now b n old new
+done_as told medium kind same rules answers status left left_now before now b n old new is done =
+    subst (λ (k : JobKind). JobDone told medium k rules answers status left left_now before now b n old new) (sym is)
+    done
 
 pub caused_as : (kind same : JobKind) (status : ℕ) (b n : Failed) → kind ≡ same → IsCaused same status b n
     → IsCaused kind status b n
@@ -209,24 +263,28 @@ some_none {P} o job some none = let bad : ◌≡◌ {A = Option Job} (Some job) 
 
 -- ---- a job for whose words there was no memory
 
-pub done_none : AppLaws → (told : Bool) (kind : JobKind) (rules : List Rule) (answers : Answers)
-    (left before : Option (List ℕ)) (source sink : ℕ) (m : Medium) → IsLawful told m
-    → JobDone told kind rules answers 4 left left before before
-    (record { disk = m.faults; source = source; sink = sink })
-    (record { disk = m.faults; source = source; sink = sink }) m m
-done_none laws told Run rules answers left before source sink m lawful =
-    run_short told rules answers left before source sink m m 4 lawful (elapses_none lawful)
-    (λ tells. unbegun told m lawful) refl
-done_none laws told Format rules answers left before source sink m lawful = formats_none told 4 before m m (inr refl)
+pub done_none : {D : Type 0} → AppLaws → (told : Bool) (medium : D → Medium) (kind : JobKind) (rules : List Rule)
+    (answers : Answers) (left before : Option (List ℕ)) (source sink : ℕ) (disk : D) → IsLawful told (medium disk)
+    → JobDone told medium kind rules answers 4 left left before before
+    (record { disk = (medium disk).faults; source = source; sink = sink })
+    (record { disk = (medium disk).faults; source = source; sink = sink }) disk disk
+done_none laws told medium Run rules answers left before source sink disk lawful =
+    run_short told rules answers left before source sink (medium disk) (medium disk) 4 lawful (elapses_none lawful)
+    (λ tells. unbegun told (medium disk) lawful) refl
+done_none laws told medium Serve rules answers left before source sink disk lawful =
+    serves_short told medium rules answers left before source sink disk disk lawful (elapses_none lawful)
+    (inr (inr (reads_none lawful)))
+done_none laws told medium Format rules answers left before source sink disk lawful =
+    formats_none told 4 before (medium disk) (medium disk) (inr refl) (λ unfailed. refl)
+done_none laws told medium (Generate n) rules answers left before source sink disk lawful =
+    generates_none told rules answers n 4 before (medium disk) (medium disk) (inr refl) (elapses_none lawful).faults
+done_none laws told medium Audit rules answers left before source sink disk lawful =
+    audits_none told 4 before (medium disk) (medium disk) (inr refl) (looks_none lawful) (λ unfailed. refl)
+done_none laws told medium (Export app name) rules answers left before source sink disk lawful =
+    exports_none told app name 4 before (medium disk) (medium disk) (inr refl) (looks_none lawful)
     (λ unfailed. refl)
-done_none laws told (Generate n) rules answers left before source sink m lawful =
-    generates_none told rules answers n 4 before m m (inr refl) (elapses_none lawful).faults
-done_none laws told Audit rules answers left before source sink m lawful =
-    audits_none told 4 before m m (inr refl) (looks_none lawful) (λ unfailed. refl)
-done_none laws told (Export app name) rules answers left before source sink m lawful =
-    exports_none told app name 4 before m m (inr refl) (looks_none lawful) (λ unfailed. refl)
-done_none laws told (Import app name) rules answers left before source sink m lawful =
-    imports_cut told app name part.OutOfMemory 4 left left before m lawful refl
+done_none laws told medium (Import app name) rules answers left before source sink disk lawful =
+    imports_cut told app name part.OutOfMemory 4 left left before (medium disk) lawful refl
     (record {
       given = [];
       taken = record { takes = Consumes-nil left; bound = omega arith; end_seen = not_seen };
@@ -246,17 +304,20 @@ complete_none o left A B C = each_is o (λ job. job.kind ≡ Run → A → B →
 
 -- ---- a run over good lines
 
-pub completes_if : OneLine → (told : Bool) (kind : JobKind) (rules : List Rule) (answers : Answers) (status : ℕ)
-    (left left_now before now : Option (List ℕ)) (b n : Failed) (old new : Medium)
-    → b.disk ≡ old.faults → n.disk ≡ new.faults → JobDone told kind rules answers status left left_now before now b n
-    old new → kind ≡ Run → (Rose old.faults new.faults → ⊥) → (Rose b.source n.source → ⊥)
+pub completes_if : {D : Type 0} → OneLine → (told : Bool) (medium : D → Medium) (kind : JobKind) (rules : List Rule)
+    (answers : Answers) (status : ℕ)
+    (left left_now before now : Option (List ℕ)) (b n : Failed) (old new : D)
+    → b.disk ≡ (medium old).faults → n.disk ≡ (medium new).faults
+    → JobDone told medium kind rules answers status left left_now before now b n old new → kind ≡ Run
+    → (Rose (medium old).faults (medium new).faults → ⊥) → (Rose b.source n.source → ⊥)
     → (Rose b.sink n.sink → ⊥) → IfSome left (λ l. IsWellFormed l → (status ≡ 0) ⊎ (status ≡ 4))
-completes_if one told kind rules answers status None left_now before now b n old new old_is new_is done is disk source
-    sink = tt
-completes_if one told kind rules answers status (Some left) left_now before now b n old new old_is new_is done is disk
-    source sink = λ formed.
-    completes one told rules answers status left left_now before now b.source n.source b.sink n.sink old new
-    (subst (λ (k : JobKind). JobDone told k rules answers status (Some left) left_now before now b n old new) is done)
+completes_if one told medium kind rules answers status None left_now before now b n old new old_is new_is done is disk
+    source sink = tt
+completes_if one told medium kind rules answers status (Some left) left_now before now b n old new old_is new_is done is
+    disk source sink = λ formed.
+    completes one told rules answers status left left_now before now b.source n.source b.sink n.sink (medium old)
+    (medium new) (subst (λ (k : JobKind). JobDone told medium k rules answers status (Some left) left_now before now b n
+    old new) is done)
     disk source sink formed
 
 -- ---- numbers are in their ranges
@@ -345,9 +406,11 @@ valued_safe mode (Some v) safe = (safe v, tt)
 valued_safe mode None safe = tt
 
 modes_safe : (formats : Bool) (number : Option (List ℕ)) (audits : Bool) (exports imports : Option (List ℕ))
-    → AreSafe (modes formats number audits exports imports)
-modes_safe formats number audits exports imports =
-    both_safe (((flagged Format formats ++ valued generate_of number) ++ flagged Audit audits)
+    (serves : Bool) → AreSafe (modes formats number audits exports imports serves)
+modes_safe formats number audits exports imports serves =
+    both_safe ((((flagged Format formats ++ valued generate_of number) ++ flagged Audit audits)
+    ++ valued export_of exports) ++ valued import_of imports) (flagged Serve serves)
+    (both_safe (((flagged Format formats ++ valued generate_of number) ++ flagged Audit audits)
     ++ valued export_of exports) (valued import_of imports)
     (both_safe ((flagged Format formats ++ valued generate_of number) ++ flagged Audit audits)
     (valued export_of exports)
@@ -356,7 +419,8 @@ modes_safe formats number audits exports imports =
     (valued_safe generate_of number generate_safe))
     (flagged_safe Audit audits tt))
     (valued_safe export_of exports (λ value. target_safe Export value (λ app name within. within))))
-    (valued_safe import_of imports (λ value. target_safe Import value (λ app name within. within)))
+    (valued_safe import_of imports (λ value. target_safe Import value (λ app name within. within))))
+    (flagged_safe Serve serves tt)
 
 only_safe : (ms : List (Option JobKind)) → AreSafe ms → IsSafe (only_mode ms)
 only_safe [] safe = some_safe Run tt
@@ -386,7 +450,8 @@ job_within ws job is = go (has_matches ws) is
 
     go : (b : Bool) → (if b then job_in rows else None) ≡ Some job → IsInRange job.kind
     go true says = only_safe _ (modes_safe (is_set (first_of (codes "format") rows)) (first_of (codes "generate") rows)
-        (is_set (first_of (codes "audit") rows)) (first_of (codes "export") rows) (first_of (codes "import") rows))
+        (is_set (first_of (codes "audit") rows)) (first_of (codes "export") rows) (first_of (codes "import") rows)
+        (is_set (first_of (codes "serve") rows)))
         job.kind
         (kind_of_job (kind_in rows) (flash_of (first_of (codes "flash") rows)) (dir_of (first_of (codes "dir") rows))
         job says)

@@ -3,6 +3,7 @@ use Rattle.std.proofs.Common.{◌≡◌, ◌⊎◌, ℕ, ◌+◌, List, Option, 
 use Rattle.std.specs.Prelude.{Bool, IfSome}
 use Rattle.per_base.specs.Causes.{Rose}
 use Rattle.flash_model.specs.FlashMedium.{FlashMedium}
+use Rattle.flash_disk.specs.FlashDiskMedium.{disk_seen}
 use Rattle.flash_disk.specs.FlashView.{FlashView}
 use Rattle.migrate_fns.specs.Rules.{Answers, Rule}
 use Rattle.run_model.specs.Lines.{IsWellFormed}
@@ -40,5 +41,6 @@ flash_completes one told medium kind rules answers status left left_now before n
     let own = ran.is_opened.own in
     let same : (medium ran.opened.flash).faults + ran.opened.own ≡ (medium flash).faults =
     omega (arith, flash_count, own) in
-    completes_if one told kind rules answers status left left_now before now _ _ _ _ refl refl ran.done is
+    completes_if one told (disk_seen told medium) kind rules answers status left left_now before now _ _ _ _ refl refl
+    ran.done is
     (λ rose. calm (subst (λ (n : ℕ). Rose n ((medium disk.flash).faults + disk.own)) same rose)) source sink

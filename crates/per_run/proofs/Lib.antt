@@ -6,6 +6,9 @@ pub mod Goes
 pub mod Courses
 pub mod Reaches
 pub mod Inputs
+pub mod Hears
+pub mod Listens
+pub mod Prepared
 pub mod Wholes
 pub mod Begins
 pub mod Completes

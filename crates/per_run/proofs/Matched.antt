@@ -163,6 +163,7 @@ pub job_refused : (result : Result Job WordsError) (said same : Option Job) → 
     → result ≡ Err words_error.Refused → same ≡ None
 job_refused result said same is reads refused = is ∙ subst (λ (r : Result Job WordsError). Reads r said) refused reads
 
-pub modes_as : {f g a b : Bool} {n m x y i j : Option (List ℕ)} → f ≡ g → n ≡ m → a ≡ b → x ≡ y → i ≡ j
-    → only_mode (modes f n a x i) ≡ only_mode (modes g m b y j)
-modes_as formats number audits exports imports = rw (formats, number, audits, exports, imports) refl
+pub modes_as : {f g a b s t : Bool} {n m x y i j : Option (List ℕ)} → f ≡ g → n ≡ m → a ≡ b → x ≡ y → i ≡ j → s ≡ t
+    → only_mode (modes f n a x i s) ≡ only_mode (modes g m b y j t)
+modes_as formats number audits exports imports serves =
+    rw (formats, number, audits, exports, imports, serves) refl

@@ -95,10 +95,10 @@ pub record FlashRan {F : Type 0} (told : Bool) (medium : F → FlashMedium) (kin
     (disk : FlashView F) : Type 0 where
   pub opened : FlashView F
   pub is_opened : IsOpened told medium flash opened
-  pub done : JobDone told kind rules answers status left_before left_now before now
+  pub done : JobDone told (disk_seen told medium) kind rules answers status left_before left_now before now
       (record { disk = (disk_seen told medium opened).faults; source = source_before; sink = sink_before })
       (record { disk = (disk_seen told medium disk).faults; source = source_now; sink = sink_now })
-      (disk_seen told medium opened) (disk_seen told medium disk)
+      opened disk
   pub caused : IsCaused kind status
       (record { disk = (disk_seen told medium opened).faults; source = source_before; sink = sink_before })
       (record { disk = (disk_seen told medium disk).faults; source = source_now; sink = sink_now })

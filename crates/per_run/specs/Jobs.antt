@@ -32,7 +32,8 @@ use Rattle.per_audit.specs.declared.findings.Listed.{Listed}
 use Rattle.per_backup.specs.Backups.{exporting, importing_into}
 use Rattle.per_backup.specs.Clauses.{ImportKeeps, Imported, IsSeen}
 use Rattle.per_run.specs.declared.words.JobKind.{JobKind}
-use Rattle.per_run.specs.declared.words.JobKind.TheVariants.{Run, Format, Generate, Audit, Export, Import}
+use Rattle.per_run.specs.declared.words.JobKind.TheVariants.{Run, Serve, Format, Generate, Audit, Export, Import}
+use Rattle.per_run.specs.Serves.{Serves}
 use Rattle.per_run.specs.Words.{reads_input}
 
 -- ---- the output of a job that writes once
@@ -215,26 +216,32 @@ pub record Imports (told : Bool) (app : ℕ) (name : List ℕ) (status : ℕ)
 
 -- ---- all jobs
 
-abbrev pub JobDone : (told : Bool) → JobKind → List Rule → Answers → (status : ℕ)
+abbrev pub JobDone : {D : Type 0} → (told : Bool) → (medium : D → Medium) → JobKind → List Rule → Answers → (status : ℕ)
     → (left_before left_now before now : Option (List ℕ))
-    → (old_counts new_counts : Failed) → (old new : Medium) → Type 0
-JobDone told Run rules answers status left_before left_now before now old_counts new_counts old new =
+    → (old_counts new_counts : Failed) → (old new : D) → Type 0
+JobDone told medium Run rules answers status left_before left_now before now old_counts new_counts old new =
     runs.Run told rules answers status left_before left_now before now old_counts.source new_counts.source
+    old_counts.sink new_counts.sink (medium old) (medium new)
+JobDone told medium Serve rules answers status left_before left_now before now old_counts new_counts old new =
+    Serves told medium rules answers status left_before left_now before now old_counts.source new_counts.source
     old_counts.sink new_counts.sink old new
-JobDone told Format rules answers status left_before left_now before now old_counts new_counts old new =
-    Formats told status before now old new
-JobDone told (Generate n) rules answers status left_before left_now before now old_counts new_counts old new =
-    Generates told rules answers n status before now old new
-JobDone told Audit rules answers status left_before left_now before now old_counts new_counts old new =
-    Audits told status before now old new
-JobDone told (Export app name) rules answers status left_before left_now before now old_counts new_counts old new =
-    Exports told app name status before now old new
-JobDone told (Import app name) rules answers status left_before left_now before now old_counts new_counts old new =
-    Imports told app name status left_before left_now before now old new
+JobDone told medium Format rules answers status left_before left_now before now old_counts new_counts old new =
+    Formats told status before now (medium old) (medium new)
+JobDone told medium (Generate n) rules answers status left_before left_now before now old_counts new_counts old new =
+    Generates told rules answers n status before now (medium old) (medium new)
+JobDone told medium Audit rules answers status left_before left_now before now old_counts new_counts old new =
+    Audits told status before now (medium old) (medium new)
+JobDone told medium (Export app name) rules answers status left_before left_now before now old_counts new_counts old
+    new =
+    Exports told app name status before now (medium old) (medium new)
+JobDone told medium (Import app name) rules answers status left_before left_now before now old_counts new_counts old
+    new =
+    Imports told app name status left_before left_now before now (medium old) (medium new)
 
 -- the statuses that no failure brings
 abbrev pub statuses_of : JobKind → List ℕ
 statuses_of Run = 0 ∷ 2 ∷ 4 ∷ 7 ∷ []
+statuses_of Serve = 0 ∷ 4 ∷ 7 ∷ []
 statuses_of Format = 0 ∷ 4 ∷ []
 statuses_of (Generate n) = 0 ∷ 4 ∷ []
 statuses_of Audit = 0 ∷ 4 ∷ 8 ∷ []

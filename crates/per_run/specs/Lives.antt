@@ -1,18 +1,21 @@
 -- The jobs of the program as steps of a life: an audit and an export look, and so does an import whose input is not
--- read whole; any other import is one of a storage of the application, or of another one. Of a run it is `ran_of`.
-use Rattle.std.specs.Prelude.{◌≡◌, ◌≢◌, ℕ, List, Bool, true, false, IsTrue, Option}
+-- read whole; any other import is one of a storage of the application, or of another one. Of a run it is `ran_of`; a
+-- run that stays is one on the disk that it started on.
+use Rattle.std.specs.Prelude.{◌≡◌, ◌≢◌, ℕ, List, Bool, true, false, IsTrue, None, Option}
 use Rattle.std.proofs.Common.{refl, subst, ⊎_elim}
 use Rattle.disk_model.specs.Medium.{EachCase, Medium}
 use Rattle.migrate_fns.specs.Rules.{Answers, Rule}
 use Rattle.deploy_laws.specs.Apps.{IsCleanApp, app_at}
 use Rattle.deploy_laws.specs.Stands.{StandsCase}
 use Rattle.deploy_rows.specs.Rows.{after}
-use Rattle.run_model.specs.Lives.{Job, imports, imports_beside, looks}
-use Rattle.run_model.specs.Moments.{OrBefore}
+use Rattle.run_model.specs.Lines.{lines_of}
+use Rattle.run_model.specs.Lives.{Job, imports, imports_beside, looks, runs}
+use Rattle.run_model.specs.Moments.{AreSoundDoubts, OrBefore}
 use Rattle.run_model.specs.Starting.{which}
 use Rattle.per_backup.specs.Backups.{importing_into}
 use Rattle.per_backup.specs.Clauses.{ImportKeeps}
 use Rattle.per_run.specs.Jobs.{Audits, Exports, Imports}
+use Rattle.per_run.specs.Serves.{Serve, lines_in, turns_in}
 
 module _ (rules : List Rule) (answers : Answers) (app : ℕ) (told : Bool) (status : ℕ) (before now : Option (List ℕ))
     (old new : Medium) where
@@ -38,3 +41,20 @@ module _ (rules : List Rule) (answers : Answers) (app : ℕ) (told : Bool) (stat
       by : (ended : Bool) → import.ended ≡ ended → Job rules answers app old new
       by true is = anew other name import.given ((import.made is).keeps tells)
       by false is = looks (import.uncalled is).stays
+
+  -- where what its failed commands read is sound
+  pub of_serve : (left_before left_now : Option (List ℕ)) (source_before source_now sink_before sink_now : ℕ)
+      (tells : IsTrue told)
+      → (serve : Serve told rules answers status left_before left_now before now source_before source_now sink_before
+      sink_now old new)
+      → AreSoundDoubts app (serve.disk tells).reached → Job rules answers app old new
+  of_serve left_before left_now source_before source_now sink_before sink_now tells serve sound = runs (record {
+    ending = serve.ending;
+    lines = lines_in serve.heard;
+    all = lines_of false serve.given;
+    turns = turns_in serve.heard;
+    before = None;
+    now = None;
+    disk = serve.disk tells;
+    sound = sound;
+  })

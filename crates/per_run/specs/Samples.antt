@@ -9,7 +9,7 @@ use Rattle.command_text.specs.declared.replies.Reply.{Reply}
 use Rattle.per_base.specs.declared.errors.PerError.TheVariants as error
 use Rattle.per_run.specs.declared.words.Job.{Job}
 use Rattle.per_run.specs.declared.words.JobKind.{JobKind}
-use Rattle.per_run.specs.declared.words.JobKind.TheVariants.{Run, Format, Generate, Audit, Export, Import}
+use Rattle.per_run.specs.declared.words.JobKind.TheVariants.{Run, Serve, Format, Generate, Audit, Export, Import}
 use Rattle.per_run.specs.Jobs.{summary}
 use Rattle.per_run.specs.Words.{job_of}
 
@@ -86,6 +86,14 @@ imports : job_of (codes "--import=7:a/b-c_d.e" ∷ codes "--dir=d" ∷ codes "--
     ≡ over_flash 4 (Import 7 (codes "a/b-c_d.e"))
 unfolding job_of clap_on_literals
 imports = refl
+
+serves : job_of (codes "--serve" ∷ codes "--dir" ∷ codes "d" ∷ []) ≡ job Serve
+unfolding job_of clap_on_literals
+serves = refl
+
+served_twice : job_of (codes "--dir=d" ∷ codes "--format" ∷ codes "--serve" ∷ []) ≡ None
+unfolding job_of clap_on_literals
+served_twice = refl
 
 no_application : job_of (codes "--dir" ∷ codes "d" ∷ codes "--export" ∷ codes "8:fav" ∷ []) ≡ None
 unfolding job_of clap_on_literals

@@ -101,7 +101,8 @@ abbrev pub Came : {D : Type 0} → (told : Bool) → (medium : D → Medium) →
 Came told medium rules answers text before after old new outcome.Nothing =
     IsLine text line.Nothing × (after ≡ before) × (new ≡ old)
 Came told medium rules answers text before after old new outcome.End = IsLine text line.End × (new ≡ old)
-Came told medium rules answers text before after old new outcome.Bad = IsBad text × (new ≡ old)
+Came told medium rules answers text before after old new outcome.Bad =
+    IsBad text × (after ≡ before) × (new ≡ old)
 Came told medium rules answers text before after old new (outcome.Answered reply) =
     IsAnswered told rules answers text before after reply (medium old) (medium new)
 Came told medium rules answers text before after old new outcome.OutOfMemory =

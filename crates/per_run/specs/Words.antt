@@ -13,7 +13,7 @@ use Rattle.per_base.specs.Fields.{◌>>=◌, only_if}
 use Rattle.per_base.specs.Names.{is_name}
 use Rattle.per_run.specs.declared.words.Job.{Job}
 use Rattle.per_run.specs.declared.words.JobKind.{JobKind}
-use Rattle.per_run.specs.declared.words.JobKind.TheVariants.{Run, Format, Generate, Audit, Export, Import}
+use Rattle.per_run.specs.declared.words.JobKind.TheVariants.{Run, Serve, Format, Generate, Audit, Export, Import}
 use Rattle.per_run.specs.declared.words.WordsError.{WordsError}
 use Rattle.per_run.specs.declared.words.WordsError.TheVariants as words_error
 
@@ -22,12 +22,12 @@ use Rattle.per_run.specs.declared.words.WordsError.TheVariants as words_error
 abbrev pub named_rule : List ℕ → ArgAction → Rule
 named_rule name action = record (new_rule name) { long = Some name; action = Some action }
 
--- a required option `--dir`, the flags `--format` and `--audit`, and the options `--flash`, `--generate`, `--export`
--- and `--import`
+-- a required option `--dir`, the flags `--format`, `--audit` and `--serve`, and the options `--flash`, `--generate`,
+-- `--export` and `--import`
 abbrev pub option_rules : List Rule
 option_rules = record (named_rule (codes "dir") Set) { required = true } ∷ named_rule (codes "flash") Set
     ∷ named_rule (codes "format") SetTrue ∷ named_rule (codes "generate") Set ∷ named_rule (codes "audit") SetTrue
-    ∷ named_rule (codes "export") Set ∷ named_rule (codes "import") Set ∷ []
+    ∷ named_rule (codes "export") Set ∷ named_rule (codes "import") Set ∷ named_rule (codes "serve") SetTrue ∷ []
 
 -- with these options; the words come without the program's name
 abbrev pub command : App
@@ -89,9 +89,10 @@ import_of value = option_map (λ target. Import target.0 target.1) (target_of va
 
 -- the modes that are named
 abbrev pub modes : (formats : Bool) → (generates : Option (List ℕ)) → (audits : Bool)
-    → (exports imports : Option (List ℕ)) → List (Option JobKind)
-modes formats generates audits exports imports = flagged Format formats ++ valued generate_of generates
+    → (exports imports : Option (List ℕ)) → (serves : Bool) → List (Option JobKind)
+modes formats generates audits exports imports serves = flagged Format formats ++ valued generate_of generates
     ++ flagged Audit audits ++ valued export_of exports ++ valued import_of imports
+    ++ flagged Serve serves
 
 -- at most one is named, and where none is the lines of the input are handled
 abbrev pub only_mode : List (Option JobKind) → Option JobKind
@@ -101,7 +102,8 @@ only_mode (mode ∷ other ∷ others) = None
 
 abbrev pub kind_in : List Row → Option JobKind
 kind_in rows = only_mode (modes (is_set (first_of (codes "format") rows)) (first_of (codes "generate") rows)
-    (is_set (first_of (codes "audit") rows)) (first_of (codes "export") rows) (first_of (codes "import") rows))
+    (is_set (first_of (codes "audit") rows)) (first_of (codes "export") rows) (first_of (codes "import") rows)
+    (is_set (first_of (codes "serve") rows)))
 
 -- the number of blocks of the flash, where one is named
 abbrev pub flash_of : Option (List ℕ) → Option (Option ℕ)
@@ -136,5 +138,6 @@ Reads (Err words_error.OutOfMemory) said = ⊤
 -- whether the job reads the input
 abbrev pub reads_input : JobKind → Bool
 reads_input Run = true
+reads_input Serve = true
 reads_input (Import app name) = true
 reads_input other = false

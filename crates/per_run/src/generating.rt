@@ -47,7 +47,7 @@ pub fn generate<D: Disk, K: Sink>(
 }
 
 /// The runtime on a disk that is formatted.
-fn start_formatted<D: Disk>(alloc: Global, disk: &mut D) -> Result<Runtime, Stop>
+pub fn start_formatted<D: Disk>(alloc: Global, disk: &mut D) -> Result<Runtime, Stop>
     ensures memory { IfOk result (IsRuntime D.told (D.medium disk.new)) }
     ensures begun { IfOk result (λ r. (middle : D) × IsBegun D.told (memory_of r) (D.medium disk.old) (D.medium middle)
         (D.medium disk.new)) }

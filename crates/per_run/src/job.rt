@@ -17,6 +17,7 @@ use crate::formatting::format;
 use crate::generating::generate;
 use crate::importing::import_storage;
 use crate::run::run;
+use crate::serving::serve;
 use crate::words::{JobKind, WordsError, read_words};
 use command_text::one_line;
 use disk_model::Disk;
@@ -31,12 +32,12 @@ use std::alloc::Global;
 /// |---|---|
 /// | 0 | the job is done, and all output is written: the input was read to its end or to the line `end`, the disk is formatted, the made input is handled, an audit found nothing, or the storage is exported or imported |
 /// | 1 | only where the words are refused; nothing was read or written |
-/// | 2 | the line with the number in `bad-line N` is outside the grammar; all lines before it were handled and answered |
+/// | 2 | the line with the number in `bad-line N` is outside the grammar; all lines before it were handled and answered; never of a run that stays |
 /// | 3 | the disk failed while it was formatted or the runtime started, or in an audit, an export or an import |
 /// | 4 | memory ran out |
 /// | 5 | the source failed; all whole lines before were handled and answered, and nothing was imported |
 /// | 6 | the sink failed; what it took is a front of the output |
-/// | 7 | 67,108,864 bytes were taken, and neither `end` nor the end of the input was among them; nothing was imported |
+/// | 7 | 67,108,864 bytes were taken, and neither `end` nor the end of the input was among them; nothing was imported; of a run that stays 2^64 - 1 bytes |
 /// | 8 | an audit found something; what it is is written |
 /// | 9 | an export or an import was refused; the line of its error is written |
 pub fn per_run<D: Disk, S: Source, K: Sink>(
@@ -55,11 +56,11 @@ pub fn per_run<D: Disk, S: Source, K: Sink>(
 
     // What the job promises, and why it ended so.
     ensures job { IfSome (job_of (map string_bytes words.now))
-        (λ job. JobDone D.told job.kind (rules_of migrations.now) (answers_of migrations.now) result
+        (λ job. JobDone D.told D.medium job.kind (rules_of migrations.now) (answers_of migrations.now) result
         (S.left source.old) (S.left source.new) (K.written sink.old) (K.written sink.new)
         (record { disk = (D.medium disk.old).faults; source = S.faults source.old; sink = K.faults sink.old })
         (record { disk = (D.medium disk.new).faults; source = S.faults source.new; sink = K.faults sink.new })
-        (D.medium disk.old) (D.medium disk.new)) }
+        disk.old disk.new) }
     ensures caused { IfSome (job_of (map string_bytes words.now)) (λ job. IsCaused job.kind result
         (record { disk = (D.medium disk.old).faults; source = S.faults source.old; sink = K.faults sink.old })
         (record { disk = (D.medium disk.new).faults; source = S.faults source.new; sink = K.faults sink.new })) }
@@ -93,11 +94,11 @@ pub fn run_job<D: Disk, S: Source, K: Sink>(
     disk: &mut D,
 ) -> u8
     requires { IsInRange kind }
-    ensures job { JobDone D.told kind (rules_of migrations.now) (answers_of migrations.now) result
+    ensures job { JobDone D.told D.medium kind (rules_of migrations.now) (answers_of migrations.now) result
         (S.left source.old) (S.left source.new) (K.written sink.old) (K.written sink.new)
         (record { disk = (D.medium disk.old).faults; source = S.faults source.old; sink = K.faults sink.old })
         (record { disk = (D.medium disk.new).faults; source = S.faults source.new; sink = K.faults sink.new })
-        (D.medium disk.old) (D.medium disk.new) }
+        disk.old disk.new }
     ensures caused { IsCaused kind result
         (record { disk = (D.medium disk.old).faults; source = S.faults source.old; sink = K.faults sink.old })
         (record { disk = (D.medium disk.new).faults; source = S.faults source.new; sink = K.faults sink.new }) }
@@ -106,6 +107,7 @@ pub fn run_job<D: Disk, S: Source, K: Sink>(
 {
     match kind {
         JobKind::Run => run(alloc, migrations, source, sink, disk),
+        JobKind::Serve => serve(alloc, migrations, source, sink, disk),
         JobKind::Format => format(alloc, sink, disk),
         JobKind::Generate(number) => generate(alloc, number, migrations, sink, disk),
         JobKind::Audit => audit_disk(alloc, sink, disk),

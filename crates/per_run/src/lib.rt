@@ -2,21 +2,22 @@
 //!
 //! [`per_run`] reads the words of the command line and does the job that they say. The job of plain words starts the
 //! runtime and handles the lines of a source one by one, each with its reply to a sink, until the input ends, a line is
-//! outside the grammar, or something fails. `--format` formats the disk, and `--generate N` does that and then handles
-//! a large input that is made of a number. `--audit` lists what lies on the disk and finds what is damaged or lost, and
-//! mends nothing. `--export A:S` writes a storage as one text, and `--import A:S` makes it anew of such a text. The
-//! contract says what every status means: which lines were handled, what was written, what the disk
-//! then stands for, what a stop at any moment leaves, and that a failure of the disk, the source or the sink ends the
-//! program only where its count of faults rose.
+//! outside the grammar, or something fails. With `--serve` the input has no bound, a line outside the grammar is
+//! answered and ends nothing, and a disk on which nothing lies is formatted first. `--format` formats the disk, and
+//! `--generate N` does that and then handles a large input that is made of a number. `--audit` lists what lies on the
+//! disk and finds what is damaged or lost, and mends nothing. `--export A:S` writes a storage as one text, and
+//! `--import A:S` makes it anew of such a text. The contract says what every status means: which lines were handled,
+//! what was written, what the disk then stands for, what a stop at any moment leaves, and that a failure of the disk,
+//! the source or the sink ends the program only where its count of faults rose.
 //!
 //! Statuses: the table above [`per_run`] says when 0 to 9 come, and that above [`per_flash`] which come where a flash
 //! is not opened, as 10 and 11. `specs/Jobs` says the same in clauses, job by job, and `specs/Endings` of `run_model`
-//! of the job that handles lines. `endings` has the numbers. The help of `per_cli` lists every status of the program,
-//! those of main and of the script too.
+//! of the job that handles lines; `specs/Serves` says those of `--serve`. `endings` has the numbers. The help of
+//! `per_cli` lists every status of the program, those of main and of the script too.
 //!
-//! [`read_words`] gives the job of the words. Limits: lines of 262,144 bytes, and an input of fewer than 67,108,864
-//! bytes, or with the line `end` among them. The text of a reply is handed to the sink before the next line is looked
-//! at. What is not promised is that memory is there.
+//! [`read_words`] gives the job of the words. Limits: lines of 262,144 bytes, and without `--serve` an input of fewer
+//! than 67,108,864 bytes, or with the line `end` among them. The text of a reply is handed to the sink before the next
+//! line is looked at. What is not promised is that memory is there.
 #![tactic(auto)]
 
 mod answering;
@@ -29,9 +30,11 @@ mod generating;
 mod importing;
 mod input;
 mod job;
+mod preparing;
 mod reader;
 mod refusing;
 mod run;
+mod serving;
 mod tally;
 mod words;
 mod writing;

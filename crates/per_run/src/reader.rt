@@ -151,7 +151,7 @@ fn feed_byte<D: Disk, K: Sink>(
 }
 
 /// Puts a byte behind the front of the line that is kept, as long as the line may still be one.
-fn keep(kept: &mut Vec<u8>, byte: u8) -> Result<(), Ending>
+pub fn keep(kept: &mut Vec<u8>, byte: u8) -> Result<(), Ending>
     ensures kept { OnOk result ((rest : List ℕ) → kept.old.items ≡ take 262145 rest
         → kept.new.items ≡ take 262145 (rest ++ byte ∷ [])) }
     ensures memory { IfErr result (λ ending. ending ≡ Ending.OutOfMemory) }
@@ -249,7 +249,7 @@ fn handle_text<D: Disk, K: Sink>(
 }
 
 /// Writes the reply of a command.
-fn write_reply<K: Sink>(alloc: Global, sink: &mut K, reply: &Reply) -> Result<(), Ending>
+pub fn write_reply<K: Sink>(alloc: Global, sink: &mut K, reply: &Reply) -> Result<(), Ending>
     requires { HasText reply.now.answer }
     ensures puts { Puts (reply_text reply.now) (K.written sink.old) (K.written sink.new) result }
     ensures blames { Blames (K.faults sink.old) (K.faults sink.new) result }
@@ -269,7 +269,7 @@ fn refuse<K: Sink>(alloc: Global, sink: &mut K, number: u64) -> Ending
 }
 
 /// The text for a line outside the grammar, with its line feed.
-fn print_bad_line(alloc: Global, number: u64) -> Result<Vec<u8>, AllocError>
+pub fn print_bad_line(alloc: Global, number: u64) -> Result<Vec<u8>, AllocError>
     ensures { IfOk result (λ text. text.items ≡ bad_line_text number) }
 {
     let text = format!(in alloc; "bad-line {number}\n")?;

@@ -29,6 +29,9 @@ pub struct Job {
 pub enum JobKind {
     /// The lines of the input are handled.
     Run,
+    /// The same without a bound on the input, where a line outside the grammar is answered and ends nothing, and a disk
+    /// on which nothing lies is formatted first.
+    Serve,
     /// The disk is formatted for all applications.
     Format,
     /// The disk is formatted, and a large input that is made of this number, 1 to 100,000, is handled.
@@ -91,7 +94,8 @@ fn command<'a>(alloc: Global) -> Result<Command<'a>, AllocError>
         .arg(option(alloc, "generate"))?
         .arg(flag(alloc, "audit"))?
         .arg(option(alloc, "export"))?
-        .arg(option(alloc, "import"))
+        .arg(option(alloc, "import"))?
+        .arg(flag(alloc, "serve"))
 }
 
 /// An option of this name, with one value.
@@ -142,6 +146,7 @@ fn kind_in(alloc: Global, matches: &ArgMatches<'_>) -> Result<JobKind, WordsErro
         is_set(matches.get_str("audit")),
         matches.get_str("export"),
         matches.get_str("import"),
+        is_set(matches.get_str("serve")),
     )
 }
 
@@ -153,17 +158,19 @@ fn only_mode(
     audits: bool,
     exports: Option<&str>,
     imports: Option<&str>,
+    serves: bool,
 ) -> Result<JobKind, WordsError>
     ensures { Reads result (only_mode (modes formats (option_map (λ text. text.now) generates.entry) audits
-        (option_map (λ text. text.now) exports.entry) (option_map (λ text. text.now) imports.entry))) }
+        (option_map (λ text. text.now) exports.entry) (option_map (λ text. text.now) imports.entry) serves)) }
 {
-    match (formats, generates, audits, exports, imports) {
-        (false, None, false, None, None) => Ok(JobKind::Run),
-        (true, None, false, None, None) => Ok(JobKind::Format),
-        (false, Some(number), false, None, None) => generate_of(number),
-        (false, None, true, None, None) => Ok(JobKind::Audit),
-        (false, None, false, Some(target), None) => export_of(alloc, target),
-        (false, None, false, None, Some(target)) => import_of(alloc, target),
+    match (formats, generates, audits, exports, imports, serves) {
+        (false, None, false, None, None, false) => Ok(JobKind::Run),
+        (true, None, false, None, None, false) => Ok(JobKind::Format),
+        (false, Some(number), false, None, None, false) => generate_of(number),
+        (false, None, true, None, None, false) => Ok(JobKind::Audit),
+        (false, None, false, Some(target), None, false) => export_of(alloc, target),
+        (false, None, false, None, Some(target), false) => import_of(alloc, target),
+        (false, None, false, None, None, true) => Ok(JobKind::Serve),
         _ => Err(WordsError::Refused),
     }
 }

@@ -1,7 +1,7 @@
 //! A folder that is held: open and locked, until its owner goes.
 
 use std::alloc::{AllocError, Global};
-use std::fs::{File, TryLockError};
+use std::fs::{self, File, TryLockError};
 use std::io;
 use std::rt::Files;
 use system_model::{Asked, Failure, Part};
@@ -116,4 +116,28 @@ fn of_folder(asked: Asked, error: io::Error) -> Failure {
         part: Part::Folder,
         error,
     }
+}
+
+/// Whether something is in the folder of this name, and nothing of what it is to hold.
+pub fn holds_only_others<R: Files<File = File>>(
+    rt: &R,
+    alloc: Global,
+    dir: &str,
+    content: Content,
+) -> io::Result<bool> {
+    let runtime = (rt, alloc);
+    let mut has_others = false;
+    for entry in fs::read_dir(&runtime, dir)? {
+        match entry {
+            Ok(entry) => {
+                if content.number_of(entry.file_name()).is_some() {
+                    return Ok(false);
+                }
+                has_others = true;
+            }
+            Err(error) if error.kind() == io::ErrorKind::InvalidFilename => has_others = true,
+            Err(error) => return Err(error),
+        }
+    }
+    Ok(has_others)
 }

@@ -3,9 +3,7 @@
 
 #include <cerrno>
 #include <csignal>
-#include <filesystem>
 #include <string>
-#include <system_error>
 #include <utility>
 #include <vector>
 
@@ -40,27 +38,15 @@ class Process final {
   Process& operator=(const Process&) = delete;
   ~Process() { (void)Wait(); }
 
-  /// Starts `program --dir folder` and gives the pipe to it; where nothing lies in the folder, `program --format` makes
-  /// it ready before. 0, or why it cannot be started, as `errno`.
+  /// Starts `program --serve --dir folder` and gives the pipe to it. 0, or why it cannot be started, as `errno`.
   [[nodiscard]] int Start(const std::string& program, const std::string& folder, Pipe& pipe) {
-    std::error_code unlisted;
-    switch (ContentsOf(folder, unlisted)) {
-      case Contents::kNothing:
-        if (unlisted) return unlisted.value();
-        if (const int fault = Format(program, folder); fault != 0) return fault;
-        break;
-      case Contents::kOthers:
-        return ENOTEMPTY;
-      case Contents::kOurs:
-        break;
-    }
     Descriptor lines[2];
     Descriptor replies[2];
     if (!MakePipe(lines[0], lines[1]) || !MakePipe(replies[0], replies[1])) return errno;
     Settings settings;
     ::posix_spawn_file_actions_adddup2(&settings.files, lines[0].Number(), STDIN_FILENO);
     ::posix_spawn_file_actions_adddup2(&settings.files, replies[1].Number(), STDOUT_FILENO);
-    const int fault = Spawn({program, "--dir", folder}, settings);
+    const int fault = Spawn({program, "--serve", "--dir", folder}, settings);
     if (fault == 0) pipe = Pipe{std::move(replies[0]), std::move(lines[1])};
     return fault;
   }
@@ -101,32 +87,6 @@ class Process final {
       ::posix_spawnattr_destroy(&attributes);
     }
   };
-
-  /// What lies in a folder: nothing, a file of the engine, or only what others put there.
-  enum class Contents { kNothing, kOurs, kOthers };
-
-  [[nodiscard]] static Contents ContentsOf(const std::string& folder, std::error_code& unlisted) {
-    Contents found = Contents::kNothing;
-    for (const auto& file : std::filesystem::directory_iterator{folder, unlisted}) {
-      if (IsOurs(file.path().filename().string())) return Contents::kOurs;
-      found = Contents::kOthers;
-    }
-    return found;
-  }
-
-  /// Whether a file of this name may be one of the engine: `f` and a number.
-  [[nodiscard]] static bool IsOurs(const std::string& name) noexcept {
-    return name.size() > 1 && name[0] == 'f' && name.find_first_not_of("0123456789", 1) == std::string::npos;
-  }
-
-  /// Where the folder cannot be formatted, the run that follows says why.
-  [[nodiscard]] int Format(const std::string& program, const std::string& folder) {
-    Settings settings;
-    ::posix_spawn_file_actions_addopen(&settings.files, STDOUT_FILENO, "/dev/null", O_WRONLY, 0);
-    const int fault = Spawn({program, "--format", "--dir", folder}, settings);
-    if (fault == 0) (void)Wait();
-    return fault;
-  }
 
   /// Starts a child with these words, the first of which is its program.
   [[nodiscard]] int Spawn(std::vector<std::string> words, const Settings& settings) {

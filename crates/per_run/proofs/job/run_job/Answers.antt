@@ -1,26 +1,36 @@
 -- Each job, and why it ended so.
 use Rattle.std.proofs.Common.{ℕ, ◌<◌, ◌∙◌, ap, arith, refl, subst, sym}
-use Rattle.per_run.specs.declared.words.JobKind.TheVariants.{Run, Format, Generate, Audit, Export, Import}
+use Rattle.per_run.specs.declared.words.JobKind.TheVariants.{Run, Serve, Format, Generate, Audit, Export, Import}
 use Rattle.per_run.specs.Steps.{IsInRange}
-use Rattle.per_run.proofs.Caused.{caused_as, done_as, run_caused, written_caused}
+use Rattle.per_run.proofs.Caused.{caused_as, done_as, run_caused, serve_caused, written_caused}
 use Rattle.per_run.proofs.job.run_job.Goals as goal
 
 pub returns-in-Run-clause-job : goal.returns-in-Run-clause-job
-returns-in-Run-clause-job g c = done_as _ _ Run _ _ _ _ _ _ _ _ _ _ _ c.in-Run.is c.run.ensures.run
+returns-in-Run-clause-job g c = done_as _ g.D.Disk.medium _ Run _ _ _ _ _ _ _ _ _ _ _ c.in-Run.is c.run.ensures.run
 
 pub returns-in-Run-clause-caused : goal.returns-in-Run-clause-caused
 returns-in-Run-clause-caused g c = caused_as _ Run _ _ _ c.in-Run.is
     (run_caused _ _ _ _ _ _ _ _ _ _ _ _ _ _ c.run.ensures.run)
 
+pub returns-in-Serve-clause-job : goal.returns-in-Serve-clause-job
+returns-in-Serve-clause-job g c =
+    done_as _ g.D.Disk.medium _ Serve _ _ _ _ _ _ _ _ _ _ _ c.in-Serve.is c.serve.ensures.serves
+
+pub returns-in-Serve-clause-caused : goal.returns-in-Serve-clause-caused
+returns-in-Serve-clause-caused g c = caused_as _ Serve _ _ _ c.in-Serve.is
+    (serve_caused _ g.D.Disk.medium _ _ _ _ _ _ _ _ _ _ _ _ _ c.serve.ensures.serves)
+
 pub returns-in-Format-clause-job : goal.returns-in-Format-clause-job
-returns-in-Format-clause-job g c = done_as _ _ Format _ _ _ _ _ _ _ _ _ _ _ c.in-Format.is c.format.ensures.job
+returns-in-Format-clause-job g c =
+    done_as _ g.D.Disk.medium _ Format _ _ _ _ _ _ _ _ _ _ _ c.in-Format.is c.format.ensures.job
 
 pub returns-in-Format-clause-caused : goal.returns-in-Format-clause-caused
 returns-in-Format-clause-caused g c = caused_as _ Format _ _ _ c.in-Format.is
     (written_caused Format _ _ _ refl c.format.ensures.status)
 
 pub returns-in-Generate-clause-job : goal.returns-in-Generate-clause-job
-returns-in-Generate-clause-job g c = done_as _ _ (Generate c.in-Generate.number) _ _ _ _ _ _ _ _ _ _ _ c.in-Generate.is
+returns-in-Generate-clause-job g c =
+    done_as _ g.D.Disk.medium _ (Generate c.in-Generate.number) _ _ _ _ _ _ _ _ _ _ _ c.in-Generate.is
     c.generate.ensures.job
 
 pub returns-in-Generate-clause-caused : goal.returns-in-Generate-clause-caused
@@ -28,7 +38,8 @@ returns-in-Generate-clause-caused g c = caused_as _ (Generate c.in-Generate.numb
     (written_caused (Generate c.in-Generate.number) _ _ _ refl c.generate.ensures.status)
 
 pub returns-in-Audit-clause-job : goal.returns-in-Audit-clause-job
-returns-in-Audit-clause-job g c = done_as _ _ Audit _ _ _ _ _ _ _ _ _ _ _ c.in-Audit.is c.audit_disk.ensures.job
+returns-in-Audit-clause-job g c =
+    done_as _ g.D.Disk.medium _ Audit _ _ _ _ _ _ _ _ _ _ _ c.in-Audit.is c.audit_disk.ensures.job
 
 pub returns-in-Audit-clause-caused : goal.returns-in-Audit-clause-caused
 returns-in-Audit-clause-caused g c = caused_as _ Audit _ _ _ c.in-Audit.is (c.audit_disk.ensures.caused _)
@@ -39,7 +50,8 @@ export_storage-requires g c =
     omega (arith, within, c.from.ensures)
 
 pub returns-in-Export-clause-job : goal.returns-in-Export-clause-job
-returns-in-Export-clause-job g c = done_as _ _ (Export c.from.result c.in-Export.name) _ _ _ _ _ _ _ _ _ _ _
+returns-in-Export-clause-job g c =
+    done_as _ g.D.Disk.medium _ (Export c.from.result c.in-Export.name) _ _ _ _ _ _ _ _ _ _ _
     (c.in-Export.is ∙ ap (λ (app : ℕ). Export app c.in-Export.name) (sym c.from.ensures))
     c.export_storage.ensures.job
 
@@ -54,7 +66,8 @@ import_storage-requires g c =
     omega (arith, within, c.from-in-Import.ensures)
 
 pub returns-in-Import-clause-job : goal.returns-in-Import-clause-job
-returns-in-Import-clause-job g c = done_as _ _ (Import c.from-in-Import.result c.in-Import.name) _ _ _ _ _ _ _ _ _ _ _
+returns-in-Import-clause-job g c =
+    done_as _ g.D.Disk.medium _ (Import c.from-in-Import.result c.in-Import.name) _ _ _ _ _ _ _ _ _ _ _
     (c.in-Import.is ∙ ap (λ (app : ℕ). Import app c.in-Import.name) (sym c.from-in-Import.ensures))
     c.import_storage.ensures.job
 

@@ -35,7 +35,7 @@ pub returns-in-Bad-clause-ends : goal.returns-in-Bad-clause-ends
 returns-in-Bad-clause-ends g c = λ laws start before lines others whole front number handled.
     course_refused _ _ _ _ before g.D.Disk.medium laws c.refuse.result lines others _ _ _ _ _ whole c.args.number
     handled (front_bad _ whole front c.in-Bad.ensures.came.0) number c.refuse.ensures.refuses
-    c.in-Bad.ensures.came.1
+    c.in-Bad.ensures.came.2
 
 pub returns-in-OutOfMemory-clause-ends : goal.returns-in-OutOfMemory-clause-ends
 returns-in-OutOfMemory-clause-ends g c = λ laws start before lines others whole front number handled.

@@ -14,5 +14,7 @@ returns c = reads_as c.only_mode.result _ _
     (c.is_set-2.ensures ∙ ap is_set (c.get_str-3.ensures
     ∙ first_value-rows (found_of c.args.matches.now) (codes "audit")))
     (c.get_str-4.ensures ∙ first_value-rows (found_of c.args.matches.now) (codes "export"))
-    (c.get_str-5.ensures ∙ first_value-rows (found_of c.args.matches.now) (codes "import")))
+    (c.get_str-5.ensures ∙ first_value-rows (found_of c.args.matches.now) (codes "import"))
+    (c.is_set-3.ensures ∙ ap is_set (c.get_str-6.ensures
+    ∙ first_value-rows (found_of c.args.matches.now) (codes "serve"))))
     c.only_mode.ensures

@@ -1,0 +1,343 @@
+-- How far the input of a run that stays is handled: byte by byte, piece by piece, and to its end.
+use Rattle.std.proofs.Common.{ℕ, List, [], ◌∷◌, ◌++◌, length, take, ◌≡◌, ◌≤◌, ◌<◌, ◌+◌, ◌-◌, ◌^◌, min, get_or, refl}
+use Rattle.std.proofs.Common.{sym}
+use Rattle.std.proofs.Common.{◌∙◌, ap, subst, arith, Option, Bool, true, false, nat_eq, append_assoc, append-nil}
+use Rattle.std.proofs.Common.{length-append}
+use Rattle.std.specs.List.{AllByRecursion, flat_map}
+use Rattle.std.proofs.lemmas.List.{length-take-le, take_all}
+use Rattle.std.proofs.KnownBytes.{Appends-nil, Consumes-kept, Consumes-nil, Consumes-trans}
+use Rattle.std.specs.Io.KnownBytes.{Consumes, IsAtEnd, Keeps}
+use Rattle.disk_model.specs.Medium.{Medium}
+use Rattle.migrate_fns.specs.Rules.{Rule, Answers}
+use Rattle.run_model.specs.AppLaws.{AppLaws}
+use Rattle.run_model.specs.Endings as endings
+use Rattle.run_model.specs.Endings.{HasStarted}
+use Rattle.run_model.specs.Lines.{lines_of, split_lines}
+use Rattle.run_model.specs.Runtimes.{Memory}
+use Rattle.per_run.specs.declared.endings.Ending.{Ending}
+use Rattle.per_run.specs.declared.endings.Ending.TheVariants.{AllRead, EndLine, BadLine, OutOfMemory, Source, Sink}
+use Rattle.per_run.specs.declared.endings.Ending.TheVariants.{TooLong}
+use Rattle.per_run.specs.Serves.{Heard, HasServedAll, IsServedInput, lines_in}
+use Rattle.per_run.specs.Serving.{Hearing, HearsOne, Listened, Served, Service}
+use Rattle.per_run.specs.Steps.{IsBroken, IsClean, ending_of, with_feed}
+use Rattle.per_run.proofs.Hears.{lines_on, service, service_along, service_memory}
+use Rattle.per_run.proofs.Inputs.{not_seen}
+use Rattle.per_run.proofs.Reaches.{piece_more}
+use Rattle.per_run.proofs.Splits.{all_clean_more, clean_more, lines_false, lines_next, lines_whole, with_line}
+
+module _ (told : Bool) (rules : List Rule) (answers : Answers) (start : Medium) (before : Option (List ℕ)) where
+  -- nothing is handled yet
+  pub listened_none : (now : Option (List ℕ)) (memory same : Memory) (medium : Medium) (kept : List ℕ) (number : ℕ)
+      → same ≡ memory → Hearing told rules answers start before [] now memory medium → kept ≡ [] → number ≡ 0
+      → Listened told rules answers start before [] now same medium kept number
+  listened_none now memory same medium kept number is hearing empty none = record {
+    heard = [];
+    rest = [];
+    split = refl;
+    clean = tt;
+    clean_rest = refl;
+    kept_is = empty;
+    number_is = omega (arith, none);
+    hearing = subst (λ (m : Memory). Hearing told rules answers start before [] now m medium) (sym is) hearing;
+  }
+
+  -- one line more is handled, or the handling ends at it
+  abbrev Hears : (now later : Option (List ℕ)) (memory after : Memory) (old new : Medium) → (kept : List ℕ)
+      → (number : ℕ) → Type 0
+  Hears now later memory after old new kept number = (heard : List Heard) (text : List ℕ) → kept ≡ take 262145 text
+      → number ≡ min (length heard) (2 ^ 64 - 1)
+      → Hearing told rules answers start before heard now memory old
+      → HearsOne told rules answers start before heard text later after new
+
+  abbrev EndsAt : endings.Ending → (now later : Option (List ℕ)) (memory : Memory) (old new : Medium) → (kept : List ℕ)
+      → (number : ℕ) → Type 0
+  EndsAt ending now later memory old new kept number = (heard : List Heard) (more : List (List ℕ)) (text : List ℕ)
+      → kept ≡ take 262145 text → number ≡ min (length heard) (2 ^ 64 - 1)
+      → Hearing told rules answers start before heard now memory old
+      → Service told rules answers ending start before (lines_in heard ++ text ∷ more) later new
+
+  -- ---- one more byte
+
+  -- a line feed
+  listened_feed : (given : List ℕ) (now later : Option (List ℕ)) (memory after : Memory) (old new : Medium)
+      (kept kept_later : List ℕ) (number number_later : ℕ)
+      → Listened told rules answers start before given now memory old kept number
+      → Hears now later memory after old new kept number
+      → number_later ≡ min (number + 1) (2 ^ 64 - 1) → kept_later ≡ []
+      → Listened told rules answers start before (given ++ 10 ∷ []) later after new kept_later number_later
+  listened_feed given now later memory after old new kept kept_later number number_later l goes_on counts clears =
+      let one = goes_on l.heard l.rest l.kept_is l.number_is l.hearing in
+      let lines : lines_in (l.heard ++ one.0 ∷ []) ≡ lines_in l.heard ++ l.rest ∷ [] =
+      lines_on l.heard one.0 ∙ ap (λ (t : List ℕ). lines_in l.heard ++ t ∷ []) one.1 in
+      record {
+        heard = l.heard ++ one.0 ∷ [];
+        rest = [];
+        split = ap (λ (bytes : List ℕ). bytes ++ 10 ∷ []) l.split
+            ∙ append_assoc (flat_map with_feed (lines_in l.heard)) l.rest (10 ∷ [])
+            ∙ sym (with_line (lines_in l.heard) l.rest)
+            ∙ ap (λ (ls : List (List ℕ)). flat_map with_feed ls) (sym lines)
+            ∙ sym (append-nil (flat_map with_feed (lines_in (l.heard ++ one.0 ∷ []))));
+        clean = subst (AllByRecursion IsClean) (sym lines)
+            (all_clean_more (lines_in l.heard) l.rest l.clean l.clean_rest);
+        clean_rest = refl;
+        kept_is = clears;
+        number_is = omega (arith, counts, l.number_is, length-append l.heard (one.0 ∷ []));
+        hearing = one.2;
+      }
+
+  pub listened_at_feed : (given : List ℕ) (now later : Option (List ℕ)) (memory after : Memory) (old new : Medium)
+      (kept kept_later : List ℕ) (number number_later byte : ℕ) → byte ≡ 10
+      → Listened told rules answers start before given now memory old kept number
+      → Hears now later memory after old new kept number
+      → number_later ≡ min (number + 1) (2 ^ 64 - 1) → kept_later ≡ []
+      → Listened told rules answers start before (given ++ byte ∷ []) later after new kept_later number_later
+  listened_at_feed given now later memory after old new kept kept_later number number_later byte is l goes_on counts
+      clears =
+      subst (λ (b : ℕ). Listened told rules answers start before (given ++ b ∷ []) later after new kept_later
+      number_later) (sym is)
+      (listened_feed given now later memory after old new kept kept_later number number_later l goes_on counts clears)
+
+  -- another byte
+  pub listened_byte : (given : List ℕ) (now : Option (List ℕ)) (memory : Memory) (medium : Medium)
+      (kept kept_later : List ℕ) (number byte : ℕ)
+      → Listened told rules answers start before given now memory medium kept number → nat_eq byte 10 ≡ false
+      → ((rest : List ℕ) → kept ≡ take 262145 rest → kept_later ≡ take 262145 (rest ++ byte ∷ []))
+      → Listened told rules answers start before (given ++ byte ∷ []) now memory medium kept_later number
+  listened_byte given now memory medium kept kept_later number byte l apart keeps = record {
+    heard = l.heard;
+    rest = l.rest ++ byte ∷ [];
+    split = ap (λ (bytes : List ℕ). bytes ++ byte ∷ []) l.split
+        ∙ append_assoc (flat_map with_feed (lines_in l.heard)) l.rest (byte ∷ []);
+    clean = l.clean;
+    clean_rest = clean_more l.rest byte l.clean_rest apart;
+    kept_is = keeps l.rest l.kept_is;
+    number_is = l.number_is;
+    hearing = l.hearing;
+  }
+
+  -- ---- endings within the input
+
+  -- at a line feed
+  ends_feed : (ending : endings.Ending) (given others : List ℕ) (now later : Option (List ℕ)) (memory : Memory)
+      (old new : Medium) (kept : List ℕ) (number : ℕ)
+      → Listened told rules answers start before given now memory old kept number
+      → EndsAt ending now later memory old new kept number
+      → Service told rules answers ending start before (lines_of false (given ++ 10 ∷ others)) later new
+  ends_feed ending given others now later memory old new kept number l ends =
+      let is : lines_of false (given ++ 10 ∷ others) ≡ lines_in l.heard ++ l.rest ∷ (split_lines others).0 =
+      ap (λ (bytes : List ℕ). lines_of false (bytes ++ 10 ∷ others)) l.split
+      ∙ ap (lines_of false) (append_assoc (flat_map with_feed (lines_in l.heard)) l.rest (10 ∷ others))
+      ∙ lines_next (lines_in l.heard) l.rest others l.clean l.clean_rest in
+      service_along told rules answers start before ending _ _ later new is
+      (ends l.heard (split_lines others).0 l.rest l.kept_is l.number_is l.hearing)
+
+  pub ends_at_feed : (ending : endings.Ending) (given others : List ℕ) (now later : Option (List ℕ)) (memory : Memory)
+      (old new : Medium) (kept : List ℕ) (number byte : ℕ) → byte ≡ 10
+      → Listened told rules answers start before given now memory old kept number
+      → EndsAt ending now later memory old new kept number
+      → Service told rules answers ending start before (lines_of false (given ++ byte ∷ others)) later new
+  ends_at_feed ending given others now later memory old new kept number byte is l ends =
+      subst (λ (b : ℕ). Service told rules answers ending start before (lines_of false (given ++ b ∷ others)) later
+      new) (sym is) (ends_feed ending given others now later memory old new kept number l ends)
+
+  -- at another byte, for which there is no memory
+  pub ends_byte : AppLaws → (ending : Ending) (given others : List ℕ) (now : Option (List ℕ)) (memory : Memory)
+      (medium : Medium) (kept : List ℕ) (number byte : ℕ) → ending ≡ OutOfMemory
+      → Listened told rules answers start before given now memory medium kept number
+      → Service told rules answers (ending_of ending) start before (lines_of false (given ++ byte ∷ others)) now medium
+  ends_byte laws way given others now memory medium kept number byte short l =
+      let is : lines_of false (given ++ byte ∷ others) ≡ lines_in l.heard
+      ++ (split_lines (l.rest ++ byte ∷ others)).0 =
+      ap (λ (bytes : List ℕ). lines_of false (bytes ++ byte ∷ others)) l.split
+      ∙ ap (lines_of false) (append_assoc (flat_map with_feed (lines_in l.heard)) l.rest (byte ∷ others))
+      ∙ lines_false (lines_in l.heard) (l.rest ++ byte ∷ others) l.clean in
+      subst (λ (e : Ending). Service told rules answers (ending_of e) start before
+      (lines_of false (given ++ byte ∷ others)) now medium) (sym short)
+      (service_along told rules answers start before endings.memory _ _ now medium is
+      (service_memory told rules answers start before laws l.heard _ now memory medium l.hearing))
+
+  -- ---- a piece of the input
+
+  listened_along : (given same : List ℕ) (now : Option (List ℕ)) (memory : Memory) (medium : Medium) (kept : List ℕ)
+      (number : ℕ) → same ≡ given
+      → Listened told rules answers start before given now memory medium kept number
+      → Listened told rules answers start before same now memory medium kept number
+  listened_along given same now memory medium kept number is l =
+      subst (λ (bytes : List ℕ). Listened told rules answers start before bytes now memory medium kept number) (sym is)
+      l
+
+  pub listened_more : (given piece : List ℕ) (i : ℕ) (now : Option (List ℕ)) (memory : Memory) (medium : Medium)
+      (kept : List ℕ) (number : ℕ) → i < length piece
+      → Listened told rules answers start before ((given ++ take i piece) ++ get_or piece i 0 ∷ []) now memory medium
+      kept number
+      → Listened told rules answers start before (given ++ take (i + 1) piece) now memory medium kept number
+  listened_more given piece i now memory medium kept number within l =
+      listened_along _ _ now memory medium kept number
+      (ap (λ (bytes : List ℕ). given ++ bytes) (piece_more piece i within)
+      ∙ sym (append_assoc given (take i piece) (get_or piece i 0 ∷ []))) l
+
+  pub listened_whole : (given piece : List ℕ) (i : ℕ) (now : Option (List ℕ)) (memory : Memory) (medium : Medium)
+      (kept : List ℕ) (number : ℕ) → length piece ≤ i
+      → Listened told rules answers start before (given ++ take i piece) now memory medium kept number
+      → Listened told rules answers start before (given ++ piece) now memory medium kept number
+  listened_whole given piece i now memory medium kept number all l =
+      listened_along _ _ now memory medium kept number
+      (ap (λ (bytes : List ℕ). given ++ bytes) (sym (take_all i piece all))) l
+
+-- ---- the input as a whole
+
+-- at least so many bytes were taken and handled
+pub record HasTaken (told : Bool) (rules : List Rule) (answers : Answers) (start : Medium)
+    (left_before left_now before now : Option (List ℕ)) (memory : Memory) (medium : Medium)
+    (kept : List ℕ) (number least : ℕ) : Type 0 where
+  pub given : List ℕ
+  pub takes : Consumes left_before left_now given
+  pub many : least ≤ length given
+  pub listened : Listened told rules answers start before given now memory medium kept number
+
+input_false : (ending : Ending) (count : ℕ) → IsBroken ending → IsServedInput (ending_of ending) false count
+input_false AllRead count broken = absurd broken
+input_false EndLine count broken = tt
+input_false BadLine count broken = tt
+input_false OutOfMemory count broken = tt
+input_false Source count broken = absurd broken
+input_false Sink count broken = tt
+input_false TooLong count broken = absurd broken
+
+module _ (told : Bool) (rules : List Rule) (answers : Answers) (start : Medium)
+    (left_before before : Option (List ℕ)) where
+  pub taken_none : (now : Option (List ℕ)) (memory : Memory) (medium : Medium) (kept : List ℕ) (number : ℕ)
+      → Listened told rules answers start before [] now memory medium kept number
+      → HasTaken told rules answers start left_before left_before before now memory medium kept number 0
+  taken_none now memory medium kept number l = record {
+    given = [];
+    takes = Consumes-nil left_before;
+    many = omega arith;
+    listened = l;
+  }
+
+  pub taken_more : (left_now left_later now later : Option (List ℕ)) (memory after : Memory) (old new : Medium)
+      (kept kept_later : List ℕ) (number number_later least count : ℕ) (buffer : List ℕ)
+      → HasTaken told rules answers start left_before left_now before now memory old kept number least
+      → 0 < count → count ≤ length buffer → Consumes left_now left_later (take count buffer)
+      → ((given : List ℕ) → Listened told rules answers start before given now memory old kept number
+      → Listened told rules answers start before (given ++ take count buffer) later after new kept_later number_later)
+      → HasTaken told rules answers start left_before left_later before later after new kept_later number_later
+      (least + 1)
+  taken_more left_now left_later now later memory after old new kept kept_later number number_later least count buffer
+      so_far some fits takes goes_on = record {
+        given = so_far.given ++ take count buffer;
+        takes = Consumes-trans left_before left_now left_later _ _ so_far.takes takes;
+        many = omega (
+          arith,
+          so_far.many,
+          some,
+          length-append so_far.given (take count buffer),
+          length-take-le count buffer fits,
+        );
+        listened = goes_on so_far.given so_far.listened;
+      }
+
+  -- all whole lines of what was taken are handled
+  served_all : AppLaws → (ending : endings.Ending) → HasStarted ending → (given : List ℕ) (now : Option (List ℕ))
+      (memory : Memory) (medium : Medium) (kept : List ℕ) (number : ℕ)
+      → (l : Listened told rules answers start before given now memory medium kept number)
+      → (HasServedAll l.heard (lines_of false given) before now → Service told rules answers ending start before
+      (lines_of false given) now medium)
+      → Service told rules answers ending start before (lines_of false given) now medium
+  served_all laws ending begun given now memory medium kept number l then = then (record {
+    next = ap (lines_of false) l.split ∙ lines_whole (lines_in l.heard) l.rest l.clean l.clean_rest;
+    wrote = l.hearing.wrote;
+  })
+
+  -- the end of the input was seen
+  pub served_read : AppLaws → (left_now left_later now : Option (List ℕ)) (memory : Memory) (medium : Medium)
+      (kept : List ℕ) (number least count : ℕ) (buffer : List ℕ)
+      → HasTaken told rules answers start left_before left_now before now memory medium kept number least
+      → count ≡ 0 → Consumes left_now left_later (take count buffer) → IsAtEnd left_later
+      → Served told rules answers AllRead start left_before left_later before now medium
+  served_read laws left_now left_later now memory medium kept number least count buffer so_far none takes at_end =
+      let l = so_far.listened in
+      let nothing : Consumes left_now left_later [] = subst (λ (n : ℕ). Consumes left_now left_later (take n buffer))
+      none takes in
+      record {
+        given = so_far.given;
+        taken = subst (Consumes left_before left_later) (append-nil so_far.given)
+            (Consumes-trans left_before left_now left_later _ _ so_far.takes nothing);
+        ended = true;
+        end_seen = λ _. at_end;
+        input = refl;
+        course = served_all laws endings.all_read tt so_far.given now memory medium kept number l (λ all.
+            service told rules answers start before laws endings.all_read tt l.heard (lines_of false so_far.given) now
+            memory medium l.hearing.are l.hearing.goes all);
+      }
+
+  -- the source failed
+  pub served_source : AppLaws → (left_now left_later now : Option (List ℕ)) (memory : Memory) (medium : Medium)
+      (kept : List ℕ) (number least : ℕ)
+      → HasTaken told rules answers start left_before left_now before now memory medium kept number least
+      → Keeps left_now left_later
+      → Served told rules answers Source start left_before left_later before now medium
+  served_source laws left_now left_later now memory medium kept number least so_far keeps =
+      let l = so_far.listened in
+      record {
+        given = so_far.given;
+        taken = Consumes-kept left_before left_now left_later so_far.given so_far.takes keeps;
+        ended = false;
+        end_seen = not_seen;
+        input = refl;
+        course = served_all laws endings.source tt so_far.given now memory medium kept number l (λ all.
+            service told rules answers start before laws endings.source tt l.heard (lines_of false so_far.given) now
+            memory medium l.hearing.are l.hearing.goes all);
+      }
+
+  -- nobody can count any more
+  pub served_long : AppLaws → (left_now now : Option (List ℕ)) (memory : Memory) (medium : Medium) (kept : List ℕ)
+      (number least : ℕ)
+      → HasTaken told rules answers start left_before left_now before now memory medium kept number least
+      → 2 ^ 64 - 1 ≤ least
+      → Served told rules answers TooLong start left_before left_now before now medium
+  served_long laws left_now now memory medium kept number least so_far most =
+      let l = so_far.listened in
+      record {
+        given = so_far.given;
+        taken = so_far.takes;
+        ended = false;
+        end_seen = not_seen;
+        input = (refl, omega (arith, most, so_far.many));
+        course = served_all laws endings.too_long tt so_far.given now memory medium kept number l (λ all.
+            service told rules answers start before laws endings.too_long tt l.heard (lines_of false so_far.given) now
+            memory medium l.hearing.are l.hearing.goes all);
+      }
+
+  -- a piece of the input ended the run
+  pub served_piece : (ending : Ending) (left_now left_later now later : Option (List ℕ)) (memory : Memory)
+      (old new : Medium) (kept : List ℕ) (number least count : ℕ) (buffer : List ℕ)
+      → HasTaken told rules answers start left_before left_now before now memory old kept number least
+      → Consumes left_now left_later (take count buffer) → IsBroken ending
+      → ((given : List ℕ) → Listened told rules answers start before given now memory old kept number
+      → Service told rules answers (ending_of ending) start before (lines_of false (given ++ take count buffer)) later
+      new)
+      → Served told rules answers ending start left_before left_later before later new
+  served_piece ending left_now left_later now later memory old new kept number least count buffer so_far takes broken
+      ends = record {
+        given = so_far.given ++ take count buffer;
+        taken = Consumes-trans left_before left_now left_later _ _ so_far.takes takes;
+        ended = false;
+        end_seen = not_seen;
+        input = input_false ending _ broken;
+        course = ends so_far.given so_far.listened;
+      }
+
+  -- memory ran out before anything was taken
+  pub served_memory : AppLaws → (now : Option (List ℕ)) (memory : Memory) (medium : Medium)
+      → Hearing told rules answers start before [] now memory medium
+      → Served told rules answers OutOfMemory start left_before left_before before now medium
+  served_memory laws now memory medium hearing = record {
+    given = [];
+    taken = Consumes-nil left_before;
+    ended = false;
+    end_seen = not_seen;
+    input = tt;
+    course = service_memory told rules answers start before laws [] [] now memory medium hearing;
+  }

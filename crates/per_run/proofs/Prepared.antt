@@ -1,0 +1,275 @@
+-- The disk that a run which stays starts on, and the run as a whole.
+use Rattle.std.proofs.Common.{ℕ, List, [], ◌∷◌, length, ◌≡◌, ◌≤◌, ◌<◌, ◌+◌, ◌⊎◌, inl, inr, ⊎_elim, refl, sym, ◌∙◌, ap}
+use Rattle.std.proofs.Common.{subst, arith, Option, None, Bool, true, false, IsTrue, eq-or-lt_of_le, le_refl}
+use Rattle.std.proofs.Common.{Result, Ok, Err, IfOk, OnErr, OnOk}
+use Rattle.std.proofs.KnownBytes.{Appends-nil, Consumes-nil, Keeps-refl}
+use Rattle.per_base.specs.Causes.{Rose}
+use Rattle.disk_model.specs.Case.{Case}
+use Rattle.disk_model.specs.Image.{Image}
+use Rattle.disk_model.specs.Laws.{cases_on, elapses_none, elapses_on, reads_on}
+use Rattle.disk_model.specs.Medium.{Medium, IsLawful, Elapses, OnlyReads}
+use Rattle.migrate_fns.specs.Rules.{Rule, Answers}
+use Rattle.deploy.specs.declared.errors.Stop.{Stop}
+use Rattle.deploy_laws.specs.Apps.{IsCleanApp}
+use Rattle.run_model.specs.Endings as endings
+use Rattle.run_model.specs.Endings.{Failed, HasCauseOf, HasStarted, status_of}
+use Rattle.run_model.specs.Moments.{Between, OrBefore}
+use Rattle.run_model.specs.RunLaws.{start_disk}
+use Rattle.run_model.specs.Runtimes.{Memory, StartKeeps, Starts}
+use Rattle.run_model.specs.Worlds.{Disks, disks, started, world_at}
+use Rattle.per_runtime.specs.Memories.{memory_of}
+use Rattle.per_runtime.specs.declared.runtime.Runtime.{Runtime}
+use Rattle.per_run.specs.declared.endings.Ending.{Ending as Way}
+use Rattle.per_run.specs.declared.endings.Ending.TheVariants as ways
+use Rattle.per_run.specs.Serves.{HadNothing, IsBlank, IsFresh, IsPrepared, Serve, Serves, as_it_was, formatted_first}
+use Rattle.per_run.specs.Serves.{served, unprepared}
+use Rattle.per_run.specs.Serving.{Hearing, IsReadied, IsUnready, Says, Served}
+use Rattle.per_run.specs.Steps.{Blamed, IsBegun, ending_of}
+use Rattle.per_run.proofs.Goes.{goes_none}
+use Rattle.per_run.proofs.Inputs.{not_seen}
+
+-- ---- whether anything lies on the disk
+
+none_left : (bytes : List ℕ) → length bytes ≡ 0 → bytes ≡ []
+none_left [] none = refl
+none_left (b ∷ bytes) none = absurd (omega (arith, none))
+
+pub blank_on : (image : Image) (file : ℕ) → ((f : ℕ) → f < file → image f ≡ []) → length (image file) ≡ 0
+    → (f : ℕ) → f < file + 1 → image f ≡ []
+blank_on image file so_far none f lt = ⊎_elim
+    (λ (is : f ≡ file). ap image is ∙ none_left (image file) none)
+    (λ (less : f < file). so_far f less)
+    (eq-or-lt_of_le (omega (arith, lt)))
+
+pub not_blank : (image : Image) (file : ℕ) → file < 32768 → 0 < length (image file) → IsBlank image → ⊥
+not_blank image file lt some blank = omega (arith, some, ap length (blank file lt))
+
+pub says_true : (blank : Bool) (P : Type 0) → blank ≡ true → Says blank P → P
+says_true true P is p = p
+says_true false P is p = let bad : false ≡ true = is in cc
+
+pub says_false : (blank : Bool) (P : Type 0) → blank ≡ false → Says blank P → P → ⊥
+says_false false P is p = p
+says_false true P is p = let bad : true ≡ false = is in cc
+
+-- no count of failures fell
+pub earlier_start : {D : Type 0} (told : Bool) (medium : D → Medium) (old start : D)
+    → IsPrepared told medium old start → (medium old).faults ≤ (medium start).faults
+earlier_start told medium old start (as_it_was some same) =
+    subst (λ d. (medium old).faults ≤ (medium d).faults) (sym same) (le_refl _)
+earlier_start told medium old start (formatted_first blank fresh) = omega (arith, fresh.passes)
+
+-- ---- the start
+
+-- a start that was looked for first
+pub keeps_on : {a b c : Medium} → Elapses a b → OnlyReads a b → Elapses b c → StartKeeps b c → StartKeeps a c
+keeps_on {a} {b} {c} first reads later keeps = record {
+  always = λ app lt clean x past. ⊎_elim
+      (λ seen. inl (reads.during x seen))
+      (λ since. ⊎_elim
+      (λ was. inl (reads.now x was))
+      (λ between. inr (subst (λ (i : Image). Between app (disks (world_at i)) (disks (started (world_at i))) x)
+      reads.image between))
+      (keeps.always app lt (subst (IsCleanApp app) (sym reads.image) clean) x since))
+      (cases_on first later x past);
+  at_exit = ⊎_elim
+      (λ only. inl (reads_on first reads later only))
+      (λ each. inr (λ app lt clean x now.
+      subst (λ (i : Image). Between app (disks (world_at i)) (disks (started (world_at i))) x) reads.image
+      (each app lt (subst (IsCleanApp app) (sym reads.image) clean) x now)))
+      keeps.at_exit;
+  roots = λ f spared. keeps.roots f spared ∙ ap (λ (i : Image). i f) reads.image;
+}
+
+pub starts_on : {a b c : Medium} (memory : Memory) → Elapses a b → OnlyReads a b → Elapses b c → Starts memory b c
+    → Starts memory a c
+starts_on {a} {b} {c} memory first reads later s = record {
+  eight = s.eight;
+  sure = s.sure;
+  world = s.world ∙ ap (λ (i : Image). started (world_at i)) reads.image;
+  quiet = s.quiet;
+  clean = λ app lt clean. s.clean app lt (subst (IsCleanApp app) (sym reads.image) clean);
+  keeps = keeps_on first reads later s.keeps;
+}
+
+-- behind the formatting
+pub readied_first : {D : Type 0} (told : Bool) (medium : D → Medium) (r : Result Runtime Stop) (old mid new : D)
+    → (IsTrue told → IsBlank (medium old).image) → (medium mid).faults ≡ (medium old).faults
+    → IfOk r (λ x. (m : D) × IsBegun told (memory_of x) (medium mid) (medium m) (medium new))
+    → IfOk r (λ x. IsReadied told medium (memory_of x) old new)
+readied_first told medium (Ok x) old mid new blank same begun = record {
+  start = begun.0;
+  prepared = formatted_first blank (record {
+    world = begun.1.world;
+    clean = begun.1.clean;
+    passes = begun.1.passes ∙ same;
+  });
+  passes = begun.1.started;
+  starts = begun.1.starts;
+  time = begun.1.time;
+}
+readied_first told medium (Err e) old mid new blank same begun = tt
+
+-- on the disk as it was
+pub readied_as : {D : Type 0} (told : Bool) (medium : D → Medium) (r : Result Runtime Stop) (old mid new : D)
+    → (IsTrue told → IsBlank (medium old).image → ⊥) → Elapses (medium old) (medium mid)
+    → OnlyReads (medium old) (medium mid) → (medium mid).faults ≡ (medium old).faults
+    → Elapses (medium mid) (medium new) → OnOk r ((medium new).faults ≡ (medium mid).faults)
+    → (IsTrue told → IfOk r (λ x. Starts (memory_of x) (medium mid) (medium new)))
+    → IfOk r (λ x. IsReadied told medium (memory_of x) old new)
+readied_as told medium (Ok x) old mid new some first reads same later passes starts = record {
+  start = old;
+  prepared = as_it_was some refl;
+  passes = passes ∙ same;
+  starts = λ tells. starts_on (memory_of x) first reads later (starts tells);
+  time = elapses_on first later;
+}
+readied_as told medium (Err e) old mid new some first reads same later passes starts = tt
+
+pub on_err : {T E P : Type 0} (r : Result T E) → P → OnErr r P
+on_err (Ok x) p = tt
+on_err (Err e) p = p
+
+-- ---- the run
+
+pub hearing_none : (told : Bool) (rules : List Rule) (answers : Answers) (now : Option (List ℕ)) (memory : Memory)
+    (old new : Medium) → Elapses old new → new.faults ≡ old.faults → (IsTrue told → Starts memory old new)
+    → Hearing told rules answers old now [] now memory new
+hearing_none told rules answers now memory old new time passes starts = record {
+  are = tt;
+  wrote = Appends-nil now;
+  goes = goes_none told rules answers memory old new time passes starts;
+}
+
+-- one that came to its lines
+pub serve_from : (told : Bool) (rules : List Rule) (answers : Answers) (ending : Way)
+    (left_before left_now before now : Option (List ℕ)) (source_before source_now sink_before sink_now : ℕ)
+    (old new : Medium) (status : ℕ) → Elapses old new → status ≡ status_of (ending_of ending)
+    → (ending ≡ ways.Source → Rose source_before source_now)
+    → Blamed ending sink_before sink_now → Served told rules answers ending old left_before left_now before now new
+    → Serve told rules answers status left_before left_now before now source_before source_now sink_before sink_now old
+    new
+serve_from told rules answers ending left_before left_now before now source_before source_now sink_before sink_now old
+    new status time is source blamed s = record {
+      ending = ending_of ending;
+      status_is = is;
+      given = s.given;
+      taken = s.taken;
+      ended = s.ended;
+      end_seen = s.end_seen;
+      input = s.input;
+      heard = s.course.heard;
+      are = s.course.are;
+      ends = s.course.ends;
+      cause = cause_of ending source blamed.sink;
+      failures = s.course.failures;
+      time = time;
+      disk = s.course.disk;
+    }
+  where
+    cause_of : (e : Way) → (e ≡ ways.Source → Rose source_before source_now)
+        → (e ≡ ways.Sink → Rose sink_before sink_now)
+        → HasCauseOf (ending_of e) (record { disk = old.faults; source = source_before; sink = sink_before })
+        (record { disk = new.faults; source = source_now; sink = sink_now })
+    cause_of ways.AllRead by_source by_sink = tt
+    cause_of ways.EndLine by_source by_sink = tt
+    cause_of ways.BadLine by_source by_sink = tt
+    cause_of ways.OutOfMemory by_source by_sink = tt
+    cause_of ways.Source by_source by_sink = by_source refl
+    cause_of ways.Sink by_source by_sink = by_sink refl
+    cause_of ways.TooLong by_source by_sink = tt
+
+pub serves_from : {D : Type 0} (told : Bool) (medium : D → Medium) (rules : List Rule) (answers : Answers)
+    (ending : Way) (left_before left_now before now : Option (List ℕ))
+    (source_before source_now sink_before sink_now : ℕ) (old middle new : D) (memory : Memory) (status : ℕ)
+    → (r : IsReadied told medium memory old middle) → Elapses (medium middle) (medium new)
+    → status ≡ status_of (ending_of ending)
+    → (ending ≡ ways.Source → Rose source_before source_now) → Blamed ending sink_before sink_now
+    → Served told rules answers ending (medium r.start) left_before left_now before now (medium new)
+    → Serves told medium rules answers status left_before left_now before now source_before source_now sink_before
+    sink_now old new
+serves_from told medium rules answers ending left_before left_now before now source_before source_now sink_before
+    sink_now old middle new memory status r time is source blamed s =
+    served r.start r.prepared (serve_from told rules answers ending left_before left_now before now source_before
+    source_now sink_before sink_now (medium r.start) (medium new) status (elapses_on r.time time) is source blamed s)
+
+-- one that did not
+serve_none : (told : Bool) (rules : List Rule) (answers : Answers) (ending : endings.Ending) (status : ℕ)
+    (left before : Option (List ℕ)) (source sink : ℕ) (old new : Medium) → ¬ (HasStarted ending)
+    → IsLawful told new → Elapses old new → (IsTrue told → StartKeeps old new) → status ≡ status_of ending
+    → HasCauseOf ending (record { disk = old.faults; source = source; sink = sink })
+    (record { disk = new.faults; source = source; sink = sink })
+    → Serve told rules answers status left left before before source source sink sink old new
+serve_none told rules answers endings.all_read status left before source sink old new open_end lawful time keeps is
+    cause = absurd (open_end tt)
+serve_none told rules answers endings.end_line status left before source sink old new open_end lawful time keeps is
+    cause = absurd (open_end tt)
+serve_none told rules answers endings.bad_line status left before source sink old new open_end lawful time keeps is
+    cause = absurd (open_end tt)
+serve_none told rules answers endings.memory status left before source sink old new open_end lawful time keeps is
+    cause = absurd (open_end tt)
+serve_none told rules answers endings.source status left before source sink old new open_end lawful time keeps is
+    cause = absurd (open_end tt)
+serve_none told rules answers endings.sink status left before source sink old new open_end lawful time keeps is
+    cause = absurd (open_end tt)
+serve_none told rules answers endings.too_long status left before source sink old new open_end lawful time keeps is
+    cause = absurd (open_end tt)
+serve_none told rules answers endings.device status left before source sink old new open_end lawful time keeps is
+    cause = record {
+      ending = endings.device;
+      status_is = is;
+      given = [];
+      taken = Consumes-nil left;
+      ended = false;
+      end_seen = not_seen;
+      input = (refl, refl);
+      heard = [];
+      are = tt;
+      ends = record { no_line = refl; wrote = Appends-nil before };
+      cause = cause;
+      failures = record { behind = old.faults; blamed = refl; later = time.faults; passes = λ over. absurd over };
+      time = time;
+      disk = λ tells. start_disk rules answers endings.device None None told old new lawful time (λ begun. begun)
+          (keeps tells);
+    }
+serve_none told rules answers endings.start_memory status left before source sink old new open_end lawful time keeps is
+    cause = record {
+      ending = endings.start_memory;
+      status_is = is;
+      given = [];
+      taken = Consumes-nil left;
+      ended = false;
+      end_seen = not_seen;
+      input = (refl, refl);
+      heard = [];
+      are = tt;
+      ends = record { no_line = refl; wrote = Appends-nil before };
+      cause = cause;
+      failures = record { behind = old.faults; blamed = refl; later = time.faults; passes = λ over. absurd over };
+      time = time;
+      disk = λ tells. start_disk rules answers endings.start_memory None None told old new lawful time
+          (λ begun. begun) (keeps tells);
+    }
+
+pub serves_none : {D : Type 0} (told : Bool) (medium : D → Medium) (rules : List Rule) (answers : Answers)
+    (left before : Option (List ℕ)) (source sink : ℕ) (old new : D) → IsLawful told (medium new)
+    → Elapses (medium old) (medium new) → IsUnready told medium old new
+    → Rose (medium old).faults (medium new).faults
+    → Serves told medium rules answers 3 left left before before source source sink sink old new
+serves_none told medium rules answers left before source sink old new lawful time (inl keeps) rose =
+    served old (as_it_was keeps.0 refl)
+    (serve_none told rules answers endings.device 3 left before source sink (medium old) (medium new) (λ begun. begun)
+    lawful time keeps.1 refl rose)
+serves_none told medium rules answers left before source sink old new lawful time (inr nothing) rose =
+    unprepared nothing (inl (refl, rose)) (Keeps-refl left) (Keeps-refl before)
+
+pub serves_short : {D : Type 0} (told : Bool) (medium : D → Medium) (rules : List Rule) (answers : Answers)
+    (left before : Option (List ℕ)) (source sink : ℕ) (old new : D) → IsLawful told (medium new)
+    → Elapses (medium old) (medium new) → IsUnready told medium old new
+    → Serves told medium rules answers 4 left left before before source source sink sink old new
+serves_short told medium rules answers left before source sink old new lawful time (inl keeps) =
+    served old (as_it_was keeps.0 refl)
+    (serve_none told rules answers endings.start_memory 4 left before source sink (medium old) (medium new)
+    (λ begun. begun) lawful time keeps.1 refl tt)
+serves_short told medium rules answers left before source sink old new lawful time (inr nothing) =
+    unprepared nothing (inr refl) (Keeps-refl left) (Keeps-refl before)

@@ -1,0 +1,32 @@
+-- The bytes that were taken are handled as far as they are whole lines, at least one a piece; the runtime is in use, no
+-- count of faults fell, and time went on.
+use Rattle.std.proofs.Common.{ℕ, List, [], ◌≤◌, ◌<◌, length, Option}
+use Rattle.disk_model.specs.Medium.{Elapses}
+use Rattle.migrate_fns.specs.Stored.{answers_of, rules_of}
+use Rattle.per_runtime.specs.Memories.{IsRuntime, memory_of}
+use Rattle.per_run.specs.Serving.{Listened}
+use Rattle.per_run.proofs.Listens.{HasTaken}
+use Rattle.per_run.proofs.serving.serve_all.Given as goal
+
+pub record Read (GoesOn InUse Later : Type 0) (room sink_before sink_now source_before source_now : ℕ) : Type 0 where
+  pub goes_on : GoesOn
+  pub in_use : InUse
+  pub time : Later
+  pub room_left : 0 < room
+  pub sink_later : sink_before ≤ sink_now
+  pub source_later : source_before ≤ source_now
+
+abbrev pub invariant-loop-pieces : goal.invariant-loop-pieces
+invariant-loop-pieces g l = Read
+    ((start : g.row.D.Denot) (before : Option (List ℕ))
+    → Listened g.D.Disk.told (rules_of l.migrations) (answers_of l.migrations) (g.D.Disk.medium start) before []
+    (g.K.Sink.written l.initial.sink)
+    (memory_of l.initial.reader.runtime) (g.D.Disk.medium l.initial.disk) l.initial.reader.kept.items
+    l.initial.reader.number
+    → HasTaken g.D.Disk.told (rules_of l.migrations) (answers_of l.migrations) (g.D.Disk.medium start)
+    (g.S.Source.left l.initial.source) (g.S.Source.left l.source) before (g.K.Sink.written l.sink)
+    (memory_of l.reader.runtime) (g.D.Disk.medium l.disk) l.reader.kept.items l.reader.number l._pieces)
+    (IsRuntime g.D.Disk.told (g.D.Disk.medium l.disk) l.reader.runtime)
+    (Elapses (g.D.Disk.medium l.initial.disk) (g.D.Disk.medium l.disk))
+    (length l.buffer) (g.K.Sink.faults l.initial.sink) (g.K.Sink.faults l.sink)
+    (g.S.Source.faults l.initial.source) (g.S.Source.faults l.source)

@@ -1,0 +1,276 @@
+//! The job of a run that stays: its input has no bound, and a line outside the grammar is answered and ends nothing.
+
+ghost use Rattle.std.specs.Prelude.{◌≡◌, ◌<◌, ◌+◌, ◌-◌, ◌^◌, ◌++◌, ℕ, List, [], ◌∷◌, Option, IfErr, OnOk, false};
+ghost use Rattle.std.specs.Prelude.{length, min, take};
+ghost use Rattle.disk_model.specs.Medium.{Elapses};
+ghost use Rattle.migrate_fns.specs.Stored.{answers_of, rules_of};
+ghost use Rattle.per_base.specs.Causes.{Rose};
+ghost use Rattle.run_model.specs.AppLaws.{AppLaws};
+ghost use Rattle.run_model.specs.Lines.{lines_of};
+ghost use Rattle.per_runtime.specs.Memories.{IsRuntime, memory_of};
+ghost use Rattle.per_run.specs.Serves.{Heard, Serves, lines_in, number_behind};
+ghost use Rattle.per_run.specs.Serving.{Hearing, HearsOne, Listened, Served, Service};
+ghost use Rattle.per_run.specs.Steps.{Blamed, Blames, Goes, ending_of};
+
+use crate::answering::{Outcome, answer_line};
+use crate::endings::{DEVICE, Ending, OUT_OF_MEMORY};
+use crate::input::{PIECE_BYTES, read_piece, zeros};
+use crate::preparing::prepare;
+use crate::reader::{Reader, keep, print_bad_line, write_reply};
+use crate::writing::write_made;
+use deploy::Stop;
+use disk_model::Disk;
+use migrate_fns::Migrations;
+use per_base::{Sink, Source};
+use per_runtime::Runtime;
+use run_model::applications_stand;
+use std::alloc::Global;
+
+/// Formats the disk where nothing lies on it, starts the runtime, and handles the lines of the source until its end or
+/// the line `end`, each with its reply to the sink.
+pub fn serve<D: Disk, S: Source, K: Sink>(
+    alloc: Global,
+    migrations: &Migrations,
+    source: &mut S,
+    sink: &mut K,
+    disk: &mut D,
+) -> u8
+    ensures serves { Serves D.told D.medium (rules_of migrations.now) (answers_of migrations.now) result
+        (S.left source.old) (S.left source.new) (K.written sink.old) (K.written sink.new)
+        (S.faults source.old) (S.faults source.new) (K.faults sink.old) (K.faults sink.new) disk.old disk.new }
+    ensures time { Elapses (D.medium disk.old) (D.medium disk.new) }
+{
+    applications_stand();
+    match prepare(alloc, disk) {
+        Ok(runtime) => serve_input(alloc, runtime, migrations, source, sink, disk).status(),
+        Err(Stop::Device) => DEVICE,
+        Err(Stop::OutOfMemory) => OUT_OF_MEMORY,
+    }
+}
+
+/// Handles the lines of the source with a runtime that started.
+fn serve_input<D: Disk, S: Source, K: Sink>(
+    alloc: Global,
+    runtime: Runtime,
+    migrations: &Migrations,
+    source: &mut S,
+    sink: &mut K,
+    disk: &mut D,
+) -> Ending
+    requires { IsRuntime D.told (D.medium disk.old) runtime }
+    ensures served { AppLaws → (start : D)
+        → Hearing D.told (rules_of migrations.now) (answers_of migrations.now) (D.medium start) (K.written sink.old) []
+        (K.written sink.old) (memory_of runtime) (D.medium disk.old)
+        → Served D.told (rules_of migrations.now) (answers_of migrations.now) result (D.medium start)
+        (S.left source.old) (S.left source.new) (K.written sink.old) (K.written sink.new) (D.medium disk.new) }
+    ensures blamed { Blamed result (K.faults sink.old) (K.faults sink.new) }
+    ensures source_failed { result ≡ Ending.Source → Rose (S.faults source.old) (S.faults source.new) }
+    ensures time { Elapses (D.medium disk.old) (D.medium disk.new) }
+{
+    match zeros(alloc, PIECE_BYTES) {
+        Ok(mut buffer) => {
+            let mut reader = Reader::new(alloc, runtime);
+            serve_all(
+                &mut reader,
+                migrations,
+                source,
+                sink,
+                disk,
+                buffer.as_mut_slice(),
+            )
+        }
+        Err(_) => Ending::OutOfMemory,
+    }
+}
+
+/// Handles all of the input, in pieces as long as the buffer.
+fn serve_all<D: Disk, S: Source, K: Sink>(
+    reader: &mut Reader,
+    migrations: &Migrations,
+    source: &mut S,
+    sink: &mut K,
+    disk: &mut D,
+    buffer: &mut [u8],
+) -> Ending
+    requires room { 0 < length buffer.old }
+    requires memory { IsRuntime D.told (D.medium disk.old) reader.old.runtime }
+    ensures served { AppLaws → (start : D) (before : Option (List ℕ))
+        → Listened D.told (rules_of migrations.now) (answers_of migrations.now) (D.medium start) before []
+        (K.written sink.old) (memory_of reader.old.runtime) (D.medium disk.old) reader.old.kept.items
+        reader.old.number
+        → Served D.told (rules_of migrations.now) (answers_of migrations.now) result (D.medium start)
+        (S.left source.old) (S.left source.new) before (K.written sink.new) (D.medium disk.new) }
+    ensures blamed { Blamed result (K.faults sink.old) (K.faults sink.new) }
+    ensures source_failed { result ≡ Ending.Source → Rose (S.faults source.old) (S.faults source.new) }
+    ensures time { Elapses (D.medium disk.old) (D.medium disk.new) }
+{
+    for _pieces in 0..u64::MAX {
+        let room = buffer.len();
+        match read_piece(source, buffer, room) {
+            Ok(0) => return Ending::AllRead,
+            Ok(count) => match serve_piece(reader, migrations, sink, disk, &buffer[..count]) {
+                Ok(()) => {}
+                Err(ending) => return ending,
+            },
+            Err(_) => return Ending::Source,
+        }
+    }
+    Ending::TooLong
+}
+
+/// Handles the bytes of one piece of the input.
+fn serve_piece<D: Disk, K: Sink>(
+    reader: &mut Reader,
+    migrations: &Migrations,
+    sink: &mut K,
+    disk: &mut D,
+    piece: &[u8],
+) -> Result<(), Ending>
+    requires { IsRuntime D.told (D.medium disk.old) reader.old.runtime }
+    ensures goes_on { OnOk result ((start : D) (before : Option (List ℕ)) (given : List ℕ)
+        → Listened D.told (rules_of migrations.now) (answers_of migrations.now) (D.medium start) before given
+        (K.written sink.old) (memory_of reader.old.runtime) (D.medium disk.old) reader.old.kept.items
+        reader.old.number
+        → Listened D.told (rules_of migrations.now) (answers_of migrations.now) (D.medium start) before
+        (given ++ piece.now) (K.written sink.new) (memory_of reader.new.runtime) (D.medium disk.new)
+        reader.new.kept.items reader.new.number) }
+    ensures ends { IfErr result (λ ending. AppLaws → (start : D) (before : Option (List ℕ)) (given : List ℕ)
+        → Listened D.told (rules_of migrations.now) (answers_of migrations.now) (D.medium start) before given
+        (K.written sink.old) (memory_of reader.old.runtime) (D.medium disk.old) reader.old.kept.items
+        reader.old.number
+        → Service D.told (rules_of migrations.now) (answers_of migrations.now) (ending_of ending) (D.medium start)
+        before (lines_of false (given ++ piece.now)) (K.written sink.new) (D.medium disk.new)) }
+    ensures memory { OnOk result (IsRuntime D.told (D.medium disk.new) reader.new.runtime) }
+    ensures blames { Blames (K.faults sink.old) (K.faults sink.new) result }
+    ensures time { Elapses (D.medium disk.old) (D.medium disk.new) }
+{
+    for byte in piece {
+        match serve_byte(reader, migrations, sink, disk, *byte) {
+            Ok(()) => {}
+            Err(ending) => return Err(ending),
+        }
+    }
+    Ok(())
+}
+
+/// Handles one byte.
+fn serve_byte<D: Disk, K: Sink>(
+    reader: &mut Reader,
+    migrations: &Migrations,
+    sink: &mut K,
+    disk: &mut D,
+    byte: u8,
+) -> Result<(), Ending>
+    requires { IsRuntime D.told (D.medium disk.old) reader.old.runtime }
+    ensures goes_on { OnOk result ((start : D) (before : Option (List ℕ)) (given : List ℕ)
+        → Listened D.told (rules_of migrations.now) (answers_of migrations.now) (D.medium start) before given
+        (K.written sink.old) (memory_of reader.old.runtime) (D.medium disk.old) reader.old.kept.items
+        reader.old.number
+        → Listened D.told (rules_of migrations.now) (answers_of migrations.now) (D.medium start) before
+        (given ++ byte ∷ []) (K.written sink.new) (memory_of reader.new.runtime) (D.medium disk.new)
+        reader.new.kept.items reader.new.number) }
+    ensures ends { IfErr result (λ ending. AppLaws → (start : D) (before : Option (List ℕ)) (given others : List ℕ)
+        → Listened D.told (rules_of migrations.now) (answers_of migrations.now) (D.medium start) before given
+        (K.written sink.old) (memory_of reader.old.runtime) (D.medium disk.old) reader.old.kept.items
+        reader.old.number
+        → Service D.told (rules_of migrations.now) (answers_of migrations.now) (ending_of ending) (D.medium start)
+        before (lines_of false (given ++ byte ∷ others)) (K.written sink.new) (D.medium disk.new)) }
+    ensures memory { OnOk result (IsRuntime D.told (D.medium disk.new) reader.new.runtime) }
+    ensures blames { Blames (K.faults sink.old) (K.faults sink.new) result }
+    ensures time { Elapses (D.medium disk.old) (D.medium disk.new) }
+{
+    if byte == b'\n' {
+        match serve_line(reader, migrations, sink, disk) {
+            Ok(()) => Ok(()),
+            Err(ending) => Err(ending),
+        }
+    } else {
+        match keep(&mut reader.kept, byte) {
+            Ok(()) => Ok(()),
+            Err(ending) => Err(ending),
+        }
+    }
+}
+
+/// Handles the line that is kept, and begins the next one.
+fn serve_line<D: Disk, K: Sink>(
+    reader: &mut Reader,
+    migrations: &Migrations,
+    sink: &mut K,
+    disk: &mut D,
+) -> Result<(), Ending>
+    requires { IsRuntime D.told (D.medium disk.old) reader.old.runtime }
+    ensures goes_on { OnOk result ((start : D) (before : Option (List ℕ)) (heard : List Heard) (text : List ℕ)
+        → reader.old.kept.items ≡ take 262145 text → reader.old.number ≡ min (length heard) (2 ^ 64 - 1)
+        → Hearing D.told (rules_of migrations.now) (answers_of migrations.now) (D.medium start) before heard
+        (K.written sink.old) (memory_of reader.old.runtime) (D.medium disk.old)
+        → HearsOne D.told (rules_of migrations.now) (answers_of migrations.now) (D.medium start) before heard text
+        (K.written sink.new) (memory_of reader.new.runtime) (D.medium disk.new)) }
+    ensures counts { OnOk result (reader.new.number ≡ min (reader.old.number + 1) (2 ^ 64 - 1)) }
+    ensures clears { OnOk result (reader.new.kept.items ≡ []) }
+    ensures ends { IfErr result (λ ending. AppLaws → (start : D) (before : Option (List ℕ))
+        (heard : List Heard) (others : List (List ℕ)) (text : List ℕ)
+        → reader.old.kept.items ≡ take 262145 text → reader.old.number ≡ min (length heard) (2 ^ 64 - 1)
+        → Hearing D.told (rules_of migrations.now) (answers_of migrations.now) (D.medium start) before heard
+        (K.written sink.old) (memory_of reader.old.runtime) (D.medium disk.old)
+        → Service D.told (rules_of migrations.now) (answers_of migrations.now) (ending_of ending) (D.medium start)
+        before (lines_in heard ++ text ∷ others) (K.written sink.new) (D.medium disk.new)) }
+    ensures memory { OnOk result (IsRuntime D.told (D.medium disk.new) reader.new.runtime) }
+    ensures blames { Blames (K.faults sink.old) (K.faults sink.new) result }
+    ensures time { Elapses (D.medium disk.old) (D.medium disk.new) }
+{
+    let number = reader.number.saturating_add(1);
+    match serve_text(
+        reader.alloc,
+        &mut reader.runtime,
+        migrations,
+        sink,
+        disk,
+        reader.kept.as_slice(),
+        number,
+    ) {
+        Ok(()) => {
+            reader.kept.clear();
+            reader.number = number;
+            Ok(())
+        }
+        Err(ending) => Err(ending),
+    }
+}
+
+/// Handles a line, which is the one of this number: what it says is answered, or that it says nothing.
+fn serve_text<D: Disk, K: Sink>(
+    alloc: Global,
+    runtime: &mut Runtime,
+    migrations: &Migrations,
+    sink: &mut K,
+    disk: &mut D,
+    text: &[u8],
+    number: u64,
+) -> Result<(), Ending>
+    requires { IsRuntime D.told (D.medium disk.old) runtime.old }
+    ensures goes_on { OnOk result ((start : D) (before : Option (List ℕ)) (heard : List Heard) (whole : List ℕ)
+        → text.now ≡ take 262145 whole → number ≡ number_behind (length heard)
+        → Hearing D.told (rules_of migrations.now) (answers_of migrations.now) (D.medium start) before heard
+        (K.written sink.old) (memory_of runtime.old) (D.medium disk.old)
+        → HearsOne D.told (rules_of migrations.now) (answers_of migrations.now) (D.medium start) before heard whole
+        (K.written sink.new) (memory_of runtime.new) (D.medium disk.new)) }
+    ensures ends { IfErr result (λ ending. AppLaws → (start : D) (before : Option (List ℕ))
+        (heard : List Heard) (others : List (List ℕ)) (whole : List ℕ)
+        → text.now ≡ take 262145 whole → number ≡ number_behind (length heard)
+        → Hearing D.told (rules_of migrations.now) (answers_of migrations.now) (D.medium start) before heard
+        (K.written sink.old) (memory_of runtime.old) (D.medium disk.old)
+        → Service D.told (rules_of migrations.now) (answers_of migrations.now) (ending_of ending) (D.medium start)
+        before (lines_in heard ++ whole ∷ others) (K.written sink.new) (D.medium disk.new)) }
+    ensures memory { OnOk result (IsRuntime D.told (D.medium disk.new) runtime.new) }
+    ensures blames { Blames (K.faults sink.old) (K.faults sink.new) result }
+    ensures time { Elapses (D.medium disk.old) (D.medium disk.new) }
+{
+    match answer_line(alloc, runtime, migrations, disk, text) {
+        Outcome::Nothing => Ok(()),
+        Outcome::Answered(reply) => write_reply(alloc, sink, &reply),
+        Outcome::Bad => write_made(sink, print_bad_line(alloc, number)),
+        Outcome::End => Err(Ending::EndLine),
+        Outcome::OutOfMemory => Err(Ending::OutOfMemory),
+    }
+}
