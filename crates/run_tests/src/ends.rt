@@ -6,6 +6,7 @@ use per_base::{Sink, Source};
 use per_system::{Access, Content, HostSystem, StdSink, StdSource};
 use std::alloc::Global;
 use std::fs::{self, File};
+use std::io;
 use std::rt::Files;
 
 /// What a disk in a folder shows: one that is `made` here, or one that is `missing`.
@@ -59,13 +60,12 @@ fn disk_in<'a, R: Files<File = File>>(
     alloc: Global,
     dir: String,
 ) -> anyhow::Result<FolderDisk<HostSystem<'a, R>>> {
-    let system = match HostSystem::hold(rt, alloc, dir, Content::Disk, Access::Write) {
-        Ok(system) => system,
-        Err(failure) => anyhow::bail!(in alloc; "{failure}"),
-    };
+    let system = HostSystem::hold(rt, alloc, dir, Content::Disk, Access::Write).map_err(
+        |failure| failure.error,
+    )?;
     match FolderDisk::open(alloc, system) {
         Ok(disk) => Ok(disk),
-        Err(_) => anyhow::bail!(in alloc; "the folder cannot be synced"),
+        Err(_) => Err(io::Error::from(io::ErrorKind::Other).into()),
     }
 }
 
