@@ -4,7 +4,7 @@ _per() {
     if [ "$before" = --dir ]; then
         mapfile -t COMPREPLY < <(compgen -d -- "$word")
     else
-        mapfile -t COMPREPLY < <(compgen -W "--format --dir --generate --audit --export --import --flash --demo --help --version --build" -- "$word")
+        mapfile -t COMPREPLY < <(compgen -W "--format --dir --serve --generate --audit --export --import --flash --demo --help --version --build" -- "$word")
     fi
 }
 complete -F _per per ./per
