@@ -23,7 +23,7 @@ use crate::hashing::Hashed;
 use crate::jobs::Job;
 use crate::named::{place_of, put_in, take_out};
 use crate::planning::{Plan, entry_of};
-use block_files::{BlockSet, reserve_shared};
+use block_files::{BlockSet, reserve_hashed};
 use index_text::IndexEntry;
 use per_base::{Change, Content, Entry, FileInfo, Fresh, Name, StoreKind};
 use std::alloc::{AllocError, Global};
@@ -166,7 +166,7 @@ fn plan_put<'a>(
 {
     let bytes = fresh.bytes.as_slice();
     let earlier = earlier_content(standing, &fresh.name);
-    let blob = reserve_shared(alloc, used, bytes, earlier.bytes, earlier.blocks)?;
+    let blob = reserve_hashed(alloc, used, bytes, hash, earlier.bytes, earlier.blocks)?;
     let blocks = blob.blocks.copy()?;
     let entry = entry_of(standing.generation, fresh, blob)?;
     let job = Job {
