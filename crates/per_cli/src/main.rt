@@ -2,24 +2,32 @@
 //!
 //! `per --dir DIR` makes the folder a disk, standard input a source and standard output a sink, and ends with the
 //! status of [`per_run::per_run`] over them and the six converters of [`number_converters`]. `per --help` says what
-//! there is, and `per --demo` shows a first session.
+//! there is, and `per --demo` shows a first session. A call by itself, as `per get 0:cockpit volume --dir DIR`, is such
+//! a run too ([`call`]): of the lines that make the call, with its reply for a person.
 //!
 //! Where a run did not end well, one line on standard error says why ([`causes`]). Main itself ends with 4 where memory
 //! runs out before the top call, with 6 where a standard stream that was closed cannot be filled, and with 12 where the
 //! system does not give the words; help and the demo also with 6 where the output fails, and the demo with 3 where its
-//! folder cannot be made. The status is 3 or 11 too where the file of a flash cannot be looked at, or has more bytes
+//! folder cannot be made; a call by itself with 1 where its words are refused, with 3 where the device failed in it, with 5
+//! where what it takes cannot be read, and with 9 where it was refused. The status is 3 or 11 too where the file of a flash cannot be looked at, or has more bytes
 //! than its blocks.
 #![tactic(auto)]
 
+mod call;
 mod causes;
 mod demo;
 mod help;
 mod program;
 mod telling;
+mod words;
 
 use per_system::fill_streams;
 use std::process::{self, ExitCode};
 use std::{env, io};
+use words::names_call;
+
+/// The status where the words are refused.
+const REFUSED_WORDS: u8 = 1;
 
 /// The status where the disk failed.
 const NO_DISK: u8 = 3;
@@ -27,8 +35,14 @@ const NO_DISK: u8 = 3;
 /// The status where memory ran out before the top call.
 const NO_MEMORY: u8 = 4;
 
+/// The status where what a call takes cannot be read.
+const NO_INPUT: u8 = 5;
+
 /// The status where help cannot be written.
 const NO_OUTPUT: u8 = 6;
+
+/// The status where a call is refused.
+const REFUSED_CALL: u8 = 9;
 
 /// The status where the flash has another size.
 const WRONG_SIZE: u8 = 11;
@@ -41,6 +55,8 @@ const NO_WORDS: u8 = 12;
 enum Asked {
     Help,
     Demo,
+    /// One call of an application.
+    Call,
     /// A run of the program, if the words are accepted.
     Run,
 }
@@ -63,6 +79,7 @@ fn main(rt: HostRuntime) -> ExitCode {
     let status = match wish_of(&words) {
         Asked::Help => help::show(&rt),
         Asked::Demo => demo::show(&rt, process::id(rt.process())),
+        Asked::Call => call::run(&rt, &words),
         Asked::Run => program::run(&rt, &words, rt.stdin(), rt.stdout()),
     };
     ExitCode::from(status)
@@ -86,12 +103,20 @@ fn status_of(error: &io::Error) -> u8 {
 }
 
 fn wish_of(words: &[String]) -> Asked {
+    if asks_for_help(words) {
+        return Asked::Help;
+    }
     match words {
-        [word] => match word.as_str() {
-            "--help" | "-h" | "--version" => Asked::Help,
-            "--demo" => Asked::Demo,
-            _ => Asked::Run,
-        },
+        [word] if word.as_str() == "--demo" => Asked::Demo,
+        _ if names_call(words) => Asked::Call,
         _ => Asked::Run,
+    }
+}
+
+/// Whether one of the words asks for help; `--version` does where it is the only one.
+fn asks_for_help(words: &[String]) -> bool {
+    match words {
+        [word] if word.as_str() == "--version" => true,
+        _ => words.iter().any(|word| matches!(word.as_str(), "--help" | "-h")),
     }
 }

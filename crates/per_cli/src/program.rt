@@ -2,6 +2,7 @@
 
 use crate::causes::{Ended, Fault, say, say_foreign};
 use crate::telling::Telling;
+use crate::words::unknown_word;
 use crate::{NO_DISK, NO_MEMORY, WRONG_SIZE};
 use flash_disk::erase_all;
 use flash_model::Flash;
@@ -152,6 +153,7 @@ fn run_noting<'a, R: Files<File = File> + Eprint, I: Read + Drop, O: Write + Dro
     let ended = Ended {
         status: outcome.status,
         dir: target.dir.as_str(),
+        unknown: unknown_word(words),
         flash: target.flash,
         takes_lines: target.takes_lines,
         has_files: outcome.has_files,
