@@ -8,7 +8,7 @@ use crate::program;
 use crate::words::{WordParts, parts_of};
 use crate::{NO_DISK, NO_INPUT, NO_MEMORY, REFUSED_CALL, REFUSED_WORDS};
 use command_text::LineError;
-use per_words::{Form, Shown, form_of, lines_of, put_lines, shown, without_feeds};
+use per_words::{Form, Shown, form_of, lines_of, put_lines, shown_of, without_feeds};
 use std::alloc::{AllocError, Global};
 use std::cell::Cell;
 use std::fs::{self, File};
@@ -247,7 +247,7 @@ struct Answers<'a, R: Print + Eprint> {
 
 impl<'a, R: Print + Eprint> Answers<'a, R> {
     fn show(&self, line: &[u8]) -> io::Result<()> {
-        match shown(line) {
+        match shown_of(line) {
             Shown::Nothing => Ok(()),
             Shown::Text(text) => self.show_line(text),
             Shown::Names(names) => self.show_names(names),

@@ -22,7 +22,7 @@ power loss, lost copies and updates.
                                 standard input, whole or not at all
   ./per --flash N --dir DIR     the same as without --flash, in one file of the
                                 folder that stands for raw flash of N blocks,
-                                4 to 4096; beside every other word too
+                                4 to 4096; beside each of the words above
   ./per --demo                  shows a first session, in a folder of its own
   ./per --help                  shows this
 
@@ -49,6 +49,8 @@ are passed over. Examples:
  The deployment of an application, 0 to 7
   0 status                      which version is active
   0 install {\"version\":1,\"keyValueStorages\":[{\"name\":\"k\"}]}
+                                a first version; storages of files stand in a
+                                list \"fileStorages\"
   0 update {\"version\":2,\"keyValueStorages\":[{\"name\":\"k\"}]}
                                 another version; the one before stays until
                                 finish or rollback

@@ -20,7 +20,7 @@ pub enum Shown<'a> {
 }
 
 /// What a line of a reply, without its line feed, is to a person.
-pub fn shown(line: &[u8]) -> Shown<'_> {
+pub fn shown_of(line: &[u8]) -> Shown<'_> {
     let (word, rest) = match line.iter().position(|byte| *byte == b' ') {
         Some(place) => (&line[..place], &line[place + 1..]),
         None => (line, &line[line.len()..]),
