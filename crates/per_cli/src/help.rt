@@ -2,8 +2,7 @@
 
 use crate::NO_OUTPUT;
 
-const HELP: &str =
-    "per keeps the data of up to eight applications in a folder, so that it outlives
+const HELP: &str = "per keeps the data of up to eight applications in a folder, so that it outlives
 power loss, lost copies and updates.
 
   ./per --format --dir DIR      makes a folder ready; what it kept is lost

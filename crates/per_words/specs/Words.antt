@@ -37,17 +37,33 @@ fed lines = flat_map (λ line. line ++ 10 ∷ []) lines
 abbrev pub is_one_of : List (List ℕ) → List ℕ → Bool
 is_one_of words call = list_any (λ word. bytes_eq call word) words
 
+abbrev pub is_of_deployment : List ℕ → Bool
+is_of_deployment = is_one_of (codes "status" ∷ codes "install" ∷ codes "update" ∷ codes "finish" ∷ codes "rollback"
+    ∷ codes "wipe" ∷ [])
+
+abbrev pub is_of_closed : List ℕ → Bool
+is_of_closed = is_one_of (codes "recover-storage" ∷ codes "reset-storage" ∷ [])
+
+abbrev pub reads_keys : List ℕ → Bool
+reads_keys = is_one_of (codes "keys" ∷ codes "exists" ∷ codes "get" ∷ codes "get-as" ∷ [])
+
+abbrev pub changes_keys : List ℕ → Bool
+changes_keys = is_one_of (codes "set" ∷ codes "remove" ∷ codes "remove-all" ∷ codes "recover-key" ∷ codes "reset-key"
+    ∷ [])
+
+abbrev pub reads_files : List ℕ → Bool
+reads_files = is_one_of (codes "files" ∷ codes "file-exists" ∷ codes "size-of" ∷ codes "info" ∷ codes "cat" ∷ [])
+
+abbrev pub changes_files : List ℕ → Bool
+changes_files = is_one_of (codes "delete" ∷ codes "recover-file" ∷ codes "reset-file" ∷ codes "put" ∷ [])
+
+-- the words are of six kinds, no two of which share one
 abbrev pub form_of : List ℕ → Option Form
 form_of call =
-  if is_one_of (codes "status" ∷ codes "install" ∷ codes "update" ∷ codes "finish" ∷ codes "rollback"
-      ∷ codes "wipe" ∷ []) call then Some form.Deployment
-  else if is_one_of (codes "recover-storage" ∷ codes "reset-storage" ∷ []) call then Some form.Closed
-  else if is_one_of (codes "keys" ∷ codes "exists" ∷ codes "get" ∷ codes "get-as" ∷ []) call
-      then Some form.ReadsKeys
-  else if is_one_of (codes "set" ∷ codes "remove" ∷ codes "remove-all" ∷ codes "recover-key"
-      ∷ codes "reset-key" ∷ []) call then Some form.ChangesKeys
-  else if is_one_of (codes "files" ∷ codes "file-exists" ∷ codes "size-of" ∷ codes "info" ∷ codes "cat" ∷ []) call
-      then Some form.ReadsFiles
-  else if is_one_of (codes "delete" ∷ codes "recover-file" ∷ codes "reset-file" ∷ codes "put" ∷ []) call
-      then Some form.ChangesFiles
-  else None
+    if is_of_deployment call then Some form.Deployment
+    else if is_of_closed call then Some form.Closed
+    else if reads_keys call then Some form.ReadsKeys
+    else if changes_keys call then Some form.ChangesKeys
+    else if reads_files call then Some form.ReadsFiles
+    else if changes_files call then Some form.ChangesFiles
+    else None

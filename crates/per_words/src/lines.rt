@@ -85,13 +85,19 @@ pub(crate) fn push_line(alloc: Global, text: &mut Vec<u8>, line: &str) -> Result
     ensures text { OnOk result (text.new.items ≡ text.old.items ++ fed (line.now ∷ [])) }
     ensures event { OnOk result (IsEventLine line.now) }
 {
+    accept(alloc, line)?;
+    text.extend_from_slice(line.as_bytes())?;
+    text.push(b'\n').map_err(AllocError::from)?;
+    Ok(())
+}
+
+/// Refuses a line that is none of an event.
+fn accept(alloc: Global, line: &str) -> Result<(), LineError>
+    ensures event { OnOk result (IsEventLine line.now) }
+{
     match parse_line(alloc, line.as_bytes()) {
-        Ok(Line::Event(_)) => {
-            text.extend_from_slice(line.as_bytes())?;
-            text.push(b'\n').map_err(AllocError::from)?;
-            Ok(())
-        }
-        Ok(Line::Nothing) | Ok(Line::End) => Err(LineError::NotALine),
+        Ok(Line::Event(_)) => Ok(()),
+        Ok(Line::Nothing | Line::End) => Err(LineError::NotALine),
         Err(error) => Err(error),
     }
 }

@@ -1,9 +1,7 @@
 //! What a person is shown of a line of a reply.
 
-ghost use Rattle.std.specs.Prelude.{◌≡◌};
-
 /// What a line of a reply is to a person.
-#[derive(Clone, Copy, Debug)]
+#[derive(Clone, Copy)]
 pub enum Shown<'a> {
     /// It is done, and there is nothing to say.
     Nothing,
