@@ -1,15 +1,17 @@
 //! The file of a flash.
 
-ghost use Rattle.std.specs.Prelude.{◌≡◌, ◌*◌, ◌+◌, IfOk, OnOk, IsTrue, vec_len};
+ghost use Rattle.std.specs.Prelude.{◌≡◌, ◌*◌, ◌+◌, ◌<◌, ◌≤◌, ◌^◌, IfOk, OnOk, IsTrue, length, replicate};
 ghost use Rattle.disk_model.specs.Image.{put_image};
 ghost use Rattle.disk_model.specs.Medium.{Quiet};
 ghost use Rattle.folder_disk.specs.FolderView.{disk_seen};
+ghost use Rattle.folder_flash.specs.FlashBytes.{IsRead, IsSameFlash, IsWritten};
 
 use disk_model::{Disk, DiskFailed};
 use flash_model::FlashFailed;
 use folder_disk::FolderDisk;
 use std::alloc::{AllocError, Global};
 use std::io;
+use std::marker::Model;
 use system_model::{Asked, Failure, Part, System};
 
 /// How many bytes a page has.
@@ -24,9 +26,9 @@ const BLANK: u8 = 0xff;
 /// The number of the one file.
 const FILE: u32 = 0;
 
-/// The file, in a disk that has no other.
+/// The file, in a disk that has no other. Contracts see the disk.
 #[derive(Drop)]
-pub(crate) struct FlashFile<S: System> {
+pub struct FlashFile<S: System> {
     disk: FolderDisk<S>,
     alloc: Global,
     /// How many bytes it has, where the disk was asked for it and no write failed since: only this flash writes it.
@@ -35,8 +37,23 @@ pub(crate) struct FlashFile<S: System> {
     is_starved: bool,
 }
 
+impl<S: System> Model for FlashFile<S> {
+    ghost use Rattle.folder_disk.specs.FolderView.{FolderView, view_code};
+    ghost use Rattle.folder_flash.specs.FlashBytes.{KnowsSize};
+
+    ghost Value = { FolderView S };
+
+    ghost coded = { view_code S.code };
+
+    ghost view = { λ file. file.disk };
+
+    ghost invariant = { λ file. KnowsSize S.told (S.medium file.disk.system) file.size };
+}
+
 impl<S: System> FlashFile<S> {
-    pub(crate) fn new(alloc: Global, disk: FolderDisk<S>) -> FlashFile<S> {
+    pub(crate) fn new(alloc: Global, disk: FolderDisk<S>) -> FlashFile<S>
+        ensures { result ≡ disk }
+    {
         FlashFile {
             disk,
             alloc,
@@ -59,7 +76,10 @@ impl<S: System> FlashFile<S> {
     }
 
     /// How many bytes it has.
-    pub(crate) fn size(&mut self) -> Result<u64, FlashFailed> {
+    pub(crate) fn size(&mut self) -> Result<u64, FlashFailed>
+        ensures size { IsTrue S.told → IfOk result (λ n. n ≡ length ((S.medium self.old.system).disk.image 0)) }
+        ensures image { (S.medium self.new.system).disk.image ≡ (S.medium self.old.system).disk.image }
+    {
         if let Some(size) = self.size {
             return Ok(size);
         }
@@ -69,7 +89,11 @@ impl<S: System> FlashFile<S> {
     }
 
     /// The bytes from a place on; those that the file lacks are blank.
-    pub(crate) fn read(&mut self, at: u64, out: &mut [u8; 512]) -> Result<(), FlashFailed> {
+    pub(crate) fn read(&mut self, at: u64, out: &mut [u8; 512]) -> Result<(), FlashFailed>
+        ensures bytes { IsTrue S.told → OnOk result
+            (IsRead ((S.medium self.old.system).disk.image 0) at out.new) }
+        ensures image { (S.medium self.new.system).disk.image ≡ (S.medium self.old.system).disk.image }
+    {
         if self.size()? <= at {
             *out = [BLANK; 512];
             return Ok(());
@@ -81,7 +105,11 @@ impl<S: System> FlashFile<S> {
 
     /// Writes bytes from a place on, durably.
     pub(crate) fn write(&mut self, at: u64, bytes: &[u8]) -> Result<(), FlashFailed>
-        ensures durable { OnOk result (Quiet (disk_seen S.medium self.new.disk)) }
+        requires some { 0 < length bytes.now }
+        requires fits { at + length bytes.now < 2 ^ 64 }
+        ensures written { IsTrue S.told → OnOk result (IsWritten at bytes.now
+            ((S.medium self.old.system).disk.image 0) ((S.medium self.new.system).disk.image 0)) }
+        ensures durable { OnOk result (Quiet (disk_seen S.medium self.new)) }
     {
         self.fill_up_to(at)?;
         self.put(at, bytes)
@@ -89,14 +117,21 @@ impl<S: System> FlashFile<S> {
 
     /// Writes a blank block from a place on, durably.
     pub(crate) fn write_blank(&mut self, at: u64) -> Result<(), FlashFailed>
-        ensures durable { OnOk result (Quiet (disk_seen S.medium self.new.disk)) }
+        requires { at + 32768 < 2 ^ 64 }
+        ensures written { IsTrue S.told → OnOk result (IsWritten at (replicate 32768 255)
+            ((S.medium self.old.system).disk.image 0) ((S.medium self.new.system).disk.image 0)) }
+        ensures durable { OnOk result (Quiet (disk_seen S.medium self.new)) }
     {
         let blank = self.blank_block()?;
         self.write(at, blank.as_slice())
     }
 
     /// Writes what is missing up to a place as blank, a block at a time.
-    fn fill_up_to(&mut self, at: u64) -> Result<(), FlashFailed> {
+    fn fill_up_to(&mut self, at: u64) -> Result<(), FlashFailed>
+        ensures same { IsTrue S.told → OnOk result (IsSameFlash ((S.medium self.old.system).disk.image 0)
+            ((S.medium self.new.system).disk.image 0)) }
+        ensures long { IsTrue S.told → OnOk result (at ≤ length ((S.medium self.new.system).disk.image 0)) }
+    {
         let mut size = self.size()?;
         if size >= at {
             return Ok(());
@@ -112,21 +147,26 @@ impl<S: System> FlashFile<S> {
 
     /// A write and a sync.
     fn put(&mut self, at: u64, bytes: &[u8]) -> Result<(), FlashFailed>
-        ensures image { IsTrue S.told → OnOk result ((S.medium self.new.disk.system).disk.image
-            ≡ put_image (S.medium self.old.disk.system).disk.image 0 at bytes.now) }
-        ensures durable { OnOk result (Quiet (disk_seen S.medium self.new.disk)) }
+        requires some { 0 < length bytes.now }
+        requires fits { at + length bytes.now < 2 ^ 64 }
+        ensures image { IsTrue S.told → OnOk result ((S.medium self.new.system).disk.image
+            ≡ put_image (S.medium self.old.system).disk.image 0 at bytes.now) }
+        ensures durable { OnOk result (Quiet (disk_seen S.medium self.new)) }
     {
         let known = self.size.take();
         self.disk.write_at(FILE, at, bytes).map_err(failed)?;
         self.disk.sync().map_err(failed)?;
-        let end = at.saturating_add(bytes.len() as u64);
-        self.size = known.map(|size| size.max(end));
+        let end = at + bytes.len() as u64;
+        if let Some(size) = known {
+            self.size = Some(size.max(end));
+        }
         Ok(())
     }
 
     /// A block without a byte that was written.
     fn blank_block(&mut self) -> Result<Vec<u8>, FlashFailed>
-        ensures { IfOk result (λ bytes. vec_len bytes ≡ 32768) }
+        ensures blank { IfOk result (λ bytes. bytes.items ≡ replicate 32768 255) }
+        ensures same { self.new ≡ self.old }
     {
         let made = Vec::from_elem(self.alloc, BLANK, BLOCK_BYTES);
         self.is_starved = made.is_err();

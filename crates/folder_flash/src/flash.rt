@@ -1,7 +1,10 @@
 //! A flash over a file.
 
-ghost use Rattle.std.specs.Prelude.{◌≡◌};
+ghost use Rattle.std.specs.Prelude.{◌≡◌, ◌+◌, ◌*◌, IsTrue, OnOk, replicate};
 ghost use Rattle.per_base.specs.Causes.{CountsFaults};
+ghost use Rattle.disk_model.specs.Medium.{Quiet};
+ghost use Rattle.folder_disk.specs.FolderView.{disk_seen};
+ghost use Rattle.folder_flash.specs.FlashBytes.{IsRead, IsWritten};
 
 use crate::file::{FlashFile, place_of};
 use flash_model::{Flash, FlashFailed};
@@ -49,8 +52,56 @@ impl<S: System> FolderFlash<S> {
         Ok(size > place_of(self.blocks, 0))
     }
 
+    /// Reads a page.
+    pub fn read_page(
+        &mut self,
+        block: u32,
+        page: u32,
+        out: &mut [u8; 512],
+    ) -> Result<(), FlashFailed>
+        ensures bytes { IsTrue S.told → OnOk result (IsRead ((S.medium self.old.file.system).disk.image 0)
+            ((64 * block + page) * 512) out.new) }
+        ensures image { (S.medium self.new.file.system).disk.image ≡ (S.medium self.old.file.system).disk.image }
+        ensures faults { CountsFaults self.old.faults self.new.faults result }
+        ensures blocks { self.new.blocks ≡ self.old.blocks }
+    {
+        let done = self.file.read(place_of(block, page), out);
+        self.counted(done)
+    }
+
+    /// Writes a page, durably.
+    pub fn program_page(
+        &mut self,
+        block: u32,
+        page: u32,
+        bytes: &[u8; 512],
+    ) -> Result<(), FlashFailed>
+        ensures written { IsTrue S.told → OnOk result (IsWritten ((64 * block + page) * 512) bytes.now
+            ((S.medium self.old.file.system).disk.image 0) ((S.medium self.new.file.system).disk.image 0)) }
+        ensures durable { OnOk result (Quiet (disk_seen S.medium self.new.file)) }
+        ensures faults { CountsFaults self.old.faults self.new.faults result }
+        ensures blocks { self.new.blocks ≡ self.old.blocks }
+    {
+        let done = self.file.write(place_of(block, page), bytes);
+        self.counted(done)
+    }
+
+    /// Makes a block blank, durably.
+    pub fn erase_block(&mut self, block: u32) -> Result<(), FlashFailed>
+        ensures written { IsTrue S.told → OnOk result (IsWritten (64 * block * 512) (replicate 32768 255)
+            ((S.medium self.old.file.system).disk.image 0) ((S.medium self.new.file.system).disk.image 0)) }
+        ensures durable { OnOk result (Quiet (disk_seen S.medium self.new.file)) }
+        ensures faults { CountsFaults self.old.faults self.new.faults result }
+        ensures blocks { self.new.blocks ≡ self.old.blocks }
+    {
+        let done = self.file.write_blank(place_of(block, 0));
+        self.counted(done)
+    }
+
     /// The answer of a call, which is counted where the system failed.
     fn counted<T>(&mut self, done: Result<T, FlashFailed>) -> Result<T, FlashFailed>
+        ensures answer { result ≡ done }
+        ensures file { self.new.file ≡ self.old.file }
         ensures faults { CountsFaults self.old.faults self.new.faults result }
         ensures blocks { self.new.blocks ≡ self.old.blocks }
     {
@@ -76,18 +127,15 @@ impl<S: System> Flash for FolderFlash<S> {
     }
 
     fn read(&mut self, block: u32, page: u32, out: &mut [u8; 512]) -> Result<(), FlashFailed> {
-        let done = self.file.read(place_of(block, page), out);
-        self.counted(done)
+        self.read_page(block, page, out)
     }
 
     fn program(&mut self, block: u32, page: u32, bytes: &[u8; 512]) -> Result<(), FlashFailed> {
-        let done = self.file.write(place_of(block, page), bytes);
-        self.counted(done)
+        self.program_page(block, page, bytes)
     }
 
     fn erase(&mut self, block: u32) -> Result<(), FlashFailed> {
-        let done = self.file.write_blank(place_of(block, 0));
-        self.counted(done)
+        self.erase_block(block)
     }
 
     fn announce(&mut self, _file: u32, _at: u64, _bytes: &[u8]) -> Result<(), FlashFailed> {
