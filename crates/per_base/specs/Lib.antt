@@ -9,3 +9,4 @@ pub mod Maps
 pub mod Modes
 pub mod Names
 pub mod Streams
+pub mod Texts

@@ -61,20 +61,28 @@ impl Bytes {
     }
 }
 
-/// A list of numbers: copies of a storage counted from 1, or blocks of an area.
+/// A list of numbers: copies of a storage counted from 1, or blocks of an area. A copy of a single number takes no
+/// memory.
 #[derive(Debug, Drop)]
 pub struct Numbers {
-    numbers: Vec<u32>,
+    numbers: Listed,
+}
+
+#[derive(Debug, Drop)]
+enum Listed {
+    One([u32; 1]),
+    Many(Vec<u32>),
 }
 
 impl Model for Numbers {
     ghost use Rattle.std.specs.Prelude.{◌<◌, ◌^◌, ℕ, List, slice_index};
+    ghost use Rattle.per_base.specs.Texts.{listed};
 
     ghost Value = { List ℕ };
 
-    ghost view = { λ n. n.numbers.items };
+    ghost view = { λ n. listed n.numbers };
 
-    ghost invariant = { λ n. (i : ℕ) → slice_index n.numbers.items i < 2 ^ 32 };
+    ghost invariant = { λ n. (i : ℕ) → slice_index (listed n.numbers) i < 2 ^ 32 };
 }
 
 impl Numbers {
@@ -82,30 +90,31 @@ impl Numbers {
     pub fn new(numbers: Vec<u32>) -> Numbers
         ensures { result ≡ numbers.items }
     {
-        Numbers { numbers }
+        Numbers {
+            numbers: Listed::Many(numbers),
+        }
     }
 
     /// The numbers as a slice.
     pub fn as_slice(&self) -> &[u32]
         ensures { result.now ≡ self.now }
     {
-        self.numbers.as_slice()
-    }
-
-    /// The vector itself, handed back. Takes no memory.
-    pub fn into_vec(self) -> Vec<u32>
-        ensures { result.items ≡ self }
-    {
-        self.numbers
+        match &self.numbers {
+            Listed::One(numbers) => numbers,
+            Listed::Many(numbers) => numbers.as_slice(),
+        }
     }
 
     /// A copy with the same numbers.
     pub fn copy(&self) -> Result<Numbers, AllocError>
         ensures { IfOk result (λ copy. copy ≡ self.now) }
     {
-        Ok(Numbers {
-            numbers: self.numbers.clone()?,
-        })
+        let numbers = match &self.numbers {
+            Listed::One(numbers) => Listed::One(*numbers),
+            Listed::Many(numbers) if numbers.len() == 1 => Listed::One([numbers[0]]),
+            Listed::Many(numbers) => Listed::Many(numbers.clone()?),
+        };
+        Ok(Numbers { numbers })
     }
 }
 

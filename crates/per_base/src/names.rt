@@ -5,25 +5,35 @@ ghost use Rattle.std.specs.List.{list_all};
 ghost use Rattle.per_base.specs.Names.{IsName, in_name, is_name};
 
 use crate::errors::PerError;
+use arrayvec::ArrayString;
 use std::alloc::{AllocError, Global};
 use std::cmp::Ordering;
 use std::marker::Model;
 
 /// A name: 1 to 255 bytes, each an ASCII letter, a digit, `_`, `-`, `.` or `/`. Names are ordered by their bytes.
+///
+/// A name of at most 24 bytes takes no memory beside the value itself.
 #[derive(Debug, Drop)]
 pub struct Name {
-    text: String,
+    text: Text,
+}
+
+#[derive(Debug, Drop)]
+enum Text {
+    Short(ArrayString<24>),
+    Long(String),
 }
 
 impl Model for Name {
-    ghost use Rattle.std.specs.Prelude.{ℕ, List, string_bytes};
+    ghost use Rattle.std.specs.Prelude.{ℕ, List};
     ghost use Rattle.per_base.specs.Names.{IsName};
+    ghost use Rattle.per_base.specs.Texts.{text_of};
 
     ghost Value = { List ℕ };
 
-    ghost view = { λ n. string_bytes n.text };
+    ghost view = { λ n. text_of n.text };
 
-    ghost invariant = { λ n. IsName (string_bytes n.text) };
+    ghost invariant = { λ n. IsName (text_of n.text) };
 }
 
 /// The greatest number of bytes of a name.
@@ -44,7 +54,7 @@ impl Name {
         if !has_name_form(text.as_bytes()) {
             return Err(PerError::BadName);
         }
-        match String::from_str(alloc, text) {
+        match Text::new(alloc, text) {
             Ok(text) => Ok(Name { text }),
             Err(_) => Err(PerError::OutOfMemory),
         }
@@ -63,8 +73,39 @@ impl Name {
         ensures { IfOk result (λ copy. copy ≡ self.now) }
     {
         Ok(Name {
-            text: self.text.clone()?,
+            text: self.text.copy()?,
         })
+    }
+}
+
+impl Text {
+    ghost use Rattle.per_base.specs.Texts.{text_of};
+
+    fn new(alloc: Global, text: &str) -> Result<Text, AllocError>
+        ensures { IfOk result (λ copy. text_of copy ≡ text.now) }
+    {
+        match ArrayString::from(text) {
+            Ok(short) => Ok(Text::Short(short)),
+            Err(_) => Ok(Text::Long(String::from_str(alloc, text)?)),
+        }
+    }
+
+    fn as_str(&self) -> &str
+        ensures { result.now ≡ text_of self.now }
+    {
+        match self {
+            Text::Short(text) => text.as_str(),
+            Text::Long(text) => text.as_str(),
+        }
+    }
+
+    fn copy(&self) -> Result<Text, AllocError>
+        ensures { IfOk result (λ copy. text_of copy ≡ text_of self.now) }
+    {
+        match self {
+            Text::Short(text) => Ok(Text::Short(*text)),
+            Text::Long(text) => Ok(Text::Long(text.clone()?)),
+        }
     }
 }
 
