@@ -18,8 +18,8 @@ use Rattle.m_of_n.specs.Vote.{texts_of, holders, voted}
 use Rattle.m_of_n.specs.Laws.{holders-cons, voted-held}
 use Rattle.block_files.specs.BlockSets.{Ascend}
 use Rattle.block_files.specs.Areas.{joined, within}
-use Rattle.block_files.specs.Contents.{counting, contents, first_content, lacks, lacking, lacking_in, AreCopies}
-use Rattle.block_files.specs.Contents.{HaveSize}
+use Rattle.block_files.specs.Contents.{counting, contents, first_content, lacks, lacking, lacking_in, unvoted}
+use Rattle.block_files.specs.Contents.{AreCopies, HaveSize}
 
 -- ---- one copy
 
@@ -251,3 +251,9 @@ first_size size given None is sizes = tt
 first_size size [] (Some text) is sizes = cc
 first_size size (None ∷ given) (Some text) is sizes = first_size size given (Some text) is (λ i. sizes (suc i))
 first_size size (Some other ∷ given) (Some text) is sizes = sizes 0 text (sym is)
+
+pub unvoted_size : (size : ℕ) (given : List (Option (List ℕ))) (value salvage : Option (List ℕ))
+    → salvage ≡ unvoted value (first_content given) → HaveSize size given → IfSome salvage (λ text. length text ≡ size)
+unvoted_size size given value None is sizes = tt
+unvoted_size size given None (Some text) is sizes = first_size size given (Some text) is sizes
+unvoted_size size given (Some value) (Some text) is sizes = cc

@@ -43,7 +43,7 @@ pub(crate) fn read_entries<D: Disk>(
 }
 
 // One element: the value on which m copies agree, or else the salvage.
-#[tactic(auto, unfolding(crate::specs::Views::entry_view))]
+#[tactic(auto, unfolding(crate::specs::Views::entry_view), using(crate::proofs::Counted::content_voted))]
 fn read_entry<D: Disk>(
     alloc: Global,
     disk: &mut D,

@@ -93,6 +93,7 @@ fn push_hex_byte(out: &mut String, byte: u8) -> Result<(), AllocError>
 pub fn push_hex(out: &mut String, bytes: &[u8]) -> Result<(), AllocError>
     ensures { OnOk result (string_bytes out.new ≡ string_bytes out.old ++ hex_text bytes.now) }
 {
+    out.reserve(bytes.len().saturating_mul(2))?;
     for byte in bytes {
         push_hex_byte(out, *byte)?;
     }

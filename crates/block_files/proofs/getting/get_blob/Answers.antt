@@ -4,7 +4,7 @@ use Rattle.std.proofs.lemmas.List.{length-map}
 use Rattle.m_of_n.specs.Vote.{texts_of}
 use Rattle.block_files.specs.BlockSets.{Ascend}
 use Rattle.block_files.specs.Contents.{AreCopies}
-use Rattle.block_files.proofs.Counting.{lacking_is, lacking_copies, lacking_ascend, voted_size, first_size}
+use Rattle.block_files.proofs.Counting.{lacking_is, lacking_copies, lacking_ascend, voted_size, unvoted_size}
 use Rattle.block_files.proofs.getting.get_blob.Goals as goal
 
 pub returns-clause-lacking : goal.returns-clause-lacking
@@ -24,8 +24,8 @@ returns-clause-size g c =
 
 pub returns-clause-salvage_size : goal.returns-clause-salvage_size
 returns-clause-salvage_size g c =
-    first_size (min c.args.len (256 * length c.args.blocks.now)) (texts_of c.in_ok-looked.looked.texts.items)
-    c.in_ok-blob.blob.salvage
+    unvoted_size (min c.args.len (256 * length c.args.blocks.now)) (texts_of c.in_ok-looked.looked.texts.items)
+    c.in_ok-blob.blob.value c.in_ok-blob.blob.salvage
     c.in_ok-blob.ensures.salvage c.in_ok-looked.ensures.size
 
 pub returns-clause-copies : goal.returns-clause-copies
