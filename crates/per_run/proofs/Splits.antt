@@ -16,6 +16,9 @@ clean_tail b bytes clean = grind arith
 pub clean_more : (bytes : List ℕ) (b : ℕ) → IsClean bytes → nat_eq b 10 ≡ false → IsClean (bytes ++ b ∷ [])
 clean_more bytes b clean apart = rw (list_any-append, clean, apart) refl
 
+pub clean_append : (front rest : List ℕ) → IsClean front → IsClean rest → IsClean (front ++ rest)
+clean_append front rest clean more = rw (list_any-append, clean, more) refl
+
 pub all_clean_more : (lines : List (List ℕ)) (line : List ℕ) → AllByRecursion IsClean lines → IsClean line
     → AllByRecursion IsClean (lines ++ line ∷ [])
 all_clean_more [] line all clean = (clean, tt)
