@@ -1,6 +1,6 @@
 //! The fields of an element, each read from the front of what is left of a text.
 
-ghost use Rattle.std.specs.Prelude.{◌≡◌};
+ghost use Rattle.std.specs.Prelude.{◌≡◌, ◌≢◌, Err};
 ghost use Rattle.per_base.specs.Fields.{only_if};
 ghost use Rattle.per_base.specs.Names.{is_name};
 ghost use Rattle.index_text.specs.Reading.{cause_at, coded_cause, coded_kind, file_info_at, info_at, len_at, name_at};

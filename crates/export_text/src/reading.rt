@@ -1,9 +1,9 @@
 //! Reading an export from its text.
 
 ghost use Rattle.std.specs.Prelude.{◌≡◌, ◌≢◌, Err, IfOk, None, IsErrOf};
-ghost use Rattle.per_base.specs.Fields.{◌>>=◌, many};
+ghost use Rattle.per_base.specs.Fields.{many};
 ghost use Rattle.export_text.specs.declared.exports.Export.{Export};
-ghost use Rattle.export_text.specs.Exports.{IsExport, body_hashed, body_read, export_by, export_of, export_text};
+ghost use Rattle.export_text.specs.Exports.{IsExport, body_hashed, body_read, export_by, header_in, export_of, export_text};
 ghost use Rattle.export_text.specs.Exports.{fresh_at, header_at, marked_at};
 ghost use Rattle.export_text.specs.Views.{Gives};
 
@@ -33,15 +33,15 @@ pub fn read_export(alloc: Global, bytes: &[u8]) -> Result<Export, ExportError>
     ensures read { Gives (λ x. x) result (export_of bytes.now) }
 
     // A text without its hash, its mark, a kind and a count is refused however little memory there is.
-    ensures memory { IsErrOf result ExportError.OutOfMemory → (body_hashed bytes.now >>= header_at) ≢ None }
+    ensures memory { IsErrOf result ExportError.OutOfMemory → header_in bytes.now ≢ None }
 {
     read_whole(alloc, bytes)
 }
 
-#[tactic(auto, unfolding(crate::specs::Exports::export_of))]
+#[tactic(auto, unfolding(crate::specs::Exports::export_of, crate::specs::Exports::header_in))]
 fn read_whole(alloc: Global, text: &[u8]) -> Result<Export, ExportError>
     ensures read { Gives (λ x. x) result (export_of text.now) }
-    ensures memory { IsErrOf result ExportError.OutOfMemory → (body_hashed text.now >>= header_at) ≢ None }
+    ensures memory { IsErrOf result ExportError.OutOfMemory → header_in text.now ≢ None }
 {
     let body = hashed_body(text)?;
     read_body(alloc, body)
