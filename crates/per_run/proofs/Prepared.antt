@@ -94,21 +94,24 @@ starts_on {a} {b} {c} memory first reads later s = record {
 
 -- behind the formatting
 pub readied_first : {D : Type 0} (told : Bool) (medium : D → Medium) (r : Result Runtime Stop) (old mid new : D)
-    → (IsTrue told → IsBlank (medium old).image) → (medium mid).faults ≡ (medium old).faults
+    → (IsTrue told → IsBlank (medium old).image) → Elapses (medium old) (medium mid)
+    → (medium mid).faults ≡ (medium old).faults
     → IfOk r (λ x. (m : D) × IsBegun told (memory_of x) (medium mid) (medium m) (medium new))
     → IfOk r (λ x. IsReadied told medium (memory_of x) old new)
-readied_first told medium (Ok x) old mid new blank same begun = record {
+readied_first told medium (Ok x) old mid new blank first same begun = record {
   start = begun.0;
   prepared = formatted_first blank (record {
     world = begun.1.world;
     clean = begun.1.clean;
+    quiet = begun.1.quiet;
     passes = begun.1.passes ∙ same;
+    time = elapses_on first begun.1.formats;
   });
   passes = begun.1.started;
   starts = begun.1.starts;
   time = begun.1.time;
 }
-readied_first told medium (Err e) old mid new blank same begun = tt
+readied_first told medium (Err e) old mid new blank first same begun = tt
 
 -- on the disk as it was
 pub readied_as : {D : Type 0} (told : Bool) (medium : D → Medium) (r : Result Runtime Stop) (old mid new : D)

@@ -6,7 +6,7 @@ use Rattle.std.specs.List.{AllByRecursion, flat_map}
 use Rattle.std.specs.Io.KnownBytes.{Appends, Consumes, IsAtEnd, Keeps}
 use Rattle.per_base.specs.Causes.{Rose}
 use Rattle.disk_model.specs.Image.{Image}
-use Rattle.disk_model.specs.Medium.{Medium, Elapses, OnlyReads}
+use Rattle.disk_model.specs.Medium.{Medium, Quiet, Elapses, OnlyReads}
 use Rattle.migrate_fns.specs.Rules.{Rule, Answers}
 use Rattle.command_text.specs.declared.lines.Line.TheVariants as line
 use Rattle.command_text.specs.Grammar.{IsLine}
@@ -162,11 +162,13 @@ pub record Serve (told : Bool) (rules : List Rule) (answers : Answers) (status :
 abbrev pub IsBlank : Image → Type 0
 IsBlank image = (file : ℕ) → file < 32768 → image file ≡ []
 
--- eight applications of which nothing is installed, in clean places
+-- eight applications of which nothing is installed, in clean places, and nothing pending
 pub record IsFresh (told : Bool) (old start : Medium) : Type 0 where
   pub world : IsTrue told → world_at start.image ≡ formatted
   pub clean : IsTrue told → (app : ℕ) → app < 8 → IsCleanApp app start.image
+  pub quiet : Quiet start
   pub passes : start.faults ≡ old.faults
+  pub time : Elapses old start
 
 -- it starts on the disk as it was; or on one that it formatted, since nothing lay there
 pub data IsPrepared {D : Type 0} (told : Bool) (medium : D → Medium) (old start : D) : Type 0 where

@@ -4,7 +4,7 @@ use Rattle.std.specs.Prelude.{Result, Ok, Err, IsErrOf, IfErr, nat_eq, count_by,
 use Rattle.std.specs.List.{AllByRecursion, flat_map, list_any}
 use Rattle.std.specs.Io.KnownBytes.{Appends, Consumes, IsAtEnd}
 use Rattle.per_base.specs.Causes.{Rose}
-use Rattle.disk_model.specs.Medium.{Medium, Elapses}
+use Rattle.disk_model.specs.Medium.{Medium, Quiet, Elapses}
 use Rattle.migrate_fns.specs.Rules.{Rule, Answers}
 use Rattle.deploy_laws.specs.Apps.{IsCleanApp}
 use Rattle.command_text.specs.declared.calls.Event.{Event}
@@ -217,6 +217,8 @@ pub record IsBegun (told : Bool) (memory : Memory) (old middle new : Medium) : T
   pub started : new.faults ≡ middle.faults
   pub world : IsTrue told → world_at middle.image ≡ formatted
   pub clean : IsTrue told → (app : ℕ) → app < 8 → IsCleanApp app middle.image
+  pub quiet : Quiet middle
+  pub formats : Elapses old middle
   pub starts : IsTrue told → Starts memory middle new
   pub time : Elapses middle new
 
