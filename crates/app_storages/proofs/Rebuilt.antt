@@ -16,6 +16,7 @@ use Rattle.disk_model.specs.Image.{Image}
 use Rattle.disk_model.specs.Medium.{Elapses, Medium, Quiet}
 use Rattle.disk_model.specs.Place.{IsOutside}
 use Rattle.deployment_model.specs.Data.{StorageData}
+use Rattle.element_laws.specs.lemmas.Untouched.{kept_mending}
 use Rattle.element_state.specs.declared.shapes.Shape.{Shape}
 use Rattle.element_state.specs.Clean.{IsClean}
 use Rattle.element_state.specs.Kept.{KeptThroughout}
@@ -148,7 +149,7 @@ module _ (laws : StorageLaws) (texts : TextLaw) (told : Bool) (app now : ℕ) (r
     storing = record {
       elsewhere = rebuilds.outside.at_the_end;
       outside = rebuilds.outside.throughout;
-      any_moment = rebuilds.any_moment;
+      any_moment = λ tells. kept_mending (shape_at l) next old new (rebuilds.any_moment tells);
       time = rebuilds.time;
     }
 

@@ -13,7 +13,7 @@ use Rattle.deployment_model.specs.Conditions.{IsStorage}
 use Rattle.deployment_model.specs.Data.{StorageData}
 use Rattle.element_state.specs.declared.shapes.Shape.{Shape}
 use Rattle.element_state.specs.Clean.{IsClean}
-use Rattle.element_state.specs.Kept.{IsKeptCase}
+use Rattle.element_state.specs.Kept.{IsKeptMending}
 use Rattle.element_state.specs.States.{State, store_at}
 use Rattle.element_laws.specs.Apart.{FrameLaw}
 use Rattle.element_laws.specs.Phases.{IsOfPlace, UntouchedLaw}
@@ -148,7 +148,7 @@ module _ (app g number : ℕ) (active : Named) (previous : Option Named) (s : St
 -- ---- one storage is on its way
 
 module _ (untouched : UntouchedLaw) (start : Image) (c : Case) (damaged : List ℕ) (image : Image) (shape : Shape)
-    (after : State) (kept : IsKeptCase shape start after c) where
+    (after : State) (kept : IsKeptMending shape start after c) where
   pub record StayBut (shapes : List Shape) (k : ℕ) : Type 0 where
     pub kept_all : AreKept image damaged shapes (map (store_at start) shapes)
         (slice_set (map (store_at start) shapes) k after)
@@ -159,14 +159,14 @@ module _ (untouched : UntouchedLaw) (start : Image) (c : Case) (damaged : List �
       → AllBut (λ other. IsSettledOn (IsOfPlace other.place) start c) shapes k → StayBut shapes k
   stay_but [] k is covers fit clean others = absurd (not_some shape is)
   stay_but (s ∷ ss) zero is covers fit clean others =
-      let it = subst (λ (x : Shape). IsKeptCase x start after c) (sym (same_some s shape is)) kept covers.sound.0
-      damaged image covers.decayed.0 in
+      let it = subst (λ (x : Shape). IsKeptMending x start after c) (sym (same_some s shape is)) kept
+      covers.sound.0.no_twins covers.sound.0.pieces damaged image covers.decayed.0 in
       let rest = stay untouched start c damaged image ss (map (store_at start) ss) (length-map ss (store_at start))
       (record { sound = covers.sound.1; decayed = covers.decayed.1 }) fit.1 clean.1 others in
       record { kept_all = (it.kept, rest.kept); all_clean = (it.clean, rest.clean) }
   stay_but (s ∷ ss) (suc k) is covers fit clean others =
-      let it = untouched s start (store_at start s) c fit.0 clean.0 others.0 covers.sound.0 damaged image
-      covers.decayed.0 in
+      let it = untouched s start (store_at start s) c fit.0 clean.0 others.0 covers.sound.0.pieces damaged
+      image covers.decayed.0 in
       let rest = stay_but ss k is (record { sound = covers.sound.1; decayed = covers.decayed.1 }) fit.1 clean.1 others.1
       in
       record { kept_all = (it.kept, rest.kept_all); all_clean = (it.clean, rest.all_clean) }
@@ -216,7 +216,7 @@ module _ (versions_law : (image : Image) (app : ℕ) → AreVersions (says_at im
 
     pub storing : UntouchedLaw → IsCleanApp app start → (after : State) (c : Case)
         → IsSettledOn (λ file. IsFileOf app file × IsBeside app active.bank number file) start c
-        → IsKeptCase (shape_of app active.bank number s) start after c
+        → IsKeptMending (shape_of app active.bank number s) start after c
         → StandsCase app (app_at start app) (record (app_at start app) {
           states =
               slice_set (app_at start app).states number after;

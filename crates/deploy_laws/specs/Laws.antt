@@ -13,7 +13,7 @@ use Rattle.guarded_cell.specs.Stops.{PutStops, FormatStops}
 use Rattle.deployment_model.specs.Data.{StorageData}
 use Rattle.element_state.specs.declared.shapes.Shape.{Shape}
 use Rattle.element_state.specs.Clean.{IsPiece, IsSound, IsClean}
-use Rattle.element_state.specs.Kept.{IsKeptCase}
+use Rattle.element_state.specs.Kept.{IsKeptMending}
 use Rattle.element_state.specs.States.{State, store_at}
 use Rattle.element_laws.specs.Phases.{IsOfPlace}
 use Rattle.root_text.specs.RootText.{Root, root_of}
@@ -199,7 +199,7 @@ StoringLaw = (app g number : ℕ) (start : Image) (active : Named) (previous : O
     → app < 8 → IsCleanApp app start → says_at start app ≡ installed g active previous
     → slice_get active.deployment.storages number ≡ Some s
     → IsSettledOn (λ file. IsFileOf app file × IsBeside app active.bank number file) start c
-    → IsKeptCase (shape_of app active.bank number s) start after c
+    → IsKeptMending (shape_of app active.bank number s) start after c
     → StandsCase app (app_at start app) (record (app_at start app) {
       states =
           slice_set (app_at start app).states number after;

@@ -460,7 +460,7 @@ given_or_value aside shape start now i c positive area_was is_index mending twin
 -- ---- the law
 
 pub mend : AsideLaw → MendLaw
-mend aside shape start now g t i after c positive adopted is_index mending sound damaged image d =
+mend aside shape start now g t i after c positive adopted is_index mending twins sound damaged image d =
     let place = shape.place in
     let copies = shape.place.copies in
     let opens = adopted.opens in
@@ -480,7 +480,7 @@ mend aside shape start now g t i after c positive adopted is_index mending sound
       held = λ copy h u lt v. inr (only copy h u lt v);
       counted = λ at is copy w lt gives.
           let (e, k, same) = named_entry shape c.left g t i spells only at is in
-          let piece = sound.pieces (in_blocks (its_blocks shape copy at w))
+          let piece = sound (in_blocks (its_blocks shape copy at w))
           (given_piece shape copy at w c.left lt is gives) in
           let from : (counting (c.base (area place copy)) e.blocks e.len e.hash ≡ Some w)
           ⊎ (counting (c.full (area place copy)) e.blocks e.len e.hash ≡ Some w) =
@@ -490,7 +490,7 @@ mend aside shape start now g t i after c positive adopted is_index mending sound
             | inr p ↦ inr (subst (λ (x : Where). counting (c.full (area place copy)) x.blocks x.len x.hash ≡ Some w)
                 (sym same) p.counts)
           ] in
-          elim (given_or_value aside shape start now i c positive area_was is_index mending sound.no_twins e k
+          elim (given_or_value aside shape start now i c positive area_was is_index mending twins e k
           (named_base e k) copy w lt from) [
             | inl was ↦ inl (subst (λ (x : Where). Gives (gift_of start shape x) copy w) same was)
             | inr value ↦ inr (only, subst (λ (x : Where). value_at start shape x ≡ Some w) same value)

@@ -31,7 +31,7 @@ use Rattle.element_state.specs.Clean.{where_of, counting_at, IsNamed, IsPiece, I
 use Rattle.element_state.specs.Chosen.{chosen}
 use Rattle.element_state.specs.Conditions.{IsMended, IsInUse}
 use Rattle.index_text.specs.Spelling.{index_text}
-use Rattle.element_state.specs.Kept.{heading, Kept, IsKeptCase}
+use Rattle.element_state.specs.Kept.{heading, Kept, IsKeptCase, IsKeptMending}
 
 -- ---- what nobody touched
 
@@ -264,7 +264,7 @@ SoundLaw = (shape : Shape) (image : Image) (c : Case) → IsSettledAt image c �
 abbrev pub SettledLaw : Type 0
 SettledLaw = (shape : Shape) (start image : Image) (after : State) (c : Case) → IsSettledAt image c
     → IsClean shape image
-    → IsKeptCase shape start after c → Kept shape [] (store_at image shape) (store_at start shape) after
+    → IsKeptMending shape start after c → Kept shape [] (store_at image shape) (store_at start shape) after
 
 -- ---- contents are mended in place
 
@@ -335,7 +335,7 @@ abbrev pub MendLaw : Type 0
 MendLaw = (shape : Shape) (start now : Image) (generation : ℕ) (text : List ℕ) (index : Index) (after : State)
     (c : Case) → 1 ≤ shape.m
     → IsAdopted shape start now generation text index → IsIndex index → IsMending shape start now index c
-    → IsKeptCase shape start after c
+    → IsKeptMending shape start after c
 
 -- ---- a storage in use
 

@@ -13,8 +13,8 @@
 //! [`places_are_clean`] and [`use_is_adopted`] say where the laws begin and end, and [`outcomes_are_refused`] what they
 //! exclude.
 //!
-//! The premises are that no torn piece passes its hash by chance and no two contents have the same hash, and that one
-//! storage has one caller at a time.
+//! The premises are that no torn piece passes its hash by chance, where contents are mended in place that no two contents
+//! have the same hash ([`mending_keeps`] alone), and that one storage has one caller at a time.
 #![tactic(auto)]
 
 mod laws;

@@ -8,7 +8,7 @@ use Rattle.per_base.specs.declared.elements.Content.TheVariants.{Good, Bad}
 use Rattle.per_base.specs.declared.elements.Entry.{Entry}
 use Rattle.disk_model.specs.Image.{Image}
 use Rattle.disk_model.specs.Case.{Case}
-use Rattle.disk_model.specs.Damage.{DecaysFor, IsUndamaged, AtLeast}
+use Rattle.disk_model.specs.Damage.{DecaysFor, IsSoundFor, IsUndamaged, AtLeast}
 use Rattle.disk_model.specs.Medium.{Medium, Quiet, EachCase}
 use Rattle.guarded_cell.specs.Register.{Holds}
 use Rattle.element_state.specs.declared.shapes.Shape.{Shape}
@@ -16,7 +16,7 @@ use Rattle.element_state.specs.declared.shapes.View.{View}
 use Rattle.element_state.specs.States.{State, Opens, Corrupt, store_at, salvage_of, others_of}
 use Rattle.element_state.specs.Fit.{FitText}
 use Rattle.element_state.specs.Views.{view_of}
-use Rattle.element_state.specs.Clean.{IsPiece, IsClean, IsSound}
+use Rattle.element_state.specs.Clean.{HasNoTwins, IsPiece, IsClean}
 use Rattle.element_state.specs.Chosen.{chosen}
 
 -- ---- views beside one another
@@ -169,12 +169,21 @@ pub record IsKeptOn (shape : Shape) (damaged : List ℕ) (start image : Image) (
 
 -- ---- every moment of a call
 
--- so it is of each sound case, after each damage
+-- so it is of each case in which no torn piece passes its hash by chance, after each damage
 abbrev pub IsKeptCase : Shape → (start : Image) → (after : State) → Case → Type 0
-IsKeptCase shape start after c = IsSound shape.place c → (damaged : List ℕ) (image : Image)
+IsKeptCase shape start after c = IsSoundFor (IsPiece shape.place) c → (damaged : List ℕ) (image : Image)
     → DecaysFor (IsPiece shape.place) damaged c.left image → IsKeptOn shape damaged start image after
+
+-- so it is where contents may be mended in place, if no two contents have the same hash either
+abbrev pub IsKeptMending : Shape → (start : Image) → (after : State) → Case → Type 0
+IsKeptMending shape start after c = HasNoTwins shape.place c → IsKeptCase shape start after c
 
 -- so it is of every moment since a start at which nothing was pending and the place was clean
 abbrev pub KeptThroughout : Shape → (after : State) → (old new : Medium) → Type 0
 KeptThroughout shape after old new = Quiet old → IsClean shape old.image
     → EachCase (IsKeptCase shape old.image after) old new
+
+-- and of a call that may mend contents in place
+abbrev pub KeptWhileMending : Shape → (after : State) → (old new : Medium) → Type 0
+KeptWhileMending shape after old new = Quiet old → IsClean shape old.image
+    → EachCase (IsKeptMending shape old.image after) old new

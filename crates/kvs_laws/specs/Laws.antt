@@ -7,7 +7,7 @@ use Rattle.value_model.specs.Trees.{Tree, type_of}
 use Rattle.value_model.specs.Validity.{IsValue}
 use Rattle.deployment_model.specs.Data.{StorageData}
 use Rattle.element_state.specs.Clean.{IsClean}
-use Rattle.element_state.specs.Kept.{IsKeptCase}
+use Rattle.element_state.specs.Kept.{IsKeptMending}
 use Rattle.element_state.specs.States.{Opens}
 use Rattle.element_store.specs.Stores.{IsUsed, shape_of, view_in}
 use Rattle.kvs_core.specs.Calls.{get_as, set_value}
@@ -37,7 +37,7 @@ ReadsLaw = (asked : Asked) (image : Image) (kvs : KvsSession) (value : Tree) →
 abbrev pub SyncLaw : Type 0
 SyncLaw = (asked : Asked) (start : Image) (kvs : KvsSession) (before after : Tree) (c : Case)
     → IsHeld asked start kvs before → HasValue asked kvs.session.visible after
-    → IsKeptCase (shape_of kvs.store) start (Opens (synced_view kvs) []) c
+    → IsKeptMending (shape_of kvs.store) start (Opens (synced_view kvs) []) c
     → LeavesValue asked (shape_of kvs.store) (view_in kvs.store).lacking before after c
 
 -- and so it does where nothing is pending

@@ -20,7 +20,7 @@ use Rattle.element_state.specs.declared.shapes.View.{View}
 use Rattle.element_state.specs.Changes.{committed, committed_by}
 use Rattle.element_state.specs.Clean.{IsClean}
 use Rattle.element_state.specs.Conditions.{IsShape}
-use Rattle.element_state.specs.Kept.{KeptThroughout}
+use Rattle.element_state.specs.Kept.{KeptThroughout, KeptWhileMending}
 use Rattle.element_state.specs.Read.{IsView}
 use Rattle.element_state.specs.States.{State, Opens}
 use Rattle.element_state.specs.Written.{IsWithin, commit_cost, map_cost}
@@ -33,7 +33,7 @@ use Rattle.element_store.specs.declared.store.Store.{Store}
 use Rattle.element_store.specs.Changing.{KeepsOthers}
 use Rattle.element_store.specs.Committing.{index_in, index_length}
 use Rattle.element_store.specs.Stores.{IsUsed, entries_of, shape_of, view_in}
-use Rattle.element_laws.specs.lemmas.Untouched.{none_around, none_kept}
+use Rattle.element_laws.specs.lemmas.Untouched.{kept_mending, none_around, none_kept}
 use Rattle.key_maps.specs.KeyElements.{Encodes, IsKey, is_encoding, is_readable}
 use Rattle.key_maps.specs.TwoMaps.{AreTwoMaps}
 use Rattle.kvs_core.specs.Sessions.{HasRoom}
@@ -47,7 +47,7 @@ pub none_storing : UntouchedLaw → (told : Bool) (shape : Shape) (after : State
 none_storing untouched told shape after m is law = record {
   elsewhere = λ tells file spared. refl;
   outside = λ tells quiet. none_around told shape.place m law quiet;
-  any_moment = λ tells. none_kept untouched told shape after m is law;
+  any_moment = λ tells. kept_mending shape after m m (none_kept untouched told shape after m is law);
   time = elapses_none law;
 }
 
@@ -56,7 +56,7 @@ pub opened_storing : (told : Bool) (shape : Shape) (old new : Medium)
     → (IsTrue told → Spares (IsOutside shape.place) old.image new.image)
     → (IsTrue told → Quiet old → EachCase (IsSettledOn (IsOutside shape.place) old.image) old
     new)
-    → (IsTrue told → (after : State) → KeptThroughout shape after old new) → Elapses old new → (after : State)
+    → (IsTrue told → (after : State) → KeptWhileMending shape after old new) → Elapses old new → (after : State)
     → IsStoring told shape after old new
 opened_storing told shape old new elsewhere outside any_moment time after = record {
   elsewhere = elsewhere;
@@ -236,7 +236,7 @@ module _ (kvs : KvsSession) (changes : List Change) (sync : IsSync (shape_of kvs
   commit_storing told old new elsewhere outside any_moment time = record {
     elsewhere = elsewhere;
     outside = outside;
-    any_moment = λ tells. subst (λ (v : View). KeptThroughout (shape_of kvs.store) (Opens v []) old new) view_then
-        (any_moment tells);
+    any_moment = λ tells. kept_mending (shape_of kvs.store) (Opens (synced_view kvs) []) old new
+        (subst (λ (v : View). KeptThroughout (shape_of kvs.store) (Opens v []) old new) view_then (any_moment tells));
     time = time;
   }

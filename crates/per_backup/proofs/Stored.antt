@@ -94,4 +94,4 @@ module _ (laws : StorageLaws) (app g : ℕ) (v : Named) (previous : Option Named
         laws.storing app g number old.image v previous s after c lt clean is at
         (settled_less (λ f p. outside_of f p.1)
         (outside quiet c since))
-        (kept quiet (clean_there old.image is clean) c since)
+        (λ twins. kept quiet (clean_there old.image is clean) c since)

@@ -83,7 +83,7 @@ module _ {D : Type 0} (medium : D → Medium) where
   kept_at : (shape : Shape) (before after left : State) (image : Image) → IsMoment medium shape before after image
       → store_at image shape ≡ left → Kept shape [] left before after
   kept_at shape before after left image m is =
-      let on = m.kept m.quiet m.clean m.case m.since m.sound [] image m.left in
+      let on = m.kept m.quiet m.clean m.case m.since m.sound.pieces [] image m.left in
       subst (λ (s : State). Kept shape [] s before after) is
       (subst (λ (s : State). Kept shape [] (store_at image shape) s after) m.was on.kept)
 

@@ -162,7 +162,7 @@ pub anew_contents : AsideLaw → AnewContentsLaw
 anew_contents aside shape start now taken after old c positive given_up takes settled keeps sound damaged image d =
     fewer_kept shape start image damaged after positive given_up.clean given_up.corrupt
     (fewer_decays shape damaged c.left image d start (anew_fewer aside shape start now taken old c given_up takes
-    settled keeps sound.pieces))
+    settled keeps sound))
     (λ text is. keeps_decays shape damaged c.left image d text.0.generation text.0.text start
     (anew_keeps aside shape start now taken damaged old c given_up takes settled keeps text is))
 
@@ -367,9 +367,9 @@ settled_sound shape image c settled clean = record {
     ]
 
 pub settled_kept : SettledLaw
-settled_kept shape start image after c settled clean kept = (kept (settled_sound shape image c settled clean) [] image
-    (record {
+settled_kept shape start image after c settled clean kept =
+    let sound = settled_sound shape image c settled clean in
+    (kept sound.no_twins sound.pieces [] image (record {
       others = λ f out. ap (λ (im : Image). im f) (sym settled.left);
-      pieces =
-          λ x is. subst (λ (im : Image). IsPiece shape.place im x) (sym settled.left) is;
+      pieces = λ x is. subst (λ (im : Image). IsPiece shape.place im x) (sym settled.left) is;
     })).kept

@@ -23,7 +23,7 @@ use Rattle.element_state.specs.declared.shapes.View.{View}
 use Rattle.element_state.specs.Fit.{FitText, fit_texts}
 use Rattle.element_state.specs.Views.{qualifies, view_of}
 use Rattle.element_state.specs.States.{State, Opens, Corrupt, beside, picked, state_of, store_at, corrupt_state}
-use Rattle.element_state.specs.Clean.{where_of, IsNamed, IsPiece, in_slot, in_blocks, IsClean, IsSound}
+use Rattle.element_state.specs.Clean.{where_of, IsNamed, IsPiece, in_slot, in_blocks, IsClean}
 use Rattle.element_state.specs.Chosen.{chosen, or_first}
 use Rattle.element_state.specs.Kept.{Kept, IsKeptOn}
 use Rattle.element_laws.specs.Phases.{IsOfPlace, DamageLaw, UntouchedLaw, OpensAt, IsCorruptAt, CorruptLaw, IsSalvageAt}
@@ -265,8 +265,8 @@ one_salvage shape start text other a b = ap (λ (p : Bool × FitText). p.1)
 -- ---- slots are written, and no area
 
 module _ (shape : Shape) (c : Case) where
-  pub sound_slots : IsSound shape.place c → IsSoundFor (IsSlotPiece shape.place) c
-  sound_slots sound x is = sound.pieces (in_slot x) is
+  pub sound_slots : IsSoundFor (IsPiece shape.place) c → IsSoundFor (IsSlotPiece shape.place) c
+  sound_slots sound x is = sound (in_slot x) is
 
   pub decays_slots : (damaged : List ℕ) (image : Image) → DecaysFor (IsPiece shape.place) damaged c.left image
       → DecaysFor (IsSlotPiece shape.place) damaged c.left image
@@ -401,7 +401,7 @@ pub contents : AsideLaw → ContentsLaw
 contents aside shape start now g t i taken after old c positive adopted is_index takes settled keeps sound damaged image
     d =
     let less = contents_less aside shape start now g t i taken damaged old c adopted is_index takes settled keeps
-    sound.pieces in
+    sound in
     less_kept shape start image damaged g t i after positive adopted.clean adopted.opens
     (less_decays shape damaged c.left image d g t start less.0)
 
