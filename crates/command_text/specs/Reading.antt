@@ -22,14 +22,14 @@ use Rattle.command_text.specs.declared.lines.Line.{Line}
 use Rattle.command_text.specs.declared.lines.Line.TheVariants as line
 
 -- an error says that nothing can be read, unless memory ran out
-abbrev pub Fails : {Y : Type 0} → LineError → Option Y → Type 0
-Fails error.NotALine read = read ≡ None
-Fails error.OutOfMemory read = ⊤
+abbrev pub FailsToRead : {Y : Type 0} → LineError → Option Y → Type 0
+FailsToRead error.NotALine read = read ≡ None
+FailsToRead error.OutOfMemory read = ⊤
 
 -- what a function returned, seen by view, is what reading gives
-abbrev pub Reads : {X Y : Type 0} → (X → Y) → Result X LineError → Option Y → Type 0
-Reads view (Ok x) read = read ≡ Some (view x)
-Reads view (Err e) read = Fails e read
+abbrev pub ReadsLine : {X Y : Type 0} → (X → Y) → Result X LineError → Option Y → Type 0
+ReadsLine view (Ok x) read = read ≡ Some (view x)
+ReadsLine view (Err e) read = FailsToRead e read
 
 -- ---- words
 

@@ -2,7 +2,7 @@
 
 ghost use Rattle.std.specs.Prelude.{◌≡◌, IfOk, IsErrOf};
 ghost use Rattle.command_text.specs.Grammar.{IsLine};
-ghost use Rattle.command_text.specs.Reading.{Reads, application_in, event_in, line_in};
+ghost use Rattle.command_text.specs.Reading.{ReadsLine, application_in, event_in, line_in};
 ghost use Rattle.command_text.specs.declared.lines.Line.{Line};
 
 use crate::arguments::number;
@@ -44,7 +44,7 @@ pub fn parse_line(alloc: Global, line: &[u8]) -> Result<Line, LineError>
 /// What the line says, however long it is.
 #[tactic(auto, unfolding(crate::specs::Reading::line_in))]
 fn any_line(alloc: Global, line: &[u8]) -> Result<Line, LineError>
-    ensures { Reads (λ l. l) result (line_in line.now) }
+    ensures { ReadsLine (λ l. l) result (line_in line.now) }
 {
     let Some((first, rest)) = line.split_first() else {
         return Ok(Line::Nothing);
@@ -64,7 +64,7 @@ fn any_line(alloc: Global, line: &[u8]) -> Result<Line, LineError>
 /// The event that the text spells.
 #[tactic(auto, unfolding(crate::specs::Reading::event_in))]
 fn event(alloc: Global, text: &[u8]) -> Result<Event, LineError>
-    ensures { Reads (λ e. e) result (event_in text.now) }
+    ensures { ReadsLine (λ e. e) result (event_in text.now) }
 {
     let (first, rest) = split(text).ok_or(LineError::NotALine)?;
     if is_word(first, b"now") {

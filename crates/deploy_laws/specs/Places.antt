@@ -46,8 +46,8 @@ storage_file app bank number = first_file app + 1024 + 512 * bank + 32 * number
 
 -- ---- shapes
 
-unfoldable pub shape_of : (app bank number : ℕ) → StorageData → Shape
-shape_of app bank number s = record {
+unfoldable pub storage_shape : (app bank number : ℕ) → StorageData → Shape
+storage_shape app bank number s = record {
   name = s.name;
   place = place_at (storage_file app bank number) s.n;
   kind = s.kind;
@@ -58,7 +58,7 @@ shape_of app bank number s = record {
 
 abbrev pub shapes_from : (app bank number : ℕ) → List StorageData → List Shape
 shapes_from app bank number [] = []
-shapes_from app bank number (s ∷ ss) = shape_of app bank number s ∷ shapes_from app bank (suc number) ss
+shapes_from app bank number (s ∷ ss) = storage_shape app bank number s ∷ shapes_from app bank (suc number) ss
 
 -- a version, in its bank
 pub record Named : Type 0 where

@@ -41,9 +41,9 @@ pub record Opened : Type 0 where
   pub synced : Map
   pub reports : List Report
 
--- What an opening gives, with a test of contents, on an image where the disk tells its bytes. An element on whose bytes
--- enough copies agree, but which fail the test, is reported as one that cannot be read, with the copies that lacked it
--- before the opening.
+-- What an opening gives, with a test of contents, on an image where the disk's bytes are modelled. An element on whose
+-- bytes enough copies agree, but which fail the test, is reported as one that cannot be read, with the copies that
+-- lacked it before the opening.
 pub record IsOpened (told : Bool) (image : Image) (shape : Shape) (test : List ℕ → Bool) (given : Opened) : Type 0 where
   -- what the storage was seen as before the opening
   pub before : View

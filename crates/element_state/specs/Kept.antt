@@ -70,13 +70,13 @@ CostsNoCopy shape damaged left there = AllZip (λ e f. (value : List ℕ) (copy 
 
 -- ---- what is left of a storage
 
-abbrev pub listed : Option View → List View
-listed None = []
-listed (Some v) = v ∷ []
+abbrev pub views_in : Option View → List View
+views_in None = []
+views_in (Some v) = v ∷ []
 
 -- the view that a state opens at or has as salvage, and those of its other texts
 abbrev pub all_views : State → List View
-all_views state = listed (salvage_of state) ++ others_of state
+all_views state = views_in (salvage_of state) ++ others_of state
 
 -- it opens at the view of before, or at that of after and then no copy was lost on the way
 abbrev pub StaysAs : Shape → (damaged : List ℕ) → (left before : View) → (after : State) → Type 0
@@ -93,10 +93,10 @@ BecomesAs shape damaged left (Opens v others) = SameHeadings left v × KeepsGood
 BecomesAs shape damaged left (Corrupt salvage others) = ⊥
 
 -- with enough copies left of a storage that opens, it opens; one that was corrupt opens at most at the view of after
-abbrev pub Stays : Shape → (damaged : List ℕ) → (left before after : State) → Type 0
-Stays shape damaged left (Opens v others) after = HasEnough shape damaged v.lacking
+abbrev pub StaysOpen : Shape → (damaged : List ℕ) → (left before after : State) → Type 0
+StaysOpen shape damaged left (Opens v others) after = HasEnough shape damaged v.lacking
     → (w : View) × (rest : List View) × (left ≡ Opens w rest) × StaysAs shape damaged w v after
-Stays shape damaged left (Corrupt salvage others) after =
+StaysOpen shape damaged left (Corrupt salvage others) after =
     (w : View) (rest : List View) → left ≡ Opens w rest → BecomesAs shape damaged w after
 
 -- where both open alike, the stop has cost no copy
@@ -139,8 +139,8 @@ SalvageStays shape damaged left (Corrupt (Some v) others) after = HasOne shape d
 pub record Kept (shape : Shape) (damaged : List ℕ) (left before after : State) : Type 0 where
   -- every text that fits, and not only the one that it opens at, denotes something known: later damage may bring it
   -- up
-  pub known : AllByRecursion (λ w. IsFromOneOf w (all_views before ++ listed (salvage_of after))) (all_views left)
-  pub stays : Stays shape damaged left before after
+  pub known : AllByRecursion (λ w. IsFromOneOf w (all_views before ++ views_in (salvage_of after))) (all_views left)
+  pub stays : StaysOpen shape damaged left before after
   pub copies : CopiesStay shape damaged left before
   pub salvage : SalvageStays shape damaged left before after
 

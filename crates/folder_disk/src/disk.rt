@@ -97,7 +97,7 @@ impl<S: System> FolderDisk<S> {
         self.folder.system.into_system()
     }
 
-    /// The last call of the system that failed, for the one who is told of it.
+    /// The last call of the system that failed, for error reporting.
     pub fn failure(&self) -> Option<Failure> {
         self.folder.failure
     }

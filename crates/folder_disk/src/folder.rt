@@ -10,7 +10,7 @@ ghost use Rattle.disk_model.specs.Medium.{Quiet, Elapses, OnlyReads, WritesNothi
 ghost use Rattle.system_model.specs.SystemMedium.{IsAbsent};
 ghost use Rattle.folder_disk.specs.Knows.{Knows};
 ghost use Rattle.folder_disk.specs.FolderView.{counted};
-ghost use Rattle.folder_disk.specs.Writes.{Puts, PutCase};
+ghost use Rattle.folder_disk.specs.Writes.{PutsBytes, PutCase};
 
 use crate::notes::{is_full, note};
 use crate::opened::Opened;
@@ -213,7 +213,7 @@ impl<S: System> Folder<S> {
         requires knows { Knows S.told (S.medium self.old.system) self.old.ranges.items self.old.is_fresh
             self.old.is_grown self.old.is_lost }
         ensures count { result.done ≤ length bytes.now }
-        ensures puts { Puts S.told file at bytes.now result.done (S.medium self.old.system).disk
+        ensures puts { PutsBytes S.told file at bytes.now result.done (S.medium self.old.system).disk
             (S.medium self.new.system).disk }
         ensures knows { Knows S.told (S.medium self.new.system) self.new.ranges.items self.new.is_fresh
             self.new.is_grown self.new.is_lost }

@@ -5,8 +5,9 @@ ghost use Rattle.std.specs.Prelude.{Contains};
 ghost use Rattle.disk_model.specs.Image.{put_image};
 ghost use Rattle.disk_model.specs.Case.{Case, Follows};
 ghost use Rattle.disk_model.specs.Medium.{Quiet, Elapses, OnlyReads, WritesNothing};
-ghost use Rattle.system_model.specs.SystemMedium.{IsSafe, IsWhole, IsStill, InRange, Shows, Looks, IsAbsent};
-ghost use Rattle.system_model.specs.SystemMedium.{AnnounceCase, TearCase, read_count, Gives};
+ghost use Rattle.system_model.specs.SystemMedium.{IsSafe, IsWhole, HasNothingFree, InRange, ShowsBytes, Looks};
+ghost use Rattle.system_model.specs.SystemMedium.{IsAbsent};
+ghost use Rattle.system_model.specs.SystemMedium.{AnnounceCase, TearCase, read_count, ReadGives};
 
 use crate::notes::is_noted;
 use crate::range::Range;
@@ -35,7 +36,7 @@ pub struct Opened<S: System> {
 }
 
 impl<S: System> Model for Opened<S> {
-    ghost use Rattle.folder_disk.specs.Files.{AreOf};
+    ghost use Rattle.folder_disk.specs.Files.{AreByNumber};
 
     ghost Value = { S };
 
@@ -43,7 +44,7 @@ impl<S: System> Model for Opened<S> {
 
     ghost view = { λ opened. opened.system };
 
-    ghost invariant = { λ opened. AreOf S.number opened.files };
+    ghost invariant = { λ opened. AreByNumber S.number opened.files };
 }
 
 impl<S: System> Opened<S> {
@@ -129,7 +130,7 @@ impl<S: System> Opened<S> {
 
     /// Closes the file, if it is open.
     pub(crate) fn close(&mut self, file: u32)
-        requires { IsTrue S.told → IsStill (S.medium self.old) file }
+        requires { IsTrue S.told → HasNothingFree (S.medium self.old) file }
         ensures looks { Looks (S.medium self.old) (S.medium self.new) }
     {
         self.uses.remove(&file);
@@ -171,7 +172,7 @@ impl<S: System> Opened<S> {
     pub(crate) fn read(&mut self, file: u32, at: u64, out: &mut [u8]) -> io::Result<Reading>
         ensures count { IfOk result (λ reading. read_count reading ≤ length out.old) }
         ensures gives { IsTrue S.told → IsWhole (S.medium self.old) file → IfOk result (λ reading.
-            Gives ((S.medium self.old).disk.image file) at (length out.old) out.new reading) }
+            ReadGives ((S.medium self.old).disk.image file) at (length out.old) out.new reading) }
         ensures looks { Looks (S.medium self.old) (S.medium self.new) }
     {
         match self.files.get(&file) {
@@ -207,7 +208,7 @@ impl<S: System> Opened<S> {
         ensures found { IsTrue S.told → IfOk result (λ n. (i : ℕ) → InRange at n i
             → ¬ ((S.medium self.new).lost file i)) }
         ensures again { (IsTrue S.told → (i : ℕ) → InRange at (length bytes.now) i → (S.medium self.old).free file i)
-            → (IsTrue S.told → Shows ((S.medium self.old).disk.image file) at bytes.now)
+            → (IsTrue S.told → ShowsBytes ((S.medium self.old).disk.image file) at bytes.now)
             → OnlyReads (S.medium self.old).disk (S.medium self.new).disk }
     {
         match self.files.get(&file) {
@@ -220,7 +221,7 @@ impl<S: System> Opened<S> {
         ensures safe { IsTrue S.told → OnOk result (IsWhole (S.medium self.old) file
             → (S.medium self.old).named file → IsSafe (S.medium self.new).disk file) }
         ensures still { IsTrue S.told → OnOk result (IsWhole (S.medium self.old) file
-            → IsStill (S.medium self.new) file) }
+            → HasNothingFree (S.medium self.new) file) }
         ensures kept { IsTrue S.told → OnOk result ((f i : ℕ) → (S.medium self.new).lost f i
             → (S.medium self.old).lost f i) }
         ensures others { IsTrue S.told → (f i : ℕ) → f ≢ file

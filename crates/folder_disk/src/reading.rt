@@ -2,7 +2,7 @@
 
 ghost use Rattle.std.specs.Prelude.{◌≡◌, ℕ, ◌≤◌, ◌<◌, ◌+◌, ◌-◌, ◌^◌, IsTrue, IfOk, length, take, drop, min};
 ghost use Rattle.std.specs.Prelude.{slice_index};
-ghost use Rattle.system_model.specs.SystemMedium.{Looks, IsWhole, GivesBytes, GivesNone, Gives, read_count};
+ghost use Rattle.system_model.specs.SystemMedium.{Looks, IsWhole, GivesBytes, GivesNone, ReadGives, read_count};
 
 use crate::opened::Opened;
 use std::io;
@@ -90,7 +90,7 @@ fn read_again<S: System>(
 ) -> io::Result<Reading>
     ensures count { IfOk result (λ reading. read_count reading ≤ length out.old) }
     ensures gives { IsTrue S.told → IsWhole (S.medium system.old) file → IfOk result (λ reading.
-        Gives ((S.medium system.old).disk.image file) at (length out.old) out.new reading) }
+        ReadGives ((S.medium system.old).disk.image file) at (length out.old) out.new reading) }
     ensures looks { Looks (S.medium system.old) (S.medium system.new) }
 {
     match system.read(file, at, out) {

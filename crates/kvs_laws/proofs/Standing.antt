@@ -13,7 +13,7 @@ use Rattle.element_maps.specs.Laws.{DecidesLaw, SameLaw}
 use Rattle.element_store.specs.Stores.{shape_of, view_in}
 use Rattle.kvs_store.specs.Storages.{KvsSession}
 use Rattle.kvs_store.specs.Synced.{synced_view}
-use Rattle.kvs_laws.specs.Laws.{IsHeld, ReadsLaw, StillLaw, SyncLaw}
+use Rattle.kvs_laws.specs.Laws.{OpensWithValue, ReadsLaw, StillLaw, SyncLaw}
 use Rattle.kvs_laws.specs.Values.{Asked, LeavesValue, ReadsAs}
 use Rattle.kvs_laws.proofs.Next.{synced_whole}
 use Rattle.kvs_laws.proofs.Stops.{IsWhole, kept_left}
@@ -26,7 +26,7 @@ reads asked image kvs value held = record {
   value_is = rw (← held.shown) held.value_is;
 }
 
-whole_of : (asked : Asked) (image : Image) (kvs : KvsSession) (value : Tree) → IsHeld asked image kvs value
+whole_of : (asked : Asked) (image : Image) (kvs : KvsSession) (value : Tree) → OpensWithValue asked image kvs value
     → IsWhole asked (view_in kvs.store) value
 whole_of asked image kvs value held = record {
   mended = (held.used.disk held.tells).mended;
@@ -35,7 +35,7 @@ whole_of asked image kvs value held = record {
 
 -- a case in which the storage is kept
 leaves : (asked : Asked) (image : Image) (kvs : KvsSession) (next : View) (before after : Tree) (c : Case)
-    → IsHeld asked image kvs before → IsWhole asked next after
+    → OpensWithValue asked image kvs before → IsWhole asked next after
     → IsKeptMending (shape_of kvs.store) image (Opens next []) c
     → LeavesValue asked (shape_of kvs.store) (view_in kvs.store).lacking before after c
 leaves asked image kvs next before after c held new kept sound damaged left decays enough =

@@ -4,7 +4,7 @@ use std::rt::Files;
 use std::{fmt, fs, io};
 use system_model::{Asked, Failure};
 
-/// The line where the words are refused.
+/// The line where the arguments are invalid.
 const USAGE: &str =
     "usage: per --dir DIR [--flash N] [--serve | --format | --generate N | --audit | --export A:S | --import A:S]";
 
@@ -56,7 +56,7 @@ pub(crate) fn say_answered<R: Eprint>(rt: &R, dir: &str, fault: Option<Fault>) -
     )
 }
 
-/// Says that a folder is not formatted, since files of others lie in it.
+/// Says that a folder is not formatted, since files of others are in it.
 pub(crate) fn say_foreign<R: Eprint>(rt: &R, dir: &str, flash: Option<u32>) -> io::Result<()> {
     match flash {
         Some(blocks) => eprintln!(rt;

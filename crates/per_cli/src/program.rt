@@ -265,7 +265,7 @@ fn run_over_flash<'a, Y: System + Drop, S: Source, K: Sink>(
     }
 }
 
-/// Whether a flash of so many blocks is opened.
+/// Whether a flash of that many blocks is opened.
 fn is_right_size(blocks: u32) -> bool {
     blocks >= 4 && blocks <= 4096
 }
@@ -301,7 +301,7 @@ fn no_memory<R: Eprint>(rt: &R) -> u8 {
     NO_MEMORY
 }
 
-/// What the words name, and the folder once more, for the disk; an empty name where the words are refused.
+/// What the words name, and the folder once more, for the disk; an empty name where the arguments are invalid.
 fn target_of(alloc: Global, words: &[String]) -> Result<(Target, String), AllocError> {
     match read_words(alloc, words) {
         Ok(job) => {

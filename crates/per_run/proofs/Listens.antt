@@ -19,7 +19,7 @@ use Rattle.per_run.specs.declared.endings.Ending.TheVariants.{AllRead, EndLine, 
 use Rattle.per_run.specs.declared.endings.Ending.TheVariants.{TooLong}
 use Rattle.per_run.specs.Serves.{Heard, HasServedAll, IsServedInput, lines_in}
 use Rattle.per_run.specs.Serving.{Hearing, HearsOne, Listened, Served, Service}
-use Rattle.per_run.specs.Steps.{IsBroken, IsClean, ending_of, with_feed}
+use Rattle.per_run.specs.Steps.{HasNoFeed, IsBroken, ending_of, with_feed}
 use Rattle.per_run.proofs.Hears.{lines_on, service, service_along, service_memory}
 use Rattle.per_run.proofs.Inputs.{not_seen}
 use Rattle.per_run.proofs.Reaches.{piece_more}
@@ -77,7 +77,7 @@ module _ (told : Bool) (rules : List Rule) (answers : Answers) (start : Medium) 
             ∙ sym (with_line (lines_in l.heard) l.rest)
             ∙ ap (λ (ls : List (List ℕ)). flat_map with_feed ls) (sym lines)
             ∙ sym (append-nil (flat_map with_feed (lines_in (l.heard ++ one.0 ∷ []))));
-        clean = subst (AllByRecursion IsClean) (sym lines)
+        clean = subst (AllByRecursion HasNoFeed) (sym lines)
             (all_clean_more (lines_in l.heard) l.rest l.clean l.clean_rest);
         clean_rest = refl;
         kept_is = clears;
@@ -186,7 +186,7 @@ module _ (told : Bool) (rules : List Rule) (answers : Answers) (start : Medium) 
 
 -- ---- the input as a whole
 
--- at least so many bytes were taken and handled
+-- at least that many bytes were taken and handled
 pub record HasTaken (told : Bool) (rules : List Rule) (answers : Answers) (start : Medium)
     (left_before left_now before now : Option (List ℕ)) (memory : Memory) (medium : Medium)
     (kept : List ℕ) (number least : ℕ) : Type 0 where

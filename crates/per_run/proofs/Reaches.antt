@@ -44,7 +44,7 @@ module _ (told : Bool) (rules : List Rule) (answers : Answers) (start : Medium) 
 
   -- ---- one more byte
 
-  -- a line feed, behind a line that is handled
+  -- a line feed, after a line that is handled
   reached_feed : (given : List ℕ) (now later : Option (List ℕ)) (memory after : Memory) (old new : Medium)
       (kept kept_later : List ℕ) (number number_later : ℕ)
       → length given < 2 ^ 63 → Reached told rules answers start before given now memory old kept number

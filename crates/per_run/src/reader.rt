@@ -9,7 +9,8 @@ ghost use Rattle.run_model.specs.AppLaws.{AppLaws};
 ghost use Rattle.run_model.specs.Endings.{bad_line_text};
 ghost use Rattle.run_model.specs.Lines.{lines_of};
 ghost use Rattle.per_runtime.specs.Memories.{IsRuntime, memory_of};
-ghost use Rattle.per_run.specs.Steps.{Blamed, Blames, Course, Handled, IsBroken, Puts, Reached, Refuses, ending_of};
+ghost use Rattle.per_run.specs.Steps.{Blamed, Blames, Course, Handled, IsBadLineAnswer, IsBroken, PutsOutput, Reached};
+ghost use Rattle.per_run.specs.Steps.{ending_of};
 
 use crate::answering::{Outcome, answer_line};
 use crate::endings::Ending;
@@ -21,7 +22,7 @@ use per_base::Sink;
 use per_runtime::Runtime;
 use std::alloc::{AllocError, Global};
 
-/// The runtime, the front of the line that is being read, and how many lines were handled.
+/// The runtime, the prefix of the line that is being read, and how many lines were handled.
 #[derive(Drop)]
 pub struct Reader {
     pub alloc: Global,
@@ -83,7 +84,7 @@ pub fn feed<D: Disk, K: Sink>(
     Ok(())
 }
 
-/// Handles the last line, where the input ends and no line feed stands behind it.
+/// Handles the last line, where the input ends and no line feed stands after it.
 pub fn finish<D: Disk, K: Sink>(
     reader: &mut Reader,
     migrations: &Migrations,
@@ -150,7 +151,7 @@ fn feed_byte<D: Disk, K: Sink>(
     }
 }
 
-/// Puts a byte behind the front of the line that is kept, as long as the line may still be one.
+/// Puts a byte after the prefix of the line that is kept, as long as the line may still be one.
 pub fn keep(kept: &mut Vec<u8>, byte: u8) -> Result<(), Ending>
     ensures kept { OnOk result ((rest : List ℕ) → kept.old.items ≡ take 262145 rest
         → kept.new.items ≡ take 262145 (rest ++ byte ∷ [])) }
@@ -251,7 +252,7 @@ fn handle_text<D: Disk, K: Sink>(
 /// Writes the reply of a command.
 pub fn write_reply<K: Sink>(alloc: Global, sink: &mut K, reply: &Reply) -> Result<(), Ending>
     requires { HasText reply.now.answer }
-    ensures puts { Puts (reply_text reply.now) (K.written sink.old) (K.written sink.new) result }
+    ensures puts { PutsOutput (reply_text reply.now) (K.written sink.old) (K.written sink.new) result }
     ensures blames { Blames (K.faults sink.old) (K.faults sink.new) result }
 {
     write_made(sink, print_reply(alloc, reply))
@@ -259,7 +260,7 @@ pub fn write_reply<K: Sink>(alloc: Global, sink: &mut K, reply: &Reply) -> Resul
 
 /// Answers a line that is outside the grammar, and gives how the handling ends.
 fn refuse<K: Sink>(alloc: Global, sink: &mut K, number: u64) -> Ending
-    ensures refuses { Refuses (bad_line_text number) (K.written sink.old) (K.written sink.new) result }
+    ensures refuses { IsBadLineAnswer (bad_line_text number) (K.written sink.old) (K.written sink.new) result }
     ensures blamed { Blamed result (K.faults sink.old) (K.faults sink.new) }
 {
     match write_made(sink, print_bad_line(alloc, number)) {

@@ -26,7 +26,7 @@ use per_runtime::Runtime;
 use run_model::applications_stand;
 use std::alloc::Global;
 
-/// Formats the disk where nothing lies on it, starts the runtime, and handles the lines of the source until its end or
+/// Formats the disk where it is empty, starts the runtime, and handles the lines of the source until its end or
 /// the line `end`, each with its reply to the sink.
 pub fn serve<D: Disk, S: Source, K: Sink>(
     alloc: Global,

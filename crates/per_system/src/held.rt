@@ -40,7 +40,7 @@ impl Content {
         }
     }
 
-    /// Where a file of this number lies.
+    /// Where a file of this number is stored.
     pub(crate) fn path_of(
         self,
         alloc: Global,
@@ -54,7 +54,7 @@ impl Content {
     }
 }
 
-/// The files of a folder, or none where it is not there. It tells nothing of their bytes: what [`System`] says of them
+/// The files of a folder, or none where it is not there. Their bytes are not modelled: what [`System`] says of them
 /// is what is believed of the operating system.
 #[derive(Drop)]
 pub struct HostSystem<'a, R: Files<File = File>> {

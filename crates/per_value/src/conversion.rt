@@ -29,7 +29,7 @@ pub trait PerValue: Sized {
     fn type_of(alloc: Global) -> Result<ValueType, AllocError>
         ensures { IfOk result (λ t. kind_of t ≡ kind) };
 
-    /// The node that this thing is. Takes no memory for a truth value or a number.
+    /// The node that this thing is. Does not allocate for a truth value or a number.
     fn to_node(&self, alloc: Global) -> Result<Node, AllocError>
         ensures node { IfOk result (λ node. tree_of node ≡ tree self.now) }
         ensures memory { OnErr result (TakesMemory kind) };

@@ -12,13 +12,13 @@ use Rattle.command_text.specs.declared.calls.Call.TheVariants as call
 use Rattle.deploy_rows.specs.Rows.{installed_app}
 use Rattle.run_model.specs.Samples.{computed, replies, world_after, on, fav, home, home_key, key_storage, set_home}
 use Rattle.run_model.specs.Samples.{in_copies, with_installed}
-use Rattle.run_model.specs.Worlds.{World, resting, app_of, with_app, formatted, closed, started}
+use Rattle.run_model.specs.Worlds.{World, resting, app_of, with_app, formatted, after_run, after_start}
 
 -- a deployment of one storage
 abbrev pub of_one : StorageData → DeploymentData
 of_one s = record { version = 1; storages = s ∷ [] }
 
--- what lies on the disk of the storages
+-- what is on the disk of the storages
 abbrev pub states_in : World → List State
 states_in w = (app_of w 0).disk.states
 
@@ -29,7 +29,7 @@ found_so d state = with_app formatted 0 (resting (record (installed_app 1 0 d) {
 -- ---- one key of which two copies are left out
 
 -- what was recovered and synchronised is there in the next run, and nothing is reported
-salvaged_key_stays : replies (started (closed (world_after (in_copies (Bad (Some (3 ∷ 9 ∷ 0 ∷ []))) (1 ∷ 2 ∷ []))
+salvaged_key_stays : replies (after_start (after_run (world_after (in_copies (Bad (Some (3 ∷ 9 ∷ 0 ∷ []))) (1 ∷ 2 ∷ []))
     (on (call.OpenKvs fav) ∷ on (call.RecoverKey fav home) ∷ on (call.Sync fav) ∷ []))))
     (on (call.OpenKvs fav) ∷ on (call.Get fav home) ∷ [])
     ≡ codes "ok\nvalue u16:9\n"

@@ -7,7 +7,8 @@ ghost use Rattle.value_model.specs.Views.{kind_of, tree_of};
 ghost use Rattle.value_text.specs.Texts.{value_text};
 ghost use Rattle.value_text.specs.Limits.{kept};
 ghost use Rattle.value_text.specs.Readers.{Gives, separated};
-ghost use Rattle.value_text.specs.Parsing.{bool_at, content_at, scalar_tree_at, items_at, list_tree_at, tree_here};
+ghost use Rattle.value_text.specs.Parsing.{bool_at, value_content_at, scalar_tree_at, items_at, list_tree_at};
+ghost use Rattle.value_text.specs.Parsing.{tree_here};
 ghost use Rattle.value_text.specs.Parsing.{tree_at, tree_in, value_in};
 
 use crate::numbers::{signed, unsigned};
@@ -37,7 +38,7 @@ fn content<'a>(
     value_type: &ValueType,
     bytes: &'a [u8],
 ) -> Result<(Node, &'a [u8]), DecodeError>
-    ensures { Gives (λ x. (tree_of x.0, x.1.now)) result (content_at (kind_of value_type.now) bytes.now) }
+    ensures { Gives (λ x. (tree_of x.0, x.1.now)) result (value_content_at (kind_of value_type.now) bytes.now) }
 {
     match value_type {
         ValueType::Bool => boolean(bytes),

@@ -1,4 +1,4 @@
--- The runtime starts behind the formatting.
+-- The runtime starts after the formatting.
 use Rattle.std.proofs.Common.{Result, Ok, Err, IfOk, OnOk, ℕ, ◌<◌, ◌≡◌, Bool, IsTrue}
 use Rattle.disk_model.specs.Laws.{elapses_on, rose_before}
 use Rattle.disk_model.specs.Medium.{Medium, Quiet, Elapses}
@@ -8,7 +8,7 @@ use Rattle.per_runtime.specs.Memories.{memory_of}
 use Rattle.per_runtime.specs.declared.runtime.Runtime.{Runtime}
 use Rattle.run_model.specs.Runtimes.{Starts}
 use Rattle.run_model.specs.Worlds.{formatted, world_at}
-use Rattle.per_run.specs.Steps.{IsBegun}
+use Rattle.per_run.specs.Steps.{IsServeBegun}
 use Rattle.per_run.proofs.Fresh.{is_formatted}
 use Rattle.per_run.proofs.generating.start_formatted.Goals as goal
 
@@ -20,7 +20,7 @@ begun_ok : {D : Type 0} (medium : D → Medium) (told : Bool) (r : Result Runtim
     → Quiet (medium middle) → Elapses (medium old) (medium middle)
     → (IsTrue told → IfOk r (λ x. Starts (memory_of x) (medium middle) (medium new)))
     → Elapses (medium middle) (medium new)
-    → IfOk r (λ x. (m : D) × IsBegun told (memory_of x) (medium old) (medium m) (medium new))
+    → IfOk r (λ x. (m : D) × IsServeBegun told (memory_of x) (medium old) (medium m) (medium new))
 begun_ok medium told (Ok x) old middle new passes started world clean quiet formats starts time = (
   middle,
   record {

@@ -1,4 +1,4 @@
--- Where a byte ends the run, the rest of the piece stands behind it.
+-- Where a byte ends the run, the rest of the piece stands after it.
 use Rattle.std.proofs.Common.{ap, sym, take, drop, false, ◌++◌, ◌+◌, arith}
 use Rattle.disk_model.specs.Laws.{elapses_on}
 use Rattle.run_model.specs.Lines.{lines_of}

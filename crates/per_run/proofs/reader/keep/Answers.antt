@@ -1,4 +1,4 @@
--- The front of a line with one more byte: it is full, or it grows.
+-- The prefix of a line with one more byte: it is full, or it grows.
 use Rattle.std.proofs.Common.{ℕ, List, [], ◌∷◌, ◌++◌, length, take, ◌≡◌, ◌≤◌, ◌<◌, sym, ◌∙◌, ap, arith, length-append}
 use Rattle.std.proofs.lemmas.List.{take_all, take-append-le, length-take}
 use Rattle.per_run.proofs.Gives.{short_whole}
