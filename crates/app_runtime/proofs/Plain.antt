@@ -30,7 +30,8 @@ use Rattle.update_plan.specs.declared.contents.StorageContents.{StorageContents}
 use Rattle.update_plan.specs.declared.contents.StorageContents.TheVariants.{Damaged, Missing, Present}
 use Rattle.update_plan.specs.Fates.{gets, by_chain, by_row, fate, of_bytes, of_content, of_type, of_value, refusal}
 use Rattle.update_plan.specs.Fates.{strategy_of, initial_in, type_in}
-use Rattle.update_plan.specs.Plans.{Continues, PlansAll, PlansFor, PlansOver, entry_refusal, first_item, first_refusal}
+use Rattle.update_plan.specs.Plans.{Continues, PlansAll, PlansFor, PlansOver, entry_refusal, first_or_none}
+use Rattle.update_plan.specs.Plans.{first_refusal}
 use Rattle.update_plan.specs.Plans.{stored_for, with_first, within_limits}
 use Rattle.update_plan.specs.Rows as update_rows
 use Rattle.update_plan.specs.Rows.{Row, row_by}
@@ -41,7 +42,7 @@ use Rattle.deploy_laws.specs.Places.{Named}
 use Rattle.deploy_rows.specs.Rows.{◌>>=◌, BeginsUpdate, BeginsWith, InProgress, Offer, begun, deployment_of, empty_app}
 use Rattle.deploy_rows.specs.Rows.{finish_with, finishing, installing, newer_version, not_busy, not_worn, offer_over}
 use Rattle.deploy_rows.specs.Rows.{offered}
-use Rattle.deploy_rows.specs.Rows.{rollback_with, rolling_back, said_or_broken, stored_contents, wiping}
+use Rattle.deploy_rows.specs.Rows.{contents_stored, rollback_with, rolling_back, said_or_broken, wiping}
 
 pub record IsPlain (e : PerError) : Type 0 where
   pub sound : answer.Error e ≢ answer.Error error.PhysicalStorageFailure
@@ -215,7 +216,7 @@ entry_plain rules now s e = row_plain rules now s e.name (element_named s e.name
     (row_by (strategy_of (element_named s e.name)) s.strategy (initial_in (element_named s e.name)) (Some e))
 
 first_by : (refused : Option PerError) (others : List PerError) → IfSome refused IsPlain
-    → IfSome (first_item others) IsPlain → IfSome (first_item (cons_option refused others)) IsPlain
+    → IfSome (first_or_none others) IsPlain → IfSome (first_or_none (cons_option refused others)) IsPlain
 first_by None others is then = then
 first_by (Some r) others is then = is
 
@@ -290,7 +291,7 @@ begins_with_plain rules answers now states (Err e) row is begins =
 begins_with_plain rules answers now states (Ok o) row is begins =
     subst (λ (r : Result InProgress PerError). IfErr r IsPlain) (sym begins.2)
     (begun_plain o begins.0 (plans_plain rules answers now
-    (stored_for o.active.deployment (stored_contents o.active.deployment.storages states)) o.deployment.storages
+    (stored_for o.active.deployment (contents_stored o.active.deployment.storages states)) o.deployment.storages
     begins.0 begins.1))
 
 pub begins_plain : (rules : List Rule) (answers : fns.Answers) (now : ℕ) (busy : Option (List ℕ)) (text : List ℕ)

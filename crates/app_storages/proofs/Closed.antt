@@ -18,7 +18,7 @@ use Rattle.element_store.specs.Stores.{view_in}
 use Rattle.file_core.specs.Refusals.{refused_by}
 use Rattle.file_handles.specs.Opening.{busy}
 use Rattle.kvs_store.specs.Storages.{KvsSession}
-use Rattle.file_storage.specs.FileSessions.{OpenFiles}
+use Rattle.file_storage.specs.FileSessions.{FilesInUse}
 use Rattle.command_text.specs.declared.calls.Call.{Call}
 use Rattle.command_text.specs.declared.calls.Call.TheVariants as call
 use Rattle.command_text.specs.declared.replies.Answer.TheVariants as answer
@@ -81,7 +81,7 @@ busy_early None e is = absurd cc
 busy_early (Some h) e is = early_some (error.ResourceBusy (holder.Handle h)) e
     (record { no_failure = λ x. absurd cc; no_want = λ x. absurd cc }) is
 
-close_early : (w : OpenFiles) (e : PerError) → close_refused (Files w) ≡ Some e → IsEarly e
+close_early : (w : FilesInUse) (e : PerError) → close_refused (Files w) ≡ Some e → IsEarly e
 close_early w e is = first_early (busy (lowest_handle (session_in (Files w)))) (sync_refused (Files w)) e
     (busy_early (lowest_handle (session_in (Files w)))) (sync_early (Files w)) is
 
@@ -144,7 +144,7 @@ module _ (laws : StorageLaws) (texts : TextLaw) (told : Bool) (app now : ℕ) (r
 
   -- ---- files
 
-  module _ (w : OpenFiles) (there_is : slot_at was l.number ≡ Some (Files w)) where
+  module _ (w : FilesInUse) (there_is : slot_at was l.number ≡ Some (Files w)) where
     abbrev storage : Open
     storage = Files w
 

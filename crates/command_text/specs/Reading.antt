@@ -305,6 +305,14 @@ abbrev pub application_in : List ℕ → Option ℕ
 application_in (d ∷ []) = if nat_le 48 d && nat_le d 55 then Some (d - 48) else None
 application_in other = None
 
+-- the application of a line, the word of its call, and the text of the arguments
+unfoldable pub parts_in : List ℕ → Option (ℕ × List ℕ × List ℕ)
+parts_in text = do
+  words ← split text
+  application ← application_in words.0
+  call ← split words.1
+  Some (application, call.0, call.1)
+
 unfoldable pub event_in : List ℕ → Option Event
 event_in text = do
   words ← split text

@@ -1,6 +1,6 @@
 //! The arguments of a call, each the whole of its text.
 
-ghost use Rattle.std.specs.Prelude.{◌≡◌, ◌^◌, ◌<◌};
+ghost use Rattle.std.specs.Prelude.{◌≡◌, ◌≢◌, ◌^◌, ◌<◌, Err};
 ghost use Rattle.value_text.specs.Parsing.{kind_in, value_in};
 ghost use Rattle.value_text.specs.Readers.{Finds};
 ghost use Rattle.value_text.specs.Whole.{bytes_in, signed_in, unsigned_in};
@@ -42,7 +42,8 @@ fn handle_number(text: &[u8]) -> Result<u32, LineError>
 
 /// A number of 64 bits.
 pub(crate) fn number(text: &[u8]) -> Result<u64, LineError>
-    ensures { ReadsLine (λ n. n) result (unsigned_in (2 ^ 64) text.now) }
+    ensures read { ReadsLine (λ n. n) result (unsigned_in (2 ^ 64) text.now) }
+    ensures memory { result ≢ Err LineError.OutOfMemory }
 {
     Ok(parse_unsigned(u64::MAX, text)?)
 }

@@ -1,9 +1,10 @@
 //! Calls, by their word. The words stand in groups, by what follows them.
 
-ghost use Rattle.std.specs.Prelude.{◌≡◌};
+ghost use Rattle.std.specs.Prelude.{◌≡◌, ◌≢◌, None, IsErrOf};
 ghost use Rattle.command_text.specs.Reading.{ReadsLine, bare_call, call_in, detail_call, element_call};
 ghost use Rattle.command_text.specs.Reading.{handle_bytes_call};
-ghost use Rattle.command_text.specs.Reading.{handle_call, handle_number_call, manifest_call, move_call, storage_call};
+ghost use Rattle.command_text.specs.Reading.{handle_call, handle_number_call, manifest_call, move_call, split};
+ghost use Rattle.command_text.specs.Reading.{storage_call};
 
 use crate::arguments::{
     bytes, distance, element, element_front, handle, handle_front, kind_of_value, manifest, name,
@@ -17,7 +18,8 @@ use std::alloc::Global;
 /// The call that the text spells.
 #[tactic(auto, unfolding(crate::specs::Reading::call_in))]
 pub(crate) fn call(alloc: Global, text: &[u8]) -> Result<Call, LineError>
-    ensures { ReadsLine (λ c. c) result (call_in text.now) }
+    ensures read { ReadsLine (λ c. c) result (call_in text.now) }
+    ensures memory { IsErrOf result LineError.OutOfMemory → split text.now ≢ None }
 {
     match split(text) {
         Some((word, rest)) => manifest_call(alloc, word, rest),

@@ -20,7 +20,7 @@ use Rattle.deploy_laws.specs.Apps.{App, Says, named}
 use Rattle.deploy_laws.specs.Places.{Named}
 use Rattle.deploy_rows.specs.Rows.{◌>>=◌, BeginsUpdate, BeginsWith, InProgress, Offer, deployment_of, newer_version}
 use Rattle.deploy_rows.specs.Rows.{offer_over}
-use Rattle.deploy_rows.specs.Rows.{offered, stored_contents}
+use Rattle.deploy_rows.specs.Rows.{contents_stored, offered}
 use Rattle.deploy.specs.declared.roots.Installed.{Installed}
 use Rattle.deploy.specs.declared.roots.Root.{Root}
 use Rattle.deploy.specs.declared.roots.Root.TheVariants as root
@@ -117,11 +117,11 @@ module _ (rules : List Rule) (answers : fns.Answers) (now : ℕ) (busy : Option 
       (sym (offered_alike busy text r states ∙ is)) begins
 
 module _ (rules : List Rule) (answers : fns.Answers) (now : ℕ) (o : Offer) (stored : List Stored) (states : List State)
-    (is : stored ≡ stored_contents o.active.deployment.storages states) where
+    (is : stored ≡ contents_stored o.active.deployment.storages states) where
   planned : (plan : Result (List (List Fresh)) PerError)
       → PlansAll rules answers now (stored_for o.active.deployment stored) o.deployment.storages plan
       → PlansAll rules answers now (stored_for o.active.deployment
-      (stored_contents o.active.deployment.storages states))
+      (contents_stored o.active.deployment.storages states))
       o.deployment.storages plan
   planned plan plans = subst (λ (xs : List Stored). PlansAll rules answers now (stored_for o.active.deployment xs)
       o.deployment.storages plan) is plans

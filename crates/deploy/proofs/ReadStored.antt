@@ -28,7 +28,7 @@ use Rattle.update_plan.specs.declared.contents.StorageContents.{StorageContents}
 use Rattle.update_plan.specs.declared.contents.StorageContents.TheVariants.{Damaged, Present}
 use Rattle.update_plan.specs.Plans.{AreContentsOf, ArePresent, AreStored, IsSmall, IsStoredEntry, IsStoredOf}
 use Rattle.deploy_laws.specs.Places.{shapes_from, storage_shape}
-use Rattle.deploy_rows.specs.Rows.{contents_of, stored_contents}
+use Rattle.deploy_rows.specs.Rows.{contents_of, contents_stored}
 use Rattle.deploy.specs.Beginning.{AreReadContents}
 
 -- ---- one storage
@@ -83,7 +83,7 @@ more_shapes app bank number (x ∷ ss) s =
 
 more_stored : (ss : List StorageData) (states : List State) (s : StorageData) (state : State)
     → length states ≡ length ss
-    → stored_contents (ss ++ s ∷ []) (states ++ state ∷ []) ≡ stored_contents ss states
+    → contents_stored (ss ++ s ∷ []) (states ++ state ∷ []) ≡ contents_stored ss states
     ++ record { name = s.name; contents = contents_of state } ∷ []
 more_stored [] [] s state same = refl
 more_stored [] (x ∷ states) s state same = absurd (omega (arith, same))
@@ -137,7 +137,7 @@ module _ (told : Bool) (image : Image) (app bank : ℕ) (ss : List StorageData) 
             ∙ ap (λ (states : List State). states ++ store_at image shape ∷ []) (read.theirs told_so)
             ∙ ap (λ (state : State). read.states ++ state ∷ []) (of.same told_so);
         stored = ap (λ (xs : List Stored). xs ++ x ∷ []) read.stored
-            ∙ ap (λ (y : Stored). stored_contents ss read.states ++ y ∷ []) last
+            ∙ ap (λ (y : Stored). contents_stored ss read.states ++ y ∷ []) last
             ∙ sym (more_stored ss read.states s of.state read.each);
       }
 

@@ -10,7 +10,7 @@ use Rattle.root_text.specs.declared.versions.VersionText.{VersionText}
 use Rattle.root_text.specs.Views.{version_said}
 use Rattle.update_plan.specs.declared.contents.Stored.{Stored}
 use Rattle.deploy_laws.specs.Apps.{named}
-use Rattle.deploy_rows.specs.Rows.{Offer, stored_contents}
+use Rattle.deploy_rows.specs.Rows.{Offer, contents_stored}
 use Rattle.deploy.specs.declared.roots.Installed.{Installed}
 
 -- this version over this root
@@ -33,4 +33,4 @@ pub record AreReadContents (told : Bool) (image : Image) (shapes : List Shape) (
   pub states : List State
   pub each : length states ≡ length storages
   pub theirs : IsTrue told → map (store_at image) shapes ≡ states
-  pub stored : contents ≡ stored_contents storages states
+  pub stored : contents ≡ contents_stored storages states

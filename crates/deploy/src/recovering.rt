@@ -347,7 +347,7 @@ fn with_bytes(
 
 // The info of a file that a recovery changes now.
 fn changed_info(info: Option<FileInfo>, now: u64) -> Option<FileInfo>
-    ensures { result ≡ option_map (infos.changed_info now Cause.Recovery) info }
+    ensures { result ≡ option_map (infos.info_changed now Cause.Recovery) info }
 {
     match info {
         Some(info) => Some(changed(now, Cause::Recovery, info)),

@@ -21,8 +21,8 @@ some_copies copies = omega arith
 pub few_copies : (copies : ℕ) → cut_copies copies ≤ 8
 few_copies copies = omega arith
 
-pub has_room : (first copies : ℕ) → cut_first first + 4 * cut_copies copies ≤ 4294967295
-has_room first copies = omega arith
+pub cut_has_room : (first copies : ℕ) → cut_first first + 4 * cut_copies copies ≤ 4294967295
+cut_has_room first copies = omega arith
 
 abbrev pub place_at : (first copies : ℕ) → Place
 place_at first copies = record {
@@ -30,7 +30,7 @@ place_at first copies = record {
   copies = cut_copies copies;
   some = some_copies copies;
   few = few_copies copies;
-  room = has_room first copies;
+  room = cut_has_room first copies;
 }
 
 -- the files of an application are 4096 from here on

@@ -26,7 +26,7 @@ use Rattle.update_plan.specs.declared.contents.StorageContents.TheVariants.{Dama
 use Rattle.update_plan.specs.Plans.{Continues, PlansAll, PlansFor, stored_for}
 use Rattle.deploy_rows.specs.Recovering.{if_contents_fit, is_content, recovered_contents, recovering, rescued}
 use Rattle.deploy_rows.specs.Recovering.{rescued_as}
-use Rattle.deploy_rows.specs.Rows.{BeginsWith, InProgress, Offer, begun, stored_contents}
+use Rattle.deploy_rows.specs.Rows.{BeginsWith, InProgress, Offer, begun, contents_stored}
 use Rattle.deploy_outcome_laws.specs.Rows.{GenerationsFirst, InitialWhereConverted, OtherBankRead}
 use Rattle.deploy_outcome_laws.specs.Rows.{UnreadableKept}
 
@@ -47,10 +47,10 @@ module _ (rules : List Rule) (answers : fns.Answers) (now : ℕ) where
   refused : (states : List State) (o : Offer) (s : StorageData) (ss : List StorageData)
       (result : Result InProgress PerError)
       → BeginsWith rules answers now states (Ok o) result → o.deployment.storages ≡ s ∷ ss
-      → stored_for o.active.deployment (stored_contents o.active.deployment.storages states) s ≡ Damaged
+      → stored_for o.active.deployment (contents_stored o.active.deployment.storages states) s ≡ Damaged
       → result ≡ Err (damaged s)
   refused states o s ss result begins are is =
-      let stored = stored_for o.active.deployment (stored_contents o.active.deployment.storages states) in
+      let stored = stored_for o.active.deployment (contents_stored o.active.deployment.storages states) in
       let plan = begins.0 in
       let planned = subst (λ (xs : List StorageData). PlansAll rules answers now stored xs plan) are begins.1 in
       begins.2 ∙ ap (begun o) (damaged_first stored s ss plan is planned)

@@ -25,7 +25,7 @@ use Rattle.deploy_laws.specs.Apps.{App, nothing, absent, installed, app_at, AreI
 use Rattle.deploy_laws.specs.Places.{Named}
 use Rattle.deploy_rows.specs.Recovering.{recovering}
 use Rattle.deploy_rows.specs.Rows.{InProgress, Offer, BeginsWith, after, finishing, reopened, rolling_back}
-use Rattle.deploy_rows.specs.Rows.{stored_contents}
+use Rattle.deploy_rows.specs.Rows.{contents_stored}
 use Rattle.deploy_rows.specs.Rows.{updated_app, wiping}
 
 -- an opening formats a bad root
@@ -64,7 +64,7 @@ abbrev pub OtherBankRead : List Rule → fns.Answers → Type 0
 OtherBankRead rules answers = (now : ℕ) (states : List State) (o : Offer)
     (s : StorageData) (ss : List StorageData) (p : InProgress) (result : Result InProgress PerError)
     → BeginsWith rules answers now states (Ok o) result → o.deployment.storages ≡ s ∷ ss
-    → stored_for o.active.deployment (stored_contents o.active.deployment.storages states) s ≡ Damaged
+    → stored_for o.active.deployment (contents_stored o.active.deployment.storages states) s ≡ Damaged
     → ¬ (result ≡ Ok p)
 
 -- that no generation is left is judged before the plan, which is refused
@@ -72,7 +72,7 @@ abbrev pub GenerationsFirst : List Rule → fns.Answers → Type 0
 GenerationsFirst rules answers = (now : ℕ) (states : List State) (o : Offer)
     (s : StorageData) (ss : List StorageData) (result : Result InProgress PerError)
     → BeginsWith rules answers now states (Ok o) result → o.deployment.storages ≡ s ∷ ss
-    → stored_for o.active.deployment (stored_contents o.active.deployment.storages states) s ≡ Damaged
+    → stored_for o.active.deployment (contents_stored o.active.deployment.storages states) s ≡ Damaged
     → ¬ (result ≡ Err (error.LimitReached limit.Generations))
 
 -- a key gets another value, as its initial one, where a chain of converters is due: its bytes are none that they may

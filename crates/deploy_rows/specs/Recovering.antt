@@ -12,7 +12,7 @@ use Rattle.per_base.specs.declared.errors.PerError.{PerError}
 use Rattle.per_base.specs.declared.errors.PerError.TheVariants as error
 use Rattle.per_base.specs.declared.errors.Limit.TheVariants as limit
 use Rattle.value_code.specs.Reading.{decoded}
-use Rattle.file_core.specs.Infos.{changed_info}
+use Rattle.file_core.specs.Infos.{info_changed}
 use Rattle.deployment_model.specs.Data.{StorageData}
 use Rattle.deployment_model.specs.Lookups.{initial_of}
 use Rattle.element_state.specs.declared.shapes.View.{View}
@@ -29,7 +29,7 @@ is_content Files bytes = true
 abbrev pub rescued_as : StorageData → ℕ → Entry → List ℕ → Fresh
 rescued_as s now e bytes = record {
   name = e.name;
-  info = option_map (changed_info now cause.Recovery) e.info;
+  info = option_map (info_changed now cause.Recovery) e.info;
   bytes =
       bytes;
 }

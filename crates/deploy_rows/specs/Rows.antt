@@ -128,10 +128,10 @@ contents_of (Opens v others) = Present v.entries
 contents_of (Corrupt salvage others) = Damaged
 
 -- what is stored in the storages of a version; the states of further storages do not matter
-abbrev pub stored_contents : List StorageData → List State → List Stored
-stored_contents [] states = []
-stored_contents (s ∷ ss) [] = []
-stored_contents (s ∷ ss) (state ∷ states) = record { name = s.name; contents = contents_of state } ∷ stored_contents ss
+abbrev pub contents_stored : List StorageData → List State → List Stored
+contents_stored [] states = []
+contents_stored (s ∷ ss) [] = []
+contents_stored (s ∷ ss) (state ∷ states) = record { name = s.name; contents = contents_of state } ∷ contents_stored ss
     states
 
 -- what an update starts from
@@ -171,7 +171,7 @@ abbrev pub BeginsWith : List Rule → fns.Answers → (now : ℕ) → List State
     → Result InProgress PerError → Type 0
 BeginsWith rules answers now states (Err e) result = IsErrOf result e
 BeginsWith rules answers now states (Ok o) result = (plan : Result (List (List Fresh)) PerError)
-    × PlansAll rules answers now (stored_for o.active.deployment (stored_contents o.active.deployment.storages states))
+    × PlansAll rules answers now (stored_for o.active.deployment (contents_stored o.active.deployment.storages states))
     o.deployment.storages plan
     × (result ≡ begun o plan)
 

@@ -8,8 +8,8 @@ abbrev pub made : ℕ → Cause → FileInfo
 made now cause = record { created = now; modified = now; accessed = now; creation = cause; modification = cause }
 
 -- its content changed now
-abbrev pub changed_info : ℕ → Cause → FileInfo → FileInfo
-changed_info now cause info = record info { modified = now; modification = cause }
+abbrev pub info_changed : ℕ → Cause → FileInfo → FileInfo
+info_changed now cause info = record info { modified = now; modification = cause }
 
 -- opened now
 abbrev pub opened_info : ℕ → FileInfo → FileInfo

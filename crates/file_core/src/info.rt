@@ -20,7 +20,7 @@ pub fn made(now: u64, cause: Cause) -> FileInfo
 
 /// The info of a file whose content changes now for this cause.
 pub fn changed(now: u64, cause: Cause, info: FileInfo) -> FileInfo
-    ensures { result ≡ infos.changed_info now cause info }
+    ensures { result ≡ infos.info_changed now cause info }
 {
     FileInfo {
         created: info.created,

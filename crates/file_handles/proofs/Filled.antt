@@ -21,7 +21,7 @@ use Rattle.per_base.specs.Names.{name_cmp}
 use Rattle.file_core.specs.declared.cursor.Cursor.{Cursor}
 use Rattle.file_core.specs.declared.room.Room.{Room}
 use Rattle.file_core.specs.Files.{changed_to, file_of, too_long, written}
-use Rattle.file_core.specs.Infos.{changed_info, made, opened_info}
+use Rattle.file_core.specs.Infos.{info_changed, made, opened_info}
 use Rattle.file_core.specs.Places.{moved, opening_place, overwritten, write_place}
 use Rattle.file_handles.specs.declared.handle.Handle.{Handle}
 use Rattle.file_handles.specs.declared.storage.Storage.{Storage}
@@ -36,25 +36,25 @@ use Rattle.file_handles.specs.lemmas.Opens.{allowed, put_removed, put_there}
 
 -- ---- the file as the opening leaves it
 
-changed_twice : (now : ℕ) (info : Option FileInfo) → option_map (changed_info now Application)
-    (option_map (changed_info now Application) info) ≡ option_map (changed_info now Application) info
+changed_twice : (now : ℕ) (info : Option FileInfo) → option_map (info_changed now Application)
+    (option_map (info_changed now Application) info) ≡ option_map (info_changed now Application) info
 changed_twice now None = refl
 changed_twice now (Some info) = refl
 
 -- empty, and a change at this moment leaves its info
 emptied : (found : Option Element) (now : ℕ) → (info : Option FileInfo)
     × (file_opened false truncating now found ≡ file_of info [])
-    × (option_map (changed_info now Application) info ≡ info)
+    × (option_map (info_changed now Application) info ≡ info)
 emptied None now = (Some (made now Application), refl, refl)
 emptied (Some file) now = (
-  option_map (changed_info now Application) (option_map (opened_info now) file.info),
+  option_map (info_changed now Application) (option_map (opened_info now) file.info),
   refl,
   changed_twice now (option_map (opened_info now) file.info),
 )
 
 pub record IsEmptied (s mid : Session) (name : List ℕ) (now number : ℕ) : Type 0 where
   pub info : Option FileInfo
-  pub kept : option_map (changed_info now Application) info ≡ info
+  pub kept : option_map (info_changed now Application) info ≡ info
   pub answer : with_opened s name Write truncating (file_of info []) ≡ (number, mid)
 
 pub is_emptied : (storage : Storage) (s mid : Session) (name : List ℕ) (now number : ℕ)
@@ -109,7 +109,7 @@ over_nothing : (from : ℕ) (piece : List ℕ) → from ≡ 0 → overwritten fr
 over_nothing from piece is = rw (is, drop-nil (0 + length piece)) (append-nil piece)
 
 written_is : (cursor : Cursor) (info : Option FileInfo) (piece : List ℕ) (now : ℕ) (room : Room) → cursor.kind ≡ Write
-    → option_map (changed_info now Application) info ≡ info → too_long room (length piece) ≡ None
+    → option_map (info_changed now Application) info ≡ info → too_long room (length piece) ≡ None
     → (after : Cursor) × (written cursor (file_of info []) piece now room
     ≡ Ok (after, changed_to piece now Application (file_of info [])))
 written_is cursor info [] now room kind kept fits = (cursor, rw (kind, kept) refl)
@@ -147,7 +147,7 @@ same_handles handles number one other free =
     ∙ put_removed nat_cmp_total number other handles free ∙ sym (put_removed nat_cmp_total number one handles free)
 
 filled_is : (storage : Storage) (s : Session) (name bytes : List ℕ) (now : ℕ) (info : Option FileInfo)
-    → handle_at s.handles (free_number s.handles) ≡ None → option_map (changed_info now Application) info ≡ info
+    → handle_at s.handles (free_number s.handles) ≡ None → option_map (info_changed now Application) info ≡ info
     → too_long (room_for (with_element s.files name (file_of info [])) name storage.maximum) (length bytes) ≡ None
     → (let o : ℕ × Session = with_opened s name Write truncating (file_of info []) in
     and_then (write storage o.1 now o.0 bytes) (λ after. Ok (released after o.0))

@@ -50,7 +50,7 @@ use Rattle.element_store.specs.Changing.{KeepsOthers}
 use Rattle.element_store.specs.Committing.{index_in, index_length}
 use Rattle.element_store.specs.Stores.{IsUsed, entries_of, shape_of, view_in}
 use Rattle.element_laws.specs.lemmas.Untouched.{kept_mending, none_around, none_kept}
-use Rattle.file_storage.specs.FileSessions.{AreAsStored, IsOpen, OpenFiles, storage_of, stored_in}
+use Rattle.file_storage.specs.FileSessions.{AreAsStored, FilesInUse, IsOpen, storage_of, stored_in}
 use Rattle.file_storage.specs.Syncs.{IsSynced, WritesAtMost, is_synced, synced_view, worn}
 use Rattle.file_storage.specs.Walks.{walked}
 use Rattle.file_storage.proofs.Making.{walk_makes}
@@ -58,10 +58,10 @@ use Rattle.file_storage.proofs.Stored.{keys_are}
 
 -- ---- where nothing differs
 
-pub same_view : (s : OpenFiles) → is_synced s ≡ true → synced_view s ≡ view_in s.store
+pub same_view : (s : FilesInUse) → is_synced s ≡ true → synced_view s ≡ view_in s.store
 same_view s is = rw is refl
 
-pub differ_view : (s : OpenFiles) → is_synced s ≡ false
+pub differ_view : (s : FilesInUse) → is_synced s ≡ false
     → synced_view s ≡ committed (shape_of s.store) (view_in s.store) (stored_in s.store) s.session.files
 differ_view s is = rw is refl
 
@@ -91,12 +91,12 @@ opened_storing told shape old new elsewhere outside any_moment time after = reco
 within_none : (copies contents index written : ℕ) → IsWithin copies contents index written written
 within_none copies contents index written = omega arith
 
-pub none_written : (s : OpenFiles) (m : Medium) → WritesAtMost s m m
+pub none_written : (s : FilesInUse) (m : Medium) → WritesAtMost s m m
 none_written s m = within_none (shape_of s.store).place.copies
     (map_cost (shape_of s.store).kind (stored_in s.store) s.session.files)
     (index_length (shape_of s.store).kind (synced_view s).entries) m.written
 
-pub none_synced : DecidesLaw → (told : Bool) (s : OpenFiles) (m : Medium) → IsUsed told m.image s.store
+pub none_synced : DecidesLaw → (told : Bool) (s : FilesInUse) (m : Medium) → IsUsed told m.image s.store
     → is_synced s ≡ true → IsSynced told s s m m
 none_synced decides told s m used is = record {
   stored = (decides (stored_in s.store) s.session.files).0 is;
@@ -162,7 +162,7 @@ left_over true last e is = absurd (cc)
 below : (g : ℕ) → nat_le greatest_generation g ≡ false → g < greatest_generation
 below g e = grind (arith, nat_tests, e)
 
-pub generation_left : (s : OpenFiles) → worn s ≡ None → is_synced s ≡ false
+pub generation_left : (s : FilesInUse) → worn s ≡ None → is_synced s ≡ false
     → (view_in s.store).generation < greatest_generation
 generation_left s none differ = below (view_in s.store).generation
     (left_over (is_synced s) (is_worn (view_in s.store)) (not_worn_is _ _ none) differ)
@@ -197,7 +197,7 @@ open_later config store later storage files is shape stored = record {
   unreadable = λ name file at bad. subst (λ (m : Map). element_at m name ≡ Some file) (sym stored) at;
 }
 
-view_then : CommittedLaw → (s : OpenFiles) (changes : List Change)
+view_then : CommittedLaw → (s : FilesInUse) (changes : List Change)
     → IsSync (shape_of s.store) (λ bytes. true) (view_in s.store) (stored_in s.store) s.session.files changes
     → is_synced s ≡ false
     → committed_by (shape_of s.store) (view_in s.store) changes ≡ synced_view s
@@ -205,7 +205,7 @@ view_then made s changes sync differ =
     made (shape_of s.store) (λ bytes. true) (view_in s.store) (stored_in s.store) s.session.files changes sync
     ∙ sym (differ_view s differ)
 
-module _ (s : OpenFiles) (changes : List Change) (sync : IsSync (shape_of s.store) (λ bytes. true) (view_in s.store)
+module _ (s : FilesInUse) (changes : List Change) (sync : IsSync (shape_of s.store) (λ bytes. true) (view_in s.store)
     (stored_in s.store) s.session.files changes)
     (differ : is_synced s ≡ false) (made : CommittedLaw) where
   abbrev pub cost_then : ℕ

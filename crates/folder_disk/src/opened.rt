@@ -11,6 +11,7 @@ ghost use Rattle.system_model.specs.SystemMedium.{AnnounceCase, TearCase, read_c
 
 use crate::notes::is_noted;
 use crate::range::Range;
+use crate::reading::{Answer, answer_of};
 use std::alloc::Global;
 use std::collections::BTreeMap;
 use std::io;
@@ -33,6 +34,10 @@ pub struct Opened<S: System> {
     has_files: bool,
     /// The first file that the folder listed.
     listed: Option<u32>,
+    /// Whether a byte of a file could be read.
+    has_read: bool,
+    /// The first file of which none could be read.
+    unreadable: Option<u32>,
 }
 
 impl<S: System> Model for Opened<S> {
@@ -58,6 +63,8 @@ impl<S: System> Opened<S> {
             questions: 0,
             has_files: false,
             listed: None,
+            has_read: false,
+            unreadable: None,
         }
     }
 
@@ -75,6 +82,11 @@ impl<S: System> Opened<S> {
     /// The first file that the folder lists, where it gives none of them.
     pub(crate) fn refused(&self) -> Option<u32> {
         if self.has_files { None } else { self.listed }
+    }
+
+    /// The first file of which no byte could be read, where none could be of any other.
+    pub(crate) fn unreadable(&self) -> Option<u32> {
+        if self.has_read { None } else { self.unreadable }
     }
 
     /// Whether one file more can be open, or this one is.
@@ -114,6 +126,27 @@ impl<S: System> Opened<S> {
                 Ok(true)
             }
             None => Ok(false),
+        }
+    }
+
+    /// Looks whether the file can be read, as long as none could: a device that answers nowhere has failed.
+    pub(crate) fn look_into(&mut self, file: u32)
+        ensures { Looks (S.medium self.old) (S.medium self.new) }
+    {
+        if self.has_read {
+            return;
+        }
+        let answer = answer_of(self, file);
+        self.note_answer(file, answer);
+    }
+
+    fn note_answer(&mut self, file: u32, answer: Answer)
+        ensures { self.new ≡ self.old }
+    {
+        match answer {
+            Answer::Unknown => {}
+            Answer::Readable => self.has_read = true,
+            Answer::Unreadable => self.unreadable = self.unreadable.or(Some(file)),
         }
     }
 

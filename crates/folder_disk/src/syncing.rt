@@ -151,6 +151,7 @@ impl<S: System> Folder<S> {
             Ok(false) => return Ok(()),
             Err(error) => return Err(self.failed(Asked::Open, Part::File(file), error)),
         }
+        self.system.look_into(file);
         match self.system.sync_file(file) {
             Ok(()) => {
                 self.system.close(file);

@@ -17,7 +17,7 @@ use Rattle.element_maps.specs.Storages.{IsOpened}
 use Rattle.file_handles.specs.Sessions.{Session}
 use Rattle.file_storage.specs.declared.opening.OpenedFiles.{OpenedFiles}
 use Rattle.file_storage.specs.FileSessions.{stored_in}
-use Rattle.file_storage.specs.Opened.{given}
+use Rattle.file_storage.specs.Opened.{opened_as}
 use Rattle.deploy_rows.specs.Recovering.{is_content}
 use Rattle.run_model.specs.Sessions.{files, session_of}
 use Rattle.open_storages.specs.declared.opens.Open.TheVariants.{Files}
@@ -27,7 +27,7 @@ use Rattle.open_storages.specs.Opens.{session_in}
 
 module _ (told : Bool) (tells : IsTrue told) (image : Image) (shape : Shape) (config : StorageData) (o : OpenedFiles)
     (untested : UntestedLaw) (of_files : config.kind ≡ kinds.Files)
-    (is : IsOpened told image shape (λ bytes. true) (given o))
+    (is : IsOpened told image shape (λ bytes. true) (opened_as o))
     (fresh : o.files.session ≡ record { files = stored_in o.files.store; handles = [] }) where
   stored_is : stored_in o.files.store ≡ map_of is.before
   stored_is = is.synced ∙ untested is.before

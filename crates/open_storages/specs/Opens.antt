@@ -13,7 +13,7 @@ use Rattle.open_storages.specs.declared.opens.Open.TheVariants.{Keys, Files}
 abbrev pub keys_of : stored.KvsSession → KeySession
 keys_of k = record { synced = k.session.synced; visible = k.session.visible }
 
-abbrev pub files_of : working.OpenFiles → FileSession
+abbrev pub files_of : working.FilesInUse → FileSession
 files_of f = record { synced = working.stored_in f.store; working = f.session }
 
 abbrev pub session_in : Open → Session

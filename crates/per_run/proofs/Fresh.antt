@@ -12,7 +12,7 @@ use Rattle.run_model.specs.Moments.{last_of}
 use Rattle.run_model.specs.RunLaws.{ends_settled}
 use Rattle.run_model.specs.Runs.{IsSettled}
 use Rattle.run_model.specs.Runtimes.{Memory}
-use Rattle.run_model.specs.Turns.{Turn, AreBlamed, Follow, bytes_on, replies_of, worlds_of}
+use Rattle.run_model.specs.Turns.{Turn, AreBlamed, Follow, bytes_now, replies_of, worlds_of}
 use Rattle.run_model.specs.Worlds.{Application, World, after_start, all_resting, formatted, resting, world_at}
 use Rattle.per_run.specs.declared.tally.Tally.{Tally}
 use Rattle.per_run.specs.Jobs.{FailsAtThree, Formats, Generates, WritesOutput, summary}
@@ -62,7 +62,7 @@ generates_none told rules answers n status now old new is later = record {
     passes = λ done. absurd (not_done status is done);
   };
   follow = λ tells. tt;
-  bounded = λ tells. (bytes_on new, tt);
+  bounded = λ tells. (bytes_now new, tt);
   settled = λ tells done. absurd (not_done status is done);
   clean = λ tells done. absurd (not_done status is done);
 }

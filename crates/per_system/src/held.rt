@@ -35,7 +35,7 @@ impl Content {
 
     fn number_of(self, name: &str) -> Option<u32> {
         match self {
-            Content::Disk => name.strip_prefix("f")?.parse().ok(),
+            Content::Disk => number_of(name.strip_prefix("f")?),
             Content::Flash => (name == "flash").then_some(0),
         }
     }
@@ -51,6 +51,14 @@ impl Content {
             Content::Disk => format!(in alloc; "{dir}/f{number}"),
             Content::Flash => format!(in alloc; "{dir}/flash"),
         }
+    }
+}
+
+/// The number that these digits spell as the disk spells it: without a sign, and without zeros before it.
+fn number_of(digits: &str) -> Option<u32> {
+    match digits.as_bytes() {
+        [b'0'] | [b'1'..=b'9', ..] => digits.parse().ok(),
+        _ => None,
     }
 }
 

@@ -17,7 +17,7 @@ use Rattle.command_text.specs.declared.replies.Answer.TheVariants as answer
 use Rattle.deploy_laws.specs.Places.{Named}
 use Rattle.deploy_laws.specs.Apps.{Says, nothing, absent, installed, App}
 use Rattle.deploy_rows.specs.Rows.{◌>>=◌, not_worn, not_busy, deployment_of, installed_app, installing, finishing}
-use Rattle.deploy_rows.specs.Rows.{rolling_back, wiping, empty_app, storage_count, stored_contents, Offer, offered}
+use Rattle.deploy_rows.specs.Rows.{rolling_back, wiping, empty_app, storage_count, contents_stored, Offer, offered}
 use Rattle.deploy_rows.specs.Rows.{newer_version}
 use Rattle.deploy_rows.specs.Rows.{offer_over, InProgress, begun as begun_by, BeginsWith, updated_app}
 use Rattle.run_model.specs.Sessions.{Session}
@@ -340,7 +340,7 @@ offered_so rules answers now None text states g active row f begins go =
     by (Ok o) is = go refl (subst (λ (x : Result InProgress PerError).
         IfOk x (λ p. (length p.contents ≡ length p.deployment.storages) × (p.built ≡ 0))) (sym is.2)
         (begun_plan rules answers now (stored_for o.active.deployment
-        (stored_contents o.active.deployment.storages states)) o
+        (contents_stored o.active.deployment.storages states)) o
         is.0 is.1))
 
 begins_parts : (rules : List Rule) (answers : Answers) (now : ℕ) (text : List ℕ) (says : Says) (lacking : List ℕ)

@@ -36,7 +36,7 @@ use Rattle.run_model.specs.RunLaws.{imaged_last}
 use Rattle.run_model.specs.Starting.{at_entry, between_worlds}
 use Rattle.run_model.specs.Lines.{lines_of}
 use Rattle.run_model.specs.Runs.{DiskSide, Run, Progress, starting, between, within}
-use Rattle.run_model.specs.Turns.{Bytes, Turn, bytes_on, worlds_of}
+use Rattle.run_model.specs.Turns.{Bytes, Turn, bytes_now, worlds_of}
 use Rattle.run_model.specs.Worlds.{Disks, Doubt, World, after_start, disk_at, disks, world_at}
 
 -- ---- the pairs between which an application may stand
@@ -623,7 +623,7 @@ quiet_always laws rules answers app lt _ lines all turns before now old new run 
     (settled_on (IsFileOf app) (quiet c was)) (same_root refl refl)))
     (first_of rules answers _ (after_start (world_at old.image)) lines all turns before now run.reached run.next
     run.begun
-    (bytes_on new) run.progress))
+    (bytes_now new) run.progress))
     (λ moment. moment)
     (run.everywhen.always app lt clean sound c s)
 

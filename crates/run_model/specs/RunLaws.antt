@@ -40,7 +40,7 @@ use Rattle.run_model.specs.Runtimes.{Running, Memory, with_disk, world_of, Steps
 use Rattle.run_model.specs.Runtimes.{StartKeeps, IsUnwritten, writes_none}
 use Rattle.run_model.specs.Bounds.{AreBounded, IsBounded, IsBegunWithin, StartsWithin, bytes_after}
 use Rattle.run_model.specs.Endings.{Ending, HasStarted, HasEnded, has_started}
-use Rattle.run_model.specs.Turns.{Bytes, Turn, Follow, bytes_on, turn, worlds_of, replies_text, IsBlamed, AreBlamed}
+use Rattle.run_model.specs.Turns.{Bytes, Turn, Follow, bytes_now, turn, worlds_of, replies_text, IsBlamed, AreBlamed}
 use Rattle.run_model.specs.Runs.{AreCases, IsCaseOfDoubt, IsReadSince, Everywhen, IsSettled, starting, between, within}
 use Rattle.run_model.specs.Runs.{DiskSide}
 
@@ -81,9 +81,9 @@ pub record Going (rules : List Rule) (answers : Answers) (entry start : World) (
       → Stayed app entry start (worlds_of turns) old now
   -- what each command wrote, from the bytes that the start left on
   pub begun : Bytes
-  pub starts : StartsWithin (bytes_on old) begun
+  pub starts : StartsWithin (bytes_now old) begun
   pub bounded : AreBounded start begun turns
-  pub held : bytes_on now ≡ bytes_after begun turns
+  pub held : bytes_now now ≡ bytes_after begun turns
   pub time : Elapses old now
 
 -- ---- what applications came from
@@ -203,7 +203,7 @@ bounded_on : (w : World) (b : Bytes) (ts : List Turn) (t : Turn) → AreBounded 
 bounded_on w b [] t are is = (is, tt)
 bounded_on w b (u ∷ us) t are is = (are.0, bounded_on u.world u.bytes us t are.1 is)
 
-same_bytes : (old new : Medium) → IsUnwritten old new → bytes_on new ≡ bytes_on old
+same_bytes : (old new : Medium) → IsUnwritten old new → bytes_now new ≡ bytes_now old
 same_bytes old new is = ap₂ (λ (i : Image) (n : ℕ). record { image = i; written = n }) is.0 is.1
 
 module _ (rules : List Rule) (answers : Answers) (entry start : World) (calm : start.doubt ≡ None) where
@@ -213,12 +213,12 @@ module _ (rules : List Rule) (answers : Answers) (entry start : World) (calm : s
       → (going : Going rules answers entry start turns memory doubt old now)
       → Stepped rules answers e reply memory memory' doubt now new
       → IsBounded (last_of start (worlds_of turns)) e (writes_none (last_of start (worlds_of turns)) e reply)
-      (bytes_after going.begun turns) (bytes_on new)
+      (bytes_after going.begun turns) (bytes_now new)
   bounded_here turns e reply memory memory' doubt old now new time going s =
-      subst (λ (w : World). IsBounded w e (writes_none w e reply) (bytes_after going.begun turns) (bytes_on new))
+      subst (λ (w : World). IsBounded w e (writes_none w e reply) (bytes_after going.begun turns) (bytes_now new))
       (sym going.last)
       (subst (λ (b : Bytes). IsBounded (world_of now.image memory doubt) e
-      (writes_none (world_of now.image memory doubt) e reply) b (bytes_on new)) going.held (record {
+      (writes_none (world_of now.image memory doubt) e reply) b (bytes_now new)) going.held (record {
         elsewhere = s.aside.elsewhere;
         place = s.place;
         unwritten = λ none. same_bytes now new (s.unwritten none);
@@ -230,10 +230,10 @@ module _ (rules : List Rule) (answers : Answers) (entry start : World) (calm : s
   begun_here : (turns : List Turn) (e : Event) (memory : Memory) (doubt : Option Doubt) (old now new : Medium)
       → Elapses now new → (going : Going rules answers entry start turns memory doubt old now)
       → Stopped rules answers e memory doubt now new
-      → IsBegunWithin (last_of start (worlds_of turns)) e (bytes_after going.begun turns) (bytes_on new)
+      → IsBegunWithin (last_of start (worlds_of turns)) e (bytes_after going.begun turns) (bytes_now new)
   begun_here turns e memory doubt old now new time going s =
-      subst (λ (w : World). IsBegunWithin w e (bytes_after going.begun turns) (bytes_on new)) (sym going.last)
-      (subst (λ (b : Bytes). IsBegunWithin (world_of now.image memory doubt) e b (bytes_on new)) going.held (record {
+      subst (λ (w : World). IsBegunWithin w e (bytes_after going.begun turns) (bytes_now new)) (sym going.last)
+      (subst (λ (b : Bytes). IsBegunWithin (world_of now.image memory doubt) e b (bytes_now new)) going.held (record {
         elsewhere = s.aside.elsewhere;
         place = s.place;
         unwritten = λ none. same_bytes now new (s.unwritten none);
@@ -410,7 +410,7 @@ starts_going rules answers memory old new time s = record {
   stayed = λ app lt clean sound. start_stays app (world_at old.image) (after_start (world_at old.image)) old new
       (start_calm old) (s.keeps.always app lt clean)
       (record { clean = s.clean app lt clean; quiet = λ none. s.quiet });
-  begun = bytes_on new;
+  begun = bytes_now new;
   starts = record { roots = s.keeps.roots; later = time.written };
   bounded = tt;
   held = refl;
@@ -441,7 +441,7 @@ start_disk rules answers how before after told old new lawful time open_end keep
   settled = λ over. absurd (open_end (has_started how over));
   reached = [];
   next = disks (after_start (world_at old.image));
-  begun = bytes_on new;
+  begun = bytes_now new;
   starts = record { roots = keeps.roots; later = time.written };
   bounded = tt;
   progress = starting open_end refl refl refl refl refl refl;

@@ -15,7 +15,7 @@ use Rattle.run_model.specs.Lasting.{IsWorld}
 use Rattle.run_model.specs.Lines.{lines_of, Give}
 use Rattle.run_model.specs.Moments.{AreImaged, IsMomentOf, OrBefore, last_of, AreSoundDoubts, AreDecided}
 use Rattle.run_model.specs.Steps.{Leads}
-use Rattle.run_model.specs.Turns.{Bytes, Turn, bytes_on, events_of, worlds_of, replies_text, Follow, CountsFailures}
+use Rattle.run_model.specs.Turns.{Bytes, Turn, bytes_now, events_of, worlds_of, replies_text, Follow, CountsFailures}
 use Rattle.run_model.specs.Worlds.{Disks, Doubt, World, disks, world_at, after_start, after_run}
 
 -- ---- doubts
@@ -101,11 +101,11 @@ pub record DiskSide (rules : List Rule) (answers : Answers) (ending : Ending) (l
   pub next : Disks
   -- what the start and each command wrote; `begun` are the bytes that the start left, however it ended
   pub begun : Bytes
-  pub starts : StartsWithin (bytes_on old) begun
+  pub starts : StartsWithin (bytes_now old) begun
   pub bounded : AreBounded (after_start (world_at old.image)) begun turns
   pub progress : Progress rules answers ending (after_start (world_at old.image)) lines all turns before now reached
       next
-      begun (bytes_on new)
+      begun (bytes_now new)
   -- each application, and what was there before a command that left a doubt, is what some image denotes
   pub imaged : (app : ℕ) → app < 8 → AreImaged app reached
   -- where every command has ended, the places that were clean are clean again

@@ -75,8 +75,8 @@ abbrev pub as_a_whole : DeploymentData
 as_a_whole = of_one (record (key_storage fav 1048576 2 3 (home_key ∷ [])) { scope = scope.Storage })
 
 -- `home` of the second generation with this content, where these copies lack it, and with it the storage
-abbrev pub whole_view : Content → (lacking : List ℕ) → View
-whole_view content lacking = record {
+abbrev pub home_view : Content → (lacking : List ℕ) → View
+home_view content lacking = record {
   generation = 2;
   lacking = lacking;
   sole = true;
@@ -85,18 +85,18 @@ whole_view content lacking = record {
 
 whole_synced : states_in (world_after (with_installed formatted 0 0 as_a_whole)
     (on (call.OpenKvs fav) ∷ set_home 9 ∷ on (call.Sync fav) ∷ []))
-    ≡ Opens (whole_view (Good (3 ∷ 9 ∷ 0 ∷ [])) []) [] ∷ []
+    ≡ Opens (home_view (Good (3 ∷ 9 ∷ 0 ∷ [])) []) [] ∷ []
 unfolding computed
 whole_synced = refl
 
-one_whole_copy_mended : replies (found_so as_a_whole (Opens (whole_view (Good (3 ∷ 9 ∷ 0 ∷ [])) (1 ∷ [])) []))
+one_whole_copy_mended : replies (found_so as_a_whole (Opens (home_view (Good (3 ∷ 9 ∷ 0 ∷ [])) (1 ∷ [])) []))
     (on (call.OpenKvs fav) ∷ []) ≡ codes "report kvs-recovered fav 1\nok\n"
 unfolding computed
 one_whole_copy_mended = refl
 
 -- with two copies lost the storage is corrupt, and the third is its salvage
 one_whole_copy_left : replies (found_so as_a_whole (Corrupt
-    (Some (whole_view (Bad (Some (3 ∷ 9 ∷ 0 ∷ []))) (1 ∷ 2 ∷ []))) []))
+    (Some (home_view (Bad (Some (3 ∷ 9 ∷ 0 ∷ []))) (1 ∷ 2 ∷ []))) []))
     (on (call.OpenKvs fav) ∷ on (call.RecoverStorage fav) ∷ on (call.OpenKvs fav) ∷ on (call.Get fav home) ∷ [])
     ≡ codes "report kvs-failed fav 1,2,3\nerror 5 IntegrityCorrupted fav\nok\nok\nvalue u16:9\n"
 unfolding computed

@@ -18,8 +18,8 @@ pub record Bytes : Type 0 where
   pub image : Image
   pub written : ℕ
 
-abbrev pub bytes_on : Medium → Bytes
-bytes_on m = record { image = m.image; written = m.written }
+abbrev pub bytes_now : Medium → Bytes
+bytes_now m = record { image = m.image; written = m.written }
 
 -- a command that was answered: its reply, and the world after it
 pub record Turn : Type 0 where
@@ -33,7 +33,7 @@ pub record Turn : Type 0 where
 
 -- the turn that ends here
 abbrev pub turn : Event → Reply → Medium → World → Turn
-turn e reply m w = record { event = e; reply = reply; faults = m.faults; bytes = bytes_on m; world = w }
+turn e reply m w = record { event = e; reply = reply; faults = m.faults; bytes = bytes_now m; world = w }
 
 abbrev pub events_of : List Turn → List Event
 events_of turns = map (λ (t : Turn). t.event) turns

@@ -6,7 +6,7 @@ use Rattle.file_handles.specs.declared.handle.Handle.{Handle}
 use Rattle.file_handles.specs.declared.storage.Storage.{Storage}
 use Rattle.file_handles.specs.Opening.{open_file}
 use Rattle.file_handles.specs.Sessions.{Session, handle_at}
-use Rattle.file_storage.specs.FileSessions.{OpenFiles}
+use Rattle.file_storage.specs.FileSessions.{FilesInUse}
 use Rattle.file_storage.specs.Scopes.{without_open_handle}
 
 -- a file is opened for writing beside a reader
@@ -18,6 +18,6 @@ WriterBesideReader = (storage : Storage) (before after : Session) (name : List �
 
 -- the drop of a scoped handle leaves the handle
 abbrev pub HandleLeft : Type 0
-HandleLeft = (before after : OpenFiles) (number : ℕ) (handle : Handle) → after ≡ without_open_handle before number
+HandleLeft = (before after : FilesInUse) (number : ℕ) (handle : Handle) → after ≡ without_open_handle before number
     → handle_at before.session.handles number ≡ Some handle
     → ¬ (after.session.handles ≡ before.session.handles)

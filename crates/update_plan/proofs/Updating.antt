@@ -26,7 +26,7 @@ use Rattle.index_text.specs.Contents.{AreContents, SuitsKind, fresh_size}
 use Rattle.update_plan.specs.Limits.{IfMade}
 use Rattle.update_plan.specs.Merging.{Item, merged}
 use Rattle.update_plan.specs.Plans.{AreStored, IsStoredEntry, PlansOver, UnlessOutOfMemory, Updated, entry_named}
-use Rattle.update_plan.specs.Plans.{first_item, first_refusal}
+use Rattle.update_plan.specs.Plans.{first_or_none, first_refusal}
 use Rattle.update_plan.specs.Plans.{fresh_named, within_limits}
 use Rattle.update_plan.specs.Renewed.{BecomeAll, RenewAll, item_fate, refusals}
 use Rattle.update_plan.specs.Rows.{row_by, initial_or}
@@ -95,7 +95,7 @@ module _ (rules : List Rule) (answers : Answers) (now : ℕ) (s : StorageData) w
       → left ≡ p ∷ rest → RefusesAs (item_fate rules now s p) e → RenewAll rules answers now s all (Err e)
   stopped all left rest p made e r is refuses = λ memory.
       let inner = subst (λ l. Renewing all l made) is r in
-      ap first_item (inner.same_refusals ∙ ap (λ o. cons_option o (refusals rules now s rest)) (refuses memory))
+      ap first_or_none (inner.same_refusals ∙ ap (λ o. cons_option o (refusals rules now s rest)) (refuses memory))
 
 -- ---- what the merged names become is the new contents
 
@@ -213,8 +213,8 @@ module _ (rules : List Rule) (answers : Answers) (now : ℕ) (s : StorageData) w
   free_row name c None collection i = free_start name c i
 
   pub refused_first : (old : List Entry) → IsStorage s → AreStored s.kind old
-      → first_item (refusals rules now s (merged old s.elements)) ≡ first_refusal rules now s old
-  refused_first old storage stored = ap first_item (merged_refusals (λ name c o. refusal (fate rules now s name c o))
+      → first_or_none (refusals rules now s (merged old s.elements)) ≡ first_refusal rules now s old
+  refused_first old storage stored = ap first_or_none (merged_refusals (λ name c o. refusal (fate rules now s name c o))
       (λ name c. free_row name c c.strategy s.strategy c.initial) old s.elements stored.names_ascend storage.ascends)
 
   -- ---- the plan of a storage
@@ -228,7 +228,8 @@ module _ (rules : List Rule) (answers : Answers) (now : ℕ) (s : StorageData) w
       → r ≡ within_limits s.maximum new
       → UnlessOutOfMemory r (PlansOver rules answers now s old (first_refusal rules now s old))
   plans_over old new r storage stored renewed is =
-      let none : first_refusal rules now s old ≡ None = sym (refused_first old storage stored) ∙ ap first_item renewed.0
+      let none : first_refusal rules now s old ≡ None = sym (refused_first old storage stored)
+      ∙ ap first_or_none renewed.0
       in
       told_so r (PlansOver rules answers now s old (first_refusal rules now s old))
       (subst (λ o. PlansOver rules answers now s old o r) (sym none)

@@ -12,7 +12,7 @@ use Rattle.per_base.specs.declared.elements.StoreKind.TheVariants.{Keys, Files}
 use Rattle.per_base.specs.declared.errors.PerError.{PerError}
 use Rattle.per_base.specs.declared.errors.PerError.TheVariants.{IntegrityCorrupted, DataTypeMismatch, OutOfMemory}
 use Rattle.per_base.specs.declared.errors.Unit.TheVariants.{Part}
-use Rattle.file_core.specs.Infos.{made, changed_info}
+use Rattle.file_core.specs.Infos.{made, info_changed}
 use Rattle.value_model.specs.Kinds.{Kind, kind_fits}
 use Rattle.value_model.specs.Trees.{Tree, type_of}
 use Rattle.value_model.specs.Encoding.{encoding}
@@ -45,7 +45,7 @@ type_in configured = option_and_then (λ (e : ElementData). e.value_type) config
 -- a stored file that is overwritten changes now, and any other file that gets its initial content is made now
 abbrev pub initial_info : StoreKind → Option ElementStrategy → Option Entry → ℕ → Option FileInfo
 initial_info Keys strategy stored now = None
-initial_info Files (Some own.Overwrite) (Some e) now = option_map (changed_info now Update) e.info
+initial_info Files (Some own.Overwrite) (Some e) now = option_map (info_changed now Update) e.info
 initial_info Files (Some own.Overwrite) None now = Some (made now Update)
 initial_info Files (Some own.KeepExisting) stored now = Some (made now Update)
 initial_info Files (Some own.Delete) stored now = Some (made now Update)

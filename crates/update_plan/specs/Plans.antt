@@ -97,16 +97,16 @@ pub record Updated (rules : List Rule) (answers : Answers) (now : ℕ) (s : Stor
   pub each : (name : List ℕ) → Becomes answers name (fate rules now s name (element_named s name)
       (entry_named old name)) (fresh_named new name)
 
-abbrev pub first_item : {A : Type 0} → List A → Option A
-first_item [] = None
-first_item (x ∷ xs) = Some x
+abbrev pub first_or_none : {A : Type 0} → List A → Option A
+first_or_none [] = None
+first_or_none (x ∷ xs) = Some x
 
 abbrev pub entry_refusal : List Rule → ℕ → StorageData → Entry → Option PerError
 entry_refusal rules now s e = refusal (fate rules now s e.name (element_named s e.name) (Some e))
 
 -- of the stored elements, in their order, that are to be kept and cannot be, the first
 abbrev pub first_refusal : List Rule → ℕ → StorageData → List Entry → Option PerError
-first_refusal rules now s old = first_item (filter_map (entry_refusal rules now s) old)
+first_refusal rules now s old = first_or_none (filter_map (entry_refusal rules now s) old)
 
 -- too many elements, and then too many bytes
 abbrev pub within_limits : ℕ → List Fresh → Result (List Fresh) PerError

@@ -1,7 +1,7 @@
 //! Decimal numbers at the start of a text: no plus sign, no leading zero, and a minus only before a number that is not
 //! 0.
 
-ghost use Rattle.std.specs.Prelude.{◌≡◌, ◌+◌, ◌^◌, ◌<◌, ◌≤◌, IfOk, true};
+ghost use Rattle.std.specs.Prelude.{◌≡◌, ◌≢◌, ◌+◌, ◌^◌, ◌<◌, ◌≤◌, IfOk, true};
 ghost use Rattle.std.specs.List.{prefix_len};
 ghost use Rattle.std.specs.Char.{is_ascii_digit};
 ghost use Rattle.std.specs.Str.{all_ascii_digits};
@@ -48,7 +48,8 @@ fn number_of(digits: &[u8]) -> Option<u64>
 /// The number at the start, and what follows it.
 #[tactic(auto, unfolding(crate::specs::Readers::number_at))]
 fn number(bytes: &[u8]) -> Result<(u64, &[u8]), DecodeError>
-    ensures { Gives (λ x. (x.0, x.1.now)) result (number_at bytes.now) }
+    ensures read { Gives (λ x. (x.0, x.1.now)) result (number_at bytes.now) }
+    ensures memory { result ≢ Err DecodeError.OutOfMemory }
 {
     let (digits, rest) = bytes.split_at(digit_count(bytes));
     let Some(n) = number_of(digits) else {
@@ -62,6 +63,7 @@ fn number(bytes: &[u8]) -> Result<(u64, &[u8]), DecodeError>
 pub(crate) fn unsigned(max: u64, bytes: &[u8]) -> Result<(u64, &[u8]), DecodeError>
     ensures read { Gives (λ x. (x.0, x.1.now)) result (unsigned_at (max + 1) bytes.now) }
     ensures range { IfOk result (λ x. x.0 ≤ max) }
+    ensures memory { result ≢ Err DecodeError.OutOfMemory }
 {
     let (n, rest) = number(bytes)?;
     if n > max {
@@ -75,6 +77,7 @@ fn negative(max: u64, n: u64) -> Result<i64, DecodeError>
     requires { max < 2 ^ 63 }
     ensures read { Gives (λ z. z) result (negative (max + 1) n) }
     ensures range { IfOk result (λ z. mag z ≤ max) }
+    ensures memory { result ≢ Err DecodeError.OutOfMemory }
 {
     if n == 0 || n - 1 > max {
         return Err(DecodeError::NotAValue);
@@ -88,6 +91,7 @@ pub(crate) fn signed(max: u64, bytes: &[u8]) -> Result<(i64, &[u8]), DecodeError
     requires { max < 2 ^ 63 }
     ensures read { Gives (λ x. (x.0, x.1.now)) result (signed_at (max + 1) bytes.now) }
     ensures range { IfOk result (λ x. mag x.0 ≤ max) }
+    ensures memory { result ≢ Err DecodeError.OutOfMemory }
 {
     if let Some(rest) = after(b"-", bytes) {
         let (n, rest) = number(rest)?;
