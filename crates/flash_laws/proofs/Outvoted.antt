@@ -18,7 +18,7 @@ at_least_all P (suc n) (suc m) all few = inl (
 )
 
 -- all but one are enough
-pub at_least_but : (P : ℕ → Type 0) (lost n m : ℕ) → ((c : ℕ) → c < n → c ≢ lost → P c) → m < n → AtLeast P n m
+at_least_but : (P : ℕ → Type 0) (lost n m : ℕ) → ((c : ℕ) → c < n → c ≢ lost → P c) → m < n → AtLeast P n m
 at_least_but P lost n zero all few = tt
 at_least_but P lost zero (suc m) all few = absurd (omega (arith, few))
 at_least_but P lost (suc n) (suc m) all few = ⊎_elim
@@ -43,7 +43,7 @@ one_of P (suc n) (suc m) some has = ⊎_elim
     has
 
 -- of two or more one is not the lost one
-pub another_of : (P : ℕ → Type 0) (lost n m : ℕ) → 2 ≤ m → AtLeast P n m → (c : ℕ) × (c < n) × (c ≢ lost) × P c
+another_of : (P : ℕ → Type 0) (lost n m : ℕ) → 2 ≤ m → AtLeast P n m → (c : ℕ) × (c < n) × (c ≢ lost) × P c
 another_of P lost n zero two has = absurd (omega (arith, two))
 another_of P lost zero (suc m) two has = absurd has
 another_of P lost (suc n) (suc m) two has = ⊎_elim

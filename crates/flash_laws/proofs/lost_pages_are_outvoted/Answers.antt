@@ -1,12 +1,11 @@
 use Rattle.std.proofs.Common.{◌≡◌, ◌+◌, ◌*◌, ◌∙◌, sym, arith}
 use Rattle.flash_disk.specs.Apart.{copy_of}
 use Rattle.flash_disk.specs.FlashFiles.{flash_files}
-use Rattle.flash_laws.proofs.Contents.{content_outvoted}
 use Rattle.flash_laws.proofs.Outvoted.{outvoted}
 use Rattle.flash_laws.proofs.lost_pages_are_outvoted.Goals as goal
 
-pub returns-clause-text : goal.returns-clause-text
-returns-clause-text c old new blocks block m generation text place agreed apart loses at most two few alone =
+pub returns : goal.returns
+returns c old new blocks block m generation text place agreed apart loses at most two few alone =
     let law = c.lost_pages_cost_one_copy.ensures in
     let cost = law.apart old new blocks block agreed apart loses in
     outvoted (flash_files old blocks) (flash_files new blocks) place cost.0 generation text
@@ -15,15 +14,3 @@ returns-clause-text c old new blocks block m generation text place agreed apart 
     (omega (arith, inside, most)) small in
     cost.1 (place.first + 4 * copy + k) (λ same. other (sym is ∙ same)))
     alone m two few
-
-pub returns-clause-content : goal.returns-clause-content
-returns-clause-content c old new blocks block m len at_blocks hash content place agreed apart loses at most two few
-    all =
-    let law = c.lost_pages_cost_one_copy.ensures in
-    let cost = law.apart old new blocks block agreed apart loses in
-    content_outvoted (flash_files old blocks) (flash_files new blocks) place cost.0 len at_blocks hash content
-    (λ copy inside other.
-    let is : copy_of (place.first + 4 * copy + 2) ≡ copy = law.copies place.first copy 2 at
-    (omega (arith, inside, most)) (omega arith) in
-    cost.1 (place.first + 4 * copy + 2) (λ same. other (sym is ∙ same)))
-    all m two few
