@@ -41,8 +41,7 @@ fn name_from(alloc: Global, bytes: &[u8]) -> Result<Name, ExportError>
 }
 
 pub fn kind_from(code: u8) -> Result<StoreKind, ExportError>
-    ensures read { Gives (λ kind. kind) result (coded_kind code) }
-    ensures memory { result ≢ Err ExportError.OutOfMemory }
+    ensures { Gives (λ kind. kind) result (coded_kind code) }
 {
     match code {
         1 => Ok(StoreKind::Keys),

@@ -1,7 +1,7 @@
 //! Reading an export from its text.
 
-ghost use Rattle.std.specs.Prelude.{◌≡◌, ◌≢◌, Err, IfOk, None, IsErrOf};
-ghost use Rattle.per_base.specs.Fields.{◌>>=◌, many};
+ghost use Rattle.std.specs.Prelude.{◌≡◌, ◌≢◌, IfOk, IsErrOf};
+ghost use Rattle.per_base.specs.Fields.{many};
 ghost use Rattle.export_text.specs.declared.exports.Export.{Export};
 ghost use Rattle.export_text.specs.Exports.{IsExport, body_hashed, body_read, export_by, export_of, export_text};
 ghost use Rattle.export_text.specs.Exports.{fresh_at, header_at, marked_at};
@@ -31,17 +31,13 @@ pub fn read_export(alloc: Global, bytes: &[u8]) -> Result<Export, ExportError>
 
     // Which export it is, as a function of the bytes.
     ensures read { Gives (λ x. x) result (export_of bytes.now) }
-
-    // A text without its hash, its mark, a kind and a count is refused however little memory there is.
-    ensures memory { IsErrOf result ExportError.OutOfMemory → (body_hashed bytes.now >>= header_at) ≢ None }
 {
     read_whole(alloc, bytes)
 }
 
 #[tactic(auto, unfolding(crate::specs::Exports::export_of))]
 fn read_whole(alloc: Global, text: &[u8]) -> Result<Export, ExportError>
-    ensures read { Gives (λ x. x) result (export_of text.now) }
-    ensures memory { IsErrOf result ExportError.OutOfMemory → (body_hashed text.now >>= header_at) ≢ None }
+    ensures { Gives (λ x. x) result (export_of text.now) }
 {
     let body = hashed_body(text)?;
     read_body(alloc, body)
@@ -50,8 +46,7 @@ fn read_whole(alloc: Global, text: &[u8]) -> Result<Export, ExportError>
 /// What stands before the hash, where it is the hash of that.
 #[tactic(auto, unfolding(crate::specs::Exports::body_hashed))]
 fn hashed_body(text: &[u8]) -> Result<&[u8], ExportError>
-    ensures read { Gives (λ body. body.now) result (body_hashed text.now) }
-    ensures memory { result ≢ Err ExportError.OutOfMemory }
+    ensures { Gives (λ body. body.now) result (body_hashed text.now) }
 {
     let (body, stated) = bytes_of(text.len().saturating_sub(HASH_BYTES), text)?;
     let digest = Sha256::digest(body);
@@ -63,8 +58,7 @@ fn hashed_body(text: &[u8]) -> Result<&[u8], ExportError>
 
 #[tactic(auto, unfolding(crate::specs::Exports::body_read))]
 fn read_body(alloc: Global, body: &[u8]) -> Result<Export, ExportError>
-    ensures read { Gives (λ x. x) result (body_read body.now) }
-    ensures memory { IsErrOf result ExportError.OutOfMemory → header_at body.now ≢ None }
+    ensures { Gives (λ x. x) result (body_read body.now) }
 {
     let (header, rest) = header_of(body)?;
     let (contents, rest) = contents_of(alloc, header, rest)?;
@@ -91,8 +85,7 @@ pub(crate) struct Header {
 
 #[tactic(auto, unfolding(crate::specs::Exports::marked_at))]
 fn marked_of(bytes: &[u8]) -> Result<&[u8], ExportError>
-    ensures read { Gives (λ rest. rest.now) result (marked_at bytes.now) }
-    ensures memory { result ≢ Err ExportError.OutOfMemory }
+    ensures { Gives (λ rest. rest.now) result (marked_at bytes.now) }
 {
     let (first, rest) = bytes_of(MARK.len(), bytes)?;
     if first != MARK.as_slice() {
@@ -103,8 +96,7 @@ fn marked_of(bytes: &[u8]) -> Result<&[u8], ExportError>
 
 #[tactic(auto, unfolding(crate::specs::Exports::header_at))]
 fn header_of(bytes: &[u8]) -> Result<(Header, &[u8]), ExportError>
-    ensures read { Gives (λ x. (x.0, x.1.now)) result (header_at bytes.now) }
-    ensures memory { result ≢ Err ExportError.OutOfMemory }
+    ensures { Gives (λ x. (x.0, x.1.now)) result (header_at bytes.now) }
 {
     let rest = marked_of(bytes)?;
     let (code, rest) = byte_of(rest)?;

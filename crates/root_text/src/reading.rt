@@ -1,9 +1,8 @@
 //! Reading a root from its text.
 
-ghost use Rattle.std.specs.Prelude.{◌≡◌, ◌≢◌, ◌==◌, Err, IfOk, None, length, option_map, IsErrOf};
+ghost use Rattle.std.specs.Prelude.{◌≡◌, ◌≢◌, ◌==◌, IfOk, length, option_map, IsErrOf};
 ghost use Rattle.per_base.specs.Fields.{only_if};
-ghost use Rattle.root_text.specs.RootText.{IsRoot, Root, absent, installed_in, parts_at, parts_by, parts_in};
-ghost use Rattle.root_text.specs.RootText.{parts_of_text, previous_at};
+ghost use Rattle.root_text.specs.RootText.{IsRoot, Root, absent, installed_in, parts_at, parts_in, previous_at};
 ghost use Rattle.root_text.specs.RootText.{previous_in, root_in, root_of, root_text, some_root_in, some_text_at};
 ghost use Rattle.root_text.specs.RootText.{text_at, version_in};
 ghost use Rattle.root_text.specs.Views.{Gives, borrowed_bytes, parts_seen, root_said, version_said};
@@ -30,18 +29,14 @@ pub fn read_root(alloc: Global, text: &[u8]) -> Result<RootSays, RootError>
 
     // Which root it is, as a function of the bytes.
     ensures read { Gives root_said result (root_of text.now) }
-
-    // Only the manifests of a text that has all its parts take memory.
-    ensures memory { IsErrOf result RootError.OutOfMemory → parts_of_text text.now ≢ None }
 {
     one_root();
     read_whole(alloc, text)
 }
 
-#[tactic(auto, unfolding(crate::specs::RootText::root_of, crate::specs::RootText::parts_of_text))]
+#[tactic(auto, unfolding(crate::specs::RootText::root_of))]
 fn read_whole(alloc: Global, text: &[u8]) -> Result<RootSays, RootError>
-    ensures read { Gives root_said result (root_of text.now) }
-    ensures memory { IsErrOf result RootError.OutOfMemory → parts_of_text text.now ≢ None }
+    ensures { Gives root_said result (root_of text.now) }
 {
     let (format, rest) = byte_of(text)?;
     let (kind, rest) = byte_of(rest)?;
@@ -51,10 +46,9 @@ fn read_whole(alloc: Global, text: &[u8]) -> Result<RootSays, RootError>
     root_from(alloc, kind, rest)
 }
 
-#[tactic(auto, unfolding(crate::specs::RootText::root_in, crate::specs::RootText::parts_by))]
+#[tactic(auto, unfolding(crate::specs::RootText::root_in))]
 fn root_from(alloc: Global, kind: u8, bytes: &[u8]) -> Result<RootSays, RootError>
-    ensures read { Gives root_said result (root_in kind bytes.now) }
-    ensures memory { IsErrOf result RootError.OutOfMemory → parts_by kind bytes.now ≢ None }
+    ensures { Gives root_said result (root_in kind bytes.now) }
 {
     match kind {
         0 => absent_from(bytes),
@@ -64,8 +58,7 @@ fn root_from(alloc: Global, kind: u8, bytes: &[u8]) -> Result<RootSays, RootErro
 }
 
 fn absent_from(bytes: &[u8]) -> Result<RootSays, RootError>
-    ensures read { Gives root_said result (only_if (length bytes.now == 0) absent) }
-    ensures memory { result ≢ Err RootError.OutOfMemory }
+    ensures { Gives root_said result (only_if (length bytes.now == 0) absent) }
 {
     if !bytes.is_empty() {
         return Err(RootError::NotARoot);
@@ -75,8 +68,7 @@ fn absent_from(bytes: &[u8]) -> Result<RootSays, RootError>
 
 #[tactic(auto, unfolding(crate::specs::RootText::some_root_in))]
 fn installed_from(alloc: Global, bytes: &[u8]) -> Result<RootSays, RootError>
-    ensures read { Gives root_said result (some_root_in bytes.now) }
-    ensures memory { IsErrOf result RootError.OutOfMemory → parts_in bytes.now ≢ None }
+    ensures { Gives root_said result (some_root_in bytes.now) }
 {
     let fields = fields_of(bytes)?;
     root_by(alloc, fields)
@@ -129,8 +121,7 @@ pub(crate) struct Fields<'a> {
 
 #[tactic(auto, unfolding(crate::specs::RootText::parts_in))]
 fn fields_of(bytes: &[u8]) -> Result<Fields, RootError>
-    ensures read { Gives parts_seen result (parts_in bytes.now) }
-    ensures memory { result ≢ Err RootError.OutOfMemory }
+    ensures { Gives parts_seen result (parts_in bytes.now) }
 {
     let (fields, rest) = fields_at(bytes)?;
     if !rest.is_empty() {
@@ -141,8 +132,7 @@ fn fields_of(bytes: &[u8]) -> Result<Fields, RootError>
 
 #[tactic(auto, unfolding(crate::specs::RootText::parts_at))]
 fn fields_at(bytes: &[u8]) -> Result<(Fields, &[u8]), RootError>
-    ensures read { Gives (λ x. (parts_seen x.0, x.1.now)) result (parts_at bytes.now) }
-    ensures memory { result ≢ Err RootError.OutOfMemory }
+    ensures { Gives (λ x. (parts_seen x.0, x.1.now)) result (parts_at bytes.now) }
 {
     let (bank, rest) = byte_of(bytes)?;
     let (flag, rest) = byte_of(rest)?;
@@ -162,8 +152,7 @@ fn fields_at(bytes: &[u8]) -> Result<(Fields, &[u8]), RootError>
 /// A length and that many bytes.
 #[tactic(auto, unfolding(crate::specs::RootText::text_at))]
 fn text_of(bytes: &[u8]) -> Result<(&[u8], &[u8]), RootError>
-    ensures read { Gives (λ x. (x.0.now, x.1.now)) result (text_at bytes.now) }
-    ensures memory { result ≢ Err RootError.OutOfMemory }
+    ensures { Gives (λ x. (x.0.now, x.1.now)) result (text_at bytes.now) }
 {
     let (len, rest) = u32_of(bytes)?;
     let (text, rest) = bytes_of(len as usize, rest)?;
@@ -172,8 +161,7 @@ fn text_of(bytes: &[u8]) -> Result<(&[u8], &[u8]), RootError>
 
 #[tactic(auto, unfolding(crate::specs::RootText::previous_at, crate::specs::RootText::some_text_at))]
 fn previous_text_of(flag: u8, bytes: &[u8]) -> Result<(Option<&[u8]>, &[u8]), RootError>
-    ensures read { Gives (λ x. (option_map borrowed_bytes x.0, x.1.now)) result (previous_at flag bytes.now) }
-    ensures memory { result ≢ Err RootError.OutOfMemory }
+    ensures { Gives (λ x. (option_map borrowed_bytes x.0, x.1.now)) result (previous_at flag bytes.now) }
 {
     match flag {
         0 => Ok((None, bytes)),

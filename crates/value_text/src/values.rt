@@ -32,7 +32,7 @@ fn boolean(bytes: &[u8]) -> Result<(Node, &[u8]), DecodeError>
 }
 
 /// What follows the word of a scalar type and a colon.
-#[tactic(auto, unfolding(crate::specs::Parsing::content_at))]
+#[tactic(auto, unfolding(crate::specs::Parsing::value_content_at))]
 fn content<'a>(
     alloc: Global,
     value_type: &ValueType,
