@@ -136,8 +136,8 @@ impl<'a, R: Files<File = File>> HostSystem<'a, R> {
     }
 }
 
-/// Whether a call failed for a reason outside the file: the system lacks descriptors or memory, was interrupted, or does
-/// not allow it. A file that cannot be opened for another reason counts as one that is not there, and a place that
+/// Whether a call failed for a reason outside the file: the system lacks descriptors or memory, was interrupted, or
+/// does not allow it. A file that cannot be opened for another reason counts as one that is not there, and a place that
 /// cannot be read for another one as one of zeros.
 fn is_failure(error: io::Error) -> bool {
     match error.kind() {
