@@ -3,7 +3,6 @@
 use crate::anywhere::twice;
 use crate::contents::{content, shared};
 use crate::indexes::index;
-use crate::scopes::scopes;
 use crate::seals::{hash_of, sealed, verified};
 use crate::sessions::session;
 use crate::sizes::{name, size};
@@ -43,7 +42,6 @@ fn case(alloc: Global, line: &str) -> Result<String, Trouble> {
         "shared" => shared(alloc, rest),
         "index" => index(alloc, rest),
         "stops" => stops(alloc, rest),
-        "scope" => scopes(alloc, rest),
         _ => Err(Trouble::NoCase),
     }
 }

@@ -9,8 +9,8 @@ use element_store::Shape;
 use per_base::{Bytes, Cause, Change, FileInfo, Fresh, Name, PerError, StoreKind};
 use std::alloc::Global;
 
-/// A name.
-pub fn name_of(alloc: Global, word: &str) -> Result<Name, Trouble> {
+// A name.
+fn name_of(alloc: Global, word: &str) -> Result<Name, Trouble> {
     match Name::new(alloc, word) {
         Ok(name) => Ok(name),
         Err(PerError::BadName) => Err(Trouble::NoCase),

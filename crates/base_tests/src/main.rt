@@ -10,7 +10,6 @@
 //! `stops PLAN WORD .. / WORD / BEFORE / AFTER` stops the one word after each call of the disk, restarts in five ways,
 //! and says `kept` where an opening then finds what is expected before or after that word. A plan is
 //! `KIND:ALLOWED:M:COPIES:SCOPE`, and may name a first file after that.
-//! `scope KIND NAME=BYTES WORD ..` opens a file of a storage by handles that their scope closes.
 #![tactic(auto)]
 
 mod anywhere;
@@ -21,7 +20,6 @@ mod images;
 mod indexes;
 mod plans;
 mod runs;
-mod scopes;
 mod seals;
 mod sessions;
 mod sizes;
