@@ -1,0 +1,126 @@
+//! The lines that write the content of a file.
+
+ghost use Rattle.std.specs.Prelude.{◌≡◌, ◌≢◌, ◌++◌, ◌∷◌, [], IfOk, OnOk, IfSome, IsErrOf, None, Some, map, List};
+ghost use Rattle.std.specs.Prelude.{ℕ, string_bytes};
+ghost use Rattle.std.specs.List.{AllByRecursion};
+ghost use Rattle.value_text.specs.Texts.{hex_text};
+ghost use Rattle.command_text.specs.declared.errors.LineError.{LineError};
+ghost use Rattle.per_words.specs.Words.{Adds, AreFed, IsOneLine, content_lines, cut_up, piece_line, writing_lines};
+
+use crate::forms::Form;
+use crate::lines::{push_durable, push_opening};
+use crate::places::place_in;
+use crate::pushing::push_call;
+use command_text::LineError;
+use std::alloc::{AllocError, Global};
+use value_text::push_hex;
+
+/// The longest content that one line takes; a longer one is written in pieces of that many bytes.
+const PIECE_BYTES: usize = 65_536;
+
+/// The lines that make a content that of the file, created where it is not there. What is written in pieces becomes
+/// durable with the last line alone.
+///
+/// # Errors
+///
+/// `NotALine` exactly where the target is no storage of an application, or where one of the lines would be none of an
+/// event; `OutOfMemory` only where it is one.
+pub fn content_lines(
+    alloc: Global,
+    target: &[u8],
+    file: &[u8],
+    content: &[u8],
+) -> Result<Vec<u8>, LineError>
+    ensures lines { IfOk result (λ text. (lines : List (List ℕ))
+        × (content_lines target.now file.now content.now ≡ Some lines) × AreFed lines text.items) }
+    ensures refused { IsErrOf result LineError.NotALine → IfSome (content_lines target.now file.now content.now)
+        (λ lines. ¬ (AllByRecursion IsOneLine lines)) }
+    ensures memory { IsErrOf result LineError.OutOfMemory → content_lines target.now file.now content.now ≢ None }
+{
+    let (digit, storage) = place_in(target).ok_or(LineError::NotALine)?;
+    let mut text = Vec::new(alloc);
+    push_opening(alloc, &mut text, Form::ChangesFiles, digit, storage)?;
+    push_content(alloc, &mut text, digit, storage, file, content)?;
+    push_durable(alloc, &mut text, Form::ChangesFiles, digit, storage)?;
+    Ok(text)
+}
+
+/// Adds the lines between the opening and the closing of the storage.
+fn push_content(
+    alloc: Global,
+    text: &mut Vec<u8>,
+    digit: u8,
+    storage: &[u8],
+    file: &[u8],
+    content: &[u8],
+) -> Result<(), LineError>
+    ensures { Adds result text.old.items text.new.items (writing_lines digit storage.now file.now content.now) }
+{
+    if content.len() > PIECE_BYTES {
+        push_call(
+            alloc,
+            text,
+            digit,
+            &[b"open-file", storage, file, b"w", b"truncate"],
+            &[],
+        )?;
+        push_pieces(alloc, text, digit, storage, content)?;
+        return push_call(alloc, text, digit, &[b"close-file", storage, b"1"], &[]);
+    }
+    let digits = digits_of(alloc, content)?;
+    push_call(
+        alloc,
+        text,
+        digit,
+        &[b"put", storage, file, digits.as_slice()],
+        &[],
+    )
+}
+
+/// Adds a line for each piece of the content; the first handle of a storage is 1.
+fn push_pieces(
+    alloc: Global,
+    text: &mut Vec<u8>,
+    digit: u8,
+    storage: &[u8],
+    content: &[u8],
+) -> Result<(), LineError>
+    ensures { Adds result text.old.items text.new.items
+        (map (piece_line digit storage.now) (cut_up 65536 content.now)) }
+{
+    if content.is_empty() {
+        return Ok(());
+    }
+    let (piece, rest) = content.split_at(content.len().min(PIECE_BYTES));
+    push_piece(alloc, text, digit, storage, piece)?;
+    push_pieces(alloc, text, digit, storage, rest)
+}
+
+/// Adds the line that writes these bytes at the end of the file.
+fn push_piece(
+    alloc: Global,
+    text: &mut Vec<u8>,
+    digit: u8,
+    storage: &[u8],
+    piece: &[u8],
+) -> Result<(), LineError>
+    ensures { Adds result text.old.items text.new.items (piece_line digit storage.now piece.now ∷ []) }
+{
+    let digits = digits_of(alloc, piece)?;
+    push_call(
+        alloc,
+        text,
+        digit,
+        &[b"write", storage, b"1", digits.as_slice()],
+        &[],
+    )
+}
+
+/// The bytes in two digits each.
+fn digits_of(alloc: Global, bytes: &[u8]) -> Result<Vec<u8>, AllocError>
+    ensures { IfOk result (λ digits. digits.items ≡ hex_text bytes.now) }
+{
+    let mut digits = String::new(alloc);
+    push_hex(&mut digits, bytes)?;
+    Ok(digits.into_bytes())
+}
