@@ -1,8 +1,8 @@
 //! One call from a shell: `per get 0:cockpit volume --dir DIR`.
 //!
-//! It is made by the lines of [`per_words`], which a run of the program handles, one after another. After the first that
-//! is refused no other is given, so that nothing is made durable then. What a reply says is written as a person or a
-//! script wants it: the text of a value alone, the bytes of a file as they are, an error on standard error.
+//! It is made by the lines of [`per_words`], which a run of the program handles, one after another. After the first
+//! that is refused no other is given, so that nothing is made durable then. What a reply says is written as a person or
+//! a script wants it: the text of a value alone, the bytes of a file as they are, an error on standard error.
 
 ghost use Rattle.std.specs.Prelude.{◌≤◌, length};
 
@@ -91,8 +91,8 @@ fn made<R: Files<File = File> + AllocGlobal + Input + Print + Eprint>(
     Ok(status_of_lines(rt, alloc, options.as_slice(), lines.as_slice()))
 }
 
-/// The options of the run that makes the call, none of which asks for another job. An installation makes an empty folder
-/// ready first.
+/// The options of the run that makes the call, none of which asks for another job. An installation makes an empty
+/// folder ready first.
 fn options_of(alloc: Global, words: &[String], named: &[&[u8]]) -> Result<Vec<String>, Unmade> {
     let mut options = options_in(alloc, words)?;
     if asks_for_another(alloc, options.as_slice())? {

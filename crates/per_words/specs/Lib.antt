@@ -1,4 +1,3 @@
 pub mod Apart
-pub mod Samples
 pub mod Shown
 pub mod Words

@@ -1,6 +1,7 @@
 -- One call from a shell: the lines that make it.
-use Rattle.std.specs.Prelude.{◌≡◌, ℕ, zero, suc, List, [], ◌∷◌, ◌++◌, length, map, take, drop, codes, Bool, false}
-use Rattle.std.specs.Prelude.{◌&&◌, nat_eq, nat_le, if◌then◌else◌, Option, Some, None, option_map, Result, OnOk, IsErrOf}
+use Rattle.std.specs.Prelude.{◌≡◌, ℕ, zero, suc, List, [], ◌∷◌, ◌++◌, length, map, take, drop, codes, Bool, true, false}
+use Rattle.std.specs.Prelude.{◌&&◌, nat_eq, nat_le, if◌then◌else◌, Option, Some, None, option_map, Result, OnOk}
+use Rattle.std.specs.Prelude.{IsErrOf}
 use Rattle.std.specs.List.{AllByRecursion, flat_map, list_any}
 use Rattle.std.specs.Str.{bytes_eq}
 use Rattle.value_text.specs.Readers.{◌>>=◌}
@@ -8,6 +9,8 @@ use Rattle.value_text.specs.Texts.{hex_text}
 use Rattle.command_text.specs.Grammar.{IsEventLine, has_feed}
 use Rattle.command_text.specs.declared.errors.LineError.{LineError}
 use Rattle.command_text.specs.declared.errors.LineError.TheVariants as error
+use Rattle.command_text.specs.declared.lines.Line.{Line}
+use Rattle.command_text.specs.declared.lines.Line.TheVariants as line
 use Rattle.per_words.specs.declared.forms.Form.{Form}
 use Rattle.per_words.specs.declared.forms.Form.TheVariants as form
 
@@ -20,6 +23,11 @@ line_with digit words = digit ∷ flat_map (λ word. 32 ∷ word) words
 -- lines as they are read: each with a line feed
 abbrev pub fed_lines : List (List ℕ) → List ℕ
 fed_lines lines = flat_map (λ line. line ++ 10 ∷ []) lines
+
+abbrev pub is_event : Line → Bool
+is_event line.Nothing = false
+is_event line.End = false
+is_event (line.Event e) = true
 
 -- the text is the line of an event, and one line: no word in it begins another
 pub record IsOneLine (text : List ℕ) : Type 0 where
@@ -140,11 +148,11 @@ manifest_lines call target manifest =
 
 -- ---- the lines that write a content
 
--- the bytes cut into pieces of this size, and a shorter last one; at most this many
-abbrev pub cut_by : ℕ → ℕ → List ℕ → List (List ℕ)
-cut_by size zero bytes = []
-cut_by size (suc count) [] = []
-cut_by size (suc count) (b ∷ bytes) = take size (b ∷ bytes) ∷ cut_by size count (drop size (b ∷ bytes))
+-- the bytes cut into pieces of this size, and a last one that is no longer; more than so many cuts are not made
+abbrev pub cut_by : (size : ℕ) → (cuts : ℕ) → List ℕ → List (List ℕ)
+cut_by size zero bytes = bytes ∷ []
+cut_by size (suc cuts) bytes =
+    if nat_le (length bytes) size then bytes ∷ [] else take size bytes ∷ cut_by size cuts (drop size bytes)
 
 abbrev pub cut_up : ℕ → List ℕ → List (List ℕ)
 cut_up size bytes = cut_by size (length bytes) bytes
@@ -163,7 +171,9 @@ writing_lines digit storage file content =
     ++ line_with digit (codes "close-file" ∷ storage ∷ codes "1" ∷ []) ∷ [])
 
 -- all lines of the call that makes the content that of the file
+unfoldable pub file_lines : ℕ → List ℕ → List ℕ → List ℕ → List (List ℕ)
+file_lines digit storage file content = opening_lines form.ChangesFiles digit storage
+    ++ (writing_lines digit storage file content ++ durable_lines form.ChangesFiles digit storage)
+
 abbrev pub content_lines : List ℕ → List ℕ → List ℕ → Option (List (List ℕ))
-content_lines target file content = option_map (λ (place : ℕ × List ℕ).
-    opening_lines form.ChangesFiles place.0 place.1 ++ (writing_lines place.0 place.1 file content
-    ++ durable_lines form.ChangesFiles place.0 place.1)) (place_in target)
+content_lines target file content = place_in target >>= λ place. Some (file_lines place.0 place.1 file content)

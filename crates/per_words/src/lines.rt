@@ -4,8 +4,8 @@ ghost use Rattle.std.specs.Prelude.{◌≡◌, ◌≢◌, ◌++◌, ◌∷◌, [
 ghost use Rattle.std.specs.Prelude.{ℕ};
 ghost use Rattle.std.specs.List.{AllByRecursion};
 ghost use Rattle.command_text.specs.declared.errors.LineError.{LineError};
-ghost use Rattle.per_words.specs.Words.{Adds, AreFed, IsOneLine, call_lines, durable_lines, manifest_lines};
-ghost use Rattle.per_words.specs.Words.{opening_lines, storage_lines, tabbed};
+ghost use Rattle.per_words.specs.Words.{Adds, AreFed, IsOneLine, call_lines, durable_lines, line_with};
+ghost use Rattle.per_words.specs.Words.{manifest_lines, opening_lines, storage_lines, tabbed};
 
 use crate::forms::{Form, form_of, is_of_application, spelled, takes_manifest};
 use crate::places::{application_in, place_in};
@@ -36,14 +36,15 @@ pub fn call_lines(
     ensures memory { IsErrOf result LineError.OutOfMemory
         → call_lines call.now target.now (map (λ word. word.now) arguments.now) ≢ None }
 {
-    let mut text = Vec::new(alloc);
     if is_of_application(call) {
-        let digit = application_in(target).ok_or(LineError::NotALine)?;
-        push_call(alloc, &mut text, digit, &[call], arguments)?;
-        return Ok(text);
+        return match application_in(target) {
+            Some(digit) => application_lines(alloc, digit, call, arguments),
+            None => Err(LineError::NotALine),
+        };
     }
     let form = form_of(call).ok_or(LineError::NotALine)?;
     let (digit, storage) = place_in(target).ok_or(LineError::NotALine)?;
+    let mut text = Vec::new(alloc);
     push_storage_call(alloc, &mut text, form, digit, storage, call, arguments)?;
     Ok(text)
 }
@@ -52,8 +53,8 @@ pub fn call_lines(
 ///
 /// # Errors
 ///
-/// `NotALine` exactly where the call takes no manifest or is not made to an application, or where its line would be none
-/// of an event; `OutOfMemory` only where it can be made.
+/// `NotALine` exactly where the call takes no manifest or is not made to an application, or where its line would be
+/// none of an event; `OutOfMemory` only where it can be made.
 pub fn manifest_lines(
     alloc: Global,
     call: &[u8],
@@ -70,10 +71,37 @@ pub fn manifest_lines(
     if !takes_manifest(call) {
         return Err(LineError::NotALine);
     }
-    let digit = application_in(target).ok_or(LineError::NotALine)?;
+    match application_in(target) {
+        Some(digit) => tabbed_line(alloc, digit, call, manifest),
+        None => Err(LineError::NotALine),
+    }
+}
+
+/// The line of a call with this manifest, whose line feeds become tabs.
+fn tabbed_line(alloc: Global, digit: u8, call: &[u8], manifest: &[u8]) -> Result<Vec<u8>, LineError>
+    ensures lines { IfOk result (λ text.
+        AreFed (line_with digit (call.now ∷ map tabbed manifest.now ∷ []) ∷ []) text.items) }
+    ensures refused { IsErrOf result LineError.NotALine
+        → ¬ (AllByRecursion IsOneLine (line_with digit (call.now ∷ map tabbed manifest.now ∷ []) ∷ [])) }
+{
     let manifest = with_tabs(alloc, manifest)?;
+    application_lines(alloc, digit, call, &[manifest.as_slice()])
+}
+
+/// The line of a call of an application alone.
+fn application_lines(
+    alloc: Global,
+    digit: u8,
+    call: &[u8],
+    arguments: &[&[u8]],
+) -> Result<Vec<u8>, LineError>
+    ensures lines { IfOk result (λ text.
+        AreFed (line_with digit (call.now ∷ map (λ word. word.now) arguments.now) ∷ []) text.items) }
+    ensures refused { IsErrOf result LineError.NotALine
+        → ¬ (AllByRecursion IsOneLine (line_with digit (call.now ∷ map (λ word. word.now) arguments.now) ∷ [])) }
+{
     let mut text = Vec::new(alloc);
-    push_call(alloc, &mut text, digit, &[call, manifest.as_slice()], &[])?;
+    push_call(alloc, &mut text, digit, &[call], arguments)?;
     Ok(text)
 }
 

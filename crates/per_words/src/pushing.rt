@@ -1,9 +1,10 @@
 //! Lines, one after another.
 
-ghost use Rattle.std.specs.Prelude.{◌≡◌, ◌++◌, ◌∷◌, [], IfOk, OnOk, IsErrOf, map};
+ghost use Rattle.std.specs.Prelude.{◌≡◌, ◌↔◌, ◌++◌, ◌∷◌, [], IfOk, OnOk, IsErrOf, map, true};
 ghost use Rattle.std.specs.List.{flat_map};
 ghost use Rattle.command_text.specs.declared.errors.LineError.{LineError};
-ghost use Rattle.per_words.specs.Words.{Adds, IsOneLine, line_with};
+ghost use Rattle.command_text.specs.Grammar.{IsEventLine};
+ghost use Rattle.per_words.specs.Words.{Adds, IsOneLine, is_event, line_with};
 
 use command_text::{Line, LineError, one_line, parse_line};
 use std::alloc::{AllocError, Global};
@@ -75,13 +76,37 @@ fn accept(alloc: Global, line: &[u8]) -> Result<(), LineError>
     ensures event { OnOk result (IsOneLine line.now) }
     ensures refused { IsErrOf result LineError.NotALine → ¬ (IsOneLine line.now) }
 {
-    one_line();
     if line.contains(&b'\n') {
         return Err(LineError::NotALine);
     }
-    match parse_line(alloc, line) {
-        Ok(Line::Event(_)) => Ok(()),
-        Ok(Line::Nothing | Line::End) => Err(LineError::NotALine),
+    match says_event(alloc, line) {
+        Ok(true) => Ok(()),
+        Ok(false) => Err(LineError::NotALine),
         Err(error) => Err(error),
+    }
+}
+
+/// Whether the text is the line of an event.
+fn says_event(alloc: Global, line: &[u8]) -> Result<bool, LineError>
+    ensures event { IfOk result (λ yes. (yes ≡ true) ↔ IsEventLine line.now) }
+    ensures refused { IsErrOf result LineError.NotALine → ¬ (IsEventLine line.now) }
+{
+    one_line();
+    match parse_line(alloc, line) {
+        Ok(said) => {
+            let yes = is_event(&said);
+            drop(said);
+            Ok(yes)
+        }
+        Err(error) => Err(error),
+    }
+}
+
+fn is_event(line: &Line) -> bool
+    ensures { result ≡ is_event line.now }
+{
+    match line {
+        Line::Event(_) => true,
+        Line::Nothing | Line::End => false,
     }
 }

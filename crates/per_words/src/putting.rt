@@ -1,11 +1,13 @@
 //! The lines that write the content of a file.
 
 ghost use Rattle.std.specs.Prelude.{◌≡◌, ◌≢◌, ◌++◌, ◌∷◌, [], IfOk, OnOk, IfSome, IsErrOf, None, Some, map, List};
-ghost use Rattle.std.specs.Prelude.{ℕ, string_bytes};
+ghost use Rattle.std.specs.Prelude.{ℕ, codes};
 ghost use Rattle.std.specs.List.{AllByRecursion};
 ghost use Rattle.value_text.specs.Texts.{hex_text};
 ghost use Rattle.command_text.specs.declared.errors.LineError.{LineError};
-ghost use Rattle.per_words.specs.Words.{Adds, AreFed, IsOneLine, content_lines, cut_up, piece_line, writing_lines};
+ghost use Rattle.per_words.specs.Words.{Adds, AreFed, IsOneLine, content_lines, cut_up, durable_lines, file_lines};
+ghost use Rattle.per_words.specs.Words.{line_with, piece_line, writing_lines};
+ghost use Rattle.per_words.specs.declared.forms.Form.{Form};
 
 use crate::forms::Form;
 use crate::lines::{push_durable, push_opening};
@@ -39,10 +41,44 @@ pub fn content_lines(
 {
     let (digit, storage) = place_in(target).ok_or(LineError::NotALine)?;
     let mut text = Vec::new(alloc);
-    push_opening(alloc, &mut text, Form::ChangesFiles, digit, storage)?;
-    push_content(alloc, &mut text, digit, storage, file, content)?;
-    push_durable(alloc, &mut text, Form::ChangesFiles, digit, storage)?;
+    push_file(alloc, &mut text, digit, storage, file, content)?;
     Ok(text)
+}
+
+/// Adds all lines of the call.
+#[tactic(auto, unfolding(crate::specs::Words::file_lines))]
+fn push_file(
+    alloc: Global,
+    text: &mut Vec<u8>,
+    digit: u8,
+    storage: &[u8],
+    file: &[u8],
+    content: &[u8],
+) -> Result<(), LineError>
+    ensures { Adds result text.old.items text.new.items (file_lines digit storage.now file.now content.now) }
+{
+    match push_opening(alloc, text, Form::ChangesFiles, digit, storage) {
+        Ok(()) => push_durably(alloc, text, digit, storage, file, content),
+        Err(error) => Err(error),
+    }
+}
+
+/// Adds the lines after the opening of the storage.
+fn push_durably(
+    alloc: Global,
+    text: &mut Vec<u8>,
+    digit: u8,
+    storage: &[u8],
+    file: &[u8],
+    content: &[u8],
+) -> Result<(), LineError>
+    ensures { Adds result text.old.items text.new.items (writing_lines digit storage.now file.now content.now
+        ++ durable_lines Form.ChangesFiles digit storage.now) }
+{
+    match push_content(alloc, text, digit, storage, file, content) {
+        Ok(()) => push_durable(alloc, text, Form::ChangesFiles, digit, storage),
+        Err(error) => Err(error),
+    }
 }
 
 /// Adds the lines between the opening and the closing of the storage.
@@ -56,17 +92,33 @@ fn push_content(
 ) -> Result<(), LineError>
     ensures { Adds result text.old.items text.new.items (writing_lines digit storage.now file.now content.now) }
 {
-    if content.len() > PIECE_BYTES {
-        push_call(
-            alloc,
-            text,
-            digit,
-            &[b"open-file", storage, file, b"w", b"truncate"],
-            &[],
-        )?;
-        push_pieces(alloc, text, digit, storage, content)?;
-        return push_call(alloc, text, digit, &[b"close-file", storage, b"1"], &[]);
+    if content.len() <= PIECE_BYTES {
+        return push_whole(alloc, text, digit, storage, file, content);
     }
+    match push_call(
+        alloc,
+        text,
+        digit,
+        &[b"open-file", storage, file, b"w", b"truncate"],
+        &[],
+    ) {
+        Ok(()) => push_and_close(alloc, text, digit, storage, content),
+        Err(error) => Err(error),
+    }
+}
+
+/// Adds the one line that a short content takes.
+fn push_whole(
+    alloc: Global,
+    text: &mut Vec<u8>,
+    digit: u8,
+    storage: &[u8],
+    file: &[u8],
+    content: &[u8],
+) -> Result<(), LineError>
+    ensures { Adds result text.old.items text.new.items
+        (line_with digit (codes "put" ∷ storage.now ∷ file.now ∷ hex_text content.now ∷ []) ∷ []) }
+{
     let digits = digits_of(alloc, content)?;
     push_call(
         alloc,
@@ -77,7 +129,24 @@ fn push_content(
     )
 }
 
-/// Adds a line for each piece of the content; the first handle of a storage is 1.
+/// Adds the lines that write the content by a handle and close it; the first handle of a storage is 1.
+fn push_and_close(
+    alloc: Global,
+    text: &mut Vec<u8>,
+    digit: u8,
+    storage: &[u8],
+    content: &[u8],
+) -> Result<(), LineError>
+    ensures { Adds result text.old.items text.new.items (map (piece_line digit storage.now) (cut_up 65536 content.now)
+        ++ line_with digit (codes "close-file" ∷ storage.now ∷ codes "1" ∷ []) ∷ []) }
+{
+    match push_pieces(alloc, text, digit, storage, content) {
+        Ok(()) => push_call(alloc, text, digit, &[b"close-file", storage, b"1"], &[]),
+        Err(error) => Err(error),
+    }
+}
+
+/// Adds a line for each piece of the content.
 fn push_pieces(
     alloc: Global,
     text: &mut Vec<u8>,
@@ -88,12 +157,14 @@ fn push_pieces(
     ensures { Adds result text.old.items text.new.items
         (map (piece_line digit storage.now) (cut_up 65536 content.now)) }
 {
-    if content.is_empty() {
-        return Ok(());
+    if content.len() <= PIECE_BYTES {
+        return push_piece(alloc, text, digit, storage, content);
     }
-    let (piece, rest) = content.split_at(content.len().min(PIECE_BYTES));
-    push_piece(alloc, text, digit, storage, piece)?;
-    push_pieces(alloc, text, digit, storage, rest)
+    let (piece, rest) = content.split_at(PIECE_BYTES);
+    match push_piece(alloc, text, digit, storage, piece) {
+        Ok(()) => push_pieces(alloc, text, digit, storage, rest),
+        Err(error) => Err(error),
+    }
 }
 
 /// Adds the line that writes these bytes at the end of the file.
