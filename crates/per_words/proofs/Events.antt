@@ -25,4 +25,5 @@ error_in (Err e) = e
 -- one error in place of another value
 pub other_value : {S T : Type 0} (r : Result S LineError) (q : Result T LineError) (e f : LineError) → r ≡ Err e
     → q ≡ Err e → r ≡ Err f → q ≡ Err f
+unfolding error_in
 other_value r q e f a b h = subst (λ (x : LineError). q ≡ Err x) (ap error_in (sym a ∙ h)) b
