@@ -1,5 +1,5 @@
 -- What a person is shown of a line of a reply.
-use Rattle.std.specs.Prelude.{◌≡◌, ◌≤◌, ◌<◌, ⊤, ℕ, List, [], ◌∷◌, ◌++◌, map, codes, Bool, ◌||◌, nat_eq, slice_index}
+use Rattle.std.specs.Prelude.{◌≡◌, ◌<◌, ℕ, List, [], ◌∷◌, ◌++◌, map, codes, Bool, ◌||◌, nat_eq, slice_index}
 use Rattle.std.specs.Prelude.{if◌then◌else◌, Option, Some, None, is_some, unwrap_or}
 use Rattle.std.specs.Str.{bytes_eq}
 use Rattle.value_text.specs.Readers.{branch, literal_at}
