@@ -1,8 +1,13 @@
 //! What a person gets who asks for help.
 
 use crate::NO_OUTPUT;
+use std::io;
 
-const HELP: &str = "per keeps the data of up to eight applications in a folder, so that it outlives
+/// The version of the sources.
+const VERSION: &str = "0.11.0";
+
+/// The words of the program.
+const WORDS: &str = "per keeps the data of up to eight applications in a folder, so that it outlives
 power loss, lost copies and updates.
 
   ./per --format --dir DIR      makes a folder ready; what it kept is lost
@@ -23,9 +28,32 @@ power loss, lost copies and updates.
                                 folder that stands for raw flash of N blocks,
                                 4 to 4096; beside each of the words above
   ./per --demo                  shows a first session, in a folder of its own
-  ./per --help                  shows this
+  ./per --help                  shows this, also beside other words
+  ./per --version               shows the version
 
-Lines. Words are separated by one space. Empty lines and lines that begin with #
+Calls. One call by itself: its storage is opened before it, and what it changes
+is made durable after it. A value stands alone on standard output, an error on
+standard error, and then the status is 9. --flash N may stand beside --dir DIR.
+  ./per install 0 FILE --dir DIR     a manifest of any number of lines; makes
+                                     an empty folder ready first
+  ./per update 0 FILE --dir DIR      another version, likewise; - is standard
+                                     input
+  ./per status 0 --dir DIR           which version is active
+  ./per set 0:k a u16:513 --dir DIR  durable when it ends
+  ./per get 0:k a --dir DIR          writes u16:513
+  ./per keys 0:k --dir DIR           writes the names, one on a line
+  ./per ls 0:f --dir DIR             the same of files
+  ./per put 0:f a --dir DIR <A       the content is what standard input has
+  ./per cat 0:f a --dir DIR >B       writes the content, byte by byte
+ Likewise, with what they take in a line:
+  finish, rollback, wipe, exists, get-as, remove, remove-all, recover-key,
+  reset-key, files, file-exists, size-of, info, delete, recover-file,
+  reset-file, recover-storage, reset-storage
+";
+
+/// The lines of an input.
+const LINES: &str =
+    "Lines. Words are separated by one space. Empty lines and lines that begin with #
 are passed over. Examples:
   now 1000                      sets the moment, in seconds
   end                           ends the input
@@ -92,8 +120,10 @@ are passed over. Examples:
   0 flush f 1                   makes the whole storage durable
  Values are bool:true, u8:1 to u64:1, i8:-1 to i64:-1, text:\"a\", bytes:00ff,
  list<u8>[u8:1,u8:2], {u8:1,text:\"a\"}.
+";
 
-Errors
+/// What an end may be.
+const ENDINGS: &str = "Errors
   1 StorageNotFound          no such storage of this kind
   2 KeyNotFound
   3 IllegalWriteAccess       the storage is read-only, or the handle reads
@@ -126,24 +156,45 @@ Status
   1 the words are refused, also a number of blocks outside 4 to 4096
   2 a line is outside the grammar; bad-line and its number are the last reply;
     not with --serve
-  3 the disk failed while the program started or formatted, or in an audit, an
-    export or an import; or another run holds the folder; or --serve found
-    nothing but other files in it
+  3 the disk failed while the program started or formatted, in an audit, an
+    export or an import, or in a call by itself; or another run holds the
+    folder; or --serve or install found nothing but other files in it
   4 memory ran out
-  5 the input failed
+  5 the input failed, or the file that a call by itself takes
   6 the output failed
   7 the first 67108864 bytes of the input have neither the line `end` nor the
     input's end; with --serve no bytes are too many
   8 the audit found something; its lines say what
-  9 the export or the import was refused; its line says why
+  9 the export, the import or the call by itself was refused; its line says why
  10 the flash cannot be opened: too many pages of files, or no spare block
  11 the file of the flash has more blocks than N
  12 the system does not give the words
- 13 the program could not be built";
+ 13 the program could not be built
+";
 
 /// Writes the help, and gives the status.
 pub(crate) fn show(rt: &impl Print) -> u8 {
-    match rt.println(HELP) {
+    status_of(written(rt))
+}
+
+/// Writes the version, and gives the status.
+pub(crate) fn show_version(rt: &impl Print) -> u8 {
+    status_of(println!(rt; "per {VERSION}"))
+}
+
+/// Writes what the lines of an input are.
+pub(crate) fn show_lines(rt: &impl Print) -> io::Result<()> {
+    print!(rt; "{LINES}")
+}
+
+fn written(rt: &impl Print) -> io::Result<()> {
+    println!(rt; "{WORDS}")?;
+    println!(rt; "{LINES}")?;
+    print!(rt; "{ENDINGS}")
+}
+
+fn status_of(written: io::Result<()>) -> u8 {
+    match written {
         Ok(()) => 0,
         Err(_) => NO_OUTPUT,
     }

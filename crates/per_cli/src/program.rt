@@ -14,6 +14,7 @@ use per_run::{FlashRun, JobKind, WordsError, per_flash, per_run, read_words};
 use per_system::{
     Access, Content, HostSystem, Noted, NotedFlash, Notes, StdSink, StdSource, holds_only_others,
 };
+use per_words::unknown_in;
 use std::alloc::{AllocError, Global};
 use std::fs::File;
 use std::io::{Read, Write};
@@ -152,6 +153,7 @@ fn run_noting<'a, R: Files<File = File> + Eprint, I: Read + Drop, O: Write + Dro
     let ended = Ended {
         status: outcome.status,
         dir: target.dir.as_str(),
+        unknown: unknown_in(words),
         flash: target.flash,
         takes_lines: target.takes_lines,
         has_files: outcome.has_files,
@@ -296,7 +298,7 @@ fn access_of(kind: &JobKind) -> Access {
 }
 
 /// Says that memory ran out before the top call, and gives the status.
-fn no_memory<R: Eprint>(rt: &R) -> u8 {
+pub(crate) fn no_memory<R: Eprint>(rt: &R) -> u8 {
     let _ = rt.eprintln("per: memory ran out");
     NO_MEMORY
 }
