@@ -49,7 +49,7 @@ def layers():
     it = Picture(860, 640, "The layers of per, and what is proved of them")
     it.text(20, 30, "Who calls", 13, GREY, "start")
     it.labelled(20, 42, 205, 52, SAND, "C++ programs", "cpp/, tested")
-    it.labelled(240, 42, 205, 52, SAND, "lines on a pipe", "per --dir DIR")
+    it.labelled(240, 42, 205, 52, SAND, "lines on a pipe", "per --dir, --serve")
     it.labelled(460, 42, 205, 52, SAND, "Rattle programs", "odometer")
     for x in (122, 342, 562):
         it.line(x, 94, x, 118)
@@ -66,7 +66,7 @@ def layers():
     it.labelled(20, 490, 205, 50, BLUE, "a folder", "folder_disk")
     it.labelled(240, 490, 205, 50, BLUE, "raw flash", "flash_disk")
     it.labelled(460, 490, 205, 50, BLUE, "memory, for tests", "MemDisk")
-    it.labelled(20, 568, 645, 50, ORANGE, "the calls of the system, the driver of the flash", "")
+    it.labelled(20, 568, 645, 50, ORANGE, "the calls of the system, the streams, main, the driver of the flash", "")
     for x in (122, 342):
         it.line(x, 540, x, 568)
     it.line(690, 118, 690, 540, INK, 2)
@@ -80,32 +80,29 @@ def layers():
 
 
 COPIES = 3
-STEPS = [
-    ("at rest", "4", "-", "7", "before"),
-    ("write the content", "4", "-", "7?", "before"),
-    ("sync", "4", "-", "79", "before"),
-    ("write the index", "4", "?", "79", "either"),
-    ("sync", "4", "5", "79", "after"),
-    ("blank the old index", "?", "5", "79", "after"),
-    ("sync: answer ok", "-", "5", "9", "after"),
+STATES = [
+    (("at rest",), "4", "-", "7", "before"),
+    (("the content", "is written"), "4", "-", "7?", "before"),
+    (("synced",), "4", "-", "79", "before"),
+    (("the index", "is written"), "4", "?", "79", "either"),
+    (("synced",), "4", "5", "79", "after"),
+    (("the old index", "is blanked"), "?", "5", "79", "after"),
+    (("synced:", "answer ok"), "-", "5", "9", "after"),
 ]
 COLORS = {"7?": ORANGE, "79": GREEN, "4": BLUE, "5": GREEN, "7": BLUE, "9": GREEN, "?": ORANGE, "-": PAPER}
 SAYS = {"7?": "7 and torn", "79": "7 and 9", "4": "index 4", "5": "index 5", "7": "7", "9": "9", "?": "torn", "-": "blank"}
 
 
 def commit():
-    left, top, column, cell = 150, 96, 104, 30
-    it = Picture(left + column * len(STEPS) + 20, 462, "A commit, step by step, and what a power loss in each step leaves")
+    left, top, column, cell = 150, 80, 104, 30
+    it = Picture(left + column * len(STATES) + 20, 446, "A commit, state by state, and what a power loss in each leaves")
     it.text(20, 32, "The value 7 becomes 9: three copies, of which two must agree", 17, anchor="start", bold=True)
-    it.text(20, 54, "Each step is done in every copy. A power loss in it may leave anything where it says “torn”.", 13, GREY, "start")
-    for at, (name, even, odd, area, left_over) in enumerate(STEPS):
+    it.text(20, 54, "Each column is a state of the disk. A power loss may leave anything where it says “torn”, until the sync "
+                    "has ended.", 13, GREY, "start")
+    for at, (name, even, odd, area, left_over) in enumerate(STATES):
         x = left + column * at
-        it.text(x + 46, top - 12, f"{at + 1}", 14, bold=True)
-        words = name.split(" ")
-        half = (len(words) + 1) // 2
-        it.text(x + 46, top + 6, " ".join(words[:half]), 12)
-        if words[half:]:
-            it.text(x + 46, top + 20, " ".join(words[half:]), 12)
+        for row, words in enumerate(name):
+            it.text(x + 46, top + (13 if len(name) == 1 else 6) + 14 * row, words, 12, bold=True)
         for copy in range(COPIES):
             for row, content in enumerate((even, odd, area)):
                 y = top + 34 + copy * 84 + row * 25
@@ -125,8 +122,8 @@ def commit():
     y = top + 34 + COPIES * 84 + 4
     it.text(20, y + 13, "opened then,", 12, anchor="start", bold=True)
     it.text(20, y + 28, "it stands as", 12, anchor="start", bold=True)
-    it.text(20, y + 56, "In step 4 it stands as after the change where two copies have index 5 whole, else as before: "
-                        "both indexes name contents that are durable.", 12, GREY, "start")
+    it.text(20, y + 56, "While the index is written: after the change where two copies have index 5 whole, else before. "
+                        "Both indexes name contents that are durable.", 12, GREY, "start")
     it.save("commit.svg")
 
 

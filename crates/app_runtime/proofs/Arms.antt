@@ -15,8 +15,8 @@ use Rattle.command_text.specs.declared.replies.Answer.TheVariants as answer
 use Rattle.command_text.specs.declared.replies.Reply.{Reply}
 use Rattle.command_text.specs.Replies.{HasText}
 use Rattle.deploy.specs.declared.updating.Staged.{Staged}
-use Rattle.deploy.specs.Building.{root_in}
-use Rattle.deploy.specs.Laws.{InUseLaw}
+use Rattle.deploy.specs.Building.{staged_root}
+use Rattle.deploy.specs.Laws.{RootInUseLaw}
 use Rattle.deploy.specs.Roots.{root_says}
 use Rattle.deploy_laws.specs.Apps.{App, Says, absent, installed, nothing}
 use Rattle.deploy_laws.specs.Laws.{UntouchedAppLaw}
@@ -34,7 +34,7 @@ use Rattle.app_runtime.specs.declared.running.Stage.TheVariants.{AtRest, Updatin
 use Rattle.app_runtime.specs.Answers.{HasRow}
 use Rattle.app_runtime.specs.Promises.{Promises}
 use Rattle.app_runtime.specs.Running.{IsRunning, application, stage_in}
-use Rattle.app_runtime.specs.Stages.{Aborts, reply_of, reply_with, root_of, staged_in, status_of}
+use Rattle.app_runtime.specs.Stages.{Aborts, reply_of, reply_with, says_status, stage_root, staged_in}
 use Rattle.app_runtime.proofs.Ended.{idle_promises}
 use Rattle.app_runtime.proofs.Kept.{open_by_none}
 use Rattle.app_runtime.proofs.Plain.{IsPlain}
@@ -69,17 +69,17 @@ module _ (told : Bool) (rules : List Rule) (answers : Answers) (now : ℕ) (c : 
 
 -- ---- the status
 
-status_row : (r : Application) (says : Says) → (status_of says, r) ≡ concluded r (status_step r says)
+status_row : (r : Application) (says : Says) → (says_status says, r) ≡ concluded r (status_step r says)
 status_row r nothing = refl
 status_row r (absent g) = refl
 status_row r (installed g active previous) = refl
 
-status_sound : (says : Says) → (status_of says).answer ≢ answer.Error error.PhysicalStorageFailure
+status_sound : (says : Says) → (says_status says).answer ≢ answer.Error error.PhysicalStorageFailure
 status_sound nothing = λ e. cc
 status_sound (absent g) = λ e. cc
 status_sound (installed g active previous) = λ e. cc
 
-status_text : (says : Says) → HasText (status_of says).answer
+status_text : (says : Says) → HasText (says_status says).answer
 status_text nothing = refl
 status_text (absent g) = tt
 status_text (installed g active previous) = tt
@@ -91,23 +91,25 @@ beside_goes (Some p) c goes = ap (λ (b : Bool). cond b None
 
 module _ (told : Bool) (rules : List Rule) (answers : Answers) (now : ℕ) (s : Running) (m : Medium)
     (lawful : IsLawful told m) (untouched : UntouchedAppLaw) (Untouched : Type 0) (same : Untouched)
-    (is : IsRunning told m.image s) (opened : worlds.is_to_open (stage_in s.stage) ≡ false) (in_use : InUseLaw) where
-  status_has : (r : Application) → HasRow rules answers s.app now call.Status r (status_of r.disk.says, r)
+    (is : IsRunning told m.image s) (opened : worlds.is_to_open (stage_in s.stage) ≡ false)
+    (in_use : RootInUseLaw) where
+  status_has : (r : Application) → HasRow rules answers s.app now call.Status r (says_status r.disk.says, r)
   unfolding app_step
   status_has r = subst (λ (x : Option PerError). StepBeside rules answers s.app now r call.Status x
-      (status_of r.disk.says, r)) (sym (beside_goes (worlds.update_in r.stage) call.Status refl))
+      (says_status r.disk.says, r)) (sym (beside_goes (worlds.update_in r.stage) call.Status refl))
       (status_row r r.disk.says)
 
-  pub status_promises : (reply : Reply) → reply ≡ status_of (root_says (root_of s.stage))
+  pub status_promises : (reply : Reply) → reply ≡ says_status (root_says (stage_root s.stage))
       → Promises told rules answers now call.Status s s Untouched m m (Ok reply)
   status_promises reply is_reply =
-      let says = root_says (root_of s.stage) in
+      let says = root_says (stage_root s.stage) in
       subst (λ (x : Reply). Promises told rules answers now call.Status s s Untouched m m (Ok x)) (sym is_reply)
-      (idle_promises told rules answers now call.Status s m lawful untouched Untouched same is s.stage (status_of says)
+      (idle_promises told rules answers now call.Status s m lawful untouched Untouched same is s.stage
+      (says_status says)
       is
       (λ tells. subst (λ (x : Says). HasRow rules answers s.app now call.Status (application m.image s)
-      (status_of x, application m.image s))
-      (says_in_use in_use told m.image s.app (root_of s.stage)
+      (says_status x, application m.image s))
+      (says_in_use in_use told m.image s.app (stage_root s.stage)
       (root_at_in told m.image s.app s.slots s.stage opened is.stage_at) tells)
       (status_has (application m.image s)))
       (status_sound says) (status_text says))
@@ -126,21 +128,22 @@ module _ (told : Bool) (rules : List Rule) (answers : Answers) (now : ℕ) (s : 
       subst (λ (x : Running). Promises told rules answers now call.UpdateAbort s x Untouched m m (Ok reply))
       (sym aborts.0)
       (subst (λ (x : Reply). Promises told rules answers now call.UpdateAbort s
-      (record s { stage = AtRest (root_in t) }) Untouched m m (Ok x)) (sym aborts.1)
-      (idle_promises told rules answers now call.UpdateAbort s m lawful untouched Untouched same is (AtRest (root_in t))
+      (record s { stage = AtRest (staged_root t) }) Untouched m m (Ok x)) (sym aborts.1)
+      (idle_promises told rules answers now call.UpdateAbort s m lawful untouched Untouched same is
+      (AtRest (staged_root t))
       (reply_of None)
       (record {
         below = is.below;
         stage_at = record {
           below = is.below;
           root_at = record { memory = at.0.memory.root; disk = at.0.root_on };
-          open_on = open_by_none told m.image s.app (root_says (root_in t)) s.slots at.1;
+          open_on = open_by_none told m.image s.app (root_says (staged_root t)) s.slots at.1;
         };
       })
       (λ tells. subst (λ (x : Running). HasRow rules answers s.app now call.UpdateAbort (application m.image x)
-      (reply_of None, application m.image (record s { stage = AtRest (root_in t) }))) (update_back s t stage_is)
+      (reply_of None, application m.image (record s { stage = AtRest (staged_root t) }))) (update_back s t stage_is)
       (abort_row told rules answers now s t m m Untouched at.0 is.below at.1 in_use tells
-      (reply_of None, application m.image (record s { stage = AtRest (root_in t) })) refl))
+      (reply_of None, application m.image (record s { stage = AtRest (staged_root t) })) refl))
       (λ e. cc) tt))
 
   pub abort_promises : (after' : Running) (reply : Reply) → Aborts (staged_in s.stage) s after' reply

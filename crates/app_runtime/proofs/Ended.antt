@@ -22,7 +22,7 @@ use Rattle.deploy.specs.declared.errors.Stop.{Stop}
 use Rattle.deploy.specs.declared.errors.Stop.TheVariants as stop
 use Rattle.deploy.specs.declared.roots.Outcome.{Outcome}
 use Rattle.deploy.specs.declared.roots.Root.{Root}
-use Rattle.deploy.specs.Laws.{InUseLaw}
+use Rattle.deploy.specs.Laws.{RootInUseLaw}
 use Rattle.deploy.specs.Roots.{RootAt, root_app, root_says}
 use Rattle.deploy_laws.specs.Apps.{App, IsCleanApp, Says, app_at, shapes_named}
 use Rattle.deploy_laws.specs.Laws.{UntouchedAppLaw}
@@ -32,7 +32,7 @@ use Rattle.run_model.specs.Calls.{active_storages, first_open, least_open, sessi
 use Rattle.run_model.specs.Found.{Found, storage_in}
 use Rattle.run_model.specs.Runtimes.{IsUnwritten, WritesWithin, is_durable, is_refusal, only_plans}
 use Rattle.run_model.specs.Sessions.{Session}
-use Rattle.run_model.specs.Steps.{after_failure, found_named, storage_named, uses_device}
+use Rattle.run_model.specs.Steps.{after_failure, device_storage, found_named, uses_device}
 use Rattle.run_model.specs.Worlds.{Application, none_open}
 use Rattle.run_model.specs.Worlds as worlds
 use Rattle.app_storages.specs.declared.slots.Slots.{Slots}
@@ -46,7 +46,7 @@ use Rattle.app_runtime.specs.declared.running.Stage.TheVariants.{ToOpen, AtRest,
 use Rattle.app_runtime.specs.Answers.{HasFailed, HasRow, HasStopped, IsAnswered}
 use Rattle.app_runtime.specs.Promises.{Promises}
 use Rattle.app_runtime.specs.Running.{IsRunning, IsStageAt, NoneOpen, application, stage_in}
-use Rattle.app_runtime.specs.Stages.{Concludes, reply_of, root_of}
+use Rattle.app_runtime.specs.Stages.{ConcludesCall, reply_of, stage_root}
 use Rattle.app_runtime.proofs.Frames.{calls_none}
 use Rattle.app_runtime.proofs.InWorld.{closed}
 use Rattle.app_runtime.proofs.LeadOn.{still}
@@ -56,14 +56,14 @@ use Rattle.app_runtime.proofs.Rowed.{IsWord, Made, ok_alike, row_later, row_lead
 -- ---- replies
 
 -- the application is at rest in memory
-pub rests : (stage : Stage) → stage_in stage ≡ worlds.at_rest → AtRest (root_of stage) ≡ stage
+pub rests : (stage : Stage) → stage_in stage ≡ worlds.at_rest → AtRest (stage_root stage) ≡ stage
 rests ToOpen is = absurd cc
 rests (AtRest root) is = refl
 rests (Updating staged) is = absurd cc
 
 -- a refusal that a row has
 pub refused_plain : {A : Type 0} → (row : Result A PerError) (e : PerError) → IfErr row IsPlain
-    → rows.Answers (Some e) row → IsPlain e
+    → rows.AnswersRow (Some e) row → IsPlain e
 refused_plain (Ok x) e is answers = absurd answers
 refused_plain (Err f) e is answers = subst IsPlain answers is
 
@@ -87,14 +87,14 @@ marked_running told image b after lt app stage none = record {
 }
 
 -- no storage is named
-pub none_found : (r : Application) (c : _) → storage_named c ≡ None → found_named r c ≡ None
+pub none_found : (r : Application) (c : _) → device_storage c ≡ None → found_named r c ≡ None
 none_found r c none = ap (λ (n : Option (List ℕ)). option_map (λ m. storage_in r.disk m None) n) none
 
 none_some : {A : Type 0} (x : Option A) (a : A) → x ≡ None → x ≡ Some a → ⊥
 none_some x a none some = cc
 
 -- and so there is none whose place it could leave
-pub names_none : (app : ℕ) (c : Call) (r : Application) → storage_named c ≡ None → (old new : Image)
+pub names_none : (app : ℕ) (c : Call) (r : Application) → device_storage c ≡ None → (old new : Image)
     → StaysInPlace app c r old new
 names_none app c r none old new f named = absurd (none_some (found_named r c) (Ok f) (none_found r c none) named)
 
@@ -103,7 +103,7 @@ names_none app c r none old new f named = absurd (none_some (found_named r c) (O
 module _ (told : Bool) (rules : List Rule) (answers : Answers) (now : ℕ) (c : Call) (b : Running) (root : Root)
     (old new : Medium) (Untouched : Type 0)
     (unwritten : Untouched → IsUnwritten old new) (resting : IsResting told old.image b.app root b.slots)
-    (in_use : InUseLaw) (row : App → Result App PerError)
+    (in_use : RootInUseLaw) (row : App → Result App PerError)
     (word : IsWord told rules answers b.app now c (resting_with old.image b.app b.slots) row) where
   abbrev before : Running
   before = record b { stage = AtRest root }
@@ -134,7 +134,7 @@ module _ (told : Bool) (rules : List Rule) (answers : Answers) (now : ℕ) (c : 
     plain None is = (λ e. cc, tt)
     plain (Some e) is =
         let p = refused_plain (row (root_app root [])) e (word.plain (root_app root []))
-        (subst (λ (x : Option PerError). rows.Answers x (row (root_app root []))) is m.refused) in
+        (subst (λ (x : Option PerError). rows.AnswersRow x (row (root_app root []))) is m.refused) in
         (p.sound, p.text)
 
     not_written : (refused : Option PerError) → o.refused ≡ refused → is_refusal (reply_of refused).answer ≡ true
@@ -240,7 +240,7 @@ module _ (told : Bool) (rules : List Rule) (answers : Answers) (now : ℕ) (c : 
 
   pub rowed_promises : (made : Result Outcome Stop) → Made told row b.app root Untouched old new made
       → IfOk made (λ o. o.refused ≡ None → AreOpenOn told new.image b.app (root_says o.root) b.slots)
-      → (after' : Running) (result : Result Reply Stop) → Concludes made (record b { stage = ToOpen }) after' result
+      → (after' : Running) (result : Result Reply Stop) → ConcludesCall made (record b { stage = ToOpen }) after' result
       → Promises told rules answers now c before after' Untouched old new result
   rowed_promises (Ok o) m kept after' result s = subst (λ (x : Running).
       Promises told rules answers now c before x Untouched old new result) (sym s.0)
@@ -253,12 +253,12 @@ module _ (told : Bool) (rules : List Rule) (answers : Answers) (now : ℕ) (c : 
 -- ---- the same of what is in memory
 
 pub resting_in : (told : Bool) (image : Image) (s : Running) (root : Root) → IsRunning told image s
-    → stage_in s.stage ≡ worlds.at_rest → root ≡ root_of s.stage → IsResting told image s.app root s.slots
+    → stage_in s.stage ≡ worlds.at_rest → root ≡ stage_root s.stage → IsResting told image s.app root s.slots
 resting_in told image s root is rest root_is = subst (λ (x : Root). IsResting told image s.app x s.slots) (sym root_is)
     (subst (λ (st : Stage). IsStageAt told image s.app s.slots st) (sym (rests s.stage rest)) is.stage_at)
 
 -- the root was taken out of it
-pub stage_back : (s : Running) (root : Root) → stage_in s.stage ≡ worlds.at_rest → root ≡ root_of s.stage
+pub stage_back : (s : Running) (root : Root) → stage_in s.stage ≡ worlds.at_rest → root ≡ stage_root s.stage
     → record s { stage = AtRest root } ≡ s
 stage_back s root rest root_is = ap (λ (x : Root). record s { stage = AtRest x }) root_is
     ∙ ap (λ (st : Stage). record s { stage = st }) (rests s.stage rest)
@@ -266,19 +266,19 @@ stage_back s root rest root_is = ap (λ (x : Root). record s { stage = AtRest x 
 module _ (told : Bool) (rules : List Rule) (answers : Answers) (now : ℕ) (c : Call) (s taken : Running) (root : Root)
     (old new : Medium) (Untouched : Type 0)
     (unwritten : Untouched → IsUnwritten old new) (is : IsRunning told old.image s)
-    (rest : stage_in s.stage ≡ worlds.at_rest) (root_is : root ≡ root_of s.stage)
-    (taken_is : taken ≡ record s { stage = ToOpen }) (in_use : InUseLaw) (row : App → Result App PerError) where
+    (rest : stage_in s.stage ≡ worlds.at_rest) (root_is : root ≡ stage_root s.stage)
+    (taken_is : taken ≡ record s { stage = ToOpen }) (in_use : RootInUseLaw) (row : App → Result App PerError) where
   pub word_promises : IsWord told rules answers s.app now c (resting_with old.image s.app s.slots) row
       → (made : Result Outcome Stop) → Made told row s.app root Untouched old new made
       → IfOk made (λ o. o.refused ≡ None → AreOpenOn told new.image s.app (root_says o.root) s.slots)
-      → (after' : Running) (result : Result Reply Stop) → Concludes made taken after' result
+      → (after' : Running) (result : Result Reply Stop) → ConcludesCall made taken after' result
       → Promises told rules answers now c s after' Untouched old new result
   word_promises word made m kept after' result settles =
       subst (λ (x : Running). Promises told rules answers now c x after' Untouched old new result)
       (stage_back s root rest root_is)
       (rowed_promises told rules answers now c s root old new Untouched unwritten
       (resting_in told old.image s root is rest root_is) in_use row word made m kept after' result
-      (subst (λ (x : Running). Concludes made x after' result) taken_is settles))
+      (subst (λ (x : Running). ConcludesCall made x after' result) taken_is settles))
 
 -- what is so of every end is so of one that ended well
 pub on_clean : {T E : Type 0} (P Q : Type 0) (made : Result T E) → (P → OnOk made Q) → IfOk made (λ o. P → Q)
@@ -375,8 +375,8 @@ busy_here s taken root name busy taken_is is_copied is_busy =
     copied name ∙ (is_copied ∙ (is_busy ∙ ap (λ (x : Running).
     first_open (sessions_in x.slots) (active_storages (root_says root))) taken_is))
 
--- and where the disk tells, it is that of the application
-pub busy_least : (told : Bool) (image : Image) (app : ℕ) (root : Root) (slots : Slots) → InUseLaw
+-- and where the disk is modelled, it is that of the application
+pub busy_least : (told : Bool) (image : Image) (app : ℕ) (root : Root) (slots : Slots) → RootInUseLaw
     → IsResting told image app root slots → (busy : Option (List ℕ))
     → busy ≡ first_open (sessions_in slots) (active_storages (root_says root)) → IsTrue told
     → busy ≡ least_open (resting_with image app slots)

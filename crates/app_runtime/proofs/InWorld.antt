@@ -17,18 +17,18 @@ use Rattle.root_text.specs.declared.versions.VersionText.{VersionText}
 use Rattle.root_text.specs.Views.{version_said}
 use Rattle.deploy_laws.specs.Apps.{App, Says, absent, app_at, installed, named, nothing, shapes_named}
 use Rattle.deploy_laws.specs.Laws.{NumberLaw}
-use Rattle.deploy_laws.specs.Places.{Named, shape_of, shapes_if, shapes_in}
+use Rattle.deploy_laws.specs.Places.{Named, shapes_if, shapes_in, storage_shape}
 use Rattle.deploy.specs.declared.roots.Root.{Root}
 use Rattle.deploy.specs.declared.roots.Root.TheVariants as roots
 use Rattle.deploy.specs.declared.updating.Staged.{Staged}
-use Rattle.deploy.specs.Building.{StagedAt, progress_in, root_in}
-use Rattle.deploy.specs.Laws.{InUseLaw}
+use Rattle.deploy.specs.Building.{StagedAt, staged_progress, staged_root}
+use Rattle.deploy.specs.Laws.{RootInUseLaw}
 use Rattle.deploy.specs.Roots.{RootAt, root_app, root_says}
 use Rattle.open_storages.specs.declared.opens.Open.{Open}
-use Rattle.open_storages.specs.Opens.{config_in, kind_of, session_in, store_in}
+use Rattle.open_storages.specs.Opens.{config_in, session_in, session_kind, store_in}
 use Rattle.run_model.specs.Calls.{active_storages}
 use Rattle.run_model.specs.Lasting.{AreSessionsOn, IsApplication, IsSessionOn, IsStageOn, none_on}
-use Rattle.run_model.specs.Sessions.{Session, files, keys, seen_in, synced_of}
+use Rattle.run_model.specs.Sessions.{Session, files, keys, seen_in, synced_in_session}
 use Rattle.run_model.specs.Worlds.{Application, none_open}
 use Rattle.run_model.specs.Worlds as worlds
 use Rattle.app_storages.specs.declared.slots.Slots.{Slots}
@@ -57,7 +57,8 @@ got_front (y ∷ xs) ys (suc n) x is = got_front xs ys n x is
 -- ---- one session
 
 -- an open storage has a session of its kind, at what its store shows
-pub session_on : (s : Session) (kind : StoreKind) (v : View) → kind_of s ≡ kind → synced_of s ≡ seen_in kind v
+pub session_on : (s : Session) (kind : StoreKind) (v : View) → session_kind s ≡ kind → synced_in_session s
+    ≡ seen_in kind v
     → IsSessionOn (Some s) kind (Opens v [])
 session_on (keys s) kinds.Keys v is shows = shows
 session_on (keys s) kinds.Files v is shows = absurd cc
@@ -136,11 +137,11 @@ module _ (numbers : NumberLaw) (told : Bool) (image : Image) (app : ℕ) (tells 
   pub at_state : (g : ℕ) (active : Named) (previous : Option Named) (n : ℕ) (c : StorageData)
       → slice_get active.deployment.storages n ≡ Some c
       → slice_get (states_of image app (installed g active previous)) n
-      ≡ Some (store_at image (shape_of app active.bank n c))
+      ≡ Some (store_at image (storage_shape app active.bank n c))
   unfolding shapes_named
   at_state g active previous n c is = got_map (store_at image) (shapes_in app active ++ shapes_if app previous) n
-      (shape_of app active.bank n c)
-      (got_front (shapes_in app active) (shapes_if app previous) n (shape_of app active.bank n c)
+      (storage_shape app active.bank n c)
+      (got_front (shapes_in app active) (shapes_if app previous) n (storage_shape app active.bank n c)
       (numbers app n active c is))
 
   seated_by : (g : ℕ) (active : Named) (previous : Option Named) (n : ℕ) (o : Open) (v : Named) → Some active ≡ Some v
@@ -150,7 +151,7 @@ module _ (numbers : NumberLaw) (told : Bool) (image : Image) (app : ℕ) (tells 
       let same : active ≡ v = cc in
       let here : IsOpenAt told image app active n o = subst (λ (x : Named). IsOpenAt told image app x n o) (sym same) at
       in
-      let opens : store_at image (shape_of app active.bank n (config_in o)) ≡ Opens (view_in (store_in o)) [] =
+      let opens : store_at image (storage_shape app active.bank n (config_in o)) ≡ Opens (view_in (store_in o)) [] =
       subst (λ (s : Shape). store_at image s ≡ Opens (view_in (store_in o)) []) here.placed (here.used.disk tells).opens
       in
       record {
@@ -197,15 +198,16 @@ closed_so a stage slots none on = record {
   stage = on;
 }
 
-module _ (in_use : InUseLaw) (numbers : NumberLaw) (told : Bool) (image : Image) (app : ℕ) (tells : IsTrue told) where
+module _ (in_use : RootInUseLaw) (numbers : NumberLaw) (told : Bool) (image : Image) (app : ℕ)
+    (tells : IsTrue told) where
   pub app_is : (root : Root) → RootAt told image app root
       → app_at image app ≡ root_app root (states_of image app (root_says root))
   app_is root at = in_use image app root at.memory (at.disk tells)
 
   updating_on : (s : Staged) (slots : Slots) → StagedAt told image app s → NoneOpen slots
-      → IsStageOn (worlds.updating (progress_in s)) (root_says (root_in s)) (sessions_in slots)
+      → IsStageOn (worlds.updating (staged_progress s)) (root_says (staged_root s)) (sessions_in slots)
   updating_on s slots at none =
-      subst (λ (previous : Option VersionText). IsStageOn (worlds.updating (progress_in s))
+      subst (λ (previous : Option VersionText). IsStageOn (worlds.updating (staged_progress s))
       (installed (generation_of s.root.cell) (named s.root.bank (version_said s.root.active))
       (option_map (λ v. named (1 - s.root.bank) (version_said v)) previous)) (sessions_in slots))
       (sym at.memory.no_previous) (
@@ -225,12 +227,14 @@ module _ (in_use : InUseLaw) (numbers : NumberLaw) (told : Bool) (image : Image)
         stage = tt;
       })
   stage_so slots (Updating s) is = subst (λ (a : App). IsApplication
-      (record { disk = a; stage = worlds.updating (progress_in s); sessions = sessions_in slots }))
-      (sym (app_is (root_in s) (record { memory = is.0.memory.root; disk = is.0.root_on })))
-      (closed_so (root_app (root_in s) (states_of image app (root_says (root_in s)))) (worlds.updating (progress_in s))
+      (record { disk = a; stage = worlds.updating (staged_progress s); sessions = sessions_in slots }))
+      (sym (app_is (staged_root s) (record { memory = is.0.memory.root; disk = is.0.root_on })))
+      (closed_so (root_app (staged_root s) (states_of image app (root_says (staged_root s))))
+      (worlds.updating (staged_progress s))
       slots is.1 (updating_on s slots is.0 is.1))
 
-pub in_world : InUseLaw → NumberLaw → (told : Bool) (image : Image) (r : Running) → IsTrue told → IsRunning told image r
+pub in_world : RootInUseLaw → NumberLaw → (told : Bool) (image : Image) (r : Running) → IsTrue told
+    → IsRunning told image r
     → IsApplication (application image r)
 in_world in_use numbers told image r tells is = stage_so in_use numbers told image r.app tells r.slots r.stage
     is.stage_at

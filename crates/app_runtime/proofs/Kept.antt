@@ -25,8 +25,8 @@ use Rattle.deploy.specs.Laws.{IsRootFile, RootFrameLaw, StagedFrameLaw}
 use Rattle.deploy.specs.Roots.{IsRootOf, root_app, root_says}
 use Rattle.deploy_laws.specs.Apps.{App, Says, absent, installed, nothing}
 use Rattle.deploy_laws.specs.Laws.{StorageFilesLaw}
-use Rattle.deploy_laws.specs.Places.{IsFileOf, Named, shape_of, storage_file}
-use Rattle.deploy_rows.specs.Rows.{Answers, after, deployment_of, finish_with, finishing, installing, not_busy}
+use Rattle.deploy_laws.specs.Places.{IsFileOf, Named, storage_file, storage_shape}
+use Rattle.deploy_rows.specs.Rows.{AnswersRow, after, deployment_of, finish_with, finishing, installing, not_busy}
 use Rattle.deploy_rows.specs.Rows.{not_worn, rollback_with, rolling_back, storage_count, wiping}
 use Rattle.open_storages.specs.declared.opens.Open.{Open}
 use Rattle.open_storages.specs.Opens.{config_in, session_in, store_in}
@@ -46,14 +46,14 @@ use Rattle.app_runtime.proofs.InWorld.{none_at}
 abbrev unless_worn : Bool → App → Result App PerError
 unless_worn test b = cond test (Err (error.LimitReached limit.Generations)) (Ok b)
 
-unworn : {P : Type 0} (test : Bool) (a b : App) → Answers None (unless_worn test b)
+unworn : {P : Type 0} (test : Bool) (a b : App) → AnswersRow None (unless_worn test b)
     → (after a (unless_worn test b) ≡ b → P) → P
 unworn true a b taken then = absurd taken
 unworn false a b taken then = then refl
 
 -- finish: the active version stays
 finish_by : (a : App) (g : ℕ) (active : Named) (previous : Option Named)
-    → Answers None (finish_with a g active previous) → active_in (after a (finish_with a g active previous)).says
+    → AnswersRow None (finish_with a g active previous) → active_in (after a (finish_with a g active previous)).says
     ≡ Some active
 finish_by a g active None taken = absurd taken
 finish_by a g active (Some previous) taken = unworn (nat_le greatest_generation g) a
@@ -61,7 +61,7 @@ finish_by a g active (Some previous) taken = unworn (nat_le greatest_generation 
     (λ is. ap (λ (x : App). active_in x.says) is)
 
 finish_says : (says : Says) (lacking : List ℕ) (states : List State)
-    → Answers None (finishing (record { says = says; lacking = lacking; states = states }))
+    → AnswersRow None (finishing (record { says = says; lacking = lacking; states = states }))
     → active_in (after (record { says = says; lacking = lacking; states = states })
     (finishing (record { says = says; lacking = lacking; states = states }))).says ≡ active_in says
 unfolding finishing
@@ -71,36 +71,36 @@ finish_says (installed g active previous) lacking states taken =
     finish_by (record { says = installed g active previous; lacking = lacking; states = states }) g active previous
     taken
 
-pub finish_active : (root : Root) → Answers None (finishing (root_app root []))
+pub finish_active : (root : Root) → AnswersRow None (finishing (root_app root []))
     → active_in (after (root_app root []) (finishing (root_app root []))).says ≡ active_in (root_says root)
 finish_active root taken = finish_says (root_says root) [] [] taken
 
 -- install: no version was active
 install_says : (now : ℕ) (text : List ℕ) (says : Says) (lacking : List ℕ) (states : List State)
-    → Answers None (installing now text (record { says = says; lacking = lacking; states = states }))
+    → AnswersRow None (installing now text (record { says = says; lacking = lacking; states = states }))
     → active_in says ≡ None
 unfolding installing
 install_says now text nothing lacking states taken = absurd taken
 install_says now text (absent g) lacking states taken = refl
 install_says now text (installed g active previous) lacking states taken = absurd taken
 
-pub install_active : (now : ℕ) (text : List ℕ) (root : Root) → Answers None (installing now text (root_app root []))
+pub install_active : (now : ℕ) (text : List ℕ) (root : Root) → AnswersRow None (installing now text (root_app root []))
     → active_in (root_says root) ≡ None
 install_active now text root taken = install_says now text (root_says root) [] [] taken
 
 -- rollback and wipe: no storage was open
-not_busy_by : {A : Type 0} → (busy : Option (List ℕ)) (x : Result A PerError) → Answers None (not_busy busy x)
+not_busy_by : {A : Type 0} → (busy : Option (List ℕ)) (x : Result A PerError) → AnswersRow None (not_busy busy x)
     → busy ≡ None
 not_busy_by None x taken = refl
 not_busy_by (Some name) x taken = absurd taken
 
 rollback_by : (busy : Option (List ℕ)) (a : App) (g : ℕ) (active : Named) (previous : Option Named)
-    → Answers None (rollback_with busy a g active previous) → busy ≡ None
+    → AnswersRow None (rollback_with busy a g active previous) → busy ≡ None
 rollback_by busy a g active None taken = absurd taken
 rollback_by busy a g active (Some previous) taken = not_busy_by busy _ taken
 
 rollback_says : (busy : Option (List ℕ)) (says : Says) (lacking : List ℕ) (states : List State)
-    → Answers None (rolling_back busy (record { says = says; lacking = lacking; states = states })) → busy ≡ None
+    → AnswersRow None (rolling_back busy (record { says = says; lacking = lacking; states = states })) → busy ≡ None
 unfolding rolling_back
 rollback_says busy nothing lacking states taken = absurd taken
 rollback_says busy (absent g) lacking states taken = absurd taken
@@ -108,11 +108,11 @@ rollback_says busy (installed g active previous) lacking states taken =
     rollback_by busy (record { says = installed g active previous; lacking = lacking; states = states }) g active
     previous taken
 
-pub rollback_free : (busy : Option (List ℕ)) (root : Root) → Answers None (rolling_back busy (root_app root []))
+pub rollback_free : (busy : Option (List ℕ)) (root : Root) → AnswersRow None (rolling_back busy (root_app root []))
     → busy ≡ None
 rollback_free busy root taken = rollback_says busy (root_says root) [] [] taken
 
-pub wipe_free : (busy : Option (List ℕ)) (a : App) → Answers None (wiping busy a) → busy ≡ None
+pub wipe_free : (busy : Option (List ℕ)) (a : App) → AnswersRow None (wiping busy a) → busy ≡ None
 unfolding wiping
 wipe_free busy a taken = not_busy_by busy _ taken
 
@@ -169,7 +169,7 @@ active_bank app (roots.Installed i) v of is = let same : i.bank ≡ v.bank =
 -- ... where no file of their places changes
 module _ (frame : FrameLaw) (told : Bool) (app : ℕ) (old new : Image)
     (spared : IsTrue told → (bank n : ℕ) (s : StorageData) → bank ≤ 1 → n < 16
-    → Spares (IsOfPlace (shape_of app bank n s).place) old new) where
+    → Spares (IsOfPlace (storage_shape app bank n s).place) old new) where
   open_stays : (v : Named) (n : ℕ) (o : Open) → v.bank ≤ 1 → n < 16 → IsOpenAt told old app v n o
       → IsOpenAt told new app v n o
   open_stays v n o leb ltn at = record {
@@ -202,7 +202,7 @@ module _ (frame : FrameLaw) (told : Bool) (app : ℕ) (old new : Image)
 module _ (storages : StorageFilesLaw) (told : Bool) (app : ℕ) (old new : Image) (lt : app < 8) where
   -- the files of a storage are no slots of the root
   pub beside_root : (IsTrue told → Spares (IsNoRootSlot app) old new) → IsTrue told → (bank n : ℕ) (s : StorageData)
-      → bank ≤ 1 → n < 16 → Spares (IsOfPlace (shape_of app bank n s).place) old new
+      → bank ≤ 1 → n < 16 → Spares (IsOfPlace (storage_shape app bank n s).place) old new
   beside_root spared tells bank n s leb ltn f of =
       let inside = storages app bank n f s lt leb ltn of in
       let low = inside.0 in
@@ -210,7 +210,7 @@ module _ (storages : StorageFilesLaw) (told : Bool) (app : ℕ) (old new : Image
 
   -- they are files of the application
   pub of_app : (IsTrue told → Spares (IsFileOf app) old new) → IsTrue told → (bank n : ℕ) (s : StorageData) → bank ≤ 1
-      → n < 16 → Spares (IsOfPlace (shape_of app bank n s).place) old new
+      → n < 16 → Spares (IsOfPlace (storage_shape app bank n s).place) old new
   of_app spared tells bank n s leb ltn f of =
       let inside = storages app bank n f s lt leb ltn of in
       let low = inside.0 in
@@ -245,7 +245,7 @@ stays_running frame storages roots_stay staged_stays told old new r spared is = 
       is.stage_at;
 }
 
--- ---- what stays open behind each call that writes the root
+-- ---- what stays open after each call that writes the root
 
 module _ (told : Bool) (app : ℕ) (old new : Image) (root : Root) (slots : Slots)
     (resting : IsResting told old app root slots) where
@@ -253,21 +253,22 @@ module _ (told : Bool) (app : ℕ) (old new : Image) (root : Root) (slots : Slot
   KeptOn made = IfOk made (λ o. o.refused ≡ None → AreOpenOn told new app (root_says o.root) slots)
 
   pub install_kept : (now : ℕ) (text : List ℕ) (made : Result Outcome Stop)
-      → IfOk made (λ o. Answers o.refused (installing now text (root_app root []))) → KeptOn made
+      → IfOk made (λ o. AnswersRow o.refused (installing now text (root_app root []))) → KeptOn made
   install_kept now text (Ok o) answers = λ none. none_open_on told old new app (root_says root) (root_says o.root) slots
       resting.open_on
       (closed_by_none told old app (root_says root) slots resting.open_on
       (install_active now text root (subst (λ (x : Option PerError).
-      Answers x (installing now text (root_app root []))) none answers)))
+      AnswersRow x (installing now text (root_app root []))) none answers)))
   install_kept now text (Err e) answers = tt
 
   pub finish_kept : FrameLaw → StorageFilesLaw → (IsTrue told → Spares (IsNoRootSlot app) old new)
-      → (made : Result Outcome Stop) → IfOk made (λ o. Answers o.refused (finishing (root_app root [])))
+      → (made : Result Outcome Stop) → IfOk made (λ o. AnswersRow o.refused (finishing (root_app root [])))
       → IfOk made (λ o. root_says o.root ≡ (after (root_app root []) (finishing (root_app root []))).says) → KeptOn made
   finish_kept frame storages spared (Ok o) answers says =
       λ none. same_open_on frame told app old new (beside_root storages told app old new resting.below spared) root
       (root_says o.root) slots resting.root_at.memory
-      (ap active_in says ∙ finish_active root (subst (λ (x : Option PerError). Answers x (finishing (root_app root [])))
+      (ap active_in says ∙ finish_active root (subst (λ (x : Option PerError). AnswersRow x
+      (finishing (root_app root [])))
       none answers)) resting.open_on
   finish_kept frame storages spared (Err e) answers says = tt
 
@@ -282,16 +283,18 @@ module _ (told : Bool) (app : ℕ) (old new : Image) (root : Root) (slots : Slot
       free_slots free = closed_by_free told old app (root_says root) slots resting.open_on (sym busy_is ∙ free)
 
       pub rollback_kept : (made : Result Outcome Stop) → IfOk made
-          (λ o. Answers o.refused (rolling_back busy (root_app root []))) → KeptOn made
+          (λ o. AnswersRow o.refused (rolling_back busy (root_app root []))) → KeptOn made
       rollback_kept (Ok o) answers = λ none. free_kept (rollback_free busy root
-          (subst (λ (x : Option PerError). Answers x (rolling_back busy (root_app root []))) none answers))
+          (subst (λ (x : Option PerError). AnswersRow x (rolling_back busy (root_app root []))) none answers))
           (root_says o.root)
       rollback_kept (Err e) answers = tt
 
-      pub wipe_kept : (made : Result Outcome Stop) → IfOk made (λ o. Answers o.refused (wiping busy (root_app root [])))
+      pub wipe_kept : (made : Result Outcome Stop) → IfOk made
+          (λ o. AnswersRow o.refused (wiping busy (root_app root [])))
           → KeptOn made
       wipe_kept (Ok o) answers = λ none. free_kept (wipe_free busy (root_app root [])
-          (subst (λ (x : Option PerError). Answers x (wiping busy (root_app root []))) none answers)) (root_says o.root)
+          (subst (λ (x : Option PerError). AnswersRow x (wiping busy (root_app root []))) none answers))
+          (root_says o.root)
       wipe_kept (Err e) answers = tt
 
 -- ---- no slot is taken

@@ -18,7 +18,7 @@ use Rattle.root_text.specs.Views.{version_said}
 use Rattle.deploy.specs.declared.roots.Installed as parts
 use Rattle.deploy.specs.declared.roots.Root.{Root}
 use Rattle.deploy.specs.declared.roots.Root.TheVariants.{Bad, Absent, Installed}
-use Rattle.deploy.specs.Laws.{InUseLaw}
+use Rattle.deploy.specs.Laws.{RootInUseLaw}
 use Rattle.deploy.specs.Roots.{IsRootOf, RootAt, root_app, root_says}
 use Rattle.deploy_laws.specs.Apps.{App, app_at, named}
 use Rattle.deploy_laws.specs.Laws.{NumberLaw}
@@ -29,28 +29,28 @@ use Rattle.app_runtime.specs.declared.running.Running.{Running}
 use Rattle.app_runtime.specs.declared.running.Stage.{Stage}
 use Rattle.app_runtime.specs.declared.running.Stage.TheVariants.{ToOpen, AtRest, Updating}
 use Rattle.app_runtime.specs.Running.{IsRunning, IsStageAt, stage_in}
-use Rattle.app_runtime.specs.Stages.{installed_in, root_of}
+use Rattle.app_runtime.specs.Stages.{installed_parts, stage_root}
 use Rattle.app_runtime.proofs.InWorld.{app_is, at_state, states_of}
 use Rattle.app_runtime.proofs.Steps.{root_at_in}
 
 -- ---- the root that is in memory
 
-installed_root : (root : Root) (i : parts.Installed) → Some i ≡ installed_in root → root ≡ Installed i
+installed_root : (root : Root) (i : parts.Installed) → Some i ≡ installed_parts root → root ≡ Installed i
 installed_root Bad i is = absurd cc
 installed_root (Absent cell) i is = absurd cc
 installed_root (Installed j) i is = let same : i ≡ j = cc in ap (λ (x : parts.Installed). Installed x) (sym same)
 
 root_of_in : (told : Bool) (image : Image) (app : ℕ) (slots : _) (stage : Stage) → IsStageAt told image app slots stage
-    → IsRootOf app (root_of stage)
+    → IsRootOf app (stage_root stage)
 root_of_in told image app slots ToOpen is = tt
 root_of_in told image app slots (AtRest root) is = is.root_at.memory
 root_of_in told image app slots (Updating s) is = is.0.memory.root
 
 -- the active version keeps what every deployment keeps
 pub active_keeps : (told : Bool) (image : Image) (r : Running) (i : parts.Installed) → IsRunning told image r
-    → Some i ≡ installed_in (root_of r.stage) → IsDeployment (deployment_data i.active.deployment)
+    → Some i ≡ installed_parts (stage_root r.stage) → IsDeployment (deployment_data i.active.deployment)
 active_keeps told image r i is some = (subst (λ (root : Root). IsRootOf r.app root)
-    (installed_root (root_of r.stage) i some) (root_of_in told image r.app r.slots r.stage
+    (installed_root (stage_root r.stage) i some) (root_of_in told image r.app r.slots r.stage
     is.stage_at)).1.active.keeps
 
 -- ---- a storage of a name and a kind
@@ -79,11 +79,11 @@ configured_at [] n d less = absurd (omega (arith, less))
 configured_at (x ∷ xs) zero d less = refl
 configured_at (x ∷ xs) (suc n) d less = configured_at xs n d (omega (arith, less))
 
-module _ (in_use : InUseLaw) (numbers : NumberLaw) (told : Bool) (image : Image) (r : Running) (tells : IsTrue told)
+module _ (in_use : RootInUseLaw) (numbers : NumberLaw) (told : Bool) (image : Image) (r : Running) (tells : IsTrue told)
     (is : IsRunning told image r) (opened : is_to_open (stage_in r.stage) ≡ false) (name : List ℕ)
     (kind : Option StoreKind) where
   abbrev root : Root
-  root = root_of r.stage
+  root = stage_root r.stage
 
   root_at : RootAt told image r.app root
   root_at = root_at_in told image r.app r.slots r.stage opened is.stage_at
@@ -93,15 +93,15 @@ module _ (in_use : InUseLaw) (numbers : NumberLaw) (told : Bool) (image : Image)
   found_by x same = ap (λ (a : App). storage_in a name kind) (app_is in_use numbers told image r.app tells root root_at)
       ∙ ap (λ (y : Root). found_in (root_says y) (states_of image r.app (root_says y)) name kind) same
 
-  none_by : (x : Root) → root ≡ x → installed_in x ≡ None → is_ok (storage_in (app_at image r.app) name kind) ≡ false
+  none_by : (x : Root) → root ≡ x → installed_parts x ≡ None → is_ok (storage_in (app_at image r.app) name kind) ≡ false
   none_by Bad same none = ap is_ok (found_by Bad same)
   none_by (Absent cell) same none = ap is_ok (found_by (Absent cell) same)
   none_by (Installed i) same none = absurd cc
 
-  pub none_installed : installed_in root ≡ None → is_ok (storage_in (app_at image r.app) name kind) ≡ false
+  pub none_installed : installed_parts root ≡ None → is_ok (storage_in (app_at image r.app) name kind) ≡ false
   none_installed none = none_by root refl none
 
-  module _ (i : parts.Installed) (some : Some i ≡ installed_in root) where
+  module _ (i : parts.Installed) (some : Some i ≡ installed_parts root) where
     abbrev v : Named
     v = named i.bank (version_said i.active)
 

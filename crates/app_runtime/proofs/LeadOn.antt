@@ -16,13 +16,15 @@ use Rattle.deploy_laws.specs.Stands.{IsLater, same_root}
 use Rattle.deploy_rows.specs.Laws.{FinishLaterLaw, InstallLaterLaw, RollbackLaterLaw, UpdateLaterLaw, WipeLaterLaw}
 use Rattle.deploy_rows.specs.Recovering.{recovering, resetting}
 use Rattle.deploy_rows.specs.Rows.{◌>>=◌, InProgress, finishing, installing, rolling_back, updated_app, wiping}
-use Rattle.run_model.specs.Calls.{BeginsBy, CallStep, Outcome, StepBeside, answered, app_step, begun, beside_update}
+use Rattle.run_model.specs.Calls.{BeginsBy, CallStep, Outcome, StepBeside, answered, app_step, beside_update}
+use Rattle.run_model.specs.Calls.{with_update_begun}
 use Rattle.run_model.specs.Calls.{close_step, closing, done_with, durable, durable_state, flush_step, least_open}
-use Rattle.run_model.specs.Calls.{local_on, local_step, lowest_handle, may_flush, open_step, opened, opened_session}
-use Rattle.run_model.specs.Calls.{progress_of, rebuild_step, concluded, status_step, sync_step, unless_held}
+use Rattle.run_model.specs.Calls.{local_on, local_step, lowest_handle, may_flush, open_step, opened_session}
+use Rattle.run_model.specs.Calls.{storage_opened}
+use Rattle.run_model.specs.Calls.{progress_of, rebuild_step, concluded, status_step, sync_step, unless_busy}
 use Rattle.run_model.specs.Calls.{unless_open}
-use Rattle.run_model.specs.Calls.{updated, with_session, without_session}
-use Rattle.run_model.specs.Found.{Found, storage_in, with_state}
+use Rattle.run_model.specs.Calls.{with_session, with_update, without_session}
+use Rattle.run_model.specs.Found.{Found, storage_in, with_storage_state}
 use Rattle.run_model.specs.Laws.{StorageLaterLaw}
 use Rattle.run_model.specs.Sessions.{Session, files, in_session, keys, made_durable}
 use Rattle.run_model.specs.Worlds.{Application, update_in}
@@ -65,7 +67,7 @@ status_on r (absent g) = still r.disk
 status_on r (installed g active previous) = still r.disk
 
 held_on : (r : Application) (held : Option ℕ) (row : Result Outcome PerError) → OnFrom r row
-    → OnFrom r (unless_held held row)
+    → OnFrom r (unless_busy held row)
 held_on r None row on = on
 held_on r (Some h) row on = tt
 
@@ -80,22 +82,23 @@ local_by r now (Some on) c = chain (λ (o : Outcome). IsLater r.disk o.1.disk) (
     (λ a. Ok (answered a.0 (with_session r f.number a.1))) (λ a. still r.disk)))
 
 module _ (storage : StorageLaterLaw) where
-  opened_on : (app : ℕ) (r : Application) (f : Found) (state : State) → IsLater r.disk (opened app r f state).1.disk
+  opened_on : (app : ℕ) (r : Application) (f : Found) (state : State)
+      → IsLater r.disk (storage_opened app r f state).1.disk
   opened_on app r f (Opens v others) = storage r.disk f _
   opened_on app r f (Corrupt salvage others) = still r.disk
 
   open_on : (app : ℕ) (r : Application) (name : List ℕ) (kind : _) → OnFrom r (open_step app r name kind)
   unfolding open_step
   open_on app r name kind = chain (λ (o : Outcome). IsLater r.disk o.1.disk) (storage_in r.disk name (Some kind))
-      (λ f. unless_open r f (Ok (opened app r f f.state)))
-      (λ f. unless (λ (o : Outcome). IsLater r.disk o.1.disk) _ _ (Ok (opened app r f f.state))
+      (λ f. unless_open r f (Ok (storage_opened app r f f.state)))
+      (λ f. unless (λ (o : Outcome). IsLater r.disk o.1.disk) _ _ (Ok (storage_opened app r f f.state))
       (opened_on app r f f.state))
 
   durable_on : (app : ℕ) (r : Application) (f : Found) (s : Session)
       → IfOk (durable app r f s) (λ (after : Application). IsLater r.disk after.disk)
   unfolding durable
   durable_on app r f s = chain (λ (after : Application). IsLater r.disk after.disk) (durable_state app f f.state s)
-      (λ state. Ok (with_session (record r { disk = with_state r.disk f state }) f.number (made_durable s)))
+      (λ state. Ok (with_session (record r { disk = with_storage_state r.disk f state }) f.number (made_durable s)))
       (λ state. storage r.disk f state)
 
   then_done : (app : ℕ) (r : Application) (f : Found) (s : Session)
@@ -126,10 +129,10 @@ module _ (storage : StorageLaterLaw) where
 
   close_on : (app : ℕ) (r : Application) (name : List ℕ) → OnFrom r (close_step app r name)
   close_on app r name = chain (λ (o : Outcome). IsLater r.disk o.1.disk) (storage_in r.disk name None)
-      (λ f. opened_session r f >>= λ s. unless_held (lowest_handle s)
+      (λ f. opened_session r f >>= λ s. unless_busy (lowest_handle s)
       (closing app r f s >>= λ after. Ok (answered answer.Done (without_session after f.number))))
       (λ f. chain (λ (o : Outcome). IsLater r.disk o.1.disk) (opened_session r f)
-      (λ s. unless_held (lowest_handle s) (closing app r f s >>= λ after.
+      (λ s. unless_busy (lowest_handle s) (closing app r f s >>= λ after.
       Ok (answered answer.Done (without_session after f.number))))
       (λ s. held_on r (lowest_handle s) (closing app r f s >>= λ after.
       Ok (answered answer.Done (without_session after f.number)))
@@ -141,11 +144,11 @@ module _ (storage : StorageLaterLaw) where
       → OnFrom r (rebuild_step r name state_of)
   rebuild_on r name state_of = chain (λ (o : Outcome). IsLater r.disk o.1.disk) (storage_in r.disk name None)
       (λ f. unless_open r f (state_of f >>= λ state. Ok (answered answer.Done
-      (record r { disk = with_state r.disk f state }))))
+      (record r { disk = with_storage_state r.disk f state }))))
       (λ f. unless (λ (o : Outcome). IsLater r.disk o.1.disk) _ _
-      (state_of f >>= λ state. Ok (answered answer.Done (record r { disk = with_state r.disk f state })))
+      (state_of f >>= λ state. Ok (answered answer.Done (record r { disk = with_storage_state r.disk f state })))
       (chain (λ (o : Outcome). IsLater r.disk o.1.disk) (state_of f)
-      (λ state. Ok (answered answer.Done (record r { disk = with_state r.disk f state })))
+      (λ state. Ok (answered answer.Done (record r { disk = with_storage_state r.disk f state })))
       (λ state. storage r.disk f state)))
 
   module _ (install : InstallLaterLaw) (finish : FinishLaterLaw) (rollback : RollbackLaterLaw) (wipe : WipeLaterLaw)
@@ -183,9 +186,9 @@ module _ (storage : StorageLaterLaw) where
     call_on : (rules : List Rule) (answers : Answers) (app now : ℕ) (r : Application) (c : Call) (o : Outcome)
         → CallStep rules answers app now r c o → IsLater r.disk o.1.disk
     call_on rules answers app now r (call.Update text) o step =
-        begins_on rules answers now r text (updated r) o (λ p. update p r.disk) step
+        begins_on rules answers now r text (with_update r) o (λ p. update p r.disk) step
     call_on rules answers app now r (call.UpdateBegin text) o step =
-        begins_on rules answers now r text (begun r) o (λ p. still r.disk) step
+        begins_on rules answers now r text (with_update_begun r) o (λ p. still r.disk) step
     call_on rules answers app now r other o step = subst (λ (x : Outcome). IsLater r.disk x.1.disk) (sym step)
         (settled r (app_step app r now other) (step_on app r now other))
 

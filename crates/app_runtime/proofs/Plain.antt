@@ -30,7 +30,8 @@ use Rattle.update_plan.specs.declared.contents.StorageContents.{StorageContents}
 use Rattle.update_plan.specs.declared.contents.StorageContents.TheVariants.{Damaged, Missing, Present}
 use Rattle.update_plan.specs.Fates.{gets, by_chain, by_row, fate, of_bytes, of_content, of_type, of_value, refusal}
 use Rattle.update_plan.specs.Fates.{strategy_of, initial_in, type_in}
-use Rattle.update_plan.specs.Plans.{Continues, PlansAll, PlansFor, PlansOver, entry_refusal, first_of, first_refusal}
+use Rattle.update_plan.specs.Plans.{Continues, PlansAll, PlansFor, PlansOver, entry_refusal, first_or_none}
+use Rattle.update_plan.specs.Plans.{first_refusal}
 use Rattle.update_plan.specs.Plans.{stored_for, with_first, within_limits}
 use Rattle.update_plan.specs.Rows as update_rows
 use Rattle.update_plan.specs.Rows.{Row, row_by}
@@ -38,9 +39,10 @@ use Rattle.command_text.specs.declared.replies.Answer.TheVariants as answer
 use Rattle.command_text.specs.Replies.{HasText}
 use Rattle.deploy_laws.specs.Apps.{App, Says, absent, installed, nothing}
 use Rattle.deploy_laws.specs.Places.{Named}
-use Rattle.deploy_rows.specs.Rows.{◌>>=◌, Begins, BeginsWith, InProgress, Offer, begun, deployment_of, empty_app}
-use Rattle.deploy_rows.specs.Rows.{finish_with, finishing, installing, newer, not_busy, not_worn, offer_over, offered}
-use Rattle.deploy_rows.specs.Rows.{rollback_with, rolling_back, said_or_broken, stored_in, wiping}
+use Rattle.deploy_rows.specs.Rows.{◌>>=◌, BeginsUpdate, BeginsWith, InProgress, Offer, begun, deployment_of, empty_app}
+use Rattle.deploy_rows.specs.Rows.{finish_with, finishing, installing, newer_version, not_busy, not_worn, offer_over}
+use Rattle.deploy_rows.specs.Rows.{offered}
+use Rattle.deploy_rows.specs.Rows.{contents_stored, rollback_with, rolling_back, said_or_broken, wiping}
 
 pub record IsPlain (e : PerError) : Type 0 where
   pub sound : answer.Error e ≢ answer.Error error.PhysicalStorageFailure
@@ -145,7 +147,7 @@ abbrev newer_by : Named → ℕ → DeploymentData → Bool → Result Offer Per
 newer_by active g d test = cond test (Err (error.VersionNotNewer active.deployment.version d.version))
     (Ok (record { generation = g; active = active; deployment = d }))
 
-newer_plain : (active : Named) (g : ℕ) (d : DeploymentData) → IfErr (newer active g d) IsPlain
+newer_plain : (active : Named) (g : ℕ) (d : DeploymentData) → IfErr (newer_version active g d) IsPlain
 newer_plain active g d = by (nat_le d.version active.deployment.version)
   where
     by : (test : Bool) → IfErr (newer_by active g d test) IsPlain
@@ -156,7 +158,7 @@ offer_over_plain : (busy : Option (List ℕ)) (text : List ℕ) (g : ℕ) (activ
     → IfErr (offer_over busy text g active previous) IsPlain
 offer_over_plain busy text g active (Some previous) = record { sound = λ e. cc; text = refl }
 offer_over_plain busy text g active None = busy_plain busy _
-    (chain (deployment_of text) (newer active g) (manifest_plain text) (λ d. newer_plain active g d))
+    (chain (deployment_of text) (newer_version active g) (manifest_plain text) (λ d. newer_plain active g d))
 
 offer_plain_by : (busy : Option (List ℕ)) (text : List ℕ) (says : Says) (lacking : List ℕ) (states : List State)
     → IfErr (offered busy text (record { says = says; lacking = lacking; states = states })) IsPlain
@@ -214,7 +216,7 @@ entry_plain rules now s e = row_plain rules now s e.name (element_named s e.name
     (row_by (strategy_of (element_named s e.name)) s.strategy (initial_in (element_named s e.name)) (Some e))
 
 first_by : (refused : Option PerError) (others : List PerError) → IfSome refused IsPlain
-    → IfSome (first_of others) IsPlain → IfSome (first_of (cons_option refused others)) IsPlain
+    → IfSome (first_or_none others) IsPlain → IfSome (first_or_none (cons_option refused others)) IsPlain
 first_by None others is then = then
 first_by (Some r) others is then = is
 
@@ -289,11 +291,11 @@ begins_with_plain rules answers now states (Err e) row is begins =
 begins_with_plain rules answers now states (Ok o) row is begins =
     subst (λ (r : Result InProgress PerError). IfErr r IsPlain) (sym begins.2)
     (begun_plain o begins.0 (plans_plain rules answers now
-    (stored_for o.active.deployment (stored_in o.active.deployment.storages states)) o.deployment.storages
+    (stored_for o.active.deployment (contents_stored o.active.deployment.storages states)) o.deployment.storages
     begins.0 begins.1))
 
 pub begins_plain : (rules : List Rule) (answers : fns.Answers) (now : ℕ) (busy : Option (List ℕ)) (text : List ℕ)
     (a : App) (row : Result InProgress PerError)
-    → Begins rules answers now busy text a row → IfErr row IsPlain
+    → BeginsUpdate rules answers now busy text a row → IfErr row IsPlain
 begins_plain rules answers now busy text a row begins =
     begins_with_plain rules answers now a.states (offered busy text a) row (offer_plain busy text a) begins

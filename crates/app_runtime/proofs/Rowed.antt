@@ -25,7 +25,7 @@ use Rattle.deploy_rows.specs.Rows.{after}
 use Rattle.run_model.specs.Calls as calls
 use Rattle.run_model.specs.Calls.{answered, done_with, concluded}
 use Rattle.run_model.specs.Runtimes.{is_durable, only_plans}
-use Rattle.run_model.specs.Steps.{reaches_device, storage_named, uses_device}
+use Rattle.run_model.specs.Steps.{device_storage, reaches_device, uses_device}
 use Rattle.run_model.specs.Worlds.{Application}
 use Rattle.app_storages.specs.Answers.{CallsTo}
 use Rattle.app_runtime.specs.Answers.{HasRow, MayLead}
@@ -35,7 +35,7 @@ use Rattle.app_runtime.proofs.Plain.{IsPlain}
 
 -- ---- a row
 
--- one that refuses by what is in memory refuses by what lies on the disk, and so the other way round
+-- one that refuses by what is in memory refuses by what is on the disk, and so the other way round
 module _ {A : Type 0} (row : App → Result A PerError) (alike : RefusesAlike row) (a b : App) (same : a.says ≡ b.says)
   where
     ok_by : (x y : Result A PerError) → row a ≡ x → row b ≡ y → is_ok x ≡ is_ok y
@@ -51,7 +51,7 @@ module _ (row : App → Result App PerError) (alike : RefusesAlike row) where
   -- the reply and the application after it
   settled_by : (r : Application) (a' a : App) (refused : Option PerError) (x y : Result App PerError)
       → a.says ≡ r.disk.says → row a ≡ x → row r.disk ≡ y
-      → rows.Answers refused x → a' ≡ after r.disk y → (reply_of refused, record r { disk = a' })
+      → rows.AnswersRow refused x → a' ≡ after r.disk y → (reply_of refused, record r { disk = a' })
       ≡ concluded r (done_with r y)
   settled_by r a' a None (Ok x) (Ok y) same is_x is_y answers is_after =
       ap (λ (d : App). (reply_of None, record r { disk = d })) is_after
@@ -67,7 +67,7 @@ module _ (row : App → Result App PerError) (alike : RefusesAlike row) where
       ∙ ap (λ (x : PerError). answered (answer.Error x) r) (sym refusal)
 
   pub settled_row : (r : Application) (a' a : App) (refused : Option PerError) → a.says ≡ r.disk.says
-      → rows.Answers refused (row a)
+      → rows.AnswersRow refused (row a)
       → a' ≡ after r.disk (row r.disk) → (reply_of refused, record r { disk = a' })
       ≡ concluded r (done_with r (row r.disk))
   settled_row r a' a refused same answers is_after = settled_by r a' a refused (row a) (row r.disk) same refl refl
@@ -83,7 +83,7 @@ pub record IsWord (told : Bool) (rules : List Rule) (answers : Answers) (app now
   pub has_row : IsTrue told → (o : calls.Outcome) → o ≡ concluded r (done_with r (row r.disk))
       → HasRow rules answers app now c r o
   pub reaches : IsTrue told → IsOk (row r.disk) → IsTrue (reaches_device app r now c)
-  pub no_storage : storage_named c ≡ None
+  pub no_storage : device_storage c ≡ None
   pub not_durable : is_durable c ≡ false
   pub no_plan : only_plans c ≡ false
   pub uses : uses_device r.disk c ≡ true
@@ -115,7 +115,7 @@ module _ (told : Bool) (rules : List Rule) (answers : Answers) (app now : ℕ) (
 pub record Made (told : Bool) (row : App → Result App PerError) (app : ℕ) (root : Root) (Untouched : Type 0)
     (old new : Medium) (made : Result Outcome Stop) : Type 0 where
   pub root_at : IfOk made (λ o. RootAt told new.image app o.root)
-  pub refused : IfOk made (λ o. rows.Answers o.refused (row (root_app root [])))
+  pub refused : IfOk made (λ o. rows.AnswersRow o.refused (row (root_app root [])))
   pub leads : IsTrue told → OnOk made (app_at new.image app ≡ after (app_at old.image app) (row (app_at old.image app)))
   pub clean : IsTrue told → IfOk made (λ o. IsCleanApp app old.image → IsCleanApp app new.image)
   pub quiet : Quiet old → OnOk made (Quiet new)

@@ -23,9 +23,9 @@ use Rattle.deploy.specs.declared.errors.Stop.TheVariants as stop
 use Rattle.deploy.specs.declared.roots.Root.{Root}
 use Rattle.deploy.specs.declared.roots.Root.TheVariants as roots
 use Rattle.deploy.specs.declared.updating.Staged.{Staged}
-use Rattle.deploy.specs.Building.{StagedAt, progress_in, root_in}
+use Rattle.deploy.specs.Building.{StagedAt, staged_progress, staged_root}
 use Rattle.deploy.specs.Building as building
-use Rattle.deploy.specs.Laws.{InUseLaw}
+use Rattle.deploy.specs.Laws.{RootInUseLaw}
 use Rattle.deploy.specs.Roots.{RootAt, free_bank, root_app, root_says}
 use Rattle.deploy_laws.specs.Apps.{App, IsCleanApp, Says, absent, app_at, installed, named, nothing}
 use Rattle.deploy_laws.specs.Laws.{UntouchedAppLaw}
@@ -37,7 +37,7 @@ use Rattle.run_model.specs.Calls as calls
 use Rattle.run_model.specs.Calls.{StepBeside, answered, app_step, beside_update, done_with, next_step, commit_step}
 use Rattle.run_model.specs.Calls.{abort_step, one_more, progress_of, remaining, concluded}
 use Rattle.run_model.specs.Runtimes.{IsUnwritten, is_durable, is_refusal, only_plans}
-use Rattle.run_model.specs.Steps.{after_failure, reaches_device, storage_named, uses_device}
+use Rattle.run_model.specs.Steps.{after_failure, device_storage, reaches_device, uses_device}
 use Rattle.run_model.specs.Worlds.{Application}
 use Rattle.run_model.specs.Worlds as worlds
 use Rattle.app_storages.specs.Answers.{CallsTo}
@@ -49,7 +49,7 @@ use Rattle.app_runtime.specs.declared.running.Stage.TheVariants.{ToOpen, AtRest,
 use Rattle.app_runtime.specs.Answers.{HasRow, MayLead}
 use Rattle.app_runtime.specs.Promises.{Promises}
 use Rattle.app_runtime.specs.Running.{IsRunning, IsStageAt, NoneOpen, application, stage_in}
-use Rattle.app_runtime.specs.Stages.{reply_of, reply_with, root_of, staged_in, status_of, without_update}
+use Rattle.app_runtime.specs.Stages.{reply_of, reply_with, says_status, stage_root, staged_in, without_update}
 use Rattle.app_runtime.proofs.Ended.{failed_app, idle_promises, marked_running, names_none, none_found}
 use Rattle.app_runtime.proofs.InWorld.{fit_length}
 use Rattle.app_runtime.proofs.Kept.{open_by_none}
@@ -61,13 +61,13 @@ use Rattle.app_runtime.proofs.Plain.{IsPlain}
 -- it is in use, whatever is going on
 pub root_at_in : (told : Bool) (image : Image) (app : ℕ) (slots : Slots) (stage : Stage)
     → worlds.is_to_open (stage_in stage) ≡ false → IsStageAt told image app slots stage
-    → RootAt told image app (root_of stage)
+    → RootAt told image app (stage_root stage)
 root_at_in told image app slots ToOpen opened is = absurd cc
 root_at_in told image app slots (AtRest root) opened is = is.root_at
 root_at_in told image app slots (Updating s) opened is = record { memory = is.0.memory.root; disk = is.0.root_on }
 
 -- and the image says what it says
-pub says_in_use : InUseLaw → (told : Bool) (image : Image) (app : ℕ) (root : Root) → RootAt told image app root
+pub says_in_use : RootInUseLaw → (told : Bool) (image : Image) (app : ℕ) (root : Root) → RootAt told image app root
     → IsTrue told → (app_at image app).says ≡ root_says root
 says_in_use in_use told image app root at tells = ap (λ (a : App). a.says)
     (in_use image app root at.memory (at.disk tells))
@@ -95,13 +95,13 @@ pub staged_at : (told : Bool) (image : Image) (app : ℕ) (slots : Slots) (stage
 staged_at told image app slots stage s is at = subst (λ (x : Stage). IsStageAt told image app slots x) is at
 
 -- no version has more than sixteen storages
-pub contents_few : (app : ℕ) (s : Staged) → building.IsStaged app s → length (progress_in s).contents ≤ 16
+pub contents_few : (app : ℕ) (s : Staged) → building.IsStaged app s → length (staged_progress s).contents ≤ 16
 contents_few app s is =
     let same = fit_length (map storage_data s.version.deployment.storages) s.contents.items is.fit in
     let few = is.offers.keeps.few in
     omega (arith, same, few)
 
-pub built_few : (app : ℕ) (s : Staged) → building.IsStaged app s → (progress_in s).built ≤ 16
+pub built_few : (app : ℕ) (s : Staged) → building.IsStaged app s → (staged_progress s).built ≤ 16
 built_few app s is =
     let same = fit_length (map storage_data s.version.deployment.storages) s.contents.items is.fit in
     let few = is.offers.keeps.few in
@@ -138,29 +138,30 @@ pub same_if_none : {b after' : Running} (taken : Option Staged) → taken ≡ No
 same_if_none {b} {after'} taken none same = subst (λ (x : Option Staged). IfNone x (after' ≡ b)) none same
 
 pub without_same : (b after' : Running) → after' ≡ b → reply_of
-    (Some (without_update (root_says (root_of after'.stage))))
-    ≡ reply_of (Some (without_update (root_says (root_of b.stage))))
-without_same b after' same = ap (λ (x : Running). reply_of (Some (without_update (root_says (root_of x.stage))))) same
+    (Some (without_update (root_says (stage_root after'.stage))))
+    ≡ reply_of (Some (without_update (root_says (stage_root b.stage))))
+without_same b after' same = ap (λ (x : Running). reply_of (Some (without_update (root_says (stage_root x.stage)))))
+    same
 
 -- the application stays, and the refusal is that of its root
 module _ (told : Bool) (rules : List Rule) (answers : Answers) (now : ℕ) (c : Call) (s : Running) (m : Medium)
     (lawful : IsLawful told m) (untouched : UntouchedAppLaw) (Untouched : Type 0) (same : Untouched)
     (is : IsRunning told m.image s) (opened : worlds.is_to_open (stage_in s.stage) ≡ false)
-    (none : staged_in s.stage ≡ None) (in_use : InUseLaw)
+    (none : staged_in s.stage ≡ None) (in_use : RootInUseLaw)
     (row : (r : Application) → r.stage ≡ worlds.at_rest → HasRow rules answers s.app now c r
     (reply_of (Some (without_update r.disk.says)), r)) where
   pub without_promises : (after' : Running) → after' ≡ s → (reply : Reply)
-      → reply ≡ reply_of (Some (without_update (root_says (root_of s.stage))))
+      → reply ≡ reply_of (Some (without_update (root_says (stage_root s.stage))))
       → Promises told rules answers now c s after' Untouched m m (Ok reply)
   without_promises after' is_after reply is_reply =
-      let says = root_says (root_of s.stage) in
+      let says = root_says (stage_root s.stage) in
       subst (λ (x : Running). Promises told rules answers now c s x Untouched m m (Ok reply)) (sym is_after)
       (subst (λ (x : Reply). Promises told rules answers now c s s Untouched m m (Ok x)) (sym is_reply)
       (idle_promises told rules answers now c s m lawful untouched Untouched same is s.stage
       (reply_of (Some (without_update says))) is
       (λ tells. subst (λ (x : Says). HasRow rules answers s.app now c (application m.image s)
       (reply_of (Some (without_update x)), application m.image s))
-      (says_in_use in_use told m.image s.app (root_of s.stage)
+      (says_in_use in_use told m.image s.app (stage_root s.stage)
       (root_at_in told m.image s.app s.slots s.stage opened is.stage_at) tells)
       (row (application m.image s) (no_update s.stage opened none)))
       (without_sound says) (without_text says)))
@@ -226,26 +227,31 @@ module _ (rules : List Rule) (answers : Answers) (app now : ℕ) (r : Applicatio
 
 module _ (told : Bool) (rules : List Rule) (answers : Answers) (now : ℕ) (b : Running) (s : Staged) (old new : Medium)
     (Untouched : Type 0)
-    (is : StagedAt told old.image b.app s) (below : b.app < 8) (none : NoneOpen b.slots) (in_use : InUseLaw) where
+    (is : StagedAt told old.image b.app s) (below : b.app < 8) (none : NoneOpen b.slots) (in_use : RootInUseLaw) where
   abbrev before : Running
   before = record b { stage = Updating s }
 
   abbrev r : Application
-  r = record { disk = app_at old.image b.app; stage = worlds.updating (progress_in s); sessions = sessions_in b.slots }
+  r = record {
+    disk = app_at old.image b.app;
+    stage = worlds.updating
+        (staged_progress s);
+    sessions = sessions_in b.slots;
+  }
 
   goes_on : (then : InProgress → Result calls.Outcome PerError) → IsTrue told
-      → (progress_of r >>= then) ≡ then (progress_in s)
-  goes_on then tells = ap (λ (says : Says). calls.progress_in says (Some (progress_in s)) >>= then)
-      (says_in_use in_use told old.image b.app (root_in s) (record { memory = is.memory.root; disk = is.root_on })
+      → (progress_of r >>= then) ≡ then (staged_progress s)
+  goes_on then tells = ap (λ (says : Says). calls.progress_in says (Some (staged_progress s)) >>= then)
+      (says_in_use in_use told old.image b.app (staged_root s) (record { memory = is.memory.root; disk = is.root_on })
       tells)
 
-  pub next_is : IsTrue told → next_step r ≡ Ok (answered (answer.Number (remaining (one_more (progress_in s))))
-      (record r { stage = worlds.updating (one_more (progress_in s)) }))
+  pub next_is : IsTrue told → next_step r ≡ Ok (answered (answer.Number (remaining (one_more (staged_progress s))))
+      (record r { stage = worlds.updating (one_more (staged_progress s)) }))
   next_is tells = goes_on (λ p. Ok (answered (answer.Number (remaining (one_more p)))
       (record r { stage = worlds.updating (one_more p) }))) tells
 
   pub commit_is : IsTrue told → commit_step r ≡ Ok (answered answer.Done
-      (record r { disk = updated_app (progress_in s) r.disk; stage = worlds.at_rest }))
+      (record r { disk = updated_app (staged_progress s) r.disk; stage = worlds.at_rest }))
   commit_is tells = goes_on (λ p. Ok (answered answer.Done
       (record r { disk = updated_app p r.disk; stage = worlds.at_rest }))) tells
 
@@ -254,8 +260,8 @@ module _ (told : Bool) (rules : List Rule) (answers : Answers) (now : ℕ) (b : 
 
   -- ---- one more storage
 
-  next_row : IsTrue told → (o : calls.Outcome) → o ≡ answered (answer.Number (remaining (one_more (progress_in s))))
-      (record r { stage = worlds.updating (one_more (progress_in s)) })
+  next_row : IsTrue told → (o : calls.Outcome) → o ≡ answered (answer.Number (remaining (one_more (staged_progress s))))
+      (record r { stage = worlds.updating (one_more (staged_progress s)) })
       → HasRow rules answers b.app now call.UpdateNext r o
   unfolding app_step
   next_row tells o is_o = is_o ∙ sym (ap (λ (row : Result calls.Outcome PerError). concluded r row) (next_is tells))
@@ -265,7 +271,7 @@ module _ (told : Bool) (rules : List Rule) (answers : Answers) (now : ℕ) (b : 
   next_reaches tells = ap (λ (row : Result calls.Outcome PerError). is_ok row) (next_is tells)
 
   commit_row : IsTrue told → (o : calls.Outcome) → o ≡ answered answer.Done
-      (record r { disk = updated_app (progress_in s) r.disk; stage = worlds.at_rest })
+      (record r { disk = updated_app (staged_progress s) r.disk; stage = worlds.at_rest })
       → HasRow rules answers b.app now call.UpdateCommit r o
   unfolding app_step
   commit_row tells o is_o = is_o ∙ sym (ap (λ (row : Result calls.Outcome PerError). concluded r row) (commit_is tells))
@@ -287,7 +293,7 @@ module _ (told : Bool) (rules : List Rule) (answers : Answers) (now : ℕ) (b : 
       (installed_by now text r.disk.says r.disk.lacking r.disk.states (generation_of s.root.cell)
       (named s.root.bank (version_said s.root.active))
       (option_map (λ v. named (1 - s.root.bank) (version_said v)) s.root.previous)
-      (says_in_use in_use told old.image b.app (root_in s) (record { memory = is.memory.root; disk = is.root_on })
+      (says_in_use in_use told old.image b.app (staged_root s) (record { memory = is.memory.root; disk = is.root_on })
       tells)))
 
   -- a step that failed: it leads to this application, or nowhere
@@ -295,7 +301,7 @@ module _ (told : Bool) (rules : List Rule) (answers : Answers) (now : ℕ) (b : 
       (same_slots : NoneOpen after'.slots) (next : App)
       (leads : IsTrue told → MayLead rules answers b.app now c r next) (later : IsTrue told → IsLater r.disk next)
       (calls : IsTrue told → CallsTo b.app next old new)
-      (reaches : IsTrue told → IsTrue (reaches_device b.app r now c)) (no_storage : storage_named c ≡ None)
+      (reaches : IsTrue told → IsTrue (reaches_device b.app r now c)) (no_storage : device_storage c ≡ None)
       (not_durable : is_durable c ≡ false) (no_plan : only_plans c ≡ false) (uses : uses_device r.disk c ≡ true)
       (time : Elapses old new) where
     pub failed_step : (e : Stop) → (e ≡ stop.Device → Rose old.faults new.faults)
@@ -362,7 +368,7 @@ module _ (told : Bool) (rules : List Rule) (answers : Answers) (now : ℕ) (b : 
       (clean : IsTrue told → IsCleanApp b.app old.image → IsCleanApp b.app new.image) (quiet : Quiet old → Quiet new)
       (done : is_refusal reply.answer ≡ false) (sound : reply.answer ≢ answer.Error error.PhysicalStorageFailure)
       (text : HasText reply.answer)
-      (not_durable : is_durable c ≡ false) (no_plan : only_plans c ≡ false) (no_storage : storage_named c ≡ None)
+      (not_durable : is_durable c ≡ false) (no_plan : only_plans c ≡ false) (no_storage : device_storage c ≡ None)
       (uses : uses_device r.disk c ≡ true) (passes : new.faults ≡ old.faults) (time : Elapses old new) where
     pub done_step : Promises told rules answers now c before (record b { stage = stage }) Untouched old new (Ok reply)
     done_step = record {
@@ -394,8 +400,8 @@ module _ (told : Bool) (rules : List Rule) (answers : Answers) (now : ℕ) (b : 
       (subst (λ (x : Running). NoneOpen x.slots) (sym is_after) none) r.disk (λ tells. inl refl) (λ tells. still r.disk)
       calls next_reaches refl refl refl refl time e cause
 
-  pub next_done : (t : Staged) (count : ℕ) → progress_in t ≡ building.one_more (progress_in s)
-      → count ≡ remaining (progress_in t) → StagedAt told new.image b.app t
+  pub next_done : (t : Staged) (count : ℕ) → staged_progress t ≡ building.one_more (staged_progress s)
+      → count ≡ remaining (staged_progress t) → StagedAt told new.image b.app t
       → (IsTrue told → app_at new.image b.app ≡ r.disk)
       → (IsTrue told → CallsTo b.app r.disk old new) → (IsTrue told → IsCleanApp b.app old.image
       → IsCleanApp b.app new.image) → (Quiet old → Quiet new) → new.faults ≡ old.faults → Elapses old new
@@ -407,7 +413,7 @@ module _ (told : Bool) (rules : List Rule) (answers : Answers) (now : ℕ) (b : 
         reply_with (answer.Number n),
         record {
           disk = app_at new.image b.app;
-          stage = worlds.updating (progress_in t);
+          stage = worlds.updating (staged_progress t);
           sessions =
               sessions_in b.slots;
         },
@@ -418,8 +424,8 @@ module _ (told : Bool) (rules : List Rule) (answers : Answers) (now : ℕ) (b : 
       ))
       progress
       ∙ ap (λ (a : App). (
-        reply_with (answer.Number (remaining (one_more (progress_in s)))),
-        record { disk = a; stage = worlds.updating (one_more (progress_in s)); sessions = sessions_in b.slots },
+        reply_with (answer.Number (remaining (one_more (staged_progress s)))),
+        record { disk = a; stage = worlds.updating (one_more (staged_progress s)); sessions = sessions_in b.slots },
       ))
       (same tells))))
       (at, none) (λ tells. subst (λ (a : App). IsLater r.disk a) (sym (same tells)) (still r.disk))
@@ -430,7 +436,7 @@ module _ (told : Bool) (rules : List Rule) (answers : Answers) (now : ℕ) (b : 
 
   module _ (update_later : UpdateLaterLaw) where
     abbrev next : App
-    next = updated_app (progress_in s) r.disk
+    next = updated_app (staged_progress s) r.disk
 
     pub commit_failed : (e : Stop) (after' : Running) → after' ≡ record b { stage = ToOpen }
         → (e ≡ stop.Device → Rose old.faults new.faults) → (IsTrue told → CallsTo b.app next old new) → Elapses old new
@@ -443,7 +449,7 @@ module _ (told : Bool) (rules : List Rule) (answers : Answers) (now : ℕ) (b : 
           commit_row tells (answered answer.Done (record r { disk = next; stage = worlds.at_rest })) refl,
           refl,
         ))
-        (λ tells. update_later (progress_in s) r.disk) calls commit_reaches refl refl refl refl time e cause
+        (λ tells. update_later (staged_progress s) r.disk) calls commit_reaches refl refl refl refl time e cause
 
     pub commit_done : (root : Root) → RootAt told new.image b.app root → (IsTrue told → app_at new.image b.app ≡ next)
         → (IsTrue told → CallsTo b.app next old new)
@@ -462,7 +468,7 @@ module _ (told : Bool) (rules : List Rule) (answers : Answers) (now : ℕ) (b : 
           root_at = at;
           open_on = open_by_none told new.image b.app (root_says root) b.slots none;
         })
-        (λ tells. subst (λ (a : App). IsLater r.disk a) (sym (is_next tells)) (update_later (progress_in s) r.disk))
+        (λ tells. subst (λ (a : App). IsLater r.disk a) (sym (is_next tells)) (update_later (staged_progress s) r.disk))
         (λ tells. subst (λ (a : App). CallsTo b.app a old new) (sym (is_next tells)) (calls tells)) clean quiet refl
         (λ e. cc) tt refl refl refl refl passes time
 
@@ -470,7 +476,7 @@ module _ (told : Bool) (rules : List Rule) (answers : Answers) (now : ℕ) (b : 
 
 pub install_refused : (told : Bool) (rules : List Rule) (answers : Answers) (now : ℕ) (text : List ℕ) (b : Running)
     (m : Medium) → IsLawful told m → UntouchedAppLaw → (Untouched : Type 0) → Untouched
-    → IsRunning told m.image b → InUseLaw → (s : Staged) → b.stage ≡ Updating s → (reply : Reply)
+    → IsRunning told m.image b → RootInUseLaw → (s : Staged) → b.stage ≡ Updating s → (reply : Reply)
     → reply ≡ reply_with (answer.Error error.AlreadyInstalled)
     → Promises told rules answers now (call.Install text) b b Untouched m m (Ok reply)
 install_refused told rules answers now text b m lawful untouched Untouched same is in_use s stage_is reply is_reply =

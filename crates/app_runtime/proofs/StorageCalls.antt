@@ -53,12 +53,14 @@ on_each P Q (Err e) each is = tt
 pub record Stores (told : Bool) (app now : ℕ) (c : Call) (root : Root) (before after : Slots) (Untouched : Type 0)
     (old new : Medium) (result : Result Reply Stop) : Type 0 where
   pub memory : (IsErrOf result stop.OutOfMemory → ⊥) → IsResting told new.image app root after
-  pub answered : IsTrue told → IfOk result (λ reply. stored.IsAnswered app now c (resting_with old.image app before)
+  pub answered : IsTrue told → IfOk result (λ reply. stored.IsStorageCallAnswered app now c
+      (resting_with old.image app before)
       (resting_with new.image app after) reply old new)
   pub failed : IsTrue told → IsErrOf result stop.Device
-      → stored.HasFailed app now c (resting_with old.image app before) (resting_with new.image app after) old new
+      → stored.HasStorageCallFailed app now c (resting_with old.image app before)
+      (resting_with new.image app after) old new
   pub stopped : IsTrue told → IsErrOf result stop.OutOfMemory
-      → stored.HasStopped app now c (resting_with old.image app before) old new
+      → stored.HasStorageCallStopped app now c (resting_with old.image app before) old new
   pub quiet : Quiet old → OnOk result (Quiet new)
   pub idle : IsTrue told → uses_device (app_at old.image app) c ≡ false → Untouched
   pub unwritten : IfOk result (λ reply. is_refusal reply.answer ≡ true → IsUnwritten old new)
@@ -90,15 +92,16 @@ module _ (told : Bool) (rules : List Rule) (answers : Answers) (now : ℕ) (c : 
   has_row : (x : Outcome) → x ≡ o → HasRow rules answers b.app now c r x
   has_row x is = call_step rules answers b.app now r c x on is
 
-  leads : (next : App) → stored.MayLead b.app now c r next → MayLead rules answers b.app now c r next
+  leads : (next : App) → stored.StorageCallMayLead b.app now c r next → MayLead rules answers b.app now c r next
   leads next (inl same) = inl same
   leads next (inr is) = inr (o, has_row o refl, is)
 
-  later : (next : App) → stored.MayLead b.app now c r next → IsLater r.disk next
+  later : (next : App) → stored.StorageCallMayLead b.app now c r next → IsLater r.disk next
   later next (inl same) = subst (λ (a : App). IsLater r.disk a) (sym same) (still r.disk)
   later next (inr is) = subst (λ (a : App). IsLater r.disk a) (sym is) (leads_on b.app now c r o (has_row o refl))
 
-  answers_it : (reply : Reply) → stored.IsAnswered b.app now c r (resting_with new.image b.app slots) reply old new
+  answers_it : (reply : Reply) → stored.IsStorageCallAnswered b.app now c r
+      (resting_with new.image b.app slots) reply old new
       → IsAnswered rules answers b.app now c r (resting_with new.image b.app slots) reply old new
   answers_it reply is = record {
     row = has_row (reply, resting_with new.image b.app slots) is.row;
@@ -113,7 +116,8 @@ module _ (told : Bool) (rules : List Rule) (answers : Answers) (now : ℕ) (c : 
   stored_promises = record {
     app = refl;
     memory = λ fed. let is = s.memory fed in record { below = is.below; stage_at = is };
-    answered = λ tells. on_each (λ reply. stored.IsAnswered b.app now c r (resting_with new.image b.app slots) reply old
+    answered = λ tells. on_each (λ reply. stored.IsStorageCallAnswered b.app now c r
+        (resting_with new.image b.app slots) reply old
         new)
         (λ reply. IsAnswered rules answers b.app now c r (resting_with new.image b.app slots) reply old new) result
         answers_it (s.answered tells);

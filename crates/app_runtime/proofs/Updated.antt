@@ -23,8 +23,8 @@ use Rattle.deploy.specs.declared.roots.Root.TheVariants as roots
 use Rattle.deploy.specs.declared.updating.Begin.{Begin}
 use Rattle.deploy.specs.declared.updating.Begin.TheVariants as begin
 use Rattle.deploy.specs.declared.updating.Staged.{Staged}
-use Rattle.deploy.specs.Building.{IsBegun, begun_as, progress_in}
-use Rattle.deploy.specs.Laws.{InUseLaw}
+use Rattle.deploy.specs.Building.{IsUpdateBegun, begun_as, staged_progress}
+use Rattle.deploy.specs.Laws.{RootInUseLaw}
 use Rattle.deploy.specs.Clauses.{IsBesideNext, Leaves}
 use Rattle.deploy.specs.Roots.{RootAt, free_bank, root_app, root_says}
 use Rattle.deploy.specs.Updates.{IsUpdated, LeadsTo}
@@ -33,10 +33,12 @@ use Rattle.deploy_laws.specs.Places.{Named}
 use Rattle.deploy_laws.specs.Stands.{IsLater, StandsThroughout}
 use Rattle.deploy_rows.specs.Laws.{RefusesAlike, UpdateLaterLaw}
 use Rattle.deploy_rows.specs.Rows as rows
-use Rattle.deploy_rows.specs.Rows.{◌>>=◌, Begins, BeginsWith, InProgress, Offer, after, deployment_of, newer}
+use Rattle.deploy_rows.specs.Rows.{◌>>=◌, BeginsUpdate, BeginsWith, InProgress, Offer, after, deployment_of}
+use Rattle.deploy_rows.specs.Rows.{newer_version}
 use Rattle.deploy_rows.specs.Rows.{offer_over, offered, updated_app}
 use Rattle.run_model.specs.Calls as calls
-use Rattle.run_model.specs.Calls.{active_storages, answered, begun, first_open, least_open, concluded, updated}
+use Rattle.run_model.specs.Calls.{active_storages, answered, with_update_begun, first_open, least_open, concluded}
+use Rattle.run_model.specs.Calls.{with_update}
 use Rattle.run_model.specs.Runtimes.{IsUnwritten, is_refusal}
 use Rattle.run_model.specs.Steps.{after_failure}
 use Rattle.run_model.specs.Worlds.{Application}
@@ -49,7 +51,7 @@ use Rattle.app_runtime.specs.declared.running.Stage.TheVariants.{ToOpen, AtRest,
 use Rattle.app_runtime.specs.Answers.{HasRow, MayLead}
 use Rattle.app_runtime.specs.Promises.{Promises}
 use Rattle.app_runtime.specs.Running.{IsRunning, NoneOpen, application}
-use Rattle.app_runtime.specs.Stages.{Concludes, ConcludesBegun, reply_of, root_of}
+use Rattle.app_runtime.specs.Stages.{ConcludesBegun, ConcludesCall, reply_of, stage_root}
 use Rattle.app_runtime.proofs.Ended.{failed_app, marked_running, names_none, refused_plain, resting_in, stage_back}
 use Rattle.app_runtime.proofs.Frames.{beside_next, calls_reading, calls_to}
 use Rattle.app_runtime.proofs.Kept.{free_kept, free_slots, none_taken}
@@ -80,7 +82,7 @@ begins_by rules answers now busy text a p (Err e) is begins = absurd cc
 
 -- no storage is open where an update begins
 pub begins_free : (rules : List Rule) (answers : Answers) (now : ℕ) (busy : Option (List ℕ)) (text : List ℕ) (a : App)
-    (p : InProgress) → Begins rules answers now busy text a (Ok p) → busy ≡ None
+    (p : InProgress) → BeginsUpdate rules answers now busy text a (Ok p) → busy ≡ None
 begins_free rules answers now busy text a p begins = begins_by rules answers now busy text a p (offered busy text a)
     refl begins
 
@@ -88,7 +90,7 @@ begins_free rules answers now busy text a p begins = begins_by rules answers now
 pub record Updates (told : Bool) (rules : List Rule) (answers : Answers) (now : ℕ) (text : List ℕ) (app : ℕ)
     (root : Root) (busy : Option (List ℕ)) (old new : Medium) (made : Result Outcome Stop) : Type 0 where
   pub root_at : IfOk made (λ o. RootAt told new.image app o.root)
-  pub updates : IfOk made (IsUpdated told (Begins rules answers now busy text) app old.image new.image root)
+  pub updates : IfOk made (IsUpdated told (BeginsUpdate rules answers now busy text) app old.image new.image root)
   pub clean : IsTrue told → IfOk made (λ o. IsCleanApp app old.image → IsCleanApp app new.image)
   pub quiet : Quiet old → OnOk made (Quiet new)
   pub unchanged : IfOk made (λ o. (o.refused ≡ None → ⊥)
@@ -97,7 +99,8 @@ pub record Updates (told : Bool) (rules : List Rule) (answers : Answers) (now : 
   pub passes : OnOk made (new.faults ≡ old.faults)
   pub device_only : IsErrOf made stop.Device → IsOk (offered busy text (root_app root []))
   pub outside : Leaves told (IsBesideNext app (free_bank root)) old new
-  pub any_moment : IsTrue told → LeadsTo app (rows.MayLead rules answers now busy text (app_at old.image app)) made old
+  pub any_moment : IsTrue told → LeadsTo app (rows.UpdateMayLead rules answers now busy text (app_at old.image app))
+      made old
       new
   pub time : Elapses old new
 
@@ -110,7 +113,7 @@ free_low (roots.Installed i) = omega arith
 
 module _ (told : Bool) (rules : List Rule) (answers : Answers) (now : ℕ) (text : List ℕ) (b : Running) (root : Root)
     (old new : Medium) (Untouched : Type 0)
-    (resting : IsResting told old.image b.app root b.slots) (in_use : InUseLaw)
+    (resting : IsResting told old.image b.app root b.slots) (in_use : RootInUseLaw)
     (alike : (busy : Option (List ℕ)) (text : List ℕ) → RefusesAlike (offered busy text)) (busy : Option (List ℕ))
     (busy_is : busy ≡ first_open (sessions_in b.slots) (active_storages (root_says root))) where
   abbrev before : Running
@@ -129,17 +132,17 @@ module _ (told : Bool) (rules : List Rule) (answers : Answers) (now : ℕ) (text
   busy_least tells = busy_is ∙ ap (λ (says : Says). first_open (sessions_in b.slots) (active_storages says))
       (says_same tells)
 
-  -- what was read over the root was read over what lies on the disk
+  -- what was read over the root was read over what is on the disk
   over_disk : IsTrue told → (states : List State) → r.disk.states ≡ states → root_app root states ≡ r.disk
   over_disk tells states theirs = ap (λ (ss : List State). root_app root ss)
       (sym theirs ∙ ap (λ (a : App). a.states) (disk_is tells)) ∙ sym (disk_is tells)
 
   begins_there : IsTrue told → (states : List State) (row : Result InProgress PerError) → r.disk.states ≡ states
-      → Begins rules answers now busy text (root_app root states) row
-      → Begins rules answers now (least_open r) text r.disk row
+      → BeginsUpdate rules answers now busy text (root_app root states) row
+      → BeginsUpdate rules answers now (least_open r) text r.disk row
   begins_there tells states row theirs begins = subst (λ (n : Option (List ℕ)).
-      Begins rules answers now n text r.disk row) (busy_least tells)
-      (subst (λ (a : App). Begins rules answers now busy text a row) (over_disk tells states theirs) begins)
+      BeginsUpdate rules answers now n text r.disk row) (busy_least tells)
+      (subst (λ (a : App). BeginsUpdate rules answers now busy text a row) (over_disk tells states theirs) begins)
 
   taken_there : IsTrue told → IsOk (offered busy text (root_app root []))
       → is_ok (offered (least_open r) text r.disk) ≡ true
@@ -153,7 +156,8 @@ module _ (told : Bool) (rules : List Rule) (answers : Answers) (now : ℕ) (text
 
   -- of what an update may lead to
   updated_leads : (next : App) (row : Result InProgress PerError)
-      → Begins rules answers now (least_open r) text r.disk row → next ≡ after r.disk (rows.updated r.disk row)
+      → BeginsUpdate rules answers now (least_open r) text r.disk row → next
+      ≡ after r.disk (rows.updated_row r.disk row)
       → MayLead rules answers b.app now (call.Update text) r next
   updated_leads next (Ok p) begins is = inr (
     answered answer.Done (record r { disk = updated_app p r.disk }),
@@ -163,24 +167,24 @@ module _ (told : Bool) (rules : List Rule) (answers : Answers) (now : ℕ) (text
   updated_leads next (Err e) begins is = inl is
 
   module _ (later : UpdateLaterLaw) where
-    updated_later : (next : App) (row : Result InProgress PerError) → next ≡ after r.disk (rows.updated r.disk row)
+    updated_later : (next : App) (row : Result InProgress PerError) → next ≡ after r.disk (rows.updated_row r.disk row)
         → IsLater r.disk next
     updated_later next (Ok p) is = subst (λ (a : App). IsLater r.disk a) (sym is) (later p r.disk)
     updated_later next (Err e) is = subst (λ (a : App). IsLater r.disk a) (sym is) (still r.disk)
 
-    may_lead : IsTrue told → (next : App) → rows.MayLead rules answers now busy text r.disk next
+    may_lead : IsTrue told → (next : App) → rows.UpdateMayLead rules answers now busy text r.disk next
         → MayLead rules answers b.app now (call.Update text) r next × IsLater r.disk next
     may_lead tells next (inl same) = (inl same, subst (λ (a : App). IsLater r.disk a) (sym same) (still r.disk))
     may_lead tells next (inr leads) = (
-      updated_leads next leads.0 (subst (λ (n : Option (List ℕ)). Begins rules answers now n text r.disk leads.0)
+      updated_leads next leads.0 (subst (λ (n : Option (List ℕ)). BeginsUpdate rules answers now n text r.disk leads.0)
           (busy_least tells) leads.1) leads.2,
       updated_later next leads.0 leads.2,
     )
 
     -- the reply and the application after it
     updated_row : IsTrue told → (refused : Option PerError) (a' : App) (row : Result InProgress PerError)
-        → rows.Answers refused row → a' ≡ after r.disk (rows.updated r.disk row)
-        → (reply_of refused, record r { disk = a' }) ≡ concluded r (row >>= updated r)
+        → rows.AnswersRow refused row → a' ≡ after r.disk (rows.updated_row r.disk row)
+        → (reply_of refused, record r { disk = a' }) ≡ concluded r (row >>= with_update r)
     updated_row tells None a' (Ok p) answers is = ap (λ (d : App). (reply_of None, record r { disk = d })) is
     updated_row tells (Some e) a' (Ok p) answers is = absurd answers
     updated_row tells None a' (Err f) answers is = absurd answers
@@ -188,8 +192,8 @@ module _ (told : Bool) (rules : List Rule) (answers : Answers) (now : ℕ) (text
         ∙ ap (λ (x : PerError). answered (answer.Error x) r) (sym answers)
 
     module _ (o : Outcome) (u : Updates told rules answers now text b.app root busy old new (Ok o)) where
-      taken_free : (refused : Option PerError) (row : Result InProgress PerError) → rows.Answers refused row
-          → refused ≡ None → Begins rules answers now busy text (root_app root u.updates.states) row → busy ≡ None
+      taken_free : (refused : Option PerError) (row : Result InProgress PerError) → rows.AnswersRow refused row
+          → refused ≡ None → BeginsUpdate rules answers now busy text (root_app root u.updates.states) row → busy ≡ None
       taken_free None (Ok p) answers_row none begins = begins_free rules answers now busy text
           (root_app root u.updates.states) p begins
       taken_free None (Err e) answers_row none begins = absurd answers_row
@@ -210,7 +214,7 @@ module _ (told : Bool) (rules : List Rule) (answers : Answers) (now : ℕ) (text
       plain (Some e) is =
           let p = refused_plain u.updates.row e (begins_plain rules answers now busy text
           (root_app root u.updates.states) u.updates.row u.updates.begins)
-          (subst (λ (x : Option PerError). rows.Answers x u.updates.row) is u.updates.refused) in
+          (subst (λ (x : Option PerError). rows.AnswersRow x u.updates.row) is u.updates.refused) in
           (p.sound, p.text)
 
       not_written : (refused : Option PerError) → o.refused ≡ refused → is_refusal (reply_of refused).answer ≡ true
@@ -331,7 +335,7 @@ module _ (told : Bool) (rules : List Rule) (answers : Answers) (now : ℕ) (text
 
     pub updated_promises : (made : Result Outcome Stop) → Updates told rules answers now text b.app root busy old new
         made → (after' : Running) (result : Result Reply Stop)
-        → Concludes made (record b { stage = ToOpen }) after' result
+        → ConcludesCall made (record b { stage = ToOpen }) after' result
         → Promises told rules answers now (call.Update text) before after' Untouched old new result
     updated_promises (Ok o) u after' result s = subst (λ (x : Running).
         Promises told rules answers now (call.Update text) before x Untouched old new result) (sym s.0)
@@ -345,8 +349,8 @@ module _ (told : Bool) (rules : List Rule) (answers : Answers) (now : ℕ) (text
 pub record Beginning (told : Bool) (rules : List Rule) (answers : Answers) (now : ℕ) (text : List ℕ) (app : ℕ)
     (root : Root) (busy : Option (List ℕ)) (old new : Medium) (made : Result Begin Stop) : Type 0 where
   pub begins : IfOk made (λ x. (states : List State) × (IsTrue told → (app_at old.image app).states ≡ states)
-      × Begins rules answers now busy text (root_app root states) (begun_as x))
-  pub staged : IfOk made (IsBegun told new.image app root)
+      × BeginsUpdate rules answers now busy text (root_app root states) (begun_as x))
+  pub staged : IfOk made (IsUpdateBegun told new.image app root)
   pub image : new.image ≡ old.image
   pub written : new.written ≡ old.written
   pub idle : Quiet old → IsIdle old new
@@ -358,7 +362,7 @@ pub record Beginning (told : Bool) (rules : List Rule) (answers : Answers) (now 
 
 module _ (told : Bool) (rules : List Rule) (answers : Answers) (now : ℕ) (text : List ℕ) (b : Running) (root : Root)
     (old new : Medium) (Untouched : Type 0)
-    (resting : IsResting told old.image b.app root b.slots) (in_use : InUseLaw)
+    (resting : IsResting told old.image b.app root b.slots) (in_use : RootInUseLaw)
     (alike : (busy : Option (List ℕ)) (text : List ℕ) → RefusesAlike (offered busy text)) (busy : Option (List ℕ))
     (busy_is : busy ≡ first_open (sessions_in b.slots) (active_storages (root_says root))) where
   abbrev first : Running
@@ -400,19 +404,19 @@ module _ (told : Bool) (rules : List Rule) (answers : Answers) (now : ℕ) (text
         x.staged.0,
         none_taken b.slots resting.open_on.room
             (free_slots told b.app old.image new.image root b.slots resting busy busy_is
-            (begins_free rules answers now busy text (root_app root x.begins.0) (progress_in s) x.begins.2)),
+            (begins_free rules answers now busy text (root_app root x.begins.0) (staged_progress s) x.begins.2)),
       );
     };
     answered = λ tells. record {
       row = (
-        Ok (progress_in s),
+        Ok (staged_progress s),
         begins_there told rules answers now text b root old new Untouched resting in_use alike busy busy_is tells
-            x.begins.0 (Ok (progress_in s)) (x.begins.1 tells) x.begins.2,
+            x.begins.0 (Ok (staged_progress s)) (x.begins.1 tells) x.begins.2,
         ap (λ (a : App). (
           reply_of None,
           record {
             disk = a;
-            stage = worlds.updating (progress_in s);
+            stage = worlds.updating (staged_progress s);
             sessions =
                 sessions_in b.slots;
           },

@@ -23,7 +23,7 @@ pub record IsAnswered (rules : List Rule) (answers : Answers) (app now : ℕ) (c
   pub calls : CallsTo app after.disk old new
   pub clean : IsCleanApp app old.image → IsCleanApp app new.image
 
--- what lies on the disk after a call that did not end: what its row leads to, or what lay there before
+-- what is on the disk after a call that did not end: what its row leads to, or what was there before
 abbrev pub MayLead : List Rule → Answers → (app now : ℕ) → Call → (before : Application) → App → Type 0
 MayLead rules answers app now c before next = (next ≡ before.disk)
     ⊎ ((outcome : Outcome) × HasRow rules answers app now c before outcome × (next ≡ outcome.1.disk))

@@ -2,7 +2,7 @@
 use Rattle.std.specs.Prelude.{◌≡◌, ◌<◌, ℕ, Bool, Option, None, replicate}
 use Rattle.disk_model.specs.Image.{Image}
 use Rattle.deploy_laws.specs.Apps.{app_at}
-use Rattle.deploy.specs.Building.{StagedAt, progress_in}
+use Rattle.deploy.specs.Building.{StagedAt, staged_progress}
 use Rattle.open_storages.specs.declared.opens.Open.{Open}
 use Rattle.run_model.specs.Worlds as worlds
 use Rattle.run_model.specs.Worlds.{Application}
@@ -17,12 +17,12 @@ use Rattle.app_runtime.specs.declared.running.Stage.TheVariants.{ToOpen, AtRest,
 abbrev pub stage_in : Stage → worlds.Stage
 stage_in ToOpen = worlds.to_open
 stage_in (AtRest root) = worlds.at_rest
-stage_in (Updating staged) = worlds.updating (progress_in staged)
+stage_in (Updating staged) = worlds.updating (staged_progress staged)
 
 abbrev pub running_in : Running → memory.Running
 running_in r = record { stage = stage_in r.stage; sessions = sessions_in r.slots }
 
--- the application of the world: what lies on the disk is what the image stands for
+-- the application of the world: what is on the disk is what the image denotes
 abbrev pub application : Image → Running → Application
 application image r = as_app (app_at image r.app) (running_in r)
 

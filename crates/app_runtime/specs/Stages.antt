@@ -15,7 +15,7 @@ use Rattle.deploy.specs.declared.roots.Root.TheVariants.{Bad, Absent, Installed}
 use Rattle.deploy.specs.declared.updating.Begin.{Begin}
 use Rattle.deploy.specs.declared.updating.Begin.TheVariants as begin
 use Rattle.deploy.specs.declared.updating.Staged.{Staged}
-use Rattle.deploy.specs.Building.{root_in}
+use Rattle.deploy.specs.Building.{staged_root}
 use Rattle.deploy.specs.Roots.{root_says}
 use Rattle.deploy_laws.specs.Apps.{Says, nothing, absent, installed}
 use Rattle.deploy_laws.specs.Places.{Named}
@@ -27,10 +27,10 @@ use Rattle.app_runtime.specs.Running.{NoneOpen}
 
 -- the root that is in memory: of an update in progress the one over which it was begun; one that is to be opened says
 -- nothing
-abbrev pub root_of : Stage → Root
-root_of ToOpen = Bad
-root_of (AtRest root) = root
-root_of (Updating staged) = root_in staged
+abbrev pub stage_root : Stage → Root
+stage_root ToOpen = Bad
+stage_root (AtRest root) = root
+stage_root (Updating staged) = staged_root staged
 
 abbrev pub staged_in : Stage → Option Staged
 staged_in ToOpen = None
@@ -38,10 +38,10 @@ staged_in (AtRest root) = None
 staged_in (Updating staged) = Some staged
 
 -- what is installed
-abbrev pub installed_in : Root → Option parts.Installed
-installed_in Bad = None
-installed_in (Absent cell) = None
-installed_in (Installed i) = Some i
+abbrev pub installed_parts : Root → Option parts.Installed
+installed_parts Bad = None
+installed_parts (Absent cell) = None
+installed_parts (Installed i) = Some i
 
 -- an answer without a report
 abbrev pub reply_with : Answer → Reply
@@ -53,10 +53,10 @@ reply_of None = reply_with answer.Done
 reply_of (Some e) = reply_with (answer.Error e)
 
 -- the status of an application whose root says this
-abbrev pub status_of : Says → Reply
-status_of nothing = reply_with (answer.Error (error.IntegrityCorrupted unit.Root))
-status_of (absent g) = reply_with (answer.Status status.Absent)
-status_of (installed g active previous) = reply_with (answer.Status
+abbrev pub says_status : Says → Reply
+says_status nothing = reply_with (answer.Error (error.IntegrityCorrupted unit.Root))
+says_status (absent g) = reply_with (answer.Status status.Absent)
+says_status (installed g active previous) = reply_with (answer.Status
     (status.Active active.deployment.version (option_map (λ (v : Named). v.deployment.version) previous)))
 
 -- why an update cannot go on where none is in progress
@@ -66,10 +66,11 @@ without_update (absent g) = error.NotInstalled
 without_update (installed g active previous) = error.NoUpdateInProgress
 
 -- What a call made of the root stands in memory, and is answered; where it did not end, all sessions end.
-abbrev pub Concludes : Result Outcome Stop → (before after : Running) → Result Reply Stop → Type 0
-Concludes (Ok o) before after result = (after ≡ record before { stage = AtRest o.root })
+abbrev pub ConcludesCall : Result Outcome Stop → (before after : Running) → Result Reply Stop → Type 0
+ConcludesCall (Ok o) before after result = (after ≡ record before { stage = AtRest o.root })
     × (result ≡ Ok (reply_of o.refused))
-Concludes (Err e) before after result = (after.app ≡ before.app) × (after.stage ≡ before.stage) × NoneOpen after.slots
+ConcludesCall (Err e) before after result = (after.app ≡ before.app) × (after.stage ≡ before.stage)
+    × NoneOpen after.slots
     × IsErrOf result e
 
 -- the same of the beginning of an update
@@ -84,5 +85,6 @@ ConcludesBegun (Err e) before after result = (after.app ≡ before.app) × (afte
 -- an update in progress is given up: its root stands in memory again; where there is none, that is refused
 abbrev pub Aborts : Option Staged → (before after : Running) → Reply → Type 0
 Aborts None before after reply = (after ≡ before) × (reply
-    ≡ reply_of (Some (without_update (root_says (root_of before.stage)))))
-Aborts (Some s) before after reply = (after ≡ record before { stage = AtRest (root_in s) }) × (reply ≡ reply_of None)
+    ≡ reply_of (Some (without_update (root_says (stage_root before.stage)))))
+Aborts (Some s) before after reply = (after ≡ record before { stage = AtRest (staged_root s) })
+    × (reply ≡ reply_of None)

@@ -11,7 +11,7 @@ ghost use Rattle.run_model.specs.Found.{storage_in};
 ghost use Rattle.run_model.specs.Worlds.{is_to_open, update_in};
 ghost use Rattle.app_storages.specs.Slots.{sessions_in};
 ghost use Rattle.app_runtime.specs.Running.{IsRunning, stage_in};
-ghost use Rattle.app_runtime.specs.Stages.{installed_in, reply_with, root_of, status_of, without_update};
+ghost use Rattle.app_runtime.specs.Stages.{installed_parts, reply_with, says_status, stage_root, without_update};
 
 use crate::running::{Running, Stage};
 use command_text::{Answer, AppStatus, Call, Reply};
@@ -58,7 +58,7 @@ pub(crate) fn is_local(call: &Call) -> bool
 
 // The versions of what is installed.
 fn versions_of(installed: &Installed) -> AppStatus
-    ensures { reply_with (Answer.Status result) ≡ status_of (root_says (Root.Installed installed.now)) }
+    ensures { reply_with (Answer.Status result) ≡ says_status (root_says (Root.Installed installed.now)) }
 {
     AppStatus::Active {
         version: installed.active.deployment.version,
@@ -84,7 +84,7 @@ impl Running {
 
     // What is installed, where the root in memory says that something is.
     pub(crate) fn installed(&self) -> Option<&Installed>
-        ensures { option_map (λ i. i.now) result ≡ installed_in (root_of self.now.stage) }
+        ensures { option_map (λ i. i.now) result ≡ installed_parts (stage_root self.now.stage) }
     {
         match &self.stage {
             Stage::AtRest(Root::Installed(installed)) => Some(installed),
@@ -114,7 +114,7 @@ impl Running {
 
     // The status.
     pub(crate) fn status(&self) -> Reply
-        ensures { result ≡ status_of (root_says (root_of self.now.stage)) }
+        ensures { result ≡ says_status (root_says (stage_root self.now.stage)) }
     {
         if let Some(installed) = self.installed() {
             return self.reply(Answer::Status(versions_of(installed)));
@@ -127,7 +127,7 @@ impl Running {
 
     // Why an update cannot go on, where none is in progress.
     pub(crate) fn without_update(&self) -> Reply
-        ensures { result ≡ reply_with (Answer.Error (without_update (root_says (root_of self.now.stage)))) }
+        ensures { result ≡ reply_with (Answer.Error (without_update (root_says (stage_root self.now.stage)))) }
     {
         let error = if self.installed().is_some() {
             PerError::NoUpdateInProgress

@@ -2,7 +2,7 @@
 
 ghost use Rattle.std.specs.Prelude.{◌≡◌, Err, IfNone, IfSome, None, Some, length};
 ghost use Rattle.app_runtime.specs.Running.{NoneOpen};
-ghost use Rattle.app_runtime.specs.Stages.{Concludes, reply_with, root_of, staged_in};
+ghost use Rattle.app_runtime.specs.Stages.{ConcludesCall, reply_with, stage_root, staged_in};
 
 use crate::running::{Running, Stage};
 use command_text::{Answer, Reply};
@@ -14,7 +14,7 @@ impl Stage {
     // The root that is in memory: of an update in progress the one over which it was begun. One that is to be opened
     // says nothing.
     pub(crate) fn into_root(self) -> Root
-        ensures { result ≡ root_of self }
+        ensures { result ≡ stage_root self }
     {
         match self {
             Stage::ToOpen => Root::Bad,
@@ -27,7 +27,7 @@ impl Stage {
 impl Running {
     // Takes the root out of memory. Until one is put back it is to be opened, which is so where the call does not end.
     pub(crate) fn take_root(&mut self) -> Root
-        ensures root { result ≡ root_of self.old.stage }
+        ensures root { result ≡ stage_root self.old.stage }
         ensures left { self.new ≡ record self.old { stage = Stage.ToOpen } }
     {
         mem::replace(&mut self.stage, Stage::ToOpen).into_root()
@@ -51,7 +51,7 @@ impl Running {
     // What a call made of the root stands in memory, and is answered. Where it did not end, all sessions end.
     pub(crate) fn conclude(&mut self, made: Result<Outcome, Stop>) -> Result<Reply, Stop>
         requires room { length self.old.slots.open.items ≡ 16 }
-        ensures { Concludes made self.old self.new result }
+        ensures { ConcludesCall made self.old self.new result }
     {
         match made {
             Ok(Outcome { root, refused }) => {

@@ -73,14 +73,14 @@ impl Running {
         })
     }
 
-    /// Whether the root is to be opened. Takes no memory.
+    /// Whether the root is to be opened. Does not allocate.
     pub fn is_marked(&self) -> bool
         ensures { result ≡ is_to_open (stage_in self.now.stage) }
     {
         matches!(self.stage, Stage::ToOpen)
     }
 
-    /// Whether a call calls the device, refused or not. Takes no memory.
+    /// Whether a call calls the device, refused or not. Does not allocate.
     pub fn calls_device<D: Disk>(&self, disk: &D, call: &Call) -> bool
         requires { IsRunning D.told (D.medium disk.now).image self.now }
         ensures { IsTrue D.told → result ≡ calls_device (application (D.medium disk.now).image self.now) call.now }

@@ -11,14 +11,14 @@ use Rattle.disk_model.specs.Medium.{IsLawful, Medium, Quiet}
 use Rattle.element_state.specs.declared.shapes.Shape.{Shape}
 use Rattle.element_state.specs.Clean.{IsClean}
 use Rattle.element_state.specs.States.{Opens, store_at}
-use Rattle.element_maps.specs.Sessions.{synced_view}
+use Rattle.element_maps.specs.Sessions.{view_once_synced}
 use Rattle.element_maps.specs.Storages.{IsStoring}
 use Rattle.element_store.specs.Stores as stores
 use Rattle.element_store.specs.Stores.{view_in}
 use Rattle.file_core.specs.Refusals.{refused_by}
 use Rattle.file_handles.specs.Opening.{busy}
 use Rattle.kvs_store.specs.Storages.{KvsSession}
-use Rattle.file_storage.specs.FileSessions.{FileSession}
+use Rattle.file_storage.specs.FileSessions.{FilesInUse}
 use Rattle.command_text.specs.declared.calls.Call.{Call}
 use Rattle.command_text.specs.declared.calls.Call.TheVariants as call
 use Rattle.command_text.specs.declared.replies.Answer.TheVariants as answer
@@ -33,17 +33,17 @@ use Rattle.open_storages.specs.declared.closing.Closing.{Closing}
 use Rattle.open_storages.specs.declared.closing.Closing.TheVariants as closing
 use Rattle.open_storages.specs.declared.opens.Open.{Open}
 use Rattle.open_storages.specs.declared.opens.Open.TheVariants.{Keys, Files}
-use Rattle.open_storages.specs.Durables.{IsClosed, OnClosed, WritesAtMost}
+use Rattle.open_storages.specs.Durables.{IsClosedOrRefused, OnClosed, WritesAtMost}
 use Rattle.open_storages.specs.Opens.{config_in, keys_of, session_in, store_in}
 use Rattle.open_storages.specs.Refusals.{close_refused, durable_view, is_still, sync_refused}
 use Rattle.run_model.specs.Calls.{Outcome, answered, app_step, lowest_handle, concluded, without_session}
-use Rattle.run_model.specs.Found.{Found, of_kind, storage_in, with_state}
-use Rattle.run_model.specs.Sessions.{KeySession, Session, keys, seen_of, synced_of}
+use Rattle.run_model.specs.Found.{Found, of_kind, storage_in, with_storage_state}
+use Rattle.run_model.specs.Sessions.{KeySession, Session, keys, seen_of, synced_in_session}
 use Rattle.run_model.specs.Steps.{found_named, reaches_device, uses_device}
 use Rattle.run_model.specs.Worlds.{Application, at_rest}
-use Rattle.app_storages.specs.Durables.{IsLeft, IsSet, Says}
+use Rattle.app_storages.specs.Durables.{IsLeft, IsSet, RepliesDone}
 use Rattle.app_storages.specs.Finding.{IsEarly, IsLocated, found_on, shape_at}
-use Rattle.app_storages.specs.Handled.{IsHandled, MayWrite}
+use Rattle.app_storages.specs.Handled.{IsStorageCallHandled, MayWrite}
 use Rattle.app_storages.specs.Slots.{IsResting, resting_with, slot_at}
 use Rattle.app_storages.specs.StorageLaws.{StorageLaws}
 use Rattle.app_storages.specs.declared.finding.Located.{Located}
@@ -61,7 +61,7 @@ use Rattle.app_storages.proofs.Synced.{early_some, first_early, sync_early}
 
 pub record Closes (told : Bool) (storage : Open) (old new : Medium) (Same : Type 0)
     (result : Result Closing Stop) : Type 0 where
-  pub done : IfOk result (IsClosed storage (close_refused storage))
+  pub done : IfOk result (IsClosedOrRefused storage (close_refused storage))
   pub due : (e : PerError) → close_refused storage ≡ Some e → (result ≡ Ok (closing.Refused storage e)) × Same
   pub keys : (config_in storage).kind ≡ kinds.Keys → (result ≡ Ok closing.Done) × Same
   pub unchanged : is_still storage ≡ true → IsOk result × Same
@@ -81,7 +81,7 @@ busy_early None e is = absurd cc
 busy_early (Some h) e is = early_some (error.ResourceBusy (holder.Handle h)) e
     (record { no_failure = λ x. absurd cc; no_want = λ x. absurd cc }) is
 
-close_early : (w : FileSession) (e : PerError) → close_refused (Files w) ≡ Some e → IsEarly e
+close_early : (w : FilesInUse) (e : PerError) → close_refused (Files w) ≡ Some e → IsEarly e
 close_early w e is = first_early (busy (lowest_handle (session_in (Files w)))) (sync_refused (Files w)) e
     (busy_early (lowest_handle (session_in (Files w)))) (sync_early (Files w)) is
 
@@ -109,8 +109,9 @@ module _ (laws : StorageLaws) (texts : TextLaw) (told : Bool) (app now : ℕ) (r
     dropped_row tells = close_keys_row app now before name f (keys_of k)
         (session_is laws texts told app now root was old resting l located (Keys k) there_is) (named tells)
 
-    pub dropped : (Same : Type 0) → Same → (is : Slots) → IsSet l.number None was is → (reply : Reply) → Says reply None
-        → IsHandled told app now root c was is old old Same (Ok reply)
+    pub dropped : (Same : Type 0) → Same → (is : Slots) → IsSet l.number None was is → (reply : Reply)
+        → RepliesDone reply None
+        → IsStorageCallHandled told app now root c was is old old Same (Ok reply)
     dropped Same same is emptied reply says = record {
       ends = record {
         answered = λ tells. record {
@@ -143,14 +144,14 @@ module _ (laws : StorageLaws) (texts : TextLaw) (told : Bool) (app now : ℕ) (r
 
   -- ---- files
 
-  module _ (w : FileSession) (there_is : slot_at was l.number ≡ Some (Files w)) where
+  module _ (w : FilesInUse) (there_is : slot_at was l.number ≡ Some (Files w)) where
     abbrev storage : Open
     storage = Files w
 
     abbrev after_by : Shape → Application
     after_by shape = without_session (record before {
-      disk = with_state (app_at old.image app) f
-          (Opens (synced_view shape (view_in (store_in storage)) (synced_of (session_in storage))
+      disk = with_storage_state (app_at old.image app) f
+          (Opens (view_once_synced shape (view_in (store_in storage)) (synced_in_session (session_in storage))
           (seen_of (session_in storage))) []);
     }) l.number
 
@@ -202,7 +203,7 @@ module _ (laws : StorageLaws) (texts : TextLaw) (told : Bool) (app now : ℕ) (r
           clash ok = absurd cc
 
       pub closed_err : (is : Slots) → IsSet l.number None was is → (e : Stop) → result ≡ Err e
-          → IsHandled told app now root c was is old new Same (Err e)
+          → IsStorageCallHandled told app now root c was is old new Same (Err e)
       closed_err is emptied e err = stopped_handled laws texts told app now root was old resting l located storage
           there_is c (close_refused storage) after refl refl closed_row named_so reaches
           new Same idle written storing is emptied e (none_of (close_refused storage) (never_due e err))
@@ -210,10 +211,10 @@ module _ (laws : StorageLaws) (texts : TextLaw) (told : Bool) (app now : ℕ) (r
 
       pub closed_ok : (left : Closing) → result ≡ Ok left → (mid is : Slots) → IsSet l.number None was mid
           → (reply : Reply) → IsLeft l.number left mid is reply
-          → IsHandled told app now root c was is old new Same (Ok reply)
+          → IsStorageCallHandled told app now root c was is old new Same (Ok reply)
       closed_ok closing.Done ok mid is emptied reply (same, says) =
           let none : close_refused storage ≡ None = subst (λ (r : Result Closing Stop).
-          IfOk r (IsClosed storage (close_refused storage))) ok closes.done in
+          IfOk r (IsClosedOrRefused storage (close_refused storage))) ok closes.done in
           let set = ap (λ (s : Slots). s.open.items) same ∙ emptied in
           done_handled laws texts told app now root was old resting l located storage there_is c (close_refused storage)
           after refl refl closed_row named_so reaches new Same idle written storing is reply none says
@@ -233,12 +234,14 @@ module _ (laws : StorageLaws) (texts : TextLaw) (told : Bool) (app now : ℕ) (r
           on_done P on = subst (λ (r : Result Closing Stop). OnOk r P) ok on
       closed_ok (closing.Refused same e) ok mid is emptied reply (set, says) =
           let refusal : (close_refused storage ≡ Some e) × (same ≡ storage) =
-          subst (λ (r : Result Closing Stop). IfOk r (IsClosed storage (close_refused storage))) ok closes.done in
+          subst (λ (r : Result Closing Stop). IfOk r (IsClosedOrRefused storage (close_refused storage))) ok
+          closes.done in
           let due = closes.due e refusal.0 in
           let back = put_back was is l.number storage there_is
           (set ∙ (ap (λ (o : Open). slice_set mid.open.items l.number (Some o)) refusal.1
           ∙ ap (λ (xs : List (Option Open)). slice_set xs l.number (Some storage)) emptied)) in
-          subst (λ (m : Medium). IsHandled told app now root c was is old m Same (Ok reply)) (sym (by_disk due.1))
+          subst (λ (m : Medium). IsStorageCallHandled told app now root c was is old m Same (Ok reply))
+          (sym (by_disk due.1))
           (early_handled laws told app now root c was old Same due.1 law resting texts is back e
           (close_early w e refusal.0) reply says
           (row_err laws texts told app now root was old resting l located storage there_is c (close_refused storage)
@@ -249,7 +252,7 @@ module _ (laws : StorageLaws) (texts : TextLaw) (told : Bool) (app now : ℕ) (r
   module _ (new : Medium) (Same : Type 0) (by_disk : Same → new ≡ old) (result : Result Closing Stop) where
     pub close_err : (storage : Open) → slot_at was l.number ≡ Some storage → Closes told storage old new Same result
         → (is : Slots) → IsSet l.number None was is → (e : Stop) → result ≡ Err e
-        → IsHandled told app now root c was is old new Same (Err e)
+        → IsStorageCallHandled told app now root c was is old new Same (Err e)
     close_err (Keys k) there_is closes is emptied e err =
         absurd (clash (closes.keys (sym (at laws texts told app now root was old resting l located (Keys k)
         there_is).kind)).0)
@@ -262,11 +265,12 @@ module _ (laws : StorageLaws) (texts : TextLaw) (told : Bool) (app now : ℕ) (r
     pub close_ok : (storage : Open) → slot_at was l.number ≡ Some storage → Closes told storage old new Same result
         → (left : Closing) → result ≡ Ok left → (mid is : Slots)
         → IsSet l.number None was mid → (reply : Reply) → IsLeft l.number left mid is reply
-        → IsHandled told app now root c was is old new Same (Ok reply)
+        → IsStorageCallHandled told app now root c was is old new Same (Ok reply)
     close_ok (Keys k) there_is closes closing.Done ok mid is emptied reply (same, says) =
         let untouched = closes.keys (sym (at laws texts told app now root was old resting l located (Keys k)
         there_is).kind) in
-        subst (λ (m : Medium). IsHandled told app now root c was is old m Same (Ok reply)) (sym (by_disk untouched.1))
+        subst (λ (m : Medium). IsStorageCallHandled told app now root c was is old m Same (Ok reply))
+        (sym (by_disk untouched.1))
         (dropped k there_is Same untouched.1 is (ap (λ (s : Slots). s.open.items) same ∙ emptied) reply says)
     close_ok (Keys k) there_is closes (closing.Refused same e) ok mid is emptied reply left_so =
         absurd (clash (closes.keys (sym (at laws texts told app now root was old resting l located (Keys k)

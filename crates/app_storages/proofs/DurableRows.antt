@@ -1,4 +1,4 @@
--- The rows of the calls that make an open storage durable, that close it, and that make a closed one anew.
+-- The rows of the calls that make an open storage durable, that close it, and that rebuild a closed one.
 use Rattle.std.proofs.Common.{◌≡◌, ℕ, List, [], Bool, true, false, not, cond, ◌&&◌, refl, ap, ◌∙◌}
 use Rattle.std.specs.Prelude.{IsTrue, Option, Some, None, Result, Ok, Err, is_some, is_none, is_ok, slice_get, ⊤}
 use Rattle.per_base.specs.declared.elements.StoreKind.{StoreKind}
@@ -11,7 +11,7 @@ use Rattle.deployment_model.specs.Data.{StorageData}
 use Rattle.deployment_model.specs.Lookups.{storage_number}
 use Rattle.element_state.specs.declared.shapes.View.{View}
 use Rattle.element_state.specs.States.{State, Opens, is_worn}
-use Rattle.element_maps.specs.Sessions.{same_map, synced_view}
+use Rattle.element_maps.specs.Sessions.{same_map, view_once_synced}
 use Rattle.file_core.specs.Refusals.{refuse, refused_by}
 use Rattle.file_handles.specs.Opening.{busy, first, when}
 use Rattle.command_text.specs.declared.calls.Call.{Call}
@@ -23,12 +23,13 @@ use Rattle.deploy_rows.specs.Recovering.{recovering, resetting}
 use Rattle.deploy_rows.specs.Rows.{◌>>=◌}
 use Rattle.open_storages.specs.Refusals.{error_of}
 use Rattle.run_model.specs.Calls.{Outcome, answered, app_step, beside_update, closing, durable, durable_state, found_or}
-use Rattle.run_model.specs.Calls.{lowest_handle, may_flush, opened_session, session_at, unless_held, unless_open}
+use Rattle.run_model.specs.Calls.{lowest_handle, may_flush, opened_session, session_at, unless_busy, unless_open}
 use Rattle.run_model.specs.Calls.{with_session, without_session}
-use Rattle.run_model.specs.Found.{Found, found_at, found_in, found_with, of_kind, shape_in, storage_in, with_state}
+use Rattle.run_model.specs.Found.{Found, found_at, found_in, found_with, of_kind, shape_in, storage_in}
+use Rattle.run_model.specs.Found.{with_storage_state}
 use Rattle.run_model.specs.LastingCalls.{set_twice}
-use Rattle.run_model.specs.Sessions.{Session, KeySession, keys, files, made_durable, seen_of, synced_of}
-use Rattle.run_model.specs.Steps.{goes_on, reaches_device, uses_device}
+use Rattle.run_model.specs.Sessions.{Session, KeySession, keys, files, made_durable, seen_of, synced_in_session}
+use Rattle.run_model.specs.Steps.{passes_refusals, reaches_device, uses_device}
 use Rattle.run_model.specs.Worlds.{Application, Stage, at_rest, update_in}
 
 -- ---- results, one after another
@@ -85,11 +86,12 @@ found_of_kind a name kind f found of = by a.says found
 module _ (app now : ℕ) (r : Application) (name : List ℕ) where
   -- ---- it reaches the device
 
-  reaches : (c : Call) → uses_device r.disk c ≡ true → r.stage ≡ at_rest → goes_on app r now c ≡ true
+  reaches : (c : Call) → uses_device r.disk c ≡ true → r.stage ≡ at_rest → passes_refusals app r now c ≡ true
       → IsTrue (reaches_device app r now c)
   reaches c uses rests goes = ap (λ (b : Bool). b && is_none (beside_update (update_in r.stage) c)
-      && goes_on app r now c) uses
-      ∙ (ap (λ (stage : Stage). is_none (beside_update (update_in stage) c) && goes_on app r now c) rests ∙ goes)
+      && passes_refusals app r now c) uses
+      ∙ (ap (λ (stage : Stage). is_none (beside_update (update_in stage) c) && passes_refusals app r now c) rests
+      ∙ goes)
 
   pub sync_reaches : (x : Outcome) → r.stage ≡ at_rest → app_step app r now (call.Sync name) ≡ Ok x
       → IsTrue (reaches_device app r now (call.Sync name))
@@ -104,7 +106,7 @@ module _ (app now : ℕ) (r : Application) (name : List ℕ) where
       → IsTrue (reaches_device app r now (call.Close name))
   close_reaches f x found rests row = reaches (call.Close name) (ap is_ok found) rests (ap is_ok row)
 
-  -- ---- the refusals in front
+  -- ---- the refusals before it
 
   pub sync_not_found : (e : PerError) → storage_in r.disk name (Some kinds.Keys) ≡ Err e
       → app_step app r now (call.Sync name) ≡ Err e
@@ -152,28 +154,30 @@ module _ (app now : ℕ) (r : Application) (name : List ℕ) where
 
     -- its state once it is durable
     abbrev pub next_state : State
-    next_state = Opens (synced_view (shape_in app f) v (synced_of s) (seen_of s)) []
+    next_state = Opens (view_once_synced (shape_in app f) v (synced_in_session s) (seen_of s)) []
 
     abbrev pub next_app : App
-    next_app = with_state r.disk f next_state
+    next_app = with_storage_state r.disk f next_state
 
     -- why it is refused
     abbrev pub due : Option PerError
-    due = when (not (same_map (synced_of s) (seen_of s)) && is_worn v) (error.LimitReached limit.Generations)
+    due = when (not (same_map (synced_in_session s) (seen_of s)) && is_worn v) (error.LimitReached limit.Generations)
 
     abbrev made : Application
     made = with_session (record r { disk = next_app }) f.number (made_durable s)
 
     state_is : durable_state app f f.state s ≡ refused_by due (Ok next_state)
     state_is = ap (λ (state : State). durable_state app f state s) opens
-        ∙ refuse_is (not (same_map (synced_of s) (seen_of s)) && is_worn v) (error.LimitReached limit.Generations)
+        ∙ refuse_is (not (same_map (synced_in_session s) (seen_of s)) && is_worn v)
+        (error.LimitReached limit.Generations)
         (Ok next_state)
 
     durable_is : durable app r f s ≡ refused_by due (Ok made)
     unfolding durable
     durable_is = ap (λ (row : Result State PerError). row >>= λ state.
-        Ok (with_session (record r { disk = with_state r.disk f state }) f.number (made_durable s))) state_is
-        ∙ after_refusal (λ (state : State). Ok (with_session (record r { disk = with_state r.disk f state }) f.number
+        Ok (with_session (record r { disk = with_storage_state r.disk f state }) f.number (made_durable s))) state_is
+        ∙ after_refusal (λ (state : State). Ok (with_session (record r { disk = with_storage_state r.disk f state })
+        f.number
         (made_durable s))) due next_state
 
     abbrev done : Application → Result Outcome PerError
@@ -207,7 +211,7 @@ module _ (app now : ℕ) (r : Application) (name : List ℕ) where
     ended_is = ap (λ (ss : List (Option Session)). record r { disk = next_app; sessions = ss })
         (set_twice r.sessions f.number (Some (made_durable s)) None)
 
-    held_row : (held : Option ℕ) → unless_held held (durable app r f s >>= λ after.
+    held_row : (held : Option ℕ) → unless_busy held (durable app r f s >>= λ after.
         Ok (answered answer.Done (without_session after f.number)))
         ≡ refused_by (first (busy held) due) (Ok (answered answer.Done ended))
     held_row (Some h) = refl
@@ -222,7 +226,7 @@ module _ (app now : ℕ) (r : Application) (name : List ℕ) where
     unfolding app_step
     close_row found no_keys = after_ok _ (storage_in r.disk name None) f found
         ∙ (after_ok _ (opened_session r f) s opened_is
-        ∙ (ap (λ (row : Result Application PerError). unless_held (lowest_handle s)
+        ∙ (ap (λ (row : Result Application PerError). unless_busy (lowest_handle s)
         (row >>= λ after. Ok (answered answer.Done (without_session after f.number)))) (closing_is s no_keys)
         ∙ held_row (lowest_handle s)))
       where
@@ -238,7 +242,7 @@ module _ (app now : ℕ) (r : Application) (name : List ℕ) where
   close_keys_row f k open_there found = after_ok _ (storage_in r.disk name None) f found
       ∙ after_ok _ (opened_session r f) (keys k) (ap (λ (o : Option Session). found_or o error.NotOpen) open_there)
 
-  -- ---- a closed storage is made anew
+  -- ---- a closed storage is rebuilt
 
   pub recover_not_found : (e : PerError) → storage_in r.disk name None ≡ Err e
       → app_step app r now (call.RecoverStorage name) ≡ Err e
@@ -272,7 +276,7 @@ module _ (app now : ℕ) (r : Application) (name : List ℕ) where
 
     -- the row of a storage that is closed
     abbrev pub rebuilt : Result State PerError → Result Outcome PerError
-    rebuilt row = row >>= λ state. Ok (answered answer.Done (record r { disk = with_state r.disk f state }))
+    rebuilt row = row >>= λ state. Ok (answered answer.Done (record r { disk = with_storage_state r.disk f state }))
 
     pub recover_row : session_at r f.number ≡ None → app_step app r now (call.RecoverStorage name)
         ≡ rebuilt (recovering f.config now f.state)

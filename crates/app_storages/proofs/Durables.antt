@@ -16,7 +16,7 @@ use Rattle.element_state.specs.declared.shapes.View.{View}
 use Rattle.element_state.specs.Clean.{IsClean}
 use Rattle.element_state.specs.States.{State, Opens, store_at}
 use Rattle.element_state.specs.Written.{IsWithin, map_cost}
-use Rattle.element_maps.specs.Sessions.{synced_view}
+use Rattle.element_maps.specs.Sessions.{view_once_synced}
 use Rattle.element_maps.specs.Storages.{IsStoring}
 use Rattle.element_store.specs.Committing.{index_length}
 use Rattle.element_store.specs.Stores as stores
@@ -35,19 +35,19 @@ use Rattle.deploy.specs.Roots.{root_says}
 use Rattle.open_storages.specs.declared.opens.Open.{Open}
 use Rattle.open_storages.specs.declared.syncing.Durable.{Durable}
 use Rattle.open_storages.specs.declared.syncing.Durable.TheVariants as made
-use Rattle.open_storages.specs.Durables.{IsMade, WritesAtMost}
+use Rattle.open_storages.specs.Durables.{IsDurableOrRefused, WritesAtMost}
 use Rattle.open_storages.specs.Opens.{config_in, session_in, store_in}
 use Rattle.open_storages.specs.Refusals.{durable_view, is_still}
 use Rattle.run_model.specs.Calls.{Outcome, answered, app_step, session_at, concluded}
-use Rattle.run_model.specs.Found.{Found, of_kind, shape_in, with_state}
+use Rattle.run_model.specs.Found.{Found, of_kind, shape_in, with_storage_state}
 use Rattle.run_model.specs.Runtimes.{WritesWithin, is_refusal}
-use Rattle.run_model.specs.Sessions.{Session, seen_of, synced_of}
+use Rattle.run_model.specs.Sessions.{Session, seen_of, synced_in_session}
 use Rattle.run_model.specs.Steps.{found_named, reaches_device, uses_device}
 use Rattle.run_model.specs.Worlds.{Application, at_rest}
-use Rattle.app_storages.specs.Answers.{MayLead}
-use Rattle.app_storages.specs.Durables.{IsSet, Says}
+use Rattle.app_storages.specs.Answers.{StorageCallMayLead}
+use Rattle.app_storages.specs.Durables.{IsSet, RepliesDone}
 use Rattle.app_storages.specs.Finding.{IsLocated, config_of, found_on, shape_at}
-use Rattle.app_storages.specs.Handled.{IsHandled, MayWrite, StaysInPlace}
+use Rattle.app_storages.specs.Handled.{IsStorageCallHandled, MayWrite, StaysInPlace}
 use Rattle.app_storages.specs.Slots.{IsOpenAt, IsResting, resting_with, sessions_in, slot_at}
 use Rattle.app_storages.specs.StorageLaws.{StorageLaws}
 use Rattle.app_storages.specs.declared.finding.Located.{Located}
@@ -83,7 +83,7 @@ set_over n x was mid is emptied set = set ∙ (ap (λ (xs : List (Option Open)).
 
 pub record Makes (told : Bool) (storage : Open) (refused : Option PerError) (old new : Medium) (Same : Type 0)
     (result : Result Durable Stop) : Type 0 where
-  pub done : IfOk result (IsMade told new.image storage refused)
+  pub done : IfOk result (IsDurableOrRefused told new.image storage refused)
   pub due : (e : PerError) → refused ≡ Some e → (result ≡ Ok (made.Refused storage e)) × Same
   pub unchanged : is_still storage ≡ true → IsOk result × Same
   pub quiet : Quiet old → OnOk result (Quiet new)
@@ -139,7 +139,8 @@ module _ (laws : StorageLaws) (texts : TextLaw) (told : Bool) (app now : ℕ) (r
   used = at.used
 
   pub shape_in_is : shape_in app f ≡ stores.shape_of (store_in storage)
-  shape_in_is = ap (λ (a : ℕ). places.shape_of a l.bank l.number (config_of l)) (sym located.app_is) ∙ sym shape_there
+  shape_in_is = ap (λ (a : ℕ). places.storage_shape a l.bank l.number (config_of l)) (sym located.app_is)
+      ∙ sym shape_there
 
   pub session_is : session_at before f.number ≡ Some s
   session_is = session_slot old.image app was l.number ∙ ap (option_map session_in) there_is
@@ -156,18 +157,22 @@ module _ (laws : StorageLaws) (texts : TextLaw) (told : Bool) (app now : ℕ) (r
       (still : is_still storage ≡ true → new.written ≡ old.written)
       (at_most : WritesAtMost storage old new) where
     bound : (w : View) → w ≡ v → IsWithin (shape_in app f).place.copies
-        (map_cost f.config.kind (synced_of s) (seen_of s))
-        (index_length f.config.kind (synced_view (shape_in app f) w (synced_of s) (seen_of s)).entries) old.written
+        (map_cost f.config.kind (synced_in_session s) (seen_of s))
+        (index_length f.config.kind (view_once_synced (shape_in app f) w (synced_in_session s) (seen_of s)).entries)
+        old.written
         new.written
     bound w same = subst (λ (u : View). IsWithin (shape_in app f).place.copies
-        (map_cost f.config.kind (synced_of s) (seen_of s))
-        (index_length f.config.kind (synced_view (shape_in app f) u (synced_of s) (seen_of s)).entries) old.written
+        (map_cost f.config.kind (synced_in_session s) (seen_of s))
+        (index_length f.config.kind (view_once_synced (shape_in app f) u (synced_in_session s) (seen_of s)).entries)
+        old.written
         new.written) (sym same)
-        (subst (λ (shape : Shape). IsWithin shape.place.copies (map_cost f.config.kind (synced_of s) (seen_of s))
-        (index_length f.config.kind (synced_view shape v (synced_of s) (seen_of s)).entries) old.written new.written)
+        (subst (λ (shape : Shape). IsWithin shape.place.copies
+        (map_cost f.config.kind (synced_in_session s) (seen_of s))
+        (index_length f.config.kind (view_once_synced shape v (synced_in_session s) (seen_of s)).entries) old.written
+        new.written)
         (sym shape_in_is)
         (subst (λ (d : StorageData). IsWithin (stores.shape_of (store_in storage)).place.copies
-        (map_cost d.kind (synced_of s) (seen_of s))
+        (map_cost d.kind (synced_in_session s) (seen_of s))
         (index_length d.kind (durable_view storage).entries) old.written new.written) config_is at_most))
 
     same_view : (w : View) (others : List View) → Opens v [] ≡ Opens w others → w ≡ v
@@ -193,7 +198,7 @@ module _ (laws : StorageLaws) (texts : TextLaw) (told : Bool) (app now : ℕ) (r
 
   -- the row leads to this application, or refuses it
   module _ (c : Call) (refused : Option PerError) (after : Application)
-      (disk : after.disk ≡ with_state (app_at old.image app) f next) (stage : after.stage ≡ at_rest)
+      (disk : after.disk ≡ with_storage_state (app_at old.image app) f next) (stage : after.stage ≡ at_rest)
       (row : IsTrue told → app_step app before now c ≡ refused_by refused (Ok (answered answer.Done after)))
       (named : IsTrue told → found_named before c ≡ Some (Ok f))
       (reaches : IsTrue told → (x : Outcome) → app_step app before now c ≡ Ok x
@@ -204,11 +209,12 @@ module _ (laws : StorageLaws) (texts : TextLaw) (told : Bool) (app now : ℕ) (r
     pub row_err : (e : PerError) → refused ≡ Some e → IsTrue told → app_step app before now c ≡ Err e
     row_err e due tells = row tells ∙ ap (λ (r : Option PerError). refused_by r (Ok (answered answer.Done after))) due
 
-    leads : refused ≡ None → IsTrue told → MayLead app now c before (with_state (app_at old.image app) f next)
+    leads : refused ≡ None → IsTrue told → StorageCallMayLead app now c before
+        (with_storage_state (app_at old.image app) f next)
     leads none tells = inr (sym disk ∙ sym (ap (λ (x : Result Outcome PerError). (concluded before x).1.disk)
         (row_ok none tells)))
 
-    settles : (reply : Reply) → Says reply None → refused ≡ None → IsTrue told
+    settles : (reply : Reply) → RepliesDone reply None → refused ≡ None → IsTrue told
         → (reply, after) ≡ concluded before (app_step app before now c)
     settles reply says none tells = ap (λ (r : Reply). (r, after)) says ∙ sym
         (ap (concluded before) (row_ok none tells))
@@ -222,7 +228,7 @@ module _ (laws : StorageLaws) (texts : TextLaw) (told : Bool) (app now : ℕ) (r
       -- memory ran out, or the device failed
       pub stopped_handled : (is : Slots) → IsSet l.number None was is → (e : Stop) → refused ≡ None
           → (e ≡ Device → Rose old.faults new.faults)
-          → IsHandled told app now root c was is old new Same (Err e)
+          → IsStorageCallHandled told app now root c was is old new Same (Err e)
       stopped_handled is emptied Device none cause = record {
         ends = lost laws told app now root c was is old new l located resting next storing
             (λ tells. reaches tells (answered answer.Done after) (row_ok none tells)) (leads none) named emptied
@@ -241,11 +247,11 @@ module _ (laws : StorageLaws) (texts : TextLaw) (told : Bool) (app now : ℕ) (r
       }
 
       -- it is done
-      pub done_handled : (is : Slots) (reply : Reply) → refused ≡ None → Says reply None
+      pub done_handled : (is : Slots) (reply : Reply) → refused ≡ None → RepliesDone reply None
           → IsResting told new.image app root is → (IsTrue told → store_at new.image (shape_at l) ≡ next)
           → sessions_in is ≡ after.sessions → (IsTrue told → IsClean (shape_at l) old.image
           → IsClean (shape_at l) new.image) → (Quiet old → Quiet new) → new.faults ≡ old.faults
-          → IsHandled told app now root c was is old new Same (Ok reply)
+          → IsStorageCallHandled told app now root c was is old new Same (Ok reply)
       done_handled is reply none says rests there sessions clean quiet passes = record {
         ends = record {
           answered = λ tells. answered_so laws told app now root c was is old new l located resting next storing tells
@@ -263,7 +269,7 @@ module _ (laws : StorageLaws) (texts : TextLaw) (told : Bool) (app now : ℕ) (r
         time = storing.time;
       }
         where
-          not_refusal : (r : Reply) → Says r None → is_refusal r.answer ≡ true → ⊥
+          not_refusal : (r : Reply) → RepliesDone r None → is_refusal r.answer ≡ true → ⊥
           not_refusal r done refusal = true≢false (sym refusal ∙ ap (λ (x : Reply). is_refusal x.answer) done)
 
           done_not_failed : answer.Done ≡ answer.Error error.PhysicalStorageFailure → ⊥

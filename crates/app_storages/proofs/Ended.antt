@@ -22,14 +22,14 @@ use Rattle.deploy.specs.Roots.{root_says}
 use Rattle.open_storages.specs.declared.opens.Open.{Open}
 use Rattle.open_storages.specs.Opens.{session_in}
 use Rattle.run_model.specs.Calls.{app_step, concluded}
-use Rattle.run_model.specs.Found.{Found, with_state}
+use Rattle.run_model.specs.Found.{Found, with_storage_state}
 use Rattle.run_model.specs.Sessions.{Session}
 use Rattle.run_model.specs.Steps.{after_failure, found_named, reaches_device}
 use Rattle.run_model.specs.Worlds.{Application, Stage, at_rest}
-use Rattle.app_storages.specs.Answers.{CallsTo, HasStopped, IsAnswered, MayLead}
-use Rattle.app_storages.specs.Durables.{IsSet, Says}
+use Rattle.app_storages.specs.Answers.{CallsTo, HasStorageCallStopped, IsStorageCallAnswered, StorageCallMayLead}
+use Rattle.app_storages.specs.Durables.{IsSet, RepliesDone}
 use Rattle.app_storages.specs.Finding.{IsEarly, IsLocated, config_of, found_on, shape_at}
-use Rattle.app_storages.specs.Handled.{IsHandled, IsLost, StaysInPlace}
+use Rattle.app_storages.specs.Handled.{IsLost, IsStorageCallHandled, StaysInPlace}
 use Rattle.app_storages.specs.Slots.{IsResting, resting_with, sessions_in}
 use Rattle.app_storages.specs.StorageLaws.{StorageLaws}
 use Rattle.app_storages.specs.declared.finding.Located.{Located}
@@ -52,9 +52,9 @@ module _ (laws : StorageLaws) (told : Bool) (app now : ℕ) (root : Root) (c : C
     (resting : IsResting told m.image app root was) where
   -- it was refused
   pub early_handled : TextLaw → (is : Slots) → is.open.items ≡ was.open.items → (e : PerError) → IsEarly e
-      → (reply : Reply) → Says reply (Some e)
+      → (reply : Reply) → RepliesDone reply (Some e)
       → (IsTrue told → app_step app (resting_with m.image app was) now c ≡ Err e)
-      → IsHandled told app now root c was is m m Same (Ok reply)
+      → IsStorageCallHandled told app now root c was is m m Same (Ok reply)
   early_handled texts is back e early reply says row = record {
     ends = record {
       answered = λ tells. record {
@@ -93,7 +93,7 @@ module _ (laws : StorageLaws) (told : Bool) (app now : ℕ) (root : Root) (c : C
   }
 
   -- memory ran out
-  pub starved_handled : (is : Slots) → IsHandled told app now root c was is m m Same (Err OutOfMemory)
+  pub starved_handled : (is : Slots) → IsStorageCallHandled told app now root c was is m m Same (Err OutOfMemory)
   starved_handled is = record {
     ends = λ tells. record {
       next = app_at m.image app;
@@ -120,14 +120,15 @@ module _ (laws : StorageLaws) (told : Bool) (app now : ℕ) (root : Root) (c : C
   f = found_on old.image l
 
   abbrev next_app : App
-  next_app = with_state (app_at old.image app) f next
+  next_app = with_storage_state (app_at old.image app) f next
 
   calls : IsTrue told → CallsTo app next_app old new
   calls tells = storing_calls laws app root l located told tells old.image resting.root_at next old new refl storing
 
   -- where the device failed, its session ends
   pub lost : (IsTrue told → IsTrue (reaches_device app before now c))
-      → (IsTrue told → MayLead app now c before next_app) → (IsTrue told → found_named before c ≡ Some (Ok f))
+      → (IsTrue told → StorageCallMayLead app now c before next_app)
+      → (IsTrue told → found_named before c ≡ Some (Ok f))
       → IsSet l.number None was is → Rose old.faults new.faults → IsLost told app now root c was is old new
   lost reaches leads named emptied rose = record {
     failed = λ tells. record {
@@ -161,7 +162,8 @@ module _ (laws : StorageLaws) (told : Bool) (app now : ℕ) (root : Root) (c : C
       (subst (λ (h : Found). IsBeside app h.bank h.number file)
       (same_found (found_named before c) f g (named tells) is) beside)))
 
-  pub stopped : (IsTrue told → MayLead app now c before next_app) → IsTrue told → HasStopped app now c before old new
+  pub stopped : (IsTrue told → StorageCallMayLead app now c before next_app) → IsTrue told
+      → HasStorageCallStopped app now c before old new
   stopped leads tells = record { next = next_app; leads = leads tells; calls = calls tells }
 
   -- the application as its row has it
@@ -169,13 +171,13 @@ module _ (laws : StorageLaws) (told : Bool) (app now : ℕ) (root : Root) (c : C
     app_is : app_at new.image app ≡ next_app
     app_is = (stored_app laws app root l located told tells old.image resting.root_at new.image
         (storing.elsewhere tells)).0
-        ∙ ap (λ (state : State). with_state (app_at old.image app) f state) there
+        ∙ ap (λ (state : State). with_storage_state (app_at old.image app) f state) there
 
     pub answered_so : (reply : Reply) (after : Application) → (reply, after) ≡ concluded before
         (app_step app before now c)
         → after.disk ≡ next_app → after.stage ≡ at_rest → sessions_in is ≡ after.sessions
         → (IsClean (shape_at l) old.image → IsClean (shape_at l) new.image)
-        → IsAnswered app now c before (resting_with new.image app is) reply old new
+        → IsStorageCallAnswered app now c before (resting_with new.image app is) reply old new
     answered_so reply after row disk stage sessions clean = record {
       row = ap (λ (a : Application). (reply, a)) after_is ∙ row;
       calls = subst (λ (a : App). CallsTo app a old new) (sym app_is) (calls tells);

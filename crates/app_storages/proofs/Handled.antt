@@ -23,69 +23,73 @@ use Rattle.deploy.specs.declared.roots.Root.{Root}
 use Rattle.run_model.specs.Calls.{app_step, concluded}
 use Rattle.run_model.specs.Runtimes.{IsUnwritten, is_refusal}
 use Rattle.run_model.specs.Worlds.{Application}
-use Rattle.app_storages.specs.Answers.{CallsTo, HasFailed, HasStopped, IsAnswered}
-use Rattle.app_storages.specs.Handled.{IsHandled, MayWrite}
+use Rattle.app_storages.specs.Answers.{CallsTo, HasStorageCallFailed, HasStorageCallStopped, IsStorageCallAnswered}
+use Rattle.app_storages.specs.Handled.{IsStorageCallHandled, MayWrite}
 use Rattle.app_storages.specs.Slots.{IsResting, resting_with}
 use Rattle.app_storages.specs.declared.slots.Slots.{Slots}
 
 -- ---- each promise
 
 module _ {told : Bool} {app now : ℕ} {root : Root} {c : Call} {was is : Slots} {old new : Medium} {Same : Type 0} where
-  pub answered_of : (result : Result Reply Stop) → IsHandled told app now root c was is old new Same result
+  pub answered_of : (result : Result Reply Stop) → IsStorageCallHandled told app now root c was is old new Same result
       → IsTrue told
-      → IfOk result (λ reply. IsAnswered app now c (resting_with old.image app was) (resting_with new.image app is)
+      → IfOk result (λ reply. IsStorageCallAnswered app now c (resting_with old.image app was)
+      (resting_with new.image app is)
       reply old new)
   answered_of (Ok reply) handled tells = handled.ends.answered tells
   answered_of (Err e) handled tells = tt
 
-  pub failed_of : (result : Result Reply Stop) → IsHandled told app now root c was is old new Same result → IsTrue told
+  pub failed_of : (result : Result Reply Stop) → IsStorageCallHandled told app now root c was is old new Same result
+      → IsTrue told
       → IsErrOf result Device
-      → HasFailed app now c (resting_with old.image app was) (resting_with new.image app is) old new
+      → HasStorageCallFailed app now c (resting_with old.image app was) (resting_with new.image app is) old new
   failed_of (Ok reply) handled tells err = absurd cc
   failed_of (Err Device) handled tells err = handled.ends.failed tells
   failed_of (Err OutOfMemory) handled tells err = absurd cc
 
-  pub stopped_of : (result : Result Reply Stop) → IsHandled told app now root c was is old new Same result → IsTrue told
+  pub stopped_of : (result : Result Reply Stop) → IsStorageCallHandled told app now root c was is old new Same result
+      → IsTrue told
       → IsErrOf result OutOfMemory
-      → HasStopped app now c (resting_with old.image app was) old new
+      → HasStorageCallStopped app now c (resting_with old.image app was) old new
   stopped_of (Ok reply) handled tells err = absurd cc
   stopped_of (Err Device) handled tells err = absurd cc
   stopped_of (Err OutOfMemory) handled tells err = handled.ends tells
 
-  pub memory_of : (result : Result Reply Stop) → IsHandled told app now root c was is old new Same result
+  pub memory_of : (result : Result Reply Stop) → IsStorageCallHandled told app now root c was is old new Same result
       → (IsErrOf result OutOfMemory → ⊥)
       → IsResting told new.image app root is
   memory_of (Ok reply) handled fed = handled.ends.memory
   memory_of (Err Device) handled fed = handled.ends.memory
   memory_of (Err OutOfMemory) handled fed = absurd (fed refl)
 
-  pub quiet_of : (result : Result Reply Stop) → IsHandled told app now root c was is old new Same result → Quiet old
+  pub quiet_of : (result : Result Reply Stop) → IsStorageCallHandled told app now root c was is old new Same result
+      → Quiet old
       → OnOk result (Quiet new)
   quiet_of (Ok reply) handled quiet = handled.ends.quiet quiet
   quiet_of (Err e) handled quiet = tt
 
-  pub unwritten_of : (result : Result Reply Stop) → IsHandled told app now root c was is old new Same result
+  pub unwritten_of : (result : Result Reply Stop) → IsStorageCallHandled told app now root c was is old new Same result
       → IfOk result (λ reply. is_refusal reply.answer ≡ true → IsUnwritten old new)
   unwritten_of (Ok reply) handled = handled.ends.unwritten
   unwritten_of (Err e) handled = tt
 
-  pub cause_of : (result : Result Reply Stop) → IsHandled told app now root c was is old new Same result
+  pub cause_of : (result : Result Reply Stop) → IsStorageCallHandled told app now root c was is old new Same result
       → IsErrOf result Device → Rose old.faults new.faults
   cause_of (Ok reply) handled err = absurd cc
   cause_of (Err Device) handled err = handled.ends.cause
   cause_of (Err OutOfMemory) handled err = absurd cc
 
-  pub passes_of : (result : Result Reply Stop) → IsHandled told app now root c was is old new Same result
+  pub passes_of : (result : Result Reply Stop) → IsStorageCallHandled told app now root c was is old new Same result
       → OnOk result (new.faults ≡ old.faults)
   passes_of (Ok reply) handled = handled.ends.passes
   passes_of (Err e) handled = tt
 
-  pub unfailed_of : (result : Result Reply Stop) → IsHandled told app now root c was is old new Same result
+  pub unfailed_of : (result : Result Reply Stop) → IsStorageCallHandled told app now root c was is old new Same result
       → IfOk result (λ reply. reply.answer ≢ answer.Error error.PhysicalStorageFailure)
   unfailed_of (Ok reply) handled = handled.ends.unfailed
   unfailed_of (Err e) handled = tt
 
-  pub text_of : (result : Result Reply Stop) → IsHandled told app now root c was is old new Same result
+  pub text_of : (result : Result Reply Stop) → IsStorageCallHandled told app now root c was is old new Same result
       → IfOk result (λ reply. HasText reply.answer)
   text_of (Ok reply) handled = handled.ends.text
   text_of (Err e) handled = tt
@@ -135,7 +139,7 @@ pub refused_handled : UntouchedAppLaw → (told : Bool) (app now : ℕ) (root : 
     → reply ≡ record { reports = []; answer = answer.Error e }
     → is_refusal (answer.Error e) ≡ true → HasText (answer.Error e)
     → (IsTrue told → app_step app (resting_with m.image app slots) now c ≡ Err e)
-    → IsHandled told app now root c slots slots m m Same (Ok reply)
+    → IsStorageCallHandled told app now root c slots slots m m Same (Ok reply)
 refused_handled untouched told app now root c slots m Same law resting same e reply is plainly text row = record {
   ends = record {
     answered = λ tells. record {

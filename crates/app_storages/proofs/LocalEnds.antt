@@ -19,7 +19,7 @@ use Rattle.command_text.specs.declared.replies.Answer.TheVariants as answer
 use Rattle.command_text.specs.declared.replies.Reply.{Reply}
 use Rattle.command_text.specs.Replies.{HasText}
 use Rattle.deploy_laws.specs.Apps.{app_at}
-use Rattle.deploy_laws.specs.Places.{shape_of}
+use Rattle.deploy_laws.specs.Places.{storage_shape}
 use Rattle.deploy.specs.declared.errors.Stop.{Stop}
 use Rattle.deploy.specs.declared.errors.Stop.TheVariants.{Device, OutOfMemory}
 use Rattle.deploy.specs.declared.roots.Root.{Root}
@@ -32,8 +32,8 @@ use Rattle.run_model.specs.Sessions.{Session, in_session}
 use Rattle.run_model.specs.Worlds.{Application, Sessions, at_rest}
 use Rattle.app_storages.specs.Durables.{IsSet, IsShown}
 use Rattle.app_storages.specs.Finding.{IsEarly, IsLocated, config_of, found_on}
-use Rattle.app_storages.specs.Handled.{IsHandled}
-use Rattle.app_storages.specs.Openings.{Refuses, Concludes}
+use Rattle.app_storages.specs.Handled.{IsStorageCallHandled}
+use Rattle.app_storages.specs.Openings.{TellsRefusal, TellsAnswer}
 use Rattle.app_storages.specs.Slots.{IsOpenAt, IsResting, resting_with, sessions_in, slot_at}
 use Rattle.app_storages.specs.StorageLaws.{StorageLaws}
 use Rattle.app_storages.specs.declared.finding.Located.{Located}
@@ -51,7 +51,7 @@ pub idle_handled : StorageLaws → (told : Bool) (app now : ℕ) (root : Root) (
     → (IsTrue told → (reply, resting_with m.image app is)
     ≡ concluded (resting_with m.image app was) (app_step app (resting_with m.image app was) now c))
     → reply.answer ≢ answer.Error error.PhysicalStorageFailure → HasText reply.answer
-    → IsHandled told app now root c was is m m Same (Ok reply)
+    → IsStorageCallHandled told app now root c was is m m Same (Ok reply)
 idle_handled laws told app now root c was is m Same same law was_resting is_resting reply row unfailed text = record {
   ends = record {
     answered = λ tells. record {
@@ -97,7 +97,7 @@ pub refused_before : StorageLaws → TextLaw → (told : Bool) (app now : ℕ) (
     → IsResting told m.image app root was → is.open.items ≡ was.open.items → (e : PerError) → IsEarly e
     → (reply : Reply) → reply ≡ record { reports = []; answer = answer.Error e }
     → (IsTrue told → app_step app (resting_with m.image app was) now c ≡ Err e)
-    → IsHandled told app now root c was is m m Same (Ok reply)
+    → IsStorageCallHandled told app now root c was is m m Same (Ok reply)
 refused_before laws texts told app now root c was is m Same same law resting back e early reply says row =
     idle_handled laws told app now root c was is m Same same law resting
     (resting_same told m.image app root was is back resting) reply
@@ -115,7 +115,7 @@ refused_before laws texts told app now root c was is m Same same law resting bac
     (sym (ap (λ (r : Reply). r.answer) says) ∙ failed)))
     (subst (λ (r : Reply). HasText r.answer) (sym says) (texts e early.no_want))
 
--- a slot in which nothing lies, emptied
+-- an empty slot, emptied
 pub emptied_same : (was is : Slots) (n : ℕ) → n < length was.open.items → slot_at was n ≡ None
     → is.open.items ≡ slice_set was.open.items n None → is.open.items ≡ was.open.items
 emptied_same was is n lt none set = set ∙ set_same was.open.items n None (none_there was n lt none)
@@ -148,7 +148,8 @@ module _ (laws : StorageLaws) (texts : TextLaw) (told : Bool) (app now : ℕ) (r
   later_open : IsOpenAt told m.image app located.version l.number later
   later_open = let was_open = (open_there laws app root l located told m.image was o resting there_is).2 in record {
     configured = was_open.configured ∙ ap (λ (s : StorageData). Some s) (sym config);
-    placed = ap stores.shape_of store ∙ was_open.placed ∙ ap (shape_of app located.version.bank l.number) (sym config);
+    placed = ap stores.shape_of store ∙ was_open.placed ∙ ap (storage_shape app located.version.bank l.number)
+        (sym config);
     used = subst (λ (s : Store). IsUsed told m.image s) (sym store) was_open.used;
     kind = shown.kind;
     shows = shown.shows;
@@ -178,7 +179,7 @@ module _ (laws : StorageLaws) (texts : TextLaw) (told : Bool) (app now : ℕ) (r
 
   answered_handled : (a : Answer) (reply : Reply) → reply ≡ record { reports = []; answer = a }
       → in_session (config_in o) now (session_in o) c ≡ Ok (a, session_in later) → HasText a
-      → IsHandled told app now root c was is m m Same (Ok reply)
+      → IsStorageCallHandled told app now root c was is m m Same (Ok reply)
   answered_handled a reply says row text = idle_handled laws told app now root c was is m Same same law resting
       is_resting reply
       (λ tells. ap (λ (r : Reply). (r, resting_with m.image app is)) says
@@ -194,7 +195,7 @@ module _ (laws : StorageLaws) (texts : TextLaw) (told : Bool) (app now : ℕ) (r
       → reply ≡ record { reports = []; answer = answer.Error e }
       → IsRefusal (in_session (config_in o) now (session_in o) c) e → e ≢ error.PhysicalStorageFailure
       → session_in later ≡ session_in o
-      → IsHandled told app now root c was is m m Same (Ok reply)
+      → IsStorageCallHandled told app now root c was is m m Same (Ok reply)
   refused_in e reply fed says row unfailed unchanged = idle_handled laws told app now root c was is m Same same law
       resting is_resting reply
       (λ tells. ap (λ (x : Application). (reply, x)) (with_same unchanged)
@@ -205,9 +206,9 @@ module _ (laws : StorageLaws) (texts : TextLaw) (told : Bool) (app now : ℕ) (r
       (sym (ap (λ (r : Reply). r.answer) says) ∙ failed)))
       (subst (λ (r : Reply). HasText r.answer) (sym says) (texts e fed))
 
-  refuses_handled : (e : PerError) (result : Result Reply Stop) → Refuses e result
+  refuses_handled : (e : PerError) (result : Result Reply Stop) → TellsRefusal e result
       → IsRefusal (in_session (config_in o) now (session_in o) c) e → e ≢ error.PhysicalStorageFailure
-      → session_in later ≡ session_in o → IsHandled told app now root c was is m m Same result
+      → session_in later ≡ session_in o → IsStorageCallHandled told app now root c was is m m Same result
   refuses_handled e (Ok reply) refused row unfailed unchanged =
       refused_in e reply refused.0 refused.1 row unfailed unchanged
   refuses_handled e (Err Device) refused row unfailed unchanged = absurd refused
@@ -215,13 +216,13 @@ module _ (laws : StorageLaws) (texts : TextLaw) (told : Bool) (app now : ℕ) (r
       starved_handled laws told app now root c was m Same same law resting is
 
   -- as the call on the storage was answered
-  pub local_handled : (given : Result Answer PerError) (result : Result Reply Stop) → Concludes given result
+  pub local_handled : (given : Result Answer PerError) (result : Result Reply Stop) → TellsAnswer given result
       → IfOk given (λ a. in_session (config_in o) now (session_in o) c ≡ Ok (a, session_in later)) → IfOk given HasText
       → IfErr given (λ e. IsRefusal (in_session (config_in o) now (session_in o) c) e)
       → IfErr given (λ e. e ≢ error.PhysicalStorageFailure)
-      → OnErr given (session_in later ≡ session_in o) → IsHandled told app now root c was is m m Same result
+      → OnErr given (session_in later ≡ session_in o) → IsStorageCallHandled told app now root c was is m m Same result
   local_handled (Ok a) result settles row text refused unfailed unchanged =
-      subst (λ (r : Result Reply Stop). IsHandled told app now root c was is m m Same r) (sym settles)
+      subst (λ (r : Result Reply Stop). IsStorageCallHandled told app now root c was is m m Same r) (sym settles)
       (answered_handled a (record { reports = []; answer = a }) refl row text)
   local_handled (Err e) result settles row text refused unfailed unchanged =
       refuses_handled e result settles refused unfailed unchanged

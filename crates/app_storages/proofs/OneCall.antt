@@ -6,13 +6,13 @@ use Rattle.command_text.specs.declared.calls.Call.{Call}
 use Rattle.command_text.specs.declared.replies.Reply.{Reply}
 use Rattle.deploy.specs.declared.errors.Stop.{Stop}
 use Rattle.deploy.specs.declared.roots.Root.{Root}
-use Rattle.app_storages.specs.Handled.{IsHandled}
+use Rattle.app_storages.specs.Handled.{IsStorageCallHandled}
 use Rattle.app_storages.specs.declared.slots.Slots.{Slots}
 
 pub handled_as : {told : Bool} {app now : ℕ} {root : Root} {was is : Slots} {old new : Medium} {Same : Type 0}
     {result : Result Reply Stop} (c k : Call) → k ≡ c
-    → IsHandled told app now root k was is old new Same result
-    → IsHandled told app now root c was is old new Same result
+    → IsStorageCallHandled told app now root k was is old new Same result
+    → IsStorageCallHandled told app now root c was is old new Same result
 handled_as {told = told} {app = app} {now = now} {root = root} {was = was} {is = is} {old = old} {new = new}
     {Same = Same} {result = result} c k e handled = subst
-    (λ (x : Call). IsHandled told app now root x was is old new Same result) e handled
+    (λ (x : Call). IsStorageCallHandled told app now root x was is old new Same result) e handled

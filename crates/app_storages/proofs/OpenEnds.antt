@@ -21,7 +21,7 @@ use Rattle.element_store.specs.Stores.{IsUsed, view_in}
 use Rattle.command_text.specs.declared.replies.Answer.TheVariants as answer
 use Rattle.command_text.specs.declared.replies.Reply.{Reply}
 use Rattle.deploy_laws.specs.Apps.{app_at}
-use Rattle.deploy_laws.specs.Places.{shape_of}
+use Rattle.deploy_laws.specs.Places.{storage_shape}
 use Rattle.deploy_rows.specs.Recovering.{is_content}
 use Rattle.deploy.specs.declared.errors.Stop.{Stop}
 use Rattle.deploy.specs.declared.errors.Stop.TheVariants.{Device, OutOfMemory}
@@ -29,18 +29,18 @@ use Rattle.deploy.specs.declared.roots.Root.{Root}
 use Rattle.deploy.specs.Roots.{IsRootOn, root_says}
 use Rattle.open_storages.specs.declared.opens.Open.{Open}
 use Rattle.open_storages.specs.declared.opening.Opening.TheVariants as given
-use Rattle.open_storages.specs.Openings.{IsOpeningOf, IsPlaced, Shows}
+use Rattle.open_storages.specs.Openings.{IsOpeningOf, IsWhereConfigured, ShowsView}
 use Rattle.open_storages.specs.Opens.{session_in, store_in}
 use Rattle.command_text.specs.Replies.{HasText}
-use Rattle.run_model.specs.Calls.{app_step, opened, session_at, concluded}
+use Rattle.run_model.specs.Calls.{app_step, storage_opened, session_at, concluded}
 use Rattle.run_model.specs.Runtimes.{is_refusal}
 use Rattle.run_model.specs.Steps.{found_named, uses_device}
-use Rattle.run_model.specs.Found.{Found, shape_in, storage_in, with_state}
+use Rattle.run_model.specs.Found.{Found, shape_in, storage_in, with_storage_state}
 use Rattle.run_model.specs.Sessions.{Session, session_of}
 use Rattle.run_model.specs.Worlds.{Application, at_rest}
 use Rattle.app_storages.specs.Durables.{IsSet, IsShown}
 use Rattle.app_storages.specs.Finding.{IsEarly, IsLocated, config_of, found_on, shape_at}
-use Rattle.app_storages.specs.Handled.{IsHandled, MayWrite, StaysInPlace}
+use Rattle.app_storages.specs.Handled.{IsStorageCallHandled, MayWrite, StaysInPlace}
 use Rattle.app_storages.specs.Openings.{corrupt_reply, open_call}
 use Rattle.app_storages.specs.Slots.{IsOpenAt, IsResting, resting_with, slot_at}
 use Rattle.app_storages.specs.StorageLaws.{StorageLaws}
@@ -54,7 +54,7 @@ use Rattle.app_storages.proofs.Storing.{resting_after, shape_is, stays_so}
 -- what was found opens, or is corrupt
 seen_by : (state : State) (shape : Shape) (config : StorageData) (o : Open) (reported : Vec Report Global)
     → IsOpeningOf state shape config (given.Opened o reported)
-    → (v : View) × (others : List View) × (state ≡ Opens v others) × Shows shape config v o reported.items
+    → (v : View) × (others : List View) × (state ≡ Opens v others) × ShowsView shape config v o reported.items
 seen_by (Opens v others) shape config o reported is = (v, others, refl, is)
 seen_by (Corrupt salvage others) shape config o reported is = absurd is
 
@@ -98,12 +98,12 @@ module _ (laws : StorageLaws) (told : Bool) (app now : ℕ) (root : Root) (kind 
   found_here : IsTrue told → storage_in before.disk name (Some kind) ≡ Ok f
   found_here tells = found old.image (resting.root_at.disk tells)
 
-  row : IsTrue told → app_step app before now (open_call kind name) ≡ Ok (opened app before f f.state)
+  row : IsTrue told → app_step app before now (open_call kind name) ≡ Ok (storage_opened app before f f.state)
   row tells = open_row app now before kind name f (found_here tells) (session_there old.image app was l.number ∙ closed)
 
   -- its shape, as the row has it
   shape_same : shape_in app f ≡ shape_at l
-  shape_same = ap (λ (a : ℕ). shape_of a l.bank l.number (config_of l)) (sym located.app_is)
+  shape_same = ap (λ (a : ℕ). storage_shape a l.bank l.number (config_of l)) (sym located.app_is)
 
   -- the slot is empty, and to empty it changes nothing
   emptied : IsSet l.number None was was
@@ -126,17 +126,17 @@ module _ (laws : StorageLaws) (told : Bool) (app now : ℕ) (root : Root) (kind 
     none_due : MayWrite app (open_call kind name) before old new
     none_due durable g s is there = absurd (true≢false (sym durable ∙ open_not_durable kind name))
 
-    same_app : IsTrue told → with_state (app_at old.image app) f (store_at old.image (shape_at l))
+    same_app : IsTrue told → with_storage_state (app_at old.image app) f (store_at old.image (shape_at l))
         ≡ app_at old.image app
     same_app tells = stays_so laws app root l located told tells old.image resting.root_at
 
     -- the device failed, or memory ran out
     pub open_failed : (stop : Stop) → (stop ≡ Device → Rose old.faults new.faults)
-        → IsHandled told app now root (open_call kind name) was was old new Same (Err stop)
+        → IsStorageCallHandled told app now root (open_call kind name) was was old new Same (Err stop)
     open_failed Device rose = record {
       ends = lost laws told app now root (open_call kind name) was was old new l located resting
           (store_at old.image (shape_at l)) (storing (store_at old.image (shape_at l)))
-          (λ tells. open_reaches app now before kind name (opened app before f f.state) refl (row tells))
+          (λ tells. open_reaches app now before kind name (storage_opened app before f f.state) refl (row tells))
           (λ tells. inl (same_app tells))
           named_so emptied (rose refl);
       idle = never_idle;
@@ -159,7 +159,7 @@ module _ (laws : StorageLaws) (told : Bool) (app now : ℕ) (root : Root) (kind 
         → (IsTrue told → IsOpeningOf (store_at old.image (shape_at l)) (shape_at l) (config_of l)
         (given.Corrupt report))
         → (reply : Reply) → reply ≡ corrupt_reply (config_of l).name report
-        → IsHandled told app now root (open_call kind name) was was old new Same (Ok reply)
+        → IsStorageCallHandled told app now root (open_call kind name) was was old new Same (Ok reply)
     open_corrupt report untouched quiet passes opening reply says = record {
       ends = record {
         answered = λ tells.
@@ -169,7 +169,7 @@ module _ (laws : StorageLaws) (told : Bool) (app now : ℕ) (root : Root) (kind 
             tells (ap (λ (i : Image). store_at i (shape_at l)) untouched.0) reply before
             (ap (λ (r : Reply). (r, before)) (says ∙ ap (corrupt_reply (config_of l).name)
             (seen.3 ∙ ap failed_report (sym shape_same)))
-            ∙ sym (ap (opened app before f) seen.2) ∙ sym (ap (concluded before) (row tells)))
+            ∙ sym (ap (storage_opened app before f) seen.2) ∙ sym (ap (concluded before) (row tells)))
             (sym (same_app tells)) refl refl (λ clean. subst (λ (i : Image). IsClean (shape_at l) i) (sym untouched.0)
             clean);
         memory = subst (λ (i : Image). IsResting told i app root was) (sym untouched.0) resting;
@@ -186,14 +186,15 @@ module _ (laws : StorageLaws) (told : Bool) (app now : ℕ) (root : Root) (kind 
     }
 
     -- it is open
-    pub open_opened : (o : Open) (reported : Vec Report Global) (is : Slots) → IsPlaced (shape_at l) (config_of l) o
+    pub open_opened : (o : Open) (reported : Vec Report Global) (is : Slots)
+        → IsWhereConfigured (shape_at l) (config_of l) o
         → IsUsed told new.image (store_in o) → IsShown o → Quiet new
         → new.faults ≡ old.faults → IsSet l.number (Some o) was is → (IsTrue told → IsClean (shape_at l) old.image
         → IsClean (shape_at l) new.image)
         → (IsTrue told → IsOpeningOf (store_at old.image (shape_at l)) (shape_at l) (config_of l)
         (given.Opened o reported))
         → (reply : Reply) → reply ≡ record { reports = reported.items; answer = answer.Done }
-        → IsHandled told app now root (open_call kind name) was is old new Same (Ok reply)
+        → IsStorageCallHandled told app now root (open_call kind name) was is old new Same (Ok reply)
     open_opened o reported is placed used shown quiet passes set clean opening reply says = record {
       ends = record {
         answered = λ tells.
@@ -202,7 +203,7 @@ module _ (laws : StorageLaws) (told : Bool) (app now : ℕ) (root : Root) (kind 
             let v = seen.0 in
             let next = Opens (mended_view (shape_at l) v) [] in
             let after : Application = record {
-              disk = with_state before.disk f next;
+              disk = with_storage_state before.disk f next;
               stage = at_rest;
               sessions =
                   slice_set before.sessions l.number (Some (session_of (config_of l).kind v));
@@ -215,13 +216,13 @@ module _ (laws : StorageLaws) (told : Bool) (app now : ℕ) (root : Root) (kind 
             ∙ ap (λ (sh : Shape). (
               record { reports = reports (is_content (config_of l).kind) sh v; answer = answer.Done },
               record {
-                disk = with_state before.disk f (Opens (mended_view sh v) []);
+                disk = with_storage_state before.disk f (Opens (mended_view sh v) []);
                 stage = at_rest;
                 sessions =
                     after.sessions;
               },
             )) (sym shape_same)
-            ∙ sym (ap (opened app before f) seen.2) ∙ sym (ap (concluded before) (row tells)))
+            ∙ sym (ap (storage_opened app before f) seen.2) ∙ sym (ap (concluded before) (row tells)))
             refl refl
             (sessions_set was is l.number (Some o) set ∙ ap (λ (s : Session).
             slice_set before.sessions l.number (Some s)) seen.3.session)
@@ -242,18 +243,20 @@ module _ (laws : StorageLaws) (told : Bool) (app now : ℕ) (root : Root) (kind 
       time = (storing (store_at old.image (shape_at l))).time;
     }
       where
-        opens_so : IsTrue told → (p : Open) → IsPlaced (shape_at l) (config_of l) p → IsUsed told new.image (store_in p)
+        opens_so : IsTrue told → (p : Open) → IsWhereConfigured (shape_at l) (config_of l) p
+            → IsUsed told new.image (store_in p)
             → (v : View) → view_in (store_in p) ≡ mended_view (shape_at l) v
             → store_at new.image (shape_at l) ≡ Opens (mended_view (shape_at l) v) []
         opens_so tells p at is_used v view = ap (store_at new.image) (sym at.placed) ∙ (is_used.disk tells).opens
             ∙ ap (λ (w : View). Opens w []) view
 
-        newly_open : (p : Open) → IsPlaced (shape_at l) (config_of l) p → IsUsed told new.image (store_in p) → IsShown p
+        newly_open : (p : Open) → IsWhereConfigured (shape_at l) (config_of l) p → IsUsed told new.image (store_in p)
+            → IsShown p
             → IsOpenAt told new.image app located.version l.number p
         newly_open p at is_used show = record {
           configured = located.place ∙ ap (λ (s : StorageData). Some s) (sym at.configured);
           placed = at.placed ∙ sym (shape_is app (root_says root) l located)
-              ∙ ap (λ (s : StorageData). shape_of app located.version.bank l.number s) (sym at.configured);
+              ∙ ap (λ (s : StorageData). storage_shape app located.version.bank l.number s) (sym at.configured);
           used = is_used;
           kind = show.kind;
           shows = show.shows;

@@ -1,4 +1,4 @@
--- A closed storage that is made anew, by what a deployment promises of it.
+-- A closed storage that is rebuilt, by what a deployment promises of it.
 use Rattle.std.proofs.Common.{◌≡◌, ◌⊎◌, ℕ, List, [], Bool, true, false, refl, sym, ap, ◌∙◌, subst, inl, inr, true≢false}
 use Rattle.std.proofs.Common.{arith}
 use Rattle.std.specs.Prelude.{IsTrue, Option, Some, None, Result, Ok, Err, IfOk, IsErrOf, OnOk, is_some, option_map}
@@ -16,6 +16,7 @@ use Rattle.disk_model.specs.Image.{Image}
 use Rattle.disk_model.specs.Medium.{Elapses, Medium, Quiet}
 use Rattle.disk_model.specs.Place.{IsOutside}
 use Rattle.deployment_model.specs.Data.{StorageData}
+use Rattle.element_laws.specs.lemmas.Untouched.{kept_mending}
 use Rattle.element_state.specs.declared.shapes.Shape.{Shape}
 use Rattle.element_state.specs.Clean.{IsClean}
 use Rattle.element_state.specs.Kept.{KeptThroughout}
@@ -28,25 +29,26 @@ use Rattle.command_text.specs.declared.replies.Answer.TheVariants as answer
 use Rattle.command_text.specs.declared.replies.Reply.{Reply}
 use Rattle.command_text.specs.Replies.{HasText}
 use Rattle.deploy_laws.specs.Apps.{app_at}
-use Rattle.deploy_rows.specs.Recovering.{after_state, if_fits, is_worn_out, rebuilding, recovered_contents, recovering}
+use Rattle.deploy_rows.specs.Recovering.{after_state, if_contents_fit, is_worn_out, rebuilding, recovered_contents}
+use Rattle.deploy_rows.specs.Recovering.{recovering}
 use Rattle.deploy_rows.specs.Recovering.{resetting}
-use Rattle.deploy_rows.specs.Rows.{◌>>=◌, Answers}
+use Rattle.deploy_rows.specs.Rows.{◌>>=◌, AnswersRow}
 use Rattle.deploy.specs.Clauses.{Leaves}
 use Rattle.deploy.specs.declared.errors.Stop.{Stop}
 use Rattle.deploy.specs.declared.errors.Stop.TheVariants.{Device, OutOfMemory}
 use Rattle.deploy.specs.declared.roots.Root.{Root}
 use Rattle.deploy.specs.Roots.{root_says}
 use Rattle.run_model.specs.Calls.{Outcome, answered, app_step, rebuild_step, session_at, concluded, unless_open}
-use Rattle.run_model.specs.Found.{Found, storage_in, with_state}
+use Rattle.run_model.specs.Found.{Found, storage_in, with_storage_state}
 use Rattle.run_model.specs.Runtimes.{IsUnwritten, is_durable, is_refusal}
 use Rattle.run_model.specs.Steps.{found_named, reaches_device, uses_device}
 use Rattle.run_model.specs.Worlds.{Application}
 use Rattle.open_storages.specs.declared.opens.Open.{Open}
 use Rattle.open_storages.specs.Opens.{session_in}
-use Rattle.app_storages.specs.Answers.{IsAnswered, MayLead}
-use Rattle.app_storages.specs.Durables.{IsSet, Says, done_or}
+use Rattle.app_storages.specs.Answers.{IsStorageCallAnswered, StorageCallMayLead}
+use Rattle.app_storages.specs.Durables.{IsSet, RepliesDone, done_or}
 use Rattle.app_storages.specs.Finding.{IsEarly, IsLocated, config_of, found_on, shape_at}
-use Rattle.app_storages.specs.Handled.{IsHandled, MayWrite, StaysInPlace}
+use Rattle.app_storages.specs.Handled.{IsStorageCallHandled, MayWrite, StaysInPlace}
 use Rattle.app_storages.specs.Slots.{IsResting, resting_with, slot_at}
 use Rattle.app_storages.specs.StorageLaws.{StorageLaws}
 use Rattle.app_storages.specs.declared.finding.Located.{Located}
@@ -57,12 +59,12 @@ use Rattle.app_storages.proofs.SlotLaws.{none_there, session_slot, set_same}
 use Rattle.app_storages.proofs.Storing.{resting_after, stays_so}
 use Rattle.app_storages.proofs.Synced.{early_same, worn_early}
 
--- ---- what a deployment promises of a storage that it makes anew
+-- ---- what a deployment promises of a storage that it rebuilds
 
 pub record Rebuilds (told : Bool) (shape : Shape) (row : State → Result State PerError) (old new : Medium)
     (result : Result (Option PerError) Stop) : Type 0 where
   pub refused : IfOk result (λ refused. (state : State) × (IsTrue told → store_at old.image shape ≡ state)
-      × Answers refused (row state))
+      × AnswersRow refused (row state))
   pub state : IsTrue told → OnOk result (store_at new.image shape
       ≡ after_state (store_at old.image shape) (row (store_at old.image shape)))
   pub unchanged : IfOk result (λ refused. (refused ≡ None → ⊥) → (new.image ≡ old.image) × (new.written ≡ old.written))
@@ -112,7 +114,7 @@ pub recovering_early : (s : StorageData) (now : ℕ) → AreEarly (recovering s 
 unfolding recovering
 recovering_early s now state e is = by (recovered_contents s now (salvage_of state)) is
   where
-    by : (contents : List Fresh) → if_fits s state contents ≡ Err e → IsEarly e
+    by : (contents : List Fresh) → if_contents_fit s state contents ≡ Err e → IsEarly e
     by contents refused = fits_early (nat_lt s.maximum (sum_by fresh_size contents))
         (error.OutOfStorageSpace (sum_by fresh_size contents) s.maximum) (rebuilding state contents)
         (large_early (sum_by fresh_size contents) s.maximum) (rebuilding_early contents state) e refused
@@ -138,7 +140,7 @@ module _ (laws : StorageLaws) (texts : TextLaw) (told : Bool) (app now : ℕ) (r
 
   module _ (is_row : IsTrue told → app_step app before now c
       ≡ (row f.state >>= λ state. Ok (answered answer.Done
-      (record before { disk = with_state before.disk f state }))))
+      (record before { disk = with_storage_state before.disk f state }))))
       (named : IsTrue told → found_named before c ≡ Some (Ok f))
       (reaches : IsTrue told → IsTrue (reaches_device app before now c))
       (uses : uses_device (app_at old.image app) c ≡ true) (no_durable : is_durable c ≡ false) (early : AreEarly row)
@@ -148,7 +150,7 @@ module _ (laws : StorageLaws) (texts : TextLaw) (told : Bool) (app now : ℕ) (r
     storing = record {
       elsewhere = rebuilds.outside.at_the_end;
       outside = rebuilds.outside.throughout;
-      any_moment = rebuilds.any_moment;
+      any_moment = λ tells. kept_mending (shape_at l) next old new (rebuilds.any_moment tells);
       time = rebuilds.time;
     }
 
@@ -168,23 +170,25 @@ module _ (laws : StorageLaws) (texts : TextLaw) (told : Bool) (app now : ℕ) (r
 
     -- the application once it was done, and as it was
     abbrev after : State → Application
-    after state = record before { disk = with_state before.disk f state }
+    after state = record before { disk = with_storage_state before.disk f state }
 
     row_at : (answer_is : Result State PerError) → row f.state ≡ answer_is → IsTrue told
         → app_step app before now c ≡ (answer_is >>= λ state. Ok (answered answer.Done (after state)))
     row_at answer_is is tells = is_row tells ∙ ap (λ (r : Result State PerError). r >>= λ state.
         Ok (answered answer.Done (after state))) is
 
-    leads : IsTrue told → MayLead app now c before (with_state (app_at old.image app) f next)
+    leads : IsTrue told → StorageCallMayLead app now c before (with_storage_state (app_at old.image app) f next)
     leads tells = by (row f.state) refl
       where
         by : (answer_is : Result State PerError) → row f.state ≡ answer_is
-            → MayLead app now c before (with_state (app_at old.image app) f (after_state f.state answer_is))
+            → StorageCallMayLead app now c before (with_storage_state (app_at old.image app) f
+            (after_state f.state answer_is))
         by (Ok state) is = inr (sym (ap (λ (x : Result Outcome PerError). (concluded before x).1.disk)
             (row_at (Ok state) is tells)))
         by (Err e) is = inl (stays_so laws app root l located told tells old.image resting.root_at)
 
-    pub rebuilt_err : (e : Stop) → result ≡ Err e → IsHandled told app now root c was was old new Same (Err e)
+    pub rebuilt_err : (e : Stop) → result ≡ Err e → IsStorageCallHandled told app now root c was was old new Same
+        (Err e)
     rebuilt_err Device err = record {
       ends = lost laws told app now root c was was old new l located resting next storing reaches leads named same_slot
           (rebuilds.cause err);
@@ -207,16 +211,16 @@ module _ (laws : StorageLaws) (texts : TextLaw) (told : Bool) (app now : ℕ) (r
 
     -- what is refused is early, and what is done is no refusal
     refusal_early : (refused : Option PerError) (e : PerError) → refused ≡ Some e → (state : State)
-        → Answers refused (row state) → IsEarly e
+        → AnswersRow refused (row state) → IsEarly e
     refusal_early refused e is state answers = by (row state) refl
-        (subst (λ (r : Option PerError). Answers r (row state)) is answers)
+        (subst (λ (r : Option PerError). AnswersRow r (row state)) is answers)
       where
-        by : (r : Result State PerError) → row state ≡ r → Answers (Some e) r → IsEarly e
+        by : (r : Result State PerError) → row state ≡ r → AnswersRow (Some e) r → IsEarly e
         by (Ok x) at_row so = absurd so
         by (Err g) at_row so = early_same g e (early state g at_row) so
 
-    pub rebuilt_ok : (refused : Option PerError) → result ≡ Ok refused → (reply : Reply) → Says reply refused
-        → IsHandled told app now root c was was old new Same (Ok reply)
+    pub rebuilt_ok : (refused : Option PerError) → result ≡ Ok refused → (reply : Reply) → RepliesDone reply refused
+        → IsStorageCallHandled told app now root c was was old new Same (Ok reply)
     rebuilt_ok refused ok reply says = record {
       ends = record {
         answered = λ tells. by refused refl (row f.state) refl tells;
@@ -233,13 +237,14 @@ module _ (laws : StorageLaws) (texts : TextLaw) (told : Bool) (app now : ℕ) (r
       time = rebuilds.time;
     }
       where
-        given : (state : State) × (IsTrue told → store_at old.image (shape_at l) ≡ state) × Answers refused (row state)
+        given : (state : State) × (IsTrue told → store_at old.image (shape_at l) ≡ state)
+            × AnswersRow refused (row state)
         given = subst (λ (r : Result (Option PerError) Stop).
             IfOk r (λ x. (state : State) × (IsTrue told → store_at old.image (shape_at l) ≡ state)
-            × Answers x (row state))) ok rebuilds.refused
+            × AnswersRow x (row state))) ok rebuilds.refused
 
-        answers : IsTrue told → Answers refused (row f.state)
-        answers tells = subst (λ (s : State). Answers refused (row s)) (sym (given.1 tells)) given.2
+        answers : IsTrue told → AnswersRow refused (row f.state)
+        answers tells = subst (λ (s : State). AnswersRow refused (row s)) (sym (given.1 tells)) given.2
 
         state_is : IsTrue told → store_at new.image (shape_at l) ≡ next
         state_is tells = subst (λ (r : Result (Option PerError) Stop). OnOk r (store_at new.image (shape_at l) ≡ next))
@@ -265,21 +270,22 @@ module _ (laws : StorageLaws) (texts : TextLaw) (told : Bool) (app now : ℕ) (r
 
         by : (r : Option PerError) → r ≡ refused → (answer_is : Result State PerError) → row f.state ≡ answer_is
             → (tells : IsTrue told)
-            → IsAnswered app now c before (resting_with new.image app was) reply old new
+            → IsStorageCallAnswered app now c before (resting_with new.image app was) reply old new
         by None is (Ok state) at_row tells = answered_so laws told app now root c was was old new l located resting next
             storing tells (state_is tells) reply (after state)
-            (done_row None is state refl at_row tells) (ap (λ (s : State). with_state (app_at old.image app) f s)
+            (done_row None is state refl at_row tells) (ap (λ (s : State). with_storage_state
+            (app_at old.image app) f s)
             (sym (ap (after_state f.state) at_row))) refl refl (clean_is tells)
-        by None is (Err e) at_row tells = absurd (subst (λ (r : Result State PerError). Answers None r) at_row
-            (subst (λ (o : Option PerError). Answers o (row f.state)) (sym is) (answers tells)))
-        by (Some e) is (Ok state) at_row tells = absurd (subst (λ (r : Result State PerError). Answers (Some e) r)
-            at_row (subst (λ (o : Option PerError). Answers o (row f.state)) (sym is) (answers tells)))
+        by None is (Err e) at_row tells = absurd (subst (λ (r : Result State PerError). AnswersRow None r) at_row
+            (subst (λ (o : Option PerError). AnswersRow o (row f.state)) (sym is) (answers tells)))
+        by (Some e) is (Ok state) at_row tells = absurd (subst (λ (r : Result State PerError). AnswersRow (Some e) r)
+            at_row (subst (λ (o : Option PerError). AnswersRow o (row f.state)) (sym is) (answers tells)))
         by (Some e) is (Err g) at_row tells = answered_so laws told app now root c was was old new l located resting
             next storing tells (state_is tells) reply before
-            (refused_so e g (sym is) (subst (λ (r : Result State PerError). Answers (Some e) r) at_row
-            (subst (λ (o : Option PerError). Answers o (row f.state)) (sym is) (answers tells))) at_row tells)
+            (refused_so e g (sym is) (subst (λ (r : Result State PerError). AnswersRow (Some e) r) at_row
+            (subst (λ (o : Option PerError). AnswersRow o (row f.state)) (sym is) (answers tells))) at_row tells)
             (sym (stays_so laws app root l located told tells old.image resting.root_at)
-            ∙ ap (λ (s : State). with_state (app_at old.image app) f s) (sym (ap (after_state f.state) at_row)))
+            ∙ ap (λ (s : State). with_storage_state (app_at old.image app) f s) (sym (ap (after_state f.state) at_row)))
             refl refl (clean_is tells)
 
         unwritten_by : (r : Option PerError) → r ≡ refused → is_refusal reply.answer ≡ true → IsUnwritten old new
@@ -318,7 +324,7 @@ pub none_closed : (r : Application) (name : List ℕ) (state_of : Found → Resu
     → storage_in r.disk name None ≡ Err e → rebuild_step r name state_of ≡ Err e
 none_closed r name state_of e is = ap (λ (x : Result Found PerError). x >>= λ f.
     unless_open r f (state_of f >>= λ state.
-    Ok (answered answer.Done (record r { disk = with_state r.disk f state })))) is
+    Ok (answered answer.Done (record r { disk = with_storage_state r.disk f state })))) is
 
 is_there : (o : Option Open) → is_some (option_map session_in o) ≡ is_some o
 is_there None = refl
@@ -334,10 +340,12 @@ pub busy_closed : (image : Image) (app : ℕ) (slots : Slots) (name : List ℕ) 
     ≡ Err (error.ResourceBusy (holder.Storage f.config.name))
 busy_closed image app slots name state_of f found there =
     ap (λ (x : Result Found PerError). x >>= λ g. unless_open (resting_with image app slots) g (state_of g >>= λ state.
-    Ok (answered answer.Done (record (resting_with image app slots) { disk = with_state (app_at image app) g state }))))
+    Ok (answered answer.Done (record (resting_with image app slots)
+    { disk = with_storage_state (app_at image app) g state }))))
     found
     ∙ ap (λ (b : Bool). refuse b (error.ResourceBusy (holder.Storage f.config.name)) (state_of f >>= λ state.
-    Ok (answered answer.Done (record (resting_with image app slots) { disk = with_state (app_at image app) f state }))))
+    Ok (answered answer.Done (record (resting_with image app slots)
+    { disk = with_storage_state (app_at image app) f state }))))
     (ap is_some (session_slot image app slots f.number) ∙ (is_there (slot_at slots f.number) ∙ there))
 
 pub busy_early : (name : List ℕ) → IsEarly (error.ResourceBusy (holder.Storage name))
@@ -353,7 +361,10 @@ module _ (told : Bool) (app now : ℕ) (root : Root) (was : Slots) (old : Medium
 
   abbrev anew : Result State PerError → Result Outcome PerError
   anew row = row >>= λ state. Ok (answered answer.Done (record
-      (resting_with old.image app was) { disk = with_state (app_at old.image app) (found_on old.image l) state }))
+      (resting_with old.image app was) {
+        disk = with_storage_state (app_at old.image app)
+            (found_on old.image l) state;
+      }))
 
   pub recovered_row : IsTrue told → app_step app (resting_with old.image app was) now (call.RecoverStorage name)
       ≡ anew (recovering (config_of l) now (store_at old.image (shape_at l)))

@@ -58,7 +58,7 @@ all_at P [] n x every is = absurd cc
 all_at P (y ∷ ys) zero x every is = let e : y ≡ x = grind arith in subst P e every.0
 all_at P (y ∷ ys) (suc n) x every is = all_at P ys n x every.1 is
 
--- all of a list of so many are this
+-- all of a list of that many are this
 pub all_are : {A : Type 0} (xs : List A) (n : ℕ) (x : A) → length xs ≡ n → ((k : ℕ) → k < n → slice_get xs k ≡ Some x)
     → xs ≡ replicate n x
 all_are [] zero x long each = refl
@@ -75,7 +75,7 @@ replicate_more zero x = refl
 replicate_more (suc n) x = let e : suc n + 1 ≡ suc (n + 1) =
     omega arith in ap (λ zs. x ∷ zs) (replicate_more n x) ∙ ap (λ k. replicate k x) (sym e)
 
--- ---- what lies in a slot
+-- ---- what is in a slot
 
 if_there_at : {A : Type 0} (o : Option (Option A)) (x : A) → if_there o ≡ Some x → o ≡ Some (Some x)
 if_there_at None x is = absurd cc

@@ -18,7 +18,7 @@ use Rattle.element_state.specs.States.{State, store_at}
 use Rattle.element_laws.specs.Phases.{IsOfPlace}
 use Rattle.element_maps.specs.Storages.{IsStoring}
 use Rattle.element_store.specs.Stores as stores
-use Rattle.deploy_laws.specs.Places.{IsBeside, IsFileOf, IsNoFileOf, Named, shape_of, shapes_if, shapes_in}
+use Rattle.deploy_laws.specs.Places.{IsBeside, IsFileOf, IsNoFileOf, Named, shapes_if, shapes_in, storage_shape}
 use Rattle.deploy_laws.specs.Places.{storage_file}
 use Rattle.deploy_laws.specs.Apps.{App, IsCleanApp, Says, absent, app_at, installed, nothing, says_at, shapes_named}
 use Rattle.deploy_laws.specs.Stands.{StandsCase}
@@ -27,7 +27,7 @@ use Rattle.deploy.specs.Laws.{IsRootFile}
 use Rattle.deploy.specs.Roots.{RootAt, root_says}
 use Rattle.open_storages.specs.declared.opens.Open.{Open}
 use Rattle.open_storages.specs.Opens.{config_in, store_in}
-use Rattle.run_model.specs.Found.{with_state}
+use Rattle.run_model.specs.Found.{with_storage_state}
 use Rattle.app_storages.specs.declared.finding.Located.{Located}
 use Rattle.app_storages.specs.declared.slots.Slots.{Slots}
 use Rattle.app_storages.specs.Answers.{CallsTo}
@@ -39,7 +39,7 @@ use Rattle.app_storages.proofs.SlotLaws.{all_at, get_append, get_set, get_set_ot
 -- ---- files
 
 module _ (app bank number : ℕ) (ltb : bank ≤ 1) (ltn : number < 16) where
-  -- those of no other application, of the root and of another storage lie beside it
+  -- those of no other application, of the root and of another storage are beside it
   app_beside : (f : ℕ) → IsNoFileOf app f → IsBeside app bank number f
   app_beside f aside = ⊎_elim (λ low. inl (omega (arith, low))) (λ high. inr (omega (arith, high, ltb, ltn))) aside
 
@@ -92,7 +92,7 @@ module _ (laws : StorageLaws) (app : ℕ) (lt : app < 8) (g : ℕ) (v : Named) (
     (s : StorageData)
     (at : slice_get v.deployment.storages number ≡ Some s) (ltb : v.bank ≤ 1) (ltn : number < 16) where
   abbrev here : Shape
-  here = shape_of app v.bank number s
+  here = storage_shape app v.bank number s
 
   shape_there : (says : Says) → says ≡ installed g v previous → slice_get (shapes_named app says) number ≡ Some here
   shape_there says is = ap (λ (x : Says). slice_get (shapes_named app x) number) is
@@ -124,7 +124,7 @@ module _ (laws : StorageLaws) (app : ℕ) (lt : app < 8) (g : ℕ) (v : Named) (
     beside_spared f is = spared f (outside_of f is.1)
 
     other_spared : (k : ℕ) (t : StorageData) → slice_get v.deployment.storages k ≡ Some t → k < 16 → k ≢ number
-        → Spares (IsOfPlace (shape_of app v.bank k t).place) old new
+        → Spares (IsOfPlace (storage_shape app v.bank k t).place) old new
     other_spared k t is ltk ne f of =
         let inside = laws.files app v.bank k f t lt ltb ltk of in
         spared f (outside_of f (other_beside app v.bank number ltb ltn k f ne inside.0 inside.1))
@@ -216,10 +216,10 @@ module _ (laws : StorageLaws) (app : ℕ) (lt : app < 8) (g : ℕ) (v : Named) (
 -- ---- the same of a storage that was found
 
 pub shape_is : (app : ℕ) (says : Says) (l : Located) (located : IsLocated app says l)
-    → shape_of app located.version.bank l.number (config_of l) ≡ shape_at l
-shape_is app says l located = ap (λ (a : ℕ). shape_of a located.version.bank l.number (config_of l))
+    → storage_shape app located.version.bank l.number (config_of l) ≡ shape_at l
+shape_is app says l located = ap (λ (a : ℕ). storage_shape a located.version.bank l.number (config_of l))
     (sym located.app_is)
-    ∙ ap (λ (b : ℕ). shape_of l.app b l.number (config_of l)) located.bank
+    ∙ ap (λ (b : ℕ). storage_shape l.app b l.number (config_of l)) located.bank
 
 -- a storage in the state that it is in
 same_state : (a : App) (number : ℕ) (state : State) → slice_get a.states number ≡ Some state
@@ -235,7 +235,7 @@ module _ (laws : StorageLaws) (app : ℕ) (root : Root) (l : Located) (located :
 
   told_spares : (told : Bool) (old new : Image) → (IsTrue told
       → Spares (IsOutside (shape_at l).place) old new)
-      → IsTrue told → Spares (IsOutside (shape_of app located.version.bank l.number (config_of l)).place) old new
+      → IsTrue told → Spares (IsOutside (storage_shape app located.version.bank l.number (config_of l)).place) old new
   told_spares told old new spared tells = subst (λ (sh : Shape).
       Spares (IsOutside sh.place) old new) (sym (shape_is app (root_says root) l located))
       (spared tells)
@@ -266,7 +266,8 @@ module _ (laws : StorageLaws) (app : ℕ) (root : Root) (l : Located) (located :
         located.within.in_slots image i.2)
 
     -- to be in the state that it is in changes nothing
-    pub stays_so : with_state (app_at image app) (found_on image l) (store_at image (shape_at l)) ≡ app_at image app
+    pub stays_so : with_storage_state (app_at image app) (found_on image l) (store_at image (shape_at l))
+        ≡ app_at image app
     stays_so = same_state (app_at image app) l.number (store_at image (shape_at l)) state_at
 
     pub clean_at : IsCleanApp app image → IsClean (shape_at l) image
@@ -279,9 +280,9 @@ module _ (laws : StorageLaws) (app : ℕ) (root : Root) (l : Located) (located :
     -- next state
     pub storing_calls : (after : State) (old new : Medium) → old.image ≡ image
         → IsStoring told (shape_at l) after old new
-        → CallsTo app (with_state (app_at image app) (found_on image l) after) old new
+        → CallsTo app (with_storage_state (app_at image app) (found_on image l) after) old new
     storing_calls after old new on storing = let i = installed_is in
-        subst (λ (im : Image). CallsTo app (with_state (app_at im app) (found_on im l) after) old new) on
+        subst (λ (im : Image). CallsTo app (with_storage_state (app_at im app) (found_on im l) after) old new) on
         (storing_here laws app below i.0 located.version i.1 l.number (config_of l) located.place in_bank
         located.within.in_slots told tells after old new
         (ap (λ (im : Image). says_at im app) on ∙ i.2)
@@ -290,7 +291,7 @@ module _ (laws : StorageLaws) (app : ℕ) (root : Root) (l : Located) (located :
 
     -- afterwards it is the same but for this storage
     pub stored_app : (new : Image) → Spares (IsOutside (shape_at l).place) image new
-        → (app_at new app ≡ with_state (app_at image app) (found_on image l) (store_at new (shape_at l)))
+        → (app_at new app ≡ with_storage_state (app_at image app) (found_on image l) (store_at new (shape_at l)))
         × (IsCleanApp app image → IsClean (shape_at l) new → IsCleanApp app new)
     stored_app new spared = let i = installed_is in
         subst (λ (sh : Shape). (app_at new app ≡ record (app_at image app) {
@@ -329,7 +330,7 @@ module _ (laws : StorageLaws) (app : ℕ) (root : Root) (l : Located) (located :
       let both : Some (config_in o) ≡ Some (config_of l) = sym is_open.configured ∙ located.place in
       let config : config_in o ≡ config_of l = grind arith in (
         config,
-        is_open.placed ∙ ap (λ (s : StorageData). shape_of app located.version.bank l.number s) config
+        is_open.placed ∙ ap (λ (s : StorageData). storage_shape app located.version.bank l.number s) config
             ∙ shape_is app (root_says root) l located,
         is_open,
       )

@@ -11,7 +11,7 @@ use Rattle.element_state.specs.declared.shapes.Shape.{Shape}
 use Rattle.element_state.specs.declared.shapes.View.{View}
 use Rattle.element_state.specs.Clean.{IsClean}
 use Rattle.element_state.specs.States.{Opens, store_at}
-use Rattle.element_maps.specs.Sessions.{synced_view}
+use Rattle.element_maps.specs.Sessions.{view_once_synced}
 use Rattle.element_maps.specs.Storages.{IsStoring}
 use Rattle.element_store.specs.Stores as stores
 use Rattle.element_store.specs.Stores.{view_in}
@@ -34,17 +34,17 @@ use Rattle.deploy.specs.Roots.{root_says}
 use Rattle.open_storages.specs.declared.opens.Open.{Open}
 use Rattle.open_storages.specs.declared.syncing.Durable.{Durable}
 use Rattle.open_storages.specs.declared.syncing.Durable.TheVariants as made
-use Rattle.open_storages.specs.Durables.{IsDurable, IsMade}
+use Rattle.open_storages.specs.Durables.{IsDurableOrRefused, IsMadeDurable}
 use Rattle.open_storages.specs.Opens.{session_in, store_in}
 use Rattle.open_storages.specs.Refusals.{durable_view, error_of, flush_refused, sync_refused}
 use Rattle.run_model.specs.Calls.{Outcome, answered, app_step, may_flush, with_session}
-use Rattle.run_model.specs.Found.{Found, shape_in, storage_in, with_state}
-use Rattle.run_model.specs.Sessions.{Session, keys, files, made_durable, seen_of, synced_of}
+use Rattle.run_model.specs.Found.{Found, shape_in, storage_in, with_storage_state}
+use Rattle.run_model.specs.Sessions.{Session, keys, files, made_durable, seen_of, synced_in_session}
 use Rattle.run_model.specs.Steps.{found_named, reaches_device, uses_device}
 use Rattle.run_model.specs.Worlds.{Application}
 use Rattle.app_storages.specs.Durables.{IsPutBack, IsSet}
 use Rattle.app_storages.specs.Finding.{IsEarly, IsLocated, found_on, shape_at}
-use Rattle.app_storages.specs.Handled.{IsHandled, MayWrite}
+use Rattle.app_storages.specs.Handled.{IsStorageCallHandled, MayWrite}
 use Rattle.app_storages.specs.Slots.{IsOpenAt, IsResting, resting_with, sessions_in, slot_at}
 use Rattle.app_storages.specs.StorageLaws.{StorageLaws}
 use Rattle.app_storages.specs.declared.finding.Located.{Located}
@@ -121,8 +121,8 @@ module _ (laws : StorageLaws) (texts : TextLaw) (told : Bool) (app now : ℕ) (r
 
   abbrev after_by : Shape → Application
   after_by shape = with_session (record before {
-    disk = with_state (app_at old.image app) f
-        (Opens (synced_view shape (view_in (store_in storage)) (synced_of (session_in storage))
+    disk = with_storage_state (app_at old.image app) f
+        (Opens (view_once_synced shape (view_in (store_in storage)) (synced_in_session (session_in storage))
         (seen_of (session_in storage))) []);
   }) l.number (made_durable (session_in storage))
 
@@ -155,7 +155,7 @@ module _ (laws : StorageLaws) (texts : TextLaw) (told : Bool) (app now : ℕ) (r
 
     -- it stopped
     pub made_err : (is : Slots) → IsSet l.number None was is → (e : Stop) → result ≡ Err e
-        → IsHandled told app now root c was is old new Same (Err e)
+        → IsStorageCallHandled told app now root c was is old new Same (Err e)
     made_err is emptied e err = stopped_handled laws texts told app now root was old resting l located storage there_is
         c refused after refl refl row named reaches
         new Same idle written storing is emptied e (err_not_due told storage refused old new Same result e makes err)
@@ -164,17 +164,17 @@ module _ (laws : StorageLaws) (texts : TextLaw) (told : Bool) (app now : ℕ) (r
     -- it was answered
     pub made_ok : (made : Durable) → result ≡ Ok made → (mid is : Slots) → IsSet l.number None was mid → (reply : Reply)
         → IsPutBack l.number made mid is reply
-        → IsHandled told app now root c was is old new Same (Ok reply)
+        → IsStorageCallHandled told app now root c was is old new Same (Ok reply)
     made_ok (made.Done later) ok mid is emptied reply (shown, set, says) =
-        let durable : (refused ≡ None) × IsDurable told new.image storage later =
-        subst (λ (r : Result Durable Stop). IfOk r (IsMade told new.image storage refused)) ok makes.done in
+        let durable : (refused ≡ None) × IsMadeDurable told new.image storage later =
+        subst (λ (r : Result Durable Stop). IfOk r (IsDurableOrRefused told new.image storage refused)) ok makes.done in
         let is_at = at laws texts told app now root was old resting l located storage there_is in
         let shape = shape_there laws texts told app now root was old resting l located storage there_is in
         let set_there = set_over l.number (Some later) was mid is emptied set in
         let open_now : IsOpenAt told new.image app located.version l.number later = record {
           configured = is_at.configured ∙ ap (λ (d : StorageData). Some d) (sym durable.1.config);
           placed = durable.1.shape ∙ is_at.placed ∙ ap (λ (d : StorageData).
-              places.shape_of app located.version.bank l.number d) (sym durable.1.config);
+              places.storage_shape app located.version.bank l.number d) (sym durable.1.config);
           used = durable.1.used;
           kind = shown.kind;
           shows = shown.shows;
@@ -202,12 +202,13 @@ module _ (laws : StorageLaws) (texts : TextLaw) (told : Bool) (app now : ℕ) (r
         on_made m ok P on = subst (λ (r : Result Durable Stop). OnOk r P) ok on
     made_ok (made.Refused same e) ok mid is emptied reply (set, says) =
         let refusal : (refused ≡ Some e) × (same ≡ storage) =
-        subst (λ (r : Result Durable Stop). IfOk r (IsMade told new.image storage refused)) ok makes.done in
+        subst (λ (r : Result Durable Stop). IfOk r (IsDurableOrRefused told new.image storage refused)) ok makes.done in
         let due = makes.due e refusal.0 in
         let back = put_back was is l.number storage there_is
         (set ∙ (ap (λ (o : Open). slice_set mid.open.items l.number (Some o)) refusal.1
         ∙ ap (λ (xs : List (Option Open)). slice_set xs l.number (Some storage)) emptied)) in
-        subst (λ (m : Medium). IsHandled told app now root c was is old m Same (Ok reply)) (sym (by_disk due.1))
+        subst (λ (m : Medium). IsStorageCallHandled told app now root c was is old m Same (Ok reply))
+        (sym (by_disk due.1))
         (early_handled laws told app now root c was old Same due.1 law resting texts is back e (early e refusal.0) reply
         says
         (row_err laws texts told app now root was old resting l located storage there_is c refused after refl refl row

@@ -9,11 +9,11 @@ use Rattle.deploy_laws.specs.Apps.{App, app_at, IsCleanApp}
 use Rattle.deploy_laws.specs.Stands.{StandsThroughout}
 use Rattle.run_model.specs.Worlds.{Application}
 use Rattle.run_model.specs.Calls.{local_on, concluded, app_step}
-use Rattle.run_model.specs.Steps.{storage_named, reaches_device, after_failure, found_named}
+use Rattle.run_model.specs.Steps.{device_storage, reaches_device, after_failure, found_named}
 
 -- the calls that name a storage
 abbrev pub is_on_storage : Call → Bool
-is_on_storage c = is_some (local_on c) || is_some (storage_named c)
+is_on_storage c = is_some (local_on c) || is_some (device_storage c)
 
 -- each moment stands between what was and what the call leads to, and no file of another application changes, at the
 -- end and at any moment
@@ -23,27 +23,29 @@ pub record CallsTo (app : ℕ) (next : App) (old new : Medium) : Type 0 where
   pub elsewhere : Spares (IsNoFileOf app) old.image new.image
 
 -- a call on a storage was answered, and the application is what its row says
-pub record IsAnswered (app now : ℕ) (c : Call) (before after : Application) (reply : Reply) (old new : Medium) : Type 0
+pub record IsStorageCallAnswered (app now : ℕ) (c : Call) (before after : Application) (reply : Reply)
+    (old new : Medium) : Type 0
   where
     pub row : (reply, after) ≡ concluded before (app_step app before now c)
     pub calls : CallsTo app after.disk old new
     pub clean : IsCleanApp app old.image → IsCleanApp app new.image
 
--- what lies on the disk after a call that did not end: what its row leads to, or what lay there before
-abbrev pub MayLead : (app now : ℕ) → Call → (before : Application) → App → Type 0
-MayLead app now c before next = (next ≡ before.disk) ⊎ (next ≡ (concluded before (app_step app before now c)).1.disk)
+-- what is on the disk after a call that did not end: what its row leads to, or what was there before
+abbrev pub StorageCallMayLead : (app now : ℕ) → Call → (before : Application) → App → Type 0
+StorageCallMayLead app now c before next = (next ≡ before.disk)
+    ⊎ (next ≡ (concluded before (app_step app before now c)).1.disk)
 
--- its device failed, behind the refusals that need none: the application is what the failure leaves, and its files are
+-- its device failed, after the refusals that need none: the application is what the failure leaves, and its files are
 -- on the way
-pub record HasFailed (app now : ℕ) (c : Call) (before after : Application) (old new : Medium) : Type 0 where
+pub record HasStorageCallFailed (app now : ℕ) (c : Call) (before after : Application) (old new : Medium) : Type 0 where
   pub reaches : IsTrue (reaches_device app before now c)
   pub next : App
-  pub leads : MayLead app now c before next
+  pub leads : StorageCallMayLead app now c before next
   pub is_after : after ≡ after_failure (app_at new.image app) before (found_named before c)
   pub calls : CallsTo app next old new
 
 -- memory ran out: it is in progress
-pub record HasStopped (app now : ℕ) (c : Call) (before : Application) (old new : Medium) : Type 0 where
+pub record HasStorageCallStopped (app now : ℕ) (c : Call) (before : Application) (old new : Medium) : Type 0 where
   pub next : App
-  pub leads : MayLead app now c before next
+  pub leads : StorageCallMayLead app now c before next
   pub calls : CallsTo app next old new

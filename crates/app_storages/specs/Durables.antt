@@ -10,8 +10,8 @@ use Rattle.open_storages.specs.declared.closing.Closing.TheVariants as closing
 use Rattle.open_storages.specs.declared.opens.Open.{Open}
 use Rattle.open_storages.specs.declared.syncing.Durable.{Durable}
 use Rattle.open_storages.specs.declared.syncing.Durable.TheVariants as made
-use Rattle.open_storages.specs.Opens.{config_in, kind_of, session_in, store_in}
-use Rattle.run_model.specs.Sessions.{seen_in, synced_of}
+use Rattle.open_storages.specs.Opens.{config_in, session_in, session_kind, store_in}
+use Rattle.run_model.specs.Sessions.{seen_in, synced_in_session}
 use Rattle.app_storages.specs.declared.slots.Slots.{Slots}
 
 -- done, or why it is refused
@@ -19,24 +19,27 @@ abbrev pub done_or : Option PerError → Answer
 done_or None = answer.Done
 done_or (Some e) = answer.Error e
 
-abbrev pub Says : Reply → Option PerError → Type 0
-Says reply refused = reply ≡ record { reports = []; answer = done_or refused }
+abbrev pub RepliesDone : Reply → Option PerError → Type 0
+RepliesDone reply refused = reply ≡ record { reports = []; answer = done_or refused }
 
 -- what always holds of an open storage: its session is one of its kind, and what is synchronised is what the storage
 -- below shows
 pub record IsShown (o : Open) : Type 0 where
-  pub kind : kind_of (session_in o) ≡ (config_in o).kind
-  pub shows : synced_of (session_in o) ≡ seen_in (config_in o).kind (view_in (store_in o))
+  pub kind : session_kind (session_in o) ≡ (config_in o).kind
+  pub shows : synced_in_session (session_in o) ≡ seen_in (config_in o).kind (view_in (store_in o))
 
 -- the slot of this number has this storage, or none
 abbrev pub IsSet : ℕ → Option Open → (was is : Slots) → Type 0
 IsSet number storage was is = is.open.items ≡ slice_set was.open.items number storage
 
 abbrev pub IsPutBack : ℕ → Durable → (was is : Slots) → Reply → Type 0
-IsPutBack number (made.Done later) was is reply = IsShown later × IsSet number (Some later) was is × Says reply None
-IsPutBack number (made.Refused same error) was is reply = IsSet number (Some same) was is × Says reply (Some error)
+IsPutBack number (made.Done later) was is reply = IsShown later × IsSet number (Some later) was is
+    × RepliesDone reply None
+IsPutBack number (made.Refused same error) was is reply = IsSet number (Some same) was is
+    × RepliesDone reply (Some error)
 
 -- a storage that was closed leaves its slot as it is
 abbrev pub IsLeft : ℕ → Closing → (was is : Slots) → Reply → Type 0
-IsLeft number closing.Done was is reply = (is ≡ was) × Says reply None
-IsLeft number (closing.Refused same error) was is reply = IsSet number (Some same) was is × Says reply (Some error)
+IsLeft number closing.Done was is reply = (is ≡ was) × RepliesDone reply None
+IsLeft number (closing.Refused same error) was is reply = IsSet number (Some same) was is
+    × RepliesDone reply (Some error)

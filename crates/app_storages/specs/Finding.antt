@@ -8,7 +8,7 @@ use Rattle.deployment_model.specs.Conditions.{IsStorage}
 use Rattle.deployment_model.specs.Data.{StorageData, storage_data}
 use Rattle.element_state.specs.declared.shapes.Shape.{Shape}
 use Rattle.element_state.specs.States.{State, store_at}
-use Rattle.deploy_laws.specs.Places.{Named, shape_of}
+use Rattle.deploy_laws.specs.Places.{Named, storage_shape}
 use Rattle.deploy_laws.specs.Apps.{Says}
 use Rattle.run_model.specs.Found.{Found, found_in}
 use Rattle.app_storages.specs.Slots.{active_in}
@@ -18,9 +18,9 @@ use Rattle.app_storages.specs.declared.finding.Located.{Located}
 abbrev pub config_of : Located → StorageData
 config_of l = storage_data l.config.now
 
--- where it lies
+-- where it is stored
 abbrev pub shape_at : Located → Shape
-shape_at l = shape_of l.app l.bank l.number (config_of l)
+shape_at l = storage_shape l.app l.bank l.number (config_of l)
 
 -- in this state, and as it is found on an image
 abbrev pub found_as : Located → State → Found
@@ -30,7 +30,7 @@ abbrev pub found_on : Image → Located → Found
 found_on image l = found_as l (store_at image (shape_at l))
 
 -- its numbers are those of a storage of an application
-pub record IsWithin (l : Located) : Type 0 where
+pub record HasStorageNumbers (l : Located) : Type 0 where
   pub below : l.app < 8
   pub in_bank : l.bank ≤ 1
   pub in_slots : l.number < 16
@@ -43,7 +43,7 @@ pub record IsLocated (app : ℕ) (says : Says) (l : Located) : Type 0 where
   pub active : active_in says ≡ Some version
   pub bank : version.bank ≡ l.bank
   pub place : slice_get version.deployment.storages l.number ≡ Some (config_of l)
-  pub within : IsWithin l
+  pub within : HasStorageNumbers l
 
 -- by what a root says it is the storage that is asked for, whatever its state
 abbrev pub IsAsked : Says → List ℕ → Option StoreKind → Located → Type 0

@@ -20,7 +20,7 @@ use Rattle.run_model.specs.Runtimes.{IsUnwritten, WritesWithin, is_durable, is_r
 use Rattle.run_model.specs.Sessions.{Session}
 use Rattle.run_model.specs.Steps.{found_named, uses_device}
 use Rattle.run_model.specs.Worlds.{Application}
-use Rattle.app_storages.specs.Answers.{HasFailed, HasStopped, IsAnswered}
+use Rattle.app_storages.specs.Answers.{HasStorageCallFailed, HasStorageCallStopped, IsStorageCallAnswered}
 use Rattle.app_storages.specs.Slots.{IsResting, resting_with}
 use Rattle.app_storages.specs.declared.slots.Slots.{Slots}
 
@@ -35,9 +35,10 @@ StaysInPlace app c before old new = (f : Found) → found_named before c ≡ Som
     → Spares (IsBeside app f.bank f.number) old new
 
 -- the call was answered: no call of the disk failed
-pub record IsReplied (told : Bool) (app now : ℕ) (root : Root) (c : Call) (was is : Slots) (old new : Medium)
+pub record IsStorageCallReplied (told : Bool) (app now : ℕ) (root : Root) (c : Call) (was is : Slots) (old new : Medium)
     (reply : Reply) : Type 0 where
-  pub answered : IsTrue told → IsAnswered app now c (resting_with old.image app was) (resting_with new.image app is)
+  pub answered : IsTrue told → IsStorageCallAnswered app now c (resting_with old.image app was)
+      (resting_with new.image app is)
       reply old new
   pub memory : IsResting told new.image app root is
   pub quiet : Quiet old → Quiet new
@@ -49,20 +50,21 @@ pub record IsReplied (told : Bool) (app now : ℕ) (root : Root) (c : Call) (was
 -- its device failed
 pub record IsLost (told : Bool) (app now : ℕ) (root : Root) (c : Call) (was is : Slots) (old new : Medium) : Type 0
   where
-    pub failed : IsTrue told → HasFailed app now c (resting_with old.image app was) (resting_with new.image app is) old
+    pub failed : IsTrue told → HasStorageCallFailed app now c (resting_with old.image app was)
+        (resting_with new.image app is) old
         new
     pub memory : IsResting told new.image app root is
     pub cause : Rose old.faults new.faults
 
 abbrev pub EndsSo : (told : Bool) (app now : ℕ) (root : Root) (c : Call) (was is : Slots) (old new : Medium)
     → Result Reply Stop → Type 0
-EndsSo told app now root c was is old new (Ok reply) = IsReplied told app now root c was is old new reply
+EndsSo told app now root c was is old new (Ok reply) = IsStorageCallReplied told app now root c was is old new reply
 EndsSo told app now root c was is old new (Err Device) = IsLost told app now root c was is old new
 EndsSo told app now root c was is old new (Err OutOfMemory) =
-    IsTrue told → HasStopped app now c (resting_with old.image app was) old new
+    IsTrue told → HasStorageCallStopped app now c (resting_with old.image app was) old new
 
 -- A call on a storage of an application at rest, from these slots to those; that it called no disk is said by `Same`.
-pub record IsHandled (told : Bool) (app now : ℕ) (root : Root) (c : Call) (was is : Slots) (old new : Medium)
+pub record IsStorageCallHandled (told : Bool) (app now : ℕ) (root : Root) (c : Call) (was is : Slots) (old new : Medium)
     (Same : Type 0) (result : Result Reply Stop) : Type 0 where
   pub ends : EndsSo told app now root c was is old new result
   pub idle : IsTrue told → uses_device (app_at old.image app) c ≡ false → Same

@@ -28,15 +28,15 @@ corrupt_reply name report = record {
       answer.Error (error.IntegrityCorrupted (unit.Whole name));
 }
 
--- a refusal is told, and want of memory ends the run
-abbrev pub Refuses : PerError → Result Reply Stop → Type 0
-Refuses e (Ok reply) = (e ≢ error.OutOfMemory) × (reply ≡ record { reports = []; answer = answer.Error e })
-Refuses e (Err Device) = ⊥
-Refuses e (Err OutOfMemory) = e ≡ error.OutOfMemory
+-- a refusal is answered, and running out of memory ends the run
+abbrev pub TellsRefusal : PerError → Result Reply Stop → Type 0
+TellsRefusal e (Ok reply) = (e ≢ error.OutOfMemory) × (reply ≡ record { reports = []; answer = answer.Error e })
+TellsRefusal e (Err Device) = ⊥
+TellsRefusal e (Err OutOfMemory) = e ≡ error.OutOfMemory
 
-abbrev pub Concludes : Result Answer PerError → Result Reply Stop → Type 0
-Concludes (Ok a) result = result ≡ Ok (record { reports = []; answer = a })
-Concludes (Err e) result = Refuses e result
+abbrev pub TellsAnswer : Result Answer PerError → Result Reply Stop → Type 0
+TellsAnswer (Ok a) result = result ≡ Ok (record { reports = []; answer = a })
+TellsAnswer (Err e) result = TellsRefusal e result
 
 -- the name and the kind that a call on an open storage asks for
 abbrev pub on_of : Bor (List ℕ) × Option StoreKind → List ℕ × Option StoreKind

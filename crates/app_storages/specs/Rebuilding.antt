@@ -1,4 +1,4 @@
--- A closed storage that is to be made anew, as it is found by its name.
+-- A closed storage that is to be rebuilt, as it is found by its name.
 use Rattle.std.specs.Prelude.{◌≡◌, ℕ, List, None, Result, Ok, Err}
 use Rattle.per_base.specs.declared.errors.PerError.{PerError}
 use Rattle.disk_model.specs.Image.{Image}

@@ -1,4 +1,4 @@
--- The open storages of an application: each lies in the slot of its number in the active version.
+-- The open storages of an application: each is in the slot of its number in the active version.
 use Rattle.std.specs.Prelude.{◌≡◌, ◌<◌, ℕ, length, map, Bool, Option, Some, None, option_map, slice_get}
 use Rattle.disk_model.specs.Image.{Image}
 use Rattle.element_store.specs.Stores.{IsUsed, view_in}
@@ -9,8 +9,8 @@ use Rattle.deploy_laws.specs.Apps.{Says, nothing, absent, installed, app_at}
 use Rattle.deploy.specs.declared.roots.Root.{Root}
 use Rattle.deploy.specs.Roots.{RootAt, root_says}
 use Rattle.open_storages.specs.declared.opens.Open.{Open}
-use Rattle.open_storages.specs.Opens.{session_in, config_in, kind_of, store_in}
-use Rattle.run_model.specs.Sessions.{seen_in, synced_of}
+use Rattle.open_storages.specs.Opens.{session_in, config_in, session_kind, store_in}
+use Rattle.run_model.specs.Sessions.{seen_in, synced_in_session}
 use Rattle.run_model.specs.Worlds.{Application, Sessions, at_rest}
 use Rattle.app_storages.specs.declared.slots.Slots.{Slots}
 
@@ -18,7 +18,7 @@ use Rattle.app_storages.specs.declared.slots.Slots.{Slots}
 abbrev pub sessions_in : Slots → Sessions
 sessions_in slots = map (option_map session_in) slots.open.items
 
--- what lies in a slot
+-- what is in a slot
 abbrev pub if_there : {A : Type 0} → Option (Option A) → Option A
 if_there None = None
 if_there (Some x) = x
@@ -35,10 +35,10 @@ active_in (installed g active previous) = Some active
 -- a storage of this number is open as it is configured, and in use on a disk
 pub record IsOpenAt (told : Bool) (image : Image) (app : ℕ) (v : Named) (number : ℕ) (storage : Open) : Type 0 where
   pub configured : slice_get v.deployment.storages number ≡ Some (config_in storage)
-  pub placed : stores.shape_of (store_in storage) ≡ places.shape_of app v.bank number (config_in storage)
+  pub placed : stores.shape_of (store_in storage) ≡ places.storage_shape app v.bank number (config_in storage)
   pub used : IsUsed told image (store_in storage)
-  pub kind : kind_of (session_in storage) ≡ (config_in storage).kind
-  pub shows : synced_of (session_in storage) ≡ seen_in (config_in storage).kind (view_in (store_in storage))
+  pub kind : session_kind (session_in storage) ≡ (config_in storage).kind
+  pub shows : synced_in_session (session_in storage) ≡ seen_in (config_in storage).kind (view_in (store_in storage))
 
 -- there is room for sixteen, and each that is open is one of the active version
 pub record AreOpenOn (told : Bool) (image : Image) (app : ℕ) (says : Says) (slots : Slots) : Type 0 where

@@ -6,7 +6,7 @@ use Rattle.element_laws.specs.Phases.{IsOfPlace}
 use Rattle.element_store.specs.declared.store.Store.{Store}
 use Rattle.element_store.specs.Stores.{IsUsed, shape_of}
 use Rattle.deploy_laws.specs.Laws.{BesideLaw, NumberLaw, StorageFilesLaw, StoredLaw, StoringLaw, UntouchedAppLaw}
-use Rattle.deploy.specs.Laws.{InUseLaw, RootFrameLaw}
+use Rattle.deploy.specs.Laws.{RootFrameLaw, RootInUseLaw}
 
 -- a storage in use stays so where the files of its place are as they were
 abbrev pub UsedFrameLaw : Type 0
@@ -15,8 +15,8 @@ UsedFrameLaw = (told : Bool) (store : Store) (old new : Image)
     → IsUsed told old store → IsUsed told new store
 
 pub record StorageLaws : Type 0 where
-  -- what a root in use says, and where its storages lie
-  pub in_use : InUseLaw
+  -- what a root in use says, and where its storages are stored
+  pub in_use : RootInUseLaw
   pub numbers : NumberLaw
   pub files : StorageFilesLaw
   pub beside : BesideLaw

@@ -11,8 +11,9 @@ ghost use Rattle.run_model.specs.Found.{Found};
 ghost use Rattle.run_model.specs.Runtimes.{IsUnwritten, WritesWithin, is_durable, is_refusal};
 ghost use Rattle.run_model.specs.Sessions.{Session};
 ghost use Rattle.run_model.specs.Steps.{found_named, uses_device};
-ghost use Rattle.app_storages.specs.Answers.{HasFailed, HasStopped, IsAnswered, is_on_storage};
-ghost use Rattle.app_storages.specs.Handled.{IsHandled, StaysInPlace};
+ghost use Rattle.app_storages.specs.Answers.{HasStorageCallFailed, HasStorageCallStopped, IsStorageCallAnswered};
+ghost use Rattle.app_storages.specs.Answers.{is_on_storage};
+ghost use Rattle.app_storages.specs.Handled.{IsStorageCallHandled, StaysInPlace};
 ghost use Rattle.app_storages.specs.Slots.{IsResting, resting_with};
 
 use crate::slots::Slots;
@@ -42,14 +43,14 @@ impl Slots {
 
         // The reply and the application after it are those of the row; where the device failed, or memory ran out, the
         // call is in progress.
-        ensures answered { IsTrue D.told → IfOk result (λ reply. IsAnswered app now call.now
+        ensures answered { IsTrue D.told → IfOk result (λ reply. IsStorageCallAnswered app now call.now
             (resting_with (D.medium disk.old).image app self.old) (resting_with (D.medium disk.new).image app self.new)
             reply
             (D.medium disk.old) (D.medium disk.new)) }
-        ensures failed { IsTrue D.told → IsErrOf result Stop.Device → HasFailed app now call.now
+        ensures failed { IsTrue D.told → IsErrOf result Stop.Device → HasStorageCallFailed app now call.now
             (resting_with (D.medium disk.old).image app self.old) (resting_with (D.medium disk.new).image app self.new)
             (D.medium disk.old) (D.medium disk.new) }
-        ensures stopped { IsTrue D.told → IsErrOf result Stop.OutOfMemory → HasStopped app now call.now
+        ensures stopped { IsTrue D.told → IsErrOf result Stop.OutOfMemory → HasStorageCallStopped app now call.now
             (resting_with (D.medium disk.old).image app self.old) (D.medium disk.old) (D.medium disk.new) }
 
         // What is kept in memory stays in use; after a failure too.
@@ -93,7 +94,7 @@ impl Slots {
     ) -> Result<Reply, Stop>
         requires memory { IsResting D.told (D.medium disk.old).image app root.now self.old }
         requires on_storage { IsTrue (is_on_storage call.now) }
-        ensures { IsHandled D.told app now root.now call.now self.old self.new
+        ensures { IsStorageCallHandled D.told app now root.now call.now self.old self.new
             (D.medium disk.old) (D.medium disk.new) (disk.new ≡ disk.old) result }
     {
         match call {

@@ -3,7 +3,7 @@
 ghost use Rattle.std.specs.Prelude.{◌≡◌, ◌<◌, ℕ, length};
 ghost use Rattle.command_text.specs.declared.calls.Call.{Call};
 ghost use Rattle.app_storages.specs.Durables.{IsLeft};
-ghost use Rattle.app_storages.specs.Handled.{IsHandled};
+ghost use Rattle.app_storages.specs.Handled.{IsStorageCallHandled};
 ghost use Rattle.app_storages.specs.Slots.{IsResting};
 
 use crate::finding::find;
@@ -37,7 +37,7 @@ impl Slots {
         name: &Name,
     ) -> Result<Reply, Stop>
         requires { IsResting D.told (D.medium disk.old).image app root.now self.old }
-        ensures { (now : ℕ) → IsHandled D.told app now root.now (Call.Close name.now) self.old self.new
+        ensures { (now : ℕ) → IsStorageCallHandled D.told app now root.now (Call.Close name.now) self.old self.new
             (D.medium disk.old) (D.medium disk.new) (disk.new ≡ disk.old) result }
     {
         storages_stand();

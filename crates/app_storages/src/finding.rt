@@ -7,7 +7,8 @@ ghost use Rattle.element_state.specs.Conditions.{IsShape};
 ghost use Rattle.deploy_laws.specs.Apps.{app_at};
 ghost use Rattle.deploy.specs.Roots.{AreParts, IsRootOf, IsRootOn, root_says};
 ghost use Rattle.run_model.specs.Found.{of_kind, storage_in};
-ghost use Rattle.app_storages.specs.Finding.{IsAsked, IsEarly, IsLocated, IsMissing, IsWithin, config_of, found_on};
+ghost use Rattle.app_storages.specs.Finding.{HasStorageNumbers, IsAsked, IsEarly, IsLocated, IsMissing, config_of};
+ghost use Rattle.app_storages.specs.Finding.{found_on};
 ghost use Rattle.app_storages.specs.Finding.{shape_at};
 
 use crate::laws::storages_stand;
@@ -33,7 +34,7 @@ pub(crate) struct Located<'a> {
 ///
 /// # Errors
 ///
-/// `IntegrityCorrupted` where the root is bad, then `NotInstalled`, then `StorageNotFound`; so it is whatever lies on
+/// `IntegrityCorrupted` where the root is bad, then `NotInstalled`, then `StorageNotFound`; so it is whatever is on
 /// the disk.
 pub(crate) fn find<'a>(
     app: u32,
@@ -107,9 +108,9 @@ fn is_of_kind(kind: StoreKind, wanted: Option<StoreKind>) -> bool
 }
 
 impl Located<'_> {
-    /// Where it lies.
+    /// Where it is stored.
     pub(crate) fn shape(&self) -> Result<Shape, AllocError>
-        requires { IsWithin self.now }
+        requires { HasStorageNumbers self.now }
         ensures shape { IfOk result (λ shape. shape ≡ shape_at self.now) }
         ensures keeps { IfOk result IsShape }
         ensures configured { IfOk result (IsConfigured self.now.config.now.kind (config_of self.now)) }

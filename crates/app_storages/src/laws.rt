@@ -6,7 +6,7 @@ use deploy::{in_use_stays, roots_in_use};
 use deploy_laws::{files_lie_apart, others_stand, roots_say, storing_stands, untouched_stands};
 use element_store::use_stays;
 
-// A storage's files lie apart from all others: what changes them alone changes that storage alone, also at every
+// A storage's files are apart from all others: what changes them alone changes that storage alone, also at every
 // moment.
 pub(crate) fn storages_stand()
     ensures { StorageLaws }

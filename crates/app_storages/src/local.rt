@@ -3,8 +3,8 @@
 ghost use Rattle.std.specs.Prelude.{◌≡◌, IsTrue, Some, is_some, option_map};
 ghost use Rattle.command_text.specs.declared.calls.Call.{Call};
 ghost use Rattle.run_model.specs.Calls.{local_on};
-ghost use Rattle.app_storages.specs.Handled.{IsHandled};
-ghost use Rattle.app_storages.specs.Openings.{Refuses, Concludes, on_of};
+ghost use Rattle.app_storages.specs.Handled.{IsStorageCallHandled};
+ghost use Rattle.app_storages.specs.Openings.{TellsRefusal, TellsAnswer, on_of};
 ghost use Rattle.app_storages.specs.Slots.{IsResting};
 
 use crate::finding::find;
@@ -37,7 +37,7 @@ impl Slots {
     ) -> Result<Reply, Stop>
         requires memory { IsResting D.told (D.medium disk.now).image app root.now self.old }
         requires local { IsTrue (is_some (local_on call.now)) }
-        ensures { IsHandled D.told app now root.now call.now self.old self.new
+        ensures { IsStorageCallHandled D.told app now root.now call.now self.old self.new
             (D.medium disk.now) (D.medium disk.now) (disk.now ≡ disk.now) result }
     {
         storages_stand();
@@ -61,7 +61,7 @@ impl Slots {
 
 /// The reply to a call, where memory sufficed.
 fn concluded(alloc: Global, answer: Result<Answer, PerError>) -> Result<Reply, Stop>
-    ensures { Concludes answer result }
+    ensures { TellsAnswer answer result }
 {
     match answer {
         Ok(answer) => Ok(answered(alloc, answer)),
@@ -70,7 +70,7 @@ fn concluded(alloc: Global, answer: Result<Answer, PerError>) -> Result<Reply, S
 }
 
 fn refused(alloc: Global, error: PerError) -> Result<Reply, Stop>
-    ensures { Refuses error result }
+    ensures { TellsRefusal error result }
 {
     match error {
         PerError::OutOfMemory => Err(Stop::OutOfMemory),

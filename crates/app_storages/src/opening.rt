@@ -1,7 +1,7 @@
 //! Opening a storage.
 
 ghost use Rattle.std.specs.Prelude.{◌≡◌, ℕ, IfOk};
-ghost use Rattle.app_storages.specs.Handled.{IsHandled};
+ghost use Rattle.app_storages.specs.Handled.{IsStorageCallHandled};
 ghost use Rattle.app_storages.specs.Openings.{corrupt_reply, open_call};
 ghost use Rattle.app_storages.specs.Slots.{IsResting};
 
@@ -37,7 +37,7 @@ impl Slots {
         kind: StoreKind,
     ) -> Result<Reply, Stop>
         requires { IsResting D.told (D.medium disk.old).image app root.now self.old }
-        ensures { (now : ℕ) → IsHandled D.told app now root.now (open_call kind name.now) self.old self.new
+        ensures { (now : ℕ) → IsStorageCallHandled D.told app now root.now (open_call kind name.now) self.old self.new
             (D.medium disk.old) (D.medium disk.new) (disk.new ≡ disk.old) result }
     {
         storages_stand();

@@ -1,10 +1,10 @@
-//! Making a closed storage anew.
+//! Rebuilding a closed storage.
 
 ghost use Rattle.std.specs.Prelude.{◌≡◌, ◌<◌, ℕ, IfErr, IfOk, IsErrOf};
 ghost use Rattle.command_text.specs.declared.calls.Call.{Call};
 ghost use Rattle.deploy.specs.Roots.{IsRootOf};
 ghost use Rattle.app_storages.specs.Finding.{config_of};
-ghost use Rattle.app_storages.specs.Handled.{IsHandled};
+ghost use Rattle.app_storages.specs.Handled.{IsStorageCallHandled};
 ghost use Rattle.app_storages.specs.Rebuilding.{IsClosed, IsNoneClosed};
 ghost use Rattle.app_storages.specs.Slots.{IsResting};
 
@@ -19,7 +19,7 @@ use per_base::{Holder, Name, PerError};
 use std::alloc::{AllocError, Global};
 
 impl Slots {
-    /// Makes a closed storage of an application at rest anew of what can be read of it, at a moment in seconds.
+    /// Rebuilds a closed storage of an application at rest from its readable contents, at a moment in seconds.
     ///
     /// Refusals, the first that holds: `IntegrityCorrupted` with the root where it is bad; `NotInstalled`;
     /// `StorageNotFound`; `ResourceBusy` with the storage where it is open; `OutOfStorageSpace` where what can be read
@@ -38,7 +38,7 @@ impl Slots {
         name: &Name,
     ) -> Result<Reply, Stop>
         requires { IsResting D.told (D.medium disk.old).image app root.now self.old }
-        ensures { IsHandled D.told app now root.now (Call.RecoverStorage name.now) self.old self.new
+        ensures { IsStorageCallHandled D.told app now root.now (Call.RecoverStorage name.now) self.old self.new
             (D.medium disk.old) (D.medium disk.new) (disk.new ≡ disk.old) result }
     {
         storages_stand();
@@ -57,7 +57,7 @@ impl Slots {
         }
     }
 
-    /// Makes a closed storage of an application at rest anew with its initial contents, at a moment in seconds.
+    /// Rebuilds a closed storage of an application at rest with its initial contents, at a moment in seconds.
     ///
     /// Refusals, the first that holds: `IntegrityCorrupted` with the root where it is bad; `NotInstalled`;
     /// `StorageNotFound`; `ResourceBusy` with the storage where it is open; `LimitReached` with `Generations` where no
@@ -76,7 +76,7 @@ impl Slots {
         name: &Name,
     ) -> Result<Reply, Stop>
         requires { IsResting D.told (D.medium disk.old).image app root.now self.old }
-        ensures { IsHandled D.told app now root.now (Call.ResetStorage name.now) self.old self.new
+        ensures { IsStorageCallHandled D.told app now root.now (Call.ResetStorage name.now) self.old self.new
             (D.medium disk.old) (D.medium disk.new) (disk.new ≡ disk.old) result }
     {
         storages_stand();
@@ -95,7 +95,7 @@ impl Slots {
         }
     }
 
-    /// The storage of this name, where it is not open, or why it is not to be made anew.
+    /// The storage of this name, where it is not open, or why it is not to be rebuilt.
     ///
     /// # Errors
     ///

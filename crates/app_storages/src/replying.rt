@@ -1,13 +1,13 @@
 //! Replies without reports.
 
 ghost use Rattle.std.specs.Prelude.{◌≡◌, []};
-ghost use Rattle.app_storages.specs.Durables.{Says};
+ghost use Rattle.app_storages.specs.Durables.{RepliesDone};
 
 use command_text::{Answer, Reply};
 use per_base::{PerError, Sequence};
 use std::alloc::Global;
 
-/// An answer without a report. Takes no memory.
+/// An answer without a report. Does not allocate.
 pub(crate) fn answered(alloc: Global, answer: Answer) -> Reply
     ensures { result ≡ record { reports = []; answer = answer } }
 {
@@ -17,7 +17,7 @@ pub(crate) fn answered(alloc: Global, answer: Answer) -> Reply
     }
 }
 
-/// The call is refused. Takes no memory.
+/// The call is refused. Does not allocate.
 pub(crate) fn refusal(alloc: Global, error: PerError) -> Reply
     ensures { result ≡ record { reports = []; answer = Answer.Error error } }
 {
@@ -26,7 +26,7 @@ pub(crate) fn refusal(alloc: Global, error: PerError) -> Reply
 
 /// Nothing is to be said of a call but that it is done, or that it is refused.
 pub(crate) fn done_or(alloc: Global, refused: Option<PerError>) -> Reply
-    ensures { Says result refused }
+    ensures { RepliesDone result refused }
 {
     match refused {
         None => answered(alloc, Answer::Done),

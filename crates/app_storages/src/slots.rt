@@ -14,7 +14,7 @@ use open_storages::Open;
 use per_base::Name;
 use std::alloc::{AllocError, Global};
 
-/// The open storages of an application: the one with number n of the active version lies in slot n of sixteen.
+/// The open storages of an application: the one with number n of the active version is in slot n of sixteen.
 #[derive(Drop)]
 pub struct Slots {
     pub(crate) open: Vec<Option<Open>>,
@@ -32,7 +32,7 @@ impl Slots {
         Ok(Slots { open })
     }
 
-    /// Lets all go: what is pending in them is lost. Takes no memory.
+    /// Lets all go: what is pending in them is lost. Does not allocate.
     pub fn clear(&mut self)
         requires room { length self.old.open.items ≡ 16 }
         ensures { self.new.open.items ≡ replicate {A = Option Open} 16 None }
@@ -96,7 +96,7 @@ impl Slots {
         }
     }
 
-    // Takes the open storage with this number out of its slot. Takes no memory.
+    // Takes the open storage with this number out of its slot. Does not allocate.
     pub(crate) fn take(&mut self, number: u32) -> Option<Open>
         requires { number < length self.old.open.items }
         ensures taken { result ≡ slot_at self.old number }
@@ -105,7 +105,7 @@ impl Slots {
         self.open[number as usize].take()
     }
 
-    // Puts an open storage into the slot of its number. Takes no memory.
+    // Puts an open storage into the slot of its number. Does not allocate.
     pub(crate) fn put(&mut self, number: u32, storage: Open)
         requires { number < length self.old.open.items }
         ensures { self.new.open.items ≡ slice_set self.old.open.items number (Some storage) }

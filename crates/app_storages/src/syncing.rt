@@ -3,7 +3,7 @@
 ghost use Rattle.std.specs.Prelude.{◌≡◌, ◌<◌, ℕ, length};
 ghost use Rattle.command_text.specs.declared.calls.Call.{Call};
 ghost use Rattle.app_storages.specs.Durables.{IsPutBack};
-ghost use Rattle.app_storages.specs.Handled.{IsHandled};
+ghost use Rattle.app_storages.specs.Handled.{IsStorageCallHandled};
 ghost use Rattle.app_storages.specs.Slots.{IsResting};
 
 use crate::finding::find;
@@ -35,7 +35,7 @@ impl Slots {
         name: &Name,
     ) -> Result<Reply, Stop>
         requires { IsResting D.told (D.medium disk.old).image app root.now self.old }
-        ensures { (now : ℕ) → IsHandled D.told app now root.now (Call.Sync name.now) self.old self.new
+        ensures { (now : ℕ) → IsStorageCallHandled D.told app now root.now (Call.Sync name.now) self.old self.new
             (D.medium disk.old) (D.medium disk.new) (disk.new ≡ disk.old) result }
     {
         storages_stand();
@@ -55,7 +55,7 @@ impl Slots {
 
     /// Makes the working files of an open storage durable through one of its handles, of an application at rest.
     ///
-    /// Refusals, the first that holds: those in front of `sync`; `NotOpen` too where there is no such handle;
+    /// Refusals, the first that holds: those before `sync`; `NotOpen` too where there is no such handle;
     /// `IllegalWriteAccess` for one that only reads; `LimitReached` with `Generations` where files differ and no
     /// generation is left.
     ///
@@ -72,7 +72,8 @@ impl Slots {
         handle: u32,
     ) -> Result<Reply, Stop>
         requires { IsResting D.told (D.medium disk.old).image app root.now self.old }
-        ensures { (now : ℕ) → IsHandled D.told app now root.now (Call.Flush name.now handle) self.old self.new
+        ensures { (now : ℕ) → IsStorageCallHandled D.told app now root.now
+            (Call.Flush name.now handle) self.old self.new
             (D.medium disk.old) (D.medium disk.new) (disk.new ≡ disk.old) result }
     {
         storages_stand();

@@ -15,8 +15,8 @@ use Rattle.index_text.specs.lemmas.Order.{sorted_from_ascends}
 use Rattle.element_state.specs.declared.shapes.Shape.{Shape}
 use Rattle.element_state.specs.declared.shapes.View.{View}
 use Rattle.element_state.specs.Changes.{insert_item, without_item, entry_name}
-use Rattle.index_text.specs.Contents.{AreContents, IsFresh}
-use Rattle.element_state.specs.Conditions.{AreChanges, size_of}
+use Rattle.index_text.specs.Contents.{AreContents, SuitsKind}
+use Rattle.element_state.specs.Conditions.{AreCommittable, size_of}
 use Rattle.element_state.specs.States.{fresh_entry, fresh_element, greatest_generation}
 use Rattle.base_tests.specs.Single.{IsAddition}
 
@@ -58,7 +58,7 @@ length_without name (g ∷ fs) = elim (cases_Bool (bytes_eq g.name name)) [
 -- one change that the storage can take is a commit's
 pub one_change : (shape : Shape) (v : View) (change : Change) → IsAddition shape (size_of v.entries) change
     → length v.entries < 1024
-    → v.generation < greatest_generation → AreChanges shape v (change ∷ [])
+    → v.generation < greatest_generation → AreCommittable shape v (change ∷ [])
 unfolding IsDistinct
 one_change shape v (Put f) fits few not_worn =
     let new : Entry = fresh_entry (v.generation + 1) (fresh_element f) in
@@ -88,7 +88,7 @@ one_change shape v (Remove name) fits few not_worn =
 one_change shape v (Touch name info) fits few not_worn = absurd fits
 
 -- one element that fits is all that a storage is made with
-pub one_content : (shape : Shape) (f : Fresh) → IsFresh shape.kind f → length f.name + length f.bytes ≤ shape.allowed
+pub one_content : (shape : Shape) (f : Fresh) → SuitsKind shape.kind f → length f.name + length f.bytes ≤ shape.allowed
     → AreContents shape.kind shape.allowed (f ∷ [])
 one_content shape f fresh small = let sum = sum_by-cons (λ (f : Fresh). length f.name + length f.bytes) f [] in record {
   each = (fresh, tt);

@@ -5,5 +5,5 @@ use Rattle.guarded_cell.specs.Cells.{CellAt}
 use Rattle.base_tests.specs.declared.sessions.Run.{Run}
 
 -- a register in use holds some text on the disk
-abbrev pub IsRun : Run → Type 0
-IsRun run = IfSome run.cell (λ cell. (t : List ℕ) × CellAt (mem_medium run.disk).image cell t)
+abbrev pub IsRegisterInUse : Run → Type 0
+IsRegisterInUse run = IfSome run.cell (λ cell. (t : List ℕ) × CellAt (mem_medium run.disk).image cell t)

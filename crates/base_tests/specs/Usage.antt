@@ -7,9 +7,9 @@ use Rattle.base_tests.specs.declared.usage.Kept.{Kept}
 use Rattle.base_tests.specs.declared.usage.Kept.TheVariants.{Closed, Open}
 
 -- the storage is in use on its disk, and kept as it says
-abbrev pub IsInUse : InUse → Type 0
-IsInUse kept = IsUsed true (mem_medium kept.disk).image kept.store × (shape_of kept.store ≡ kept.shape)
+abbrev pub IsStoreInUse : InUse → Type 0
+IsStoreInUse kept = IsUsed true (mem_medium kept.disk).image kept.store × (shape_of kept.store ≡ kept.shape)
 
-abbrev pub IsKept : Kept → Type 0
-IsKept (Closed disk) = ⊤
-IsKept (Open kept) = IsInUse kept
+abbrev pub IsKeptStore : Kept → Type 0
+IsKeptStore (Closed disk) = ⊤
+IsKeptStore (Open kept) = IsStoreInUse kept

@@ -1,4 +1,4 @@
-//! A caller of any disk, and a disk that tells nothing.
+//! A caller of any disk, and a disk that models nothing.
 
 ghost use Rattle.std.specs.Prelude.{◌≡◌, ◌⊎◌, ◌+◌, ◌-◌, ◌^◌, ◌≤◌, false, IsTrue, min};
 ghost use Rattle.disk_model.specs.Image.{put_image};
@@ -10,7 +10,7 @@ use case_words::Trouble;
 use disk_model::{Disk, DiskFailed, MemDisk};
 use std::alloc::Global;
 
-/// A disk that tells nothing, as one over a real device: it only counts its failures. This one always fails.
+/// A disk that models nothing, as one over a real device: it only counts its failures. This one always fails.
 #[derive(Drop)]
 struct Silent {
     faults: u64,

@@ -1,7 +1,7 @@
 //! Elements that are to be written.
 
 ghost use Rattle.std.specs.Prelude.{IsTrue, IfOk};
-ghost use Rattle.index_text.specs.Contents.{AreContents, IsFresh};
+ghost use Rattle.index_text.specs.Contents.{AreContents, SuitsKind};
 ghost use Rattle.base_tests.specs.Single.{IsAddition};
 
 use case_words::{Trouble, bytes_of, cut};
@@ -45,7 +45,7 @@ fn element(alloc: Global, kind: StoreKind, name: &str, bytes: Vec<u8>) -> Result
 
 // Whether a storage of this kind takes the element.
 fn is_of_kind(kind: StoreKind, fresh: &Fresh) -> bool
-    ensures { IsTrue result → IsFresh kind fresh.now }
+    ensures { IsTrue result → SuitsKind kind fresh.now }
 {
     match kind {
         StoreKind::Keys => fresh.info.is_none() && fresh.bytes.len() <= 65_536,

@@ -24,7 +24,7 @@ pub fn hold(alloc: Global, disk: &mut MemDisk, rest: &str) -> Result<(), Trouble
     Ok(())
 }
 
-/// `COPY:BYTES`: makes a content durable at the front of the area of a copy.
+/// `COPY:BYTES`: makes a content durable at the start of the area of a copy.
 pub fn fill(alloc: Global, disk: &mut MemDisk, rest: &str) -> Result<(), Trouble> {
     let (copy, bytes) = cut(rest, ':');
     let bytes = bytes_of(alloc, bytes)?;

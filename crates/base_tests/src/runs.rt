@@ -1,7 +1,7 @@
 //! The words of a course, one after the other.
 
 ghost use Rattle.std.specs.Prelude.{IfOk};
-ghost use Rattle.base_tests.specs.Usage.{IsKept};
+ghost use Rattle.base_tests.specs.Usage.{IsKeptStore};
 
 use crate::images::{fill, flip, hold};
 use crate::plans::{Plan, plan_of};
@@ -12,7 +12,7 @@ use std::alloc::Global;
 
 /// What the words leave, from a disk of empty files on.
 pub fn run(alloc: Global, plan: Plan, words: &str) -> Result<Kept, Trouble>
-    ensures { IfOk result IsKept }
+    ensures { IfOk result IsKeptStore }
 {
     let mut kept = Kept::Closed(MemDisk::new(alloc));
     for word in words.split(' ') {
@@ -24,8 +24,8 @@ pub fn run(alloc: Global, plan: Plan, words: &str) -> Result<Kept, Trouble>
 
 /// One word: what it leaves, and what it answers.
 pub fn step(alloc: Global, plan: Plan, kept: Kept, word: &str) -> Result<(Kept, String), Trouble>
-    requires { IsKept kept }
-    ensures { IfOk result (λ next. IsKept next.0) }
+    requires { IsKeptStore kept }
+    ensures { IfOk result (λ next. IsKeptStore next.0) }
 {
     let (verb, rest) = cut(word, ':');
     match verb {

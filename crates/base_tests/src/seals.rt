@@ -9,7 +9,7 @@ pub fn hash_of(alloc: Global, word: &str) -> Result<String, Trouble> {
     bytes_text(alloc, &hash(&bytes_of(alloc, word)?))
 }
 
-/// `seal GENERATION BYTES`: the sealed text, made anew and written over other bytes.
+/// `seal GENERATION BYTES`: the sealed text, written to a new buffer and over other bytes.
 pub fn sealed(alloc: Global, words: &str) -> Result<String, Trouble> {
     let (generation, word) = cut(words, ' ');
     let generation = number(generation)?;
@@ -26,7 +26,7 @@ pub fn sealed(alloc: Global, words: &str) -> Result<String, Trouble> {
     bytes_text(alloc, &sealed)
 }
 
-/// `verify BYTES`: the generation and the body of the sealed text at their front.
+/// `verify BYTES`: the generation and the body of the sealed text at their start.
 pub fn verified(alloc: Global, word: &str) -> Result<String, Trouble> {
     let slot = bytes_of(alloc, word)?;
     match verify(&slot) {

@@ -1,7 +1,7 @@
 //! Sessions of a disk in memory, and of a register of three copies on it.
 
 ghost use Rattle.std.specs.Prelude.{IfOk};
-ghost use Rattle.base_tests.specs.Sessions.{IsRun};
+ghost use Rattle.base_tests.specs.Sessions.{IsRegisterInUse};
 
 use case_words::{
     Trouble, add, bytes_of, bytes_text, cut, number, numbers, numbers_text, small, text,
@@ -44,8 +44,8 @@ pub fn session(alloc: Global, words: &str) -> Result<String, Trouble> {
 
 // One word of a session.
 fn step(alloc: Global, run: Run, word: &str) -> Result<(Run, String), Trouble>
-    requires { IsRun run }
-    ensures { IfOk result (λ next. IsRun next.0) }
+    requires { IsRegisterInUse run }
+    ensures { IfOk result (λ next. IsRegisterInUse next.0) }
 {
     let (verb, rest) = cut(word, ':');
     match verb {
@@ -57,9 +57,9 @@ fn step(alloc: Global, run: Run, word: &str) -> Result<(Run, String), Trouble>
     }
 }
 
-// `format:BYTES`: begins a register anew.
+// `format:BYTES`: formats a register.
 fn format(alloc: Global, run: Run, word: &str) -> Result<(Run, String), Trouble>
-    ensures { IfOk result (λ next. IsRun next.0) }
+    ensures { IfOk result (λ next. IsRegisterInUse next.0) }
 {
     let Run { mut disk, cell: _ } = run;
     let body = bytes_of(alloc, word)?;
@@ -77,8 +77,8 @@ fn format(alloc: Global, run: Run, word: &str) -> Result<(Run, String), Trouble>
 
 // `put:BYTES`: writes the next text of the register in use.
 fn put(alloc: Global, run: Run, word: &str) -> Result<(Run, String), Trouble>
-    requires { IsRun run }
-    ensures { IfOk result (λ next. IsRun next.0) }
+    requires { IsRegisterInUse run }
+    ensures { IfOk result (λ next. IsRegisterInUse next.0) }
 {
     let Run { mut disk, cell } = run;
     let Some(cell) = cell else {
@@ -100,8 +100,8 @@ fn put(alloc: Global, run: Run, word: &str) -> Result<(Run, String), Trouble>
 
 // `stop:K`: from now on K calls of the disk pass.
 fn stop(alloc: Global, run: Run, word: &str) -> Result<(Run, String), Trouble>
-    requires { IsRun run }
-    ensures { IfOk result (λ next. IsRun next.0) }
+    requires { IsRegisterInUse run }
+    ensures { IfOk result (λ next. IsRegisterInUse next.0) }
 {
     let Run { mut disk, cell } = run;
     disk.stop_after(number(word)?);
@@ -111,7 +111,7 @@ fn stop(alloc: Global, run: Run, word: &str) -> Result<(Run, String), Trouble>
 // `crash:all`, `crash:none`, `crash:PATTERN`: a power loss that keeps all writes since the last sync, none, or those of
 // the pattern.
 fn crash(alloc: Global, run: Run, word: &str) -> Result<(Run, String), Trouble>
-    ensures { IfOk result (λ next. IsRun next.0) }
+    ensures { IfOk result (λ next. IsRegisterInUse next.0) }
 {
     let Run { disk, cell: _ } = run;
     let disk = match word {
@@ -124,7 +124,7 @@ fn crash(alloc: Global, run: Run, word: &str) -> Result<(Run, String), Trouble>
 
 // A word that takes the register out of use.
 fn apart(alloc: Global, run: Run, verb: &str, rest: &str) -> Result<(Run, String), Trouble>
-    ensures { IfOk result (λ next. IsRun next.0) }
+    ensures { IfOk result (λ next. IsRegisterInUse next.0) }
 {
     let Run { mut disk, cell: _ } = run;
     let said = match verb {
@@ -200,7 +200,7 @@ fn write(alloc: Global, disk: &mut MemDisk, rest: &str) -> Result<String, Troubl
     done(alloc, written.is_ok())
 }
 
-// `seal:FILE:GENERATION:BYTES`: the sealed text at the front of the file.
+// `seal:FILE:GENERATION:BYTES`: the sealed text at the start of the file.
 fn seal_front(alloc: Global, disk: &mut MemDisk, rest: &str) -> Result<String, Trouble> {
     let (file, rest) = cut(rest, ':');
     let (generation, body) = cut(rest, ':');

@@ -1,9 +1,9 @@
 //! Storages on a disk in memory, made and changed one element at a time.
 
 ghost use Rattle.std.specs.Prelude.{IfOk};
-ghost use Rattle.element_state.specs.Conditions.{IsShape, AreChanges};
+ghost use Rattle.element_state.specs.Conditions.{IsShape, AreCommittable};
 ghost use Rattle.element_store.specs.Stores.{shape_of, view_in};
-ghost use Rattle.base_tests.specs.Usage.{IsInUse, IsKept};
+ghost use Rattle.base_tests.specs.Usage.{IsKeptStore, IsStoreInUse};
 
 use crate::elements::{alone, element_of, takes};
 use crate::plans::Plan;
@@ -45,8 +45,8 @@ pub fn disk_of(kept: Kept) -> MemDisk {
 
 /// From now on that many calls of the disk pass.
 pub fn stopped(kept: Kept, passing: u64) -> Kept
-    requires { IsKept kept }
-    ensures { IsKept result }
+    requires { IsKeptStore kept }
+    ensures { IsKeptStore result }
 {
     match kept {
         Kept::Closed(mut disk) => {
@@ -60,14 +60,14 @@ pub fn stopped(kept: Kept, passing: u64) -> Kept
     }
 }
 
-/// `create:NAME=BYTES`: makes the storage anew with one element.
+/// `create:NAME=BYTES`: rebuilds the storage with one element.
 pub fn created(
     alloc: Global,
     plan: Plan,
     mut disk: MemDisk,
     word: &str,
 ) -> Result<(Kept, String), Trouble>
-    ensures { IfOk result (λ next. IsKept next.0) }
+    ensures { IfOk result (λ next. IsKeptStore next.0) }
 {
     let shape = plan.shape(alloc)?;
     let contents = alone(alloc, &shape, element_of(alloc, plan.kind, word)?)?;
@@ -79,7 +79,7 @@ pub fn created(
 
 /// `open`: opens the storage.
 pub fn opened(alloc: Global, plan: Plan, mut disk: MemDisk) -> Result<(Kept, String), Trouble>
-    ensures { IfOk result (λ next. IsKept next.0) }
+    ensures { IfOk result (λ next. IsKeptStore next.0) }
 {
     let shape = plan.shape(alloc)?;
     match open_store(alloc, &mut disk, shape.copy()?) {
@@ -96,13 +96,13 @@ pub fn opened(alloc: Global, plan: Plan, mut disk: MemDisk) -> Result<(Kept, Str
 
 // A storage in use, after a call that was done.
 fn shown(alloc: Global, kept: InUse) -> Result<(Kept, String), Trouble>
-    requires { IsInUse kept }
-    ensures { IfOk result (λ next. IsKept next.0) }
+    requires { IsStoreInUse kept }
+    ensures { IfOk result (λ next. IsKeptStore next.0) }
 {
     Ok((Kept::Open(kept), text(alloc, "ok")?))
 }
 
-/// `rebuild:NAME=BYTES`: makes the storage anew with one element, beside what the place holds.
+/// `rebuild:NAME=BYTES`: rebuilds the storage with one element, beside what the place holds.
 pub fn rebuilt(
     alloc: Global,
     plan: Plan,
@@ -125,8 +125,9 @@ pub fn rebuilt(
 impl InUse {
     // The change alone, where the storage can take it.
     fn single(&self, alloc: Global, change: Change) -> Result<Vec<Change>, Trouble>
-        requires { IsInUse self.now }
-        ensures { IfOk result (λ changes. AreChanges (shape_of self.now.store) (view_in self.now.store) changes.items) }
+        requires { IsStoreInUse self.now }
+        ensures { IfOk result (λ changes. AreCommittable (shape_of self.now.store)
+            (view_in self.now.store) changes.items) }
     {
         if self.store.generation() == u64::MAX || self.store.entries().len() >= 1024 {
             return Err(Trouble::NoCase);
@@ -139,8 +140,8 @@ impl InUse {
 
     // Commits one change; where the disk fails, the storage is closed.
     fn commit(self, alloc: Global, change: Change) -> Result<Kept, Trouble>
-        requires { IsInUse self }
-        ensures { IfOk result IsKept }
+        requires { IsStoreInUse self }
+        ensures { IfOk result IsKeptStore }
     {
         let changes = self.single(alloc, change)?;
         let InUse {
@@ -157,8 +158,8 @@ impl InUse {
 
     // Commits another content of an element.
     fn changed(self, alloc: Global, word: &str) -> Result<Kept, Trouble>
-        requires { IsInUse self }
-        ensures { IfOk result IsKept }
+        requires { IsStoreInUse self }
+        ensures { IfOk result IsKeptStore }
     {
         let fresh = element_of(alloc, self.shape.kind, word)?;
         self.commit(alloc, Change::Put(fresh))
@@ -167,8 +168,8 @@ impl InUse {
 
 // The storage that is still in use.
 fn in_use(kept: Kept) -> Result<InUse, Trouble>
-    requires { IsKept kept }
-    ensures { IfOk result IsInUse }
+    requires { IsKeptStore kept }
+    ensures { IfOk result IsStoreInUse }
 {
     match kept {
         Kept::Open(kept) => Ok(kept),
@@ -178,8 +179,8 @@ fn in_use(kept: Kept) -> Result<InUse, Trouble>
 
 /// `put:NAME=BYTES`: commits another content of an element of a storage in use.
 pub fn used(alloc: Global, kept: Kept, word: &str) -> Result<(Kept, String), Trouble>
-    requires { IsKept kept }
-    ensures { IfOk result (λ next. IsKept next.0) }
+    requires { IsKeptStore kept }
+    ensures { IfOk result (λ next. IsKeptStore next.0) }
 {
     let kept = in_use(kept)?;
     told(alloc, kept.changed(alloc, word)?)
@@ -187,8 +188,8 @@ pub fn used(alloc: Global, kept: Kept, word: &str) -> Result<(Kept, String), Tro
 
 // Whether it is still in use; where it is closed, its disk failed.
 fn told(alloc: Global, kept: Kept) -> Result<(Kept, String), Trouble>
-    requires { IsKept kept }
-    ensures { IfOk result (λ next. IsKept next.0) }
+    requires { IsKeptStore kept }
+    ensures { IfOk result (λ next. IsKeptStore next.0) }
 {
     match kept {
         Kept::Open(kept) => shown(alloc, kept),

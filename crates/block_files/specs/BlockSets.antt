@@ -35,8 +35,8 @@ abbrev pub AreDistinct : List ℕ → Type 0
 AreDistinct blocks = (i j : ℕ) → i < j → j < length blocks → slice_index blocks i ≢ slice_index blocks j
 
 -- the block is none of these
-abbrev pub IsApart : List ℕ → ℕ → Type 0
-IsApart blocks k = (i : ℕ) → i < length blocks → k ≢ slice_index blocks i
+abbrev pub IsNotAmong : List ℕ → ℕ → Type 0
+IsNotAmong blocks k = (i : ℕ) → i < length blocks → k ≢ slice_index blocks i
 
 -- blocks that a set does not hold, each once
 pub record AreFree (set : List Bool) (blocks : List ℕ) : Type 0 where
@@ -47,7 +47,7 @@ pub record AreFree (set : List Bool) (blocks : List ℕ) : Type 0 where
 -- the new set holds these blocks, and is otherwise as the old one
 pub record IsAdded (blocks : List ℕ) (old new : List Bool) : Type 0 where
   pub added : (i : ℕ) → i < length blocks → contains new (slice_index blocks i) ≡ true
-  pub kept : (b : ℕ) → IsApart blocks b → contains new b ≡ contains old b
+  pub kept : (b : ℕ) → IsNotAmong blocks b → contains new b ≡ contains old b
   pub capacity : length new ≡ length old
   pub free : free_of old ≤ free_of new + length blocks
 

@@ -16,18 +16,18 @@ unfoldable pub is_changed : List ℕ → List ℕ → ℕ → Bool
 is_changed bytes was i = not (bytes_eq (part bytes i) (part was i))
 
 -- how many of the first n blocks differ
-abbrev pub changed_to : List ℕ → List ℕ → ℕ → ℕ
-changed_to bytes was zero = 0
-changed_to bytes was (suc n) = changed_to bytes was n + cond (is_changed bytes was n) 1 0
+abbrev pub changed_below : List ℕ → List ℕ → ℕ → ℕ
+changed_below bytes was zero = 0
+changed_below bytes was (suc n) = changed_below bytes was n + cond (is_changed bytes was n) 1 0
 
 -- how many blocks of the new content differ from those of the old one
-abbrev pub changed : List ℕ → List ℕ → ℕ
-changed bytes was = changed_to bytes was (blocks_for (length bytes))
+abbrev pub changed_blocks : List ℕ → List ℕ → ℕ
+changed_blocks bytes was = changed_below bytes was (blocks_for (length bytes))
 
 -- the blocks of a content that shares with an earlier one: the earlier block where both are equal, else the next of the
 -- fresh ones
 pub record IsMerged (bytes was old fresh blocks : List ℕ) : Type 0 where
   pub count : length blocks ≡ blocks_for (length bytes)
   pub each : (i : ℕ) → i < length blocks
-      → slice_index blocks i ≡ cond (is_changed bytes was i) (slice_index fresh (changed_to bytes was i))
+      → slice_index blocks i ≡ cond (is_changed bytes was i) (slice_index fresh (changed_below bytes was i))
       (slice_index old i)

@@ -56,7 +56,7 @@ impl BlockSet {
         })
     }
 
-    /// The blocks that the set can hold are those below this number. Takes no memory.
+    /// The blocks that the set can hold are those below this number. Does not allocate.
     pub fn capacity(&self) -> u32
         ensures { result ≡ length self.now }
     {
@@ -70,7 +70,7 @@ impl BlockSet {
         self.first_free
     }
 
-    /// Whether the block is in the set. Takes no memory.
+    /// Whether the block is in the set. Does not allocate.
     pub fn contains(&self, block: u32) -> bool
         requires { block < length self.now }
         ensures { result ≡ contains self.now block }
@@ -78,7 +78,7 @@ impl BlockSet {
         self.flags[block as usize]
     }
 
-    /// Puts the block into the set. Takes no memory.
+    /// Puts the block into the set. Does not allocate.
     pub fn insert(&mut self, block: u32)
         requires { block < length self.old }
         ensures set { self.new ≡ slice_set self.old block true }
@@ -90,7 +90,7 @@ impl BlockSet {
         }
     }
 
-    /// Takes the block out of the set. Takes no memory.
+    /// Takes the block out of the set. Does not allocate.
     pub fn remove(&mut self, block: u32)
         requires { block < length self.old }
         ensures set { self.new ≡ slice_set self.old block false }

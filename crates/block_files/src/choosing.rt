@@ -2,7 +2,7 @@
 
 ghost use Rattle.std.specs.Prelude.{◌≡◌, ◌<◌, ◌≤◌, ◌*◌, ℕ, length, take, slice_index, IfOk};
 ghost use Rattle.block_files.specs.BlockSets.{free_blocks, IsAdded};
-ghost use Rattle.block_files.specs.Parts.{changed, IsMerged};
+ghost use Rattle.block_files.specs.Parts.{changed_blocks, IsMerged};
 
 use crate::block_set::BlockSet;
 use crate::parts::{count_blocks, differs};
@@ -45,7 +45,7 @@ pub(crate) fn merge(
     fresh: &[u32],
 ) -> Result<Vec<u32>, AllocError>
     requires room { length old_bytes.now ≤ 256 * length old_blocks.now }
-    requires enough { length fresh.now ≡ changed bytes.now old_bytes.now }
+    requires enough { length fresh.now ≡ changed_blocks bytes.now old_bytes.now }
     ensures { IfOk result (λ blocks. IsMerged bytes.now old_bytes.now old_blocks.now fresh.now blocks.items) }
 {
     let mut blocks = Vec::new(alloc);

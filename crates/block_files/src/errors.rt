@@ -10,7 +10,7 @@ use std::alloc::{AllocError, AllocFailed};
 pub enum BlobError {
     /// A call of the disk failed, and its count of faults rose.
     Device,
-    /// Memory is wanting.
+    /// Out of memory.
     OutOfMemory,
 }
 

@@ -51,7 +51,7 @@ pub fn get_blob<D: Disk>(
     ensures lacking { IsTrue D.told → IfOk result (λ blob. blob.lacking
         ≡ lacking blob.value place blocks.now len hash.now (D.medium disk.old).image) }
 
-    // Whether the disk tells its bytes or not.
+    // Whether the disk's bytes are modelled or not.
     ensures size { IfOk result (λ blob. IfSome blob.value (λ value. length value ≡ min len (256 * length blocks.now))) }
     ensures salvage_size { IfOk result (λ blob. IfSome blob.salvage
         (λ salvage. length salvage ≡ min len (256 * length blocks.now))) }

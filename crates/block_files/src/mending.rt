@@ -1,7 +1,7 @@
 //! Contents written again in place, in the copies that lack them.
 
 ghost use Rattle.std.specs.Prelude.{◌≡◌, ◌≤◌, ◌*◌, IsTrue, OnOk, OnErr, IfErr, length};
-ghost use Rattle.block_files.specs.BlockSets.{AreDistinct, IsApart};
+ghost use Rattle.block_files.specs.BlockSets.{AreDistinct, IsNotAmong};
 ghost use Rattle.block_files.specs.Areas.{NamedFull};
 ghost use Rattle.block_files.specs.Contents.{AreCopies};
 ghost use Rattle.block_files.specs.Writes.{Wrote, Tore, IsNoneOf};
@@ -10,7 +10,7 @@ use crate::errors::BlobError;
 use crate::writing::write_copies;
 use disk_model::{Disk, Place};
 
-/// Writes the bytes into their blocks in these copies alone, counted from 1. Takes no memory. The bytes are durable
+/// Writes the bytes into their blocks in these copies alone, counted from 1. Does not allocate. The bytes are durable
 /// after the caller's next sync.
 ///
 /// # Errors
@@ -28,9 +28,9 @@ pub fn mend<D: Disk>(
     requires distinct { AreDistinct blocks.now }
     ensures whole { IsTrue D.told → OnOk result
         (NamedFull place copies.now blocks.now bytes.now (D.medium disk.new).image) }
-    ensures done { OnOk result (Wrote D.told (IsNoneOf place copies.now) (IsApart blocks.now)
+    ensures done { OnOk result (Wrote D.told (IsNoneOf place copies.now) (IsNotAmong blocks.now)
         (length copies.now * (256 * length blocks.now)) (D.medium disk.old) (D.medium disk.new)) }
-    ensures failed { OnErr result (Tore D.told (IsNoneOf place copies.now) (IsApart blocks.now)
+    ensures failed { OnErr result (Tore D.told (IsNoneOf place copies.now) (IsNotAmong blocks.now)
         (length copies.now * (256 * length blocks.now)) (D.medium disk.old) (D.medium disk.new)) }
     ensures device { IfErr result (λ error. error ≡ BlobError.Device) }
 {

@@ -1,7 +1,7 @@
 //! The parts of a content, one for each of its blocks.
 
 ghost use Rattle.std.specs.Prelude.{◌≡◌, ◌<◌, ◌≤◌, ◌*◌, ◌^◌, length};
-ghost use Rattle.block_files.specs.Parts.{part, blocks_for, is_changed, changed};
+ghost use Rattle.block_files.specs.Parts.{part, blocks_for, is_changed, changed_blocks};
 
 use per_base::BLOCK;
 
@@ -34,7 +34,7 @@ pub(crate) fn differs(bytes: &[u8], was: &[u8], i: usize) -> bool
 
 // How many parts of a content differ from those of an earlier one.
 pub(crate) fn count_changed(bytes: &[u8], was: &[u8]) -> usize
-    ensures { result ≡ changed bytes.now was.now }
+    ensures { result ≡ changed_blocks bytes.now was.now }
 {
     let mut count = 0;
     for i in 0..count_blocks(bytes.len()) {

@@ -4,8 +4,9 @@ ghost use Rattle.std.specs.Prelude.{◌≡◌, ◌<◌, ◌≤◌, ◌+◌, ◌*
 ghost use Rattle.std.specs.Prelude.{slice_index};
 ghost use Rattle.sha2.specs.Sha256.{sha256};
 ghost use Rattle.disk_model.specs.Place.{IsNoArea};
-ghost use Rattle.block_files.specs.BlockSets.{contains, free_of, AreFree, AreDistinct, IsApart, IsAdded, SharesBlocks};
-ghost use Rattle.block_files.specs.Parts.{blocks_for, changed};
+ghost use Rattle.block_files.specs.BlockSets.{contains, free_of, AreFree, AreDistinct, IsNotAmong, IsAdded};
+ghost use Rattle.block_files.specs.BlockSets.{SharesBlocks};
+ghost use Rattle.block_files.specs.Parts.{blocks_for, changed_blocks};
 ghost use Rattle.block_files.specs.Areas.{AllFull};
 ghost use Rattle.block_files.specs.Writes.{Wrote, Tore, IsTaken, IsApartFromChanged};
 
@@ -73,7 +74,7 @@ pub fn put_blob<D: Disk>(
     // The disk.
     ensures whole { IsTrue D.told → IfOk result (λ blob.
         AllFull place blob.blocks bytes.now (D.medium disk.new).image) }
-    ensures done { IfOk result (λ blob. Wrote D.told (IsNoArea place) (IsApart blob.blocks)
+    ensures done { IfOk result (λ blob. Wrote D.told (IsNoArea place) (IsNotAmong blob.blocks)
         (place.copies * (256 * length blob.blocks)) (D.medium disk.old) (D.medium disk.new)) }
 
     // Errors.
@@ -105,13 +106,13 @@ pub fn reserve_shared(
     requires room { length old_bytes.now ≤ 256 * length old_blocks.now }
     requires taken { (i : ℕ) → i < length old_blocks.now → contains used.old (slice_index old_blocks.now i) ≡ true }
     requires distinct { AreDistinct old_blocks.now }
-    requires free { changed bytes.now old_bytes.now ≤ free_of used.old }
+    requires free { changed_blocks bytes.now old_bytes.now ≤ free_of used.old }
     ensures count { IfOk result (λ blob. length blob.blocks ≡ blocks_for (length bytes.now)) }
     ensures shared { IfOk result (λ blob. SharesBlocks bytes.now old_bytes.now old_blocks.now used.old blob.blocks) }
     ensures distinct { IfOk result (λ blob. AreDistinct blob.blocks) }
     ensures hash { IfOk result (λ blob. blob.hash ≡ sha256 bytes.now) }
     ensures used { IfOk result (λ blob. IsAdded blob.blocks used.old used.new) }
-    ensures free { OnOk result (free_of used.old ≤ free_of used.new + changed bytes.now old_bytes.now) }
+    ensures free { OnOk result (free_of used.old ≤ free_of used.new + changed_blocks bytes.now old_bytes.now) }
     ensures memory { OnErr result (used.new ≡ used.old) }
 {
     let fresh = choose(alloc, used, count_changed(bytes, old_bytes))?;
@@ -144,27 +145,27 @@ pub fn put_shared<D: Disk>(
     requires room { length old_bytes.now ≤ 256 * length old_blocks.now }
     requires taken { (i : ℕ) → i < length old_blocks.now → contains used.old (slice_index old_blocks.now i) ≡ true }
     requires distinct { AreDistinct old_blocks.now }
-    requires free { changed bytes.now old_bytes.now ≤ free_of used.old }
+    requires free { changed_blocks bytes.now old_bytes.now ≤ free_of used.old }
     // The blocks.
     ensures count { IfOk result (λ blob. length blob.blocks ≡ blocks_for (length bytes.now)) }
     ensures shared { IfOk result (λ blob. SharesBlocks bytes.now old_bytes.now old_blocks.now used.old blob.blocks) }
     ensures distinct { IfOk result (λ blob. AreDistinct blob.blocks) }
     ensures hash { IfOk result (λ blob. blob.hash ≡ sha256 bytes.now) }
     ensures used { IfOk result (λ blob. IsAdded blob.blocks used.old used.new) }
-    ensures free { OnOk result (free_of used.old ≤ free_of used.new + changed bytes.now old_bytes.now) }
+    ensures free { OnOk result (free_of used.old ≤ free_of used.new + changed_blocks bytes.now old_bytes.now) }
 
     // The disk.
     ensures whole { IsTrue D.told → IfOk result (λ blob.
         AllFull place blob.blocks bytes.now (D.medium disk.new).image) }
     ensures done { IfOk result (λ blob.
         Wrote D.told (IsNoArea place) (IsApartFromChanged blob.blocks bytes.now old_bytes.now)
-        (place.copies * (256 * changed bytes.now old_bytes.now)) (D.medium disk.old) (D.medium disk.new)) }
+        (place.copies * (256 * changed_blocks bytes.now old_bytes.now)) (D.medium disk.old) (D.medium disk.new)) }
 
     // Errors.
     ensures memory { IsErrOf result BlobError.OutOfMemory → (used.new ≡ used.old) × (disk.new ≡ disk.old) }
     ensures failed { IsErrOf result BlobError.Device → Tore D.told (IsNoArea place)
         (IsTaken used.old)
-        (place.copies * (256 * changed bytes.now old_bytes.now)) (D.medium disk.old) (D.medium disk.new) }
+        (place.copies * (256 * changed_blocks bytes.now old_bytes.now)) (D.medium disk.old) (D.medium disk.new) }
     ensures reserved { IsErrOf result BlobError.Device → (blocks : List ℕ)
         × (length blocks ≡ blocks_for (length bytes.now)) × SharesBlocks bytes.now old_bytes.now old_blocks.now used.old
         blocks

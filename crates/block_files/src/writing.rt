@@ -3,8 +3,8 @@
 ghost use Rattle.std.specs.Prelude.{◌≡◌, ◌≢◌, ◌<◌, ◌≤◌, ◌+◌, ◌-◌, ◌*◌, ℕ, IsTrue, OnOk, OnErr, length};
 ghost use Rattle.std.specs.Prelude.{slice_index, true};
 ghost use Rattle.disk_model.specs.Place.{area, IsNoArea};
-ghost use Rattle.block_files.specs.BlockSets.{AreDistinct, IsApart};
-ghost use Rattle.block_files.specs.Parts.{blocks_for, is_changed, changed};
+ghost use Rattle.block_files.specs.BlockSets.{AreDistinct, IsNotAmong};
+ghost use Rattle.block_files.specs.Parts.{blocks_for, is_changed, changed_blocks};
 ghost use Rattle.block_files.specs.Areas.{HoldsBytes, HoldsShared, AllFull, NamedFull, area_of};
 ghost use Rattle.block_files.specs.Contents.{AreCopies};
 ghost use Rattle.block_files.specs.Writes.{Wrote, Tore, IsNoneOf, IsApartFromChanged, IsRun};
@@ -16,7 +16,7 @@ use per_base::BLOCK;
 /// The numbers of the copies that a place can have.
 const NUMBERS: [u32; 8] = [1, 2, 3, 4, 5, 6, 7, 8];
 
-/// Writes the bytes into these blocks in every copy, for a caller who has chosen the blocks before. Takes no memory.
+/// Writes the bytes into these blocks in every copy, for a caller who has chosen the blocks before. Does not allocate.
 /// The bytes are durable after the caller's next sync.
 ///
 /// # Errors
@@ -32,16 +32,16 @@ pub fn write_blob<D: Disk>(
     requires distinct { AreDistinct blocks.now }
     ensures whole { IsTrue D.told → OnOk result
         (AllFull place blocks.now bytes.now (D.medium disk.new).image) }
-    ensures done { OnOk result (Wrote D.told (IsNoArea place) (IsApart blocks.now)
+    ensures done { OnOk result (Wrote D.told (IsNoArea place) (IsNotAmong blocks.now)
         (place.copies * (256 * length blocks.now)) (D.medium disk.old) (D.medium disk.new)) }
-    ensures failed { OnErr result (Tore D.told (IsNoArea place) (IsApart blocks.now)
+    ensures failed { OnErr result (Tore D.told (IsNoArea place) (IsNotAmong blocks.now)
         (place.copies * (256 * length blocks.now)) (D.medium disk.old) (D.medium disk.new)) }
 {
     write_shared(disk, place, blocks, bytes, &[])
 }
 
 /// Writes those parts of the bytes that differ from `was` into their blocks in every copy, for a caller who has chosen
-/// the blocks before. Takes no memory. The bytes are durable after the caller's next sync.
+/// the blocks before. Does not allocate. The bytes are durable after the caller's next sync.
 ///
 /// # Errors
 ///
@@ -61,10 +61,10 @@ pub fn write_shared<D: Disk>(
         (AllFull place blocks.now bytes.now (D.medium disk.new).image) }
     ensures done { OnOk result (Wrote D.told (IsNoArea place)
         (IsApartFromChanged blocks.now bytes.now was.now)
-        (place.copies * (256 * changed bytes.now was.now)) (D.medium disk.old) (D.medium disk.new)) }
+        (place.copies * (256 * changed_blocks bytes.now was.now)) (D.medium disk.old) (D.medium disk.new)) }
     ensures failed { OnErr result (Tore D.told (IsNoArea place)
         (IsApartFromChanged blocks.now bytes.now was.now)
-        (place.copies * (256 * changed bytes.now was.now)) (D.medium disk.old) (D.medium disk.new)) }
+        (place.copies * (256 * changed_blocks bytes.now was.now)) (D.medium disk.old) (D.medium disk.new)) }
 {
     write_copies(
         disk,
@@ -95,10 +95,10 @@ pub(crate) fn write_copies<D: Disk>(
         (NamedFull place copies.now blocks.now bytes.now (D.medium disk.new).image) }
     ensures done { OnOk result (Wrote D.told (IsNoneOf place copies.now)
         (IsApartFromChanged blocks.now bytes.now was.now)
-        (length copies.now * (256 * changed bytes.now was.now)) (D.medium disk.old) (D.medium disk.new)) }
+        (length copies.now * (256 * changed_blocks bytes.now was.now)) (D.medium disk.old) (D.medium disk.new)) }
     ensures failed { OnErr result (Tore D.told (IsNoneOf place copies.now)
         (IsApartFromChanged blocks.now bytes.now was.now)
-        (length copies.now * (256 * changed bytes.now was.now)) (D.medium disk.old) (D.medium disk.new)) }
+        (length copies.now * (256 * changed_blocks bytes.now was.now)) (D.medium disk.old) (D.medium disk.new)) }
 {
     for number in copies {
         write_changed(disk, place.area(*number - 1), blocks, bytes, was)?;
@@ -119,9 +119,9 @@ fn write_changed<D: Disk>(
     requires shared { IsTrue D.told → HoldsShared ((D.medium disk.old).image file) blocks.now bytes.now was.now }
     ensures holds { IsTrue D.told → OnOk result (HoldsBytes ((D.medium disk.new).image file) blocks.now bytes.now) }
     ensures done { OnOk result (Wrote D.told (λ f. f ≢ file) (IsApartFromChanged blocks.now bytes.now was.now)
-        (256 * changed bytes.now was.now) (D.medium disk.old) (D.medium disk.new)) }
+        (256 * changed_blocks bytes.now was.now) (D.medium disk.old) (D.medium disk.new)) }
     ensures failed { OnErr result (Tore D.told (λ f. f ≢ file) (IsApartFromChanged blocks.now bytes.now was.now)
-        (256 * changed bytes.now was.now) (D.medium disk.old) (D.medium disk.new)) }
+        (256 * changed_blocks bytes.now was.now) (D.medium disk.old) (D.medium disk.new)) }
 {
     let needed = count_blocks(bytes.len());
     let mut next = 0;

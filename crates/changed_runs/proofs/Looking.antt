@@ -6,7 +6,7 @@ use Rattle.std.proofs.lemmas.Bool.{cases_lt}
 use Rattle.std.proofs.lemmas.List.{ext_get_or, length-take, length-drop, get_or-take, get_or-drop, take_min, drop_all}
 use Rattle.std.proofs.lemmas.Slice.Eq.{bytes_eq-Decides}
 use Rattle.changed_runs.specs.Changed.{run_of}
-use Rattle.changed_runs.specs.Held.{HoldsRun, IsSeen}
+use Rattle.changed_runs.specs.Held.{AreRunsSeen, HoldsRun}
 use Rattle.changed_runs.specs.lemmas.RunLaws.{length-run}
 
 module _ (file got bytes : List ℕ) (at first j n : ℕ) (inside : 256 * j < length bytes)
@@ -43,7 +43,7 @@ module _ (file got bytes : List ℕ) (at first j n : ℕ) (inside : 256 * j < le
       ∙ sym (get_or-take len (drop (at + 256 * i) file) k 0 below))
 
   pub freshly_seen : (old : List ℕ) → ((i : ℕ) → i ≤ j → HoldsRun old at bytes i → HoldsRun file at bytes i)
-      → IsSeen (take n got) first (suc j) at bytes old file
+      → AreRunsSeen (take n got) first (suc j) at bytes old file
   freshly_seen old keeps = record {
     held = λ i from below yes.
         let run = run_of bytes i in

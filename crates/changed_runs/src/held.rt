@@ -10,7 +10,7 @@ use disk_model::{Disk, DiskFailed};
 /// How many runs are read at once.
 const RUNS: usize = 16;
 
-/// What a look at a file gave, from the front of a run on.
+/// What a look at a file gave, from the start of a run on.
 #[derive(Drop)]
 pub struct Held {
     bytes: [u8; RUN * RUNS],
@@ -22,7 +22,7 @@ pub struct Held {
 
 impl Held {
     ghost use Rattle.std.specs.Prelude.{◌<◌, ◌+◌, ◌*◌, ◌^◌, ℕ, List, suc};
-    ghost use Rattle.changed_runs.specs.Held.{HoldsRun, IsSeen, is_seen};
+    ghost use Rattle.changed_runs.specs.Held.{AreRunsSeen, HoldsRun, is_run_seen};
 
     /// Nothing yet, where the runs before this one are to be looked at.
     pub fn nothing(first: usize) -> Held
@@ -48,9 +48,9 @@ impl Held {
         requires inside { 256 * j < length bytes.now }
         ensures seen { IsTrue D.told → OnOk result ((old : List ℕ)
             → ((i : ℕ) → i ≤ j → HoldsRun old at bytes.now i → HoldsRun ((D.medium disk.old).image file) at bytes.now i)
-            → IsSeen (take self.old.count self.old.bytes) self.old.first (suc j) at bytes.now old
+            → AreRunsSeen (take self.old.count self.old.bytes) self.old.first (suc j) at bytes.now old
             ((D.medium disk.old).image file)
-            → IsSeen (take self.new.count self.new.bytes) self.new.first (suc j) at bytes.now old
+            → AreRunsSeen (take self.new.count self.new.bytes) self.new.first (suc j) at bytes.now old
             ((D.medium disk.old).image file)) }
         ensures from { OnOk result (self.new.first ≤ j) }
         ensures reads { OnlyReads (D.medium disk.old) (D.medium disk.new) }
@@ -78,7 +78,7 @@ impl Held {
     pub fn has(&self, j: usize, run: &[u8]) -> bool
         requires from { self.now.first ≤ j }
         requires room { 256 * j < 2 ^ 63 }
-        ensures { result ≡ is_seen (take self.now.count self.now.bytes) self.now.first j run.now }
+        ensures { result ≡ is_run_seen (take self.now.count self.now.bytes) self.now.first j run.now }
     {
         let held = &self.bytes[..self.count];
         let start = held.len().min(RUN * (j - self.first));

@@ -4,7 +4,7 @@ use command_text::{Line, LineError, parse_line};
 use std::alloc::{AllocError, Global};
 use test_rows::{RowError, spelled_bytes};
 
-/// What is told of a line.
+/// What is said of a line.
 #[derive(Clone, Copy, PartialEq, Eq)]
 enum Telling {
     /// All its parts.

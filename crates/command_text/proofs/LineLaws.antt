@@ -17,7 +17,7 @@ use Rattle.command_text.specs.declared.errors.LineError.TheVariants as error
 use Rattle.command_text.specs.declared.lines.Line.{Line}
 use Rattle.command_text.specs.declared.lines.Line.TheVariants as line
 use Rattle.command_text.specs.Grammar.{has_feed, form, form_text, line_of, IsEvent, Spells, IsLine}
-use Rattle.command_text.specs.Reading.{Reads, split, call_in, application_in, event_in, line_in}
+use Rattle.command_text.specs.Reading.{ReadsLine, split, call_in, application_in, event_in, line_in}
 use Rattle.command_text.proofs.Splits.{split_takes, split_again, has_space}
 use Rattle.command_text.proofs.CallLaws.{call_takes, call_again}
 
@@ -140,14 +140,15 @@ one_line_is text l m p q = some_is l m (sym (line_again text l p.spelled) ∙ li
 
 -- ---- what `parse_line` promises
 
-pub found : (text : List ℕ) → length text ≤ 262144 → (r : Result Line LineError) → Reads (λ l. l) r (line_in text)
+pub found : (text : List ℕ) → length text ≤ 262144 → (r : Result Line LineError) → ReadsLine (λ l. l) r (line_in text)
     → IfOk r (IsLine text)
 found text short (Ok l) read = record { short = short; spelled = line_takes text l read }
 found text short (Err e) read = tt
 
-pub only : (text : List ℕ) (r : Result Line LineError) → Reads (λ l. l) r (line_in text) → r ≡ Err error.NotALine
+pub only : (text : List ℕ) (r : Result Line LineError) → ReadsLine (λ l. l) r (line_in text) → r ≡ Err error.NotALine
     → (said : Line) → IsLine text said → ⊥
 only text r read e said is =
-    let none : line_in text ≡ None = subst (λ (x : Result Line LineError). Reads (λ l. l) x (line_in text)) e read in
+    let none : line_in text ≡ None = subst (λ (x : Result Line LineError). ReadsLine (λ l. l) x (line_in text)) e
+    read in
     let some : line_in text ≡ Some said = line_again text said is.spelled in
     absurd cc

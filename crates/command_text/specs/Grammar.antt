@@ -41,12 +41,12 @@ flag true word = word ∷ []
 flag false word = []
 
 -- the words joined by plus signs, or the word for none
-abbrev pub joined : List (List ℕ) → List ℕ
-joined [] = codes "none"
-joined (w ∷ ws) = join_with_byte 43 (w ∷ ws)
+abbrev pub joined_words : List (List ℕ) → List ℕ
+joined_words [] = codes "none"
+joined_words (w ∷ ws) = join_with_byte 43 (w ∷ ws)
 
 abbrev pub mode_text : OpenMode → List ℕ
-mode_text mode = joined (flag (at_beginning mode) (codes "begin") ++ flag (at_end mode) (codes "end")
+mode_text mode = joined_words (flag (at_beginning mode) (codes "begin") ++ flag (at_end mode) (codes "end")
     ++ flag (truncates mode) (codes "truncate") ++ flag (appends mode) (codes "append"))
 
 -- ---- arguments

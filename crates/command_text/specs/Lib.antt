@@ -1,6 +1,7 @@
 pub mod Errors
 pub mod Grammar
 pub mod Reading
+pub mod Memory
 pub mod Replies
 pub mod Generated
 pub mod Samples

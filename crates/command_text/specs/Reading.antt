@@ -22,14 +22,14 @@ use Rattle.command_text.specs.declared.lines.Line.{Line}
 use Rattle.command_text.specs.declared.lines.Line.TheVariants as line
 
 -- an error says that nothing can be read, unless memory ran out
-abbrev pub Fails : {Y : Type 0} → LineError → Option Y → Type 0
-Fails error.NotALine read = read ≡ None
-Fails error.OutOfMemory read = ⊤
+abbrev pub FailsToRead : {Y : Type 0} → LineError → Option Y → Type 0
+FailsToRead error.NotALine read = read ≡ None
+FailsToRead error.OutOfMemory read = ⊤
 
 -- what a function returned, seen by view, is what reading gives
-abbrev pub Reads : {X Y : Type 0} → (X → Y) → Result X LineError → Option Y → Type 0
-Reads view (Ok x) read = read ≡ Some (view x)
-Reads view (Err e) read = Fails e read
+abbrev pub ReadsLine : {X Y : Type 0} → (X → Y) → Result X LineError → Option Y → Type 0
+ReadsLine view (Ok x) read = read ≡ Some (view x)
+ReadsLine view (Err e) read = FailsToRead e read
 
 -- ---- words
 
@@ -304,6 +304,14 @@ call_in text = branch (split text) (λ parts. manifest_call parts.0 parts.1) (ba
 abbrev pub application_in : List ℕ → Option ℕ
 application_in (d ∷ []) = if nat_le 48 d && nat_le d 55 then Some (d - 48) else None
 application_in other = None
+
+-- the application of a line, the word of its call, and the text of the arguments
+unfoldable pub parts_in : List ℕ → Option (ℕ × List ℕ × List ℕ)
+parts_in text = do
+  words ← split text
+  application ← application_in words.0
+  call ← split words.1
+  Some (application, call.0, call.1)
 
 unfoldable pub event_in : List ℕ → Option Event
 event_in text = do

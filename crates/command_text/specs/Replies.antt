@@ -74,12 +74,12 @@ error_name error.ExportRejected = codes "ExportRejected"
 error_name error.OutOfMemory = codes "OutOfMemory"
 
 -- the number and the name of an error; OutOfMemory has no number
-abbrev pub numbered : Option ℕ → List ℕ → List ℕ
-numbered (Some number) name = decimal number ++ codes " " ++ name
-numbered None name = name
+abbrev pub numbered_error : Option ℕ → List ℕ → List ℕ
+numbered_error (Some number) name = decimal number ++ codes " " ++ name
+numbered_error None name = name
 
 abbrev pub error_title : PerError → List ℕ
-error_title e = numbered (error_number e) (error_name e)
+error_title e = numbered_error (error_number e) (error_name e)
 
 -- what an error carries, each after a space
 abbrev pub carried_text : PerError → List ℕ

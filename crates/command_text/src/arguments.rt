@@ -1,10 +1,11 @@
 //! The arguments of a call, each the whole of its text.
 
-ghost use Rattle.std.specs.Prelude.{◌≡◌, ◌^◌, ◌<◌};
+ghost use Rattle.std.specs.Prelude.{◌≡◌, ◌≢◌, ◌^◌, ◌<◌, Err};
 ghost use Rattle.value_text.specs.Parsing.{kind_in, value_in};
 ghost use Rattle.value_text.specs.Readers.{Finds};
 ghost use Rattle.value_text.specs.Whole.{bytes_in, signed_in, unsigned_in};
-ghost use Rattle.command_text.specs.Reading.{Reads, distance_in, element_front, element_in, handle_front, handle_in};
+ghost use Rattle.command_text.specs.Reading.{ReadsLine, distance_in, element_front, element_in, handle_front};
+ghost use Rattle.command_text.specs.Reading.{handle_in};
 ghost use Rattle.command_text.specs.Reading.{kind_word_in, manifest_in, mode_end_in, mode_in, mode_of, name_in};
 ghost use Rattle.command_text.specs.Reading.{octet_in, opening_in, origin_in};
 
@@ -19,7 +20,7 @@ use value_text::{parse_hex, parse_signed, parse_type, parse_unsigned, parse_valu
 
 /// A name.
 pub(crate) fn name(alloc: Global, text: &[u8]) -> Result<Name, LineError>
-    ensures { Reads (λ n. n) result (name_in text.now) }
+    ensures { ReadsLine (λ n. n) result (name_in text.now) }
 {
     let Ok(text) = str::from_utf8(text) else {
         return Err(LineError::NotALine);
@@ -33,7 +34,7 @@ pub(crate) fn name(alloc: Global, text: &[u8]) -> Result<Name, LineError>
 
 /// The number of a handle.
 fn handle_number(text: &[u8]) -> Result<u32, LineError>
-    ensures { Reads (λ h. h) result (unsigned_in (2 ^ 32) text.now) }
+    ensures { ReadsLine (λ h. h) result (unsigned_in (2 ^ 32) text.now) }
 {
     let number = parse_unsigned(u32::MAX as u64, text)?;
     Ok(number as u32)
@@ -41,14 +42,15 @@ fn handle_number(text: &[u8]) -> Result<u32, LineError>
 
 /// A number of 64 bits.
 pub(crate) fn number(text: &[u8]) -> Result<u64, LineError>
-    ensures { Reads (λ n. n) result (unsigned_in (2 ^ 64) text.now) }
+    ensures read { ReadsLine (λ n. n) result (unsigned_in (2 ^ 64) text.now) }
+    ensures memory { result ≢ Err LineError.OutOfMemory }
 {
     Ok(parse_unsigned(u64::MAX, text)?)
 }
 
 /// The text of a type.
 pub(crate) fn kind_of_value(alloc: Global, text: &[u8]) -> Result<AskedType, LineError>
-    ensures { Reads (λ t. t) result (kind_in text.now) }
+    ensures { ReadsLine (λ t. t) result (kind_in text.now) }
 {
     let value_type = parse_type(alloc, text)?;
     Ok(AskedType::new(value_type))
@@ -56,21 +58,21 @@ pub(crate) fn kind_of_value(alloc: Global, text: &[u8]) -> Result<AskedType, Lin
 
 /// The text of a value.
 pub(crate) fn value(alloc: Global, text: &[u8]) -> Result<Value, LineError>
-    ensures { Reads (λ v. v) result (value_in text.now) }
+    ensures { ReadsLine (λ v. v) result (value_in text.now) }
 {
     Ok(parse_value(alloc, text)?)
 }
 
 /// Bytes in two hexadecimal digits each.
 pub(crate) fn bytes(alloc: Global, text: &[u8]) -> Result<Bytes, LineError>
-    ensures { Reads (λ b. b) result (bytes_in text.now) }
+    ensures { ReadsLine (λ b. b) result (bytes_in text.now) }
 {
     Ok(parse_hex(alloc, text)?)
 }
 
 /// One byte in two hexadecimal digits.
 pub(crate) fn octet(alloc: Global, text: &[u8]) -> Result<u8, LineError>
-    ensures { Reads (λ b. b) result (octet_in text.now) }
+    ensures { ReadsLine (λ b. b) result (octet_in text.now) }
 {
     let bytes = parse_hex(alloc, text)?;
     match bytes.as_slice() {
@@ -81,7 +83,7 @@ pub(crate) fn octet(alloc: Global, text: &[u8]) -> Result<u8, LineError>
 
 /// The text of a manifest: at least one byte, and no line feed.
 pub(crate) fn manifest(alloc: Global, text: &[u8]) -> Result<Bytes, LineError>
-    ensures { Reads (λ j. j) result (manifest_in text.now) }
+    ensures { ReadsLine (λ j. j) result (manifest_in text.now) }
 {
     if text.is_empty() || text.contains(&b'\n') {
         return Err(LineError::NotALine);
@@ -190,7 +192,7 @@ fn mode_end_in(text: &[u8]) -> Option<u8>
 /// A storage and a name of it.
 #[tactic(auto, unfolding(crate::specs::Reading::element_in))]
 pub(crate) fn element(alloc: Global, text: &[u8]) -> Result<(Name, Name), LineError>
-    ensures { Reads (λ x. (x.0, x.1)) result (element_in text.now) }
+    ensures { ReadsLine (λ x. (x.0, x.1)) result (element_in text.now) }
 {
     let (storage, rest) = split(text).ok_or(LineError::NotALine)?;
     let storage = name(alloc, storage)?;
@@ -200,7 +202,7 @@ pub(crate) fn element(alloc: Global, text: &[u8]) -> Result<(Name, Name), LineEr
 /// A storage and a handle of it.
 #[tactic(auto, unfolding(crate::specs::Reading::handle_in))]
 pub(crate) fn handle(alloc: Global, text: &[u8]) -> Result<(Name, u32), LineError>
-    ensures { Reads (λ x. (x.0, x.1)) result (handle_in text.now) }
+    ensures { ReadsLine (λ x. (x.0, x.1)) result (handle_in text.now) }
 {
     let (storage, rest) = split(text).ok_or(LineError::NotALine)?;
     let storage = name(alloc, storage)?;
@@ -210,7 +212,7 @@ pub(crate) fn handle(alloc: Global, text: &[u8]) -> Result<(Name, u32), LineErro
 /// A storage, a name of it, and what follows them.
 #[tactic(auto, unfolding(crate::specs::Reading::element_front))]
 pub(crate) fn element_front(alloc: Global, text: &[u8]) -> Result<(Name, Name, &[u8]), LineError>
-    ensures { Reads (λ x. (x.0, x.1, x.2.now)) result (element_front text.now) }
+    ensures { ReadsLine (λ x. (x.0, x.1, x.2.now)) result (element_front text.now) }
 {
     let (storage, rest) = split(text).ok_or(LineError::NotALine)?;
     let storage = name(alloc, storage)?;
@@ -221,7 +223,7 @@ pub(crate) fn element_front(alloc: Global, text: &[u8]) -> Result<(Name, Name, &
 /// A storage, a handle of it, and what follows them.
 #[tactic(auto, unfolding(crate::specs::Reading::handle_front))]
 pub(crate) fn handle_front(alloc: Global, text: &[u8]) -> Result<(Name, u32, &[u8]), LineError>
-    ensures { Reads (λ x. (x.0, x.1, x.2.now)) result (handle_front text.now) }
+    ensures { ReadsLine (λ x. (x.0, x.1, x.2.now)) result (handle_front text.now) }
 {
     let (storage, rest) = split(text).ok_or(LineError::NotALine)?;
     let storage = name(alloc, storage)?;
@@ -232,7 +234,7 @@ pub(crate) fn handle_front(alloc: Global, text: &[u8]) -> Result<(Name, u32, &[u
 /// What a file is opened for, and how.
 #[tactic(auto, unfolding(crate::specs::Reading::opening_in))]
 pub(crate) fn opening(text: &[u8]) -> Result<(OpenKind, OpenMode), LineError>
-    ensures { Reads (λ x. (x.0, x.1)) result (opening_in text.now) }
+    ensures { ReadsLine (λ x. (x.0, x.1)) result (opening_in text.now) }
 {
     let (kind, mode) = split(text).ok_or(LineError::NotALine)?;
     let kind = open_kind(kind).ok_or(LineError::NotALine)?;
@@ -243,7 +245,7 @@ pub(crate) fn opening(text: &[u8]) -> Result<(OpenKind, OpenMode), LineError>
 /// From where a position moves, and how far.
 #[tactic(auto, unfolding(crate::specs::Reading::distance_in))]
 pub(crate) fn distance(text: &[u8]) -> Result<(Origin, i64), LineError>
-    ensures { Reads (λ x. (x.0, x.1)) result (distance_in text.now) }
+    ensures { ReadsLine (λ x. (x.0, x.1)) result (distance_in text.now) }
 {
     let (from, offset) = split(text).ok_or(LineError::NotALine)?;
     let from = origin(from).ok_or(LineError::NotALine)?;

@@ -1,4 +1,4 @@
-//! A large input that is made from a number.
+//! A synthetic workload, generated from a number.
 
 ghost use Rattle.std.specs.Prelude.{◌≡◌, ◌<◌, ◌≤◌, ◌^◌, IfOk, map, string_bytes};
 ghost use Rattle.command_text.specs.Generated.{first_lines, generated_line, last_lines, next_number};

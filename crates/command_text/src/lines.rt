@@ -1,8 +1,9 @@
 //! Lines, whole.
 
-ghost use Rattle.std.specs.Prelude.{◌≡◌, IfOk, IsErrOf};
+ghost use Rattle.std.specs.Prelude.{◌≡◌, ◌≢◌, IfOk, IsErrOf, None};
 ghost use Rattle.command_text.specs.Grammar.{IsLine};
-ghost use Rattle.command_text.specs.Reading.{Reads, application_in, event_in, line_in};
+ghost use Rattle.command_text.specs.Memory.{TakesMemory};
+ghost use Rattle.command_text.specs.Reading.{ReadsLine, application_in, event_in, line_in, parts_in};
 ghost use Rattle.command_text.specs.declared.lines.Line.{Line};
 
 use crate::arguments::number;
@@ -34,6 +35,9 @@ pub fn parse_line(alloc: Global, line: &[u8]) -> Result<Line, LineError>
     // what is read is spelled so, and what is spelled so is read
     ensures line { IfOk result (IsLine line.now) }
     ensures none { IsErrOf result LineError.NotALine → (said : Line) → ¬ IsLine line.now said }
+
+    // any other line is read, or refused, however little memory there is
+    ensures memory { IsErrOf result LineError.OutOfMemory → TakesMemory line.now }
 {
     if line.len() > LINE_BYTES {
         return Err(LineError::NotALine);
@@ -44,7 +48,8 @@ pub fn parse_line(alloc: Global, line: &[u8]) -> Result<Line, LineError>
 /// What the line says, however long it is.
 #[tactic(auto, unfolding(crate::specs::Reading::line_in))]
 fn any_line(alloc: Global, line: &[u8]) -> Result<Line, LineError>
-    ensures { Reads (λ l. l) result (line_in line.now) }
+    ensures read { ReadsLine (λ l. l) result (line_in line.now) }
+    ensures memory { IsErrOf result LineError.OutOfMemory → parts_in line.now ≢ None }
 {
     let Some((first, rest)) = line.split_first() else {
         return Ok(Line::Nothing);
@@ -62,9 +67,10 @@ fn any_line(alloc: Global, line: &[u8]) -> Result<Line, LineError>
 }
 
 /// The event that the text spells.
-#[tactic(auto, unfolding(crate::specs::Reading::event_in))]
+#[tactic(auto, unfolding(crate::specs::Reading::event_in, crate::specs::Reading::parts_in))]
 fn event(alloc: Global, text: &[u8]) -> Result<Event, LineError>
-    ensures { Reads (λ e. e) result (event_in text.now) }
+    ensures read { ReadsLine (λ e. e) result (event_in text.now) }
+    ensures memory { IsErrOf result LineError.OutOfMemory → parts_in text.now ≢ None }
 {
     let (first, rest) = split(text).ok_or(LineError::NotALine)?;
     if is_word(first, b"now") {

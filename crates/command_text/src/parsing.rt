@@ -1,8 +1,10 @@
 //! Calls, by their word. The words stand in groups, by what follows them.
 
-ghost use Rattle.std.specs.Prelude.{◌≡◌};
-ghost use Rattle.command_text.specs.Reading.{Reads, bare_call, call_in, detail_call, element_call, handle_bytes_call};
-ghost use Rattle.command_text.specs.Reading.{handle_call, handle_number_call, manifest_call, move_call, storage_call};
+ghost use Rattle.std.specs.Prelude.{◌≡◌, ◌≢◌, None, IsErrOf};
+ghost use Rattle.command_text.specs.Reading.{ReadsLine, bare_call, call_in, detail_call, element_call};
+ghost use Rattle.command_text.specs.Reading.{handle_bytes_call};
+ghost use Rattle.command_text.specs.Reading.{handle_call, handle_number_call, manifest_call, move_call, split};
+ghost use Rattle.command_text.specs.Reading.{storage_call};
 
 use crate::arguments::{
     bytes, distance, element, element_front, handle, handle_front, kind_of_value, manifest, name,
@@ -16,7 +18,8 @@ use std::alloc::Global;
 /// The call that the text spells.
 #[tactic(auto, unfolding(crate::specs::Reading::call_in))]
 pub(crate) fn call(alloc: Global, text: &[u8]) -> Result<Call, LineError>
-    ensures { Reads (λ c. c) result (call_in text.now) }
+    ensures read { ReadsLine (λ c. c) result (call_in text.now) }
+    ensures memory { IsErrOf result LineError.OutOfMemory → split text.now ≢ None }
 {
     match split(text) {
         Some((word, rest)) => manifest_call(alloc, word, rest),
@@ -56,7 +59,7 @@ fn bare_call(word: &[u8]) -> Option<Call>
 /// A call with the text of a manifest, or another.
 #[tactic(auto, unfolding(crate::specs::Reading::manifest_call))]
 fn manifest_call(alloc: Global, word: &[u8], text: &[u8]) -> Result<Call, LineError>
-    ensures { Reads (λ c. c) result (manifest_call word.now text.now) }
+    ensures { ReadsLine (λ c. c) result (manifest_call word.now text.now) }
 {
     if is_word(word, b"install") {
         return Ok(Call::Install(manifest(alloc, text)?));
@@ -73,7 +76,7 @@ fn manifest_call(alloc: Global, word: &[u8], text: &[u8]) -> Result<Call, LineEr
 /// A call with a storage, or with more after it.
 #[tactic(auto, unfolding(crate::specs::Reading::storage_call))]
 fn storage_call(alloc: Global, word: &[u8], text: &[u8]) -> Result<Call, LineError>
-    ensures { Reads (λ c. c) result (storage_call word.now text.now) }
+    ensures { ReadsLine (λ c. c) result (storage_call word.now text.now) }
 {
     if is_word(word, b"open-kvs") {
         return Ok(Call::OpenKvs(name(alloc, text)?));
@@ -114,7 +117,7 @@ fn storage_call(alloc: Global, word: &[u8], text: &[u8]) -> Result<Call, LineErr
 /// A call with a storage and a name of it, or with more after them, or another.
 #[tactic(auto, unfolding(crate::specs::Reading::element_call))]
 fn element_call(alloc: Global, word: &[u8], text: &[u8]) -> Result<Call, LineError>
-    ensures { Reads (λ c. c) result (element_call word.now text.now) }
+    ensures { ReadsLine (λ c. c) result (element_call word.now text.now) }
 {
     if is_word(word, b"exists") {
         let (storage, name) = element(alloc, text)?;
@@ -170,7 +173,7 @@ fn element_call(alloc: Global, word: &[u8], text: &[u8]) -> Result<Call, LineErr
 /// A call with a storage, a name of it and more, or another.
 #[tactic(auto, unfolding(crate::specs::Reading::detail_call))]
 fn detail_call(alloc: Global, word: &[u8], text: &[u8]) -> Result<Call, LineError>
-    ensures { Reads (λ c. c) result (detail_call word.now text.now) }
+    ensures { ReadsLine (λ c. c) result (detail_call word.now text.now) }
 {
     if is_word(word, b"get-as") {
         let (storage, name, rest) = element_front(alloc, text)?;
@@ -195,7 +198,7 @@ fn detail_call(alloc: Global, word: &[u8], text: &[u8]) -> Result<Call, LineErro
 /// A call with a storage and a handle of it, or with more after them.
 #[tactic(auto, unfolding(crate::specs::Reading::handle_call))]
 fn handle_call(alloc: Global, word: &[u8], text: &[u8]) -> Result<Call, LineError>
-    ensures { Reads (λ c. c) result (handle_call word.now text.now) }
+    ensures { ReadsLine (λ c. c) result (handle_call word.now text.now) }
 {
     if is_word(word, b"close-file") {
         let (storage, number) = handle(alloc, text)?;
@@ -235,7 +238,7 @@ fn handle_call(alloc: Global, word: &[u8], text: &[u8]) -> Result<Call, LineErro
 /// A call with a storage, a handle of it and a number, or another.
 #[tactic(auto, unfolding(crate::specs::Reading::handle_number_call))]
 fn handle_number_call(alloc: Global, word: &[u8], text: &[u8]) -> Result<Call, LineError>
-    ensures { Reads (λ c. c) result (handle_number_call word.now text.now) }
+    ensures { ReadsLine (λ c. c) result (handle_number_call word.now text.now) }
 {
     if is_word(word, b"read") {
         let (storage, handle, rest) = handle_front(alloc, text)?;
@@ -255,7 +258,7 @@ fn handle_number_call(alloc: Global, word: &[u8], text: &[u8]) -> Result<Call, L
 /// A call with a storage, a handle of it and bytes, or another.
 #[tactic(auto, unfolding(crate::specs::Reading::handle_bytes_call))]
 fn handle_bytes_call(alloc: Global, word: &[u8], text: &[u8]) -> Result<Call, LineError>
-    ensures { Reads (λ c. c) result (handle_bytes_call word.now text.now) }
+    ensures { ReadsLine (λ c. c) result (handle_bytes_call word.now text.now) }
 {
     if is_word(word, b"line") {
         let (storage, handle, rest) = handle_front(alloc, text)?;
@@ -271,7 +274,7 @@ fn handle_bytes_call(alloc: Global, word: &[u8], text: &[u8]) -> Result<Call, Li
 /// The call that moves a position.
 #[tactic(auto, unfolding(crate::specs::Reading::move_call))]
 fn move_call(alloc: Global, word: &[u8], text: &[u8]) -> Result<Call, LineError>
-    ensures { Reads (λ c. c) result (move_call word.now text.now) }
+    ensures { ReadsLine (λ c. c) result (move_call word.now text.now) }
 {
     if is_word(word, b"move") {
         let (storage, handle, rest) = handle_front(alloc, text)?;

@@ -11,7 +11,10 @@ use crate::replies::{Answer, AppStatus, Reply};
 use per_base::{Cause, FileInfo, Holder, Limit, Name, PerError, Report, ReportKind, Unit};
 use std::alloc::{AllocError, Global};
 use std::fmt::Write;
-use value_text::{print_value, push_hex};
+use value_text::{push_hex, push_value};
+
+/// How many bytes the texts of most replies fit into.
+const REPLY_BYTES: usize = 64;
 
 /// The text of a reply: a line for each report and the answer's line, each with its line feed.
 pub fn print_reply(alloc: Global, reply: &Reply) -> Result<Vec<u8>, AllocError>
@@ -26,9 +29,9 @@ fn reply_string(alloc: Global, reply: &Reply) -> Result<String, AllocError>
     requires { HasText reply.now.answer }
     ensures { IfOk result (λ text. string_bytes text ≡ reply_text reply.now) }
 {
-    let mut text = String::new(alloc);
+    let mut text = String::with_capacity(alloc, REPLY_BYTES)?;
     push_reports(&mut text, reply.reports.as_slice())?;
-    push_answer(alloc, &mut text, &reply.answer)?;
+    push_answer(&mut text, &reply.answer)?;
     text.push_str("\n")?;
     Ok(text)
 }
@@ -104,16 +107,15 @@ fn push_copies(out: &mut String, copies: &[u32]) -> Result<(), AllocError>
 // ---- answers
 
 /// Appends the text of an answer.
-fn push_answer(alloc: Global, out: &mut String, answer: &Answer) -> Result<(), AllocError>
+fn push_answer(out: &mut String, answer: &Answer) -> Result<(), AllocError>
     requires { HasText answer.now }
     ensures { OnOk result (string_bytes out.new ≡ string_bytes out.old ++ answer_text answer.now) }
 {
     match answer {
         Answer::Done => out.push_str("ok"),
         Answer::Val(value) => {
-            let text = print_value(alloc, value)?;
             out.push_str("value ")?;
-            out.push_str(text.as_str())
+            push_value(out, value)
         }
         Answer::Octets(bytes) => push_octets(out, bytes.as_slice()),
         Answer::Byte(byte) => {

@@ -11,7 +11,7 @@ use Rattle.guarded_cell.specs.Register.{Holds, IsAlone, IsBlank}
 use Rattle.guarded_cell.specs.Rights.{IsRight}
 use Rattle.deploy_laws.specs.Places.{root_place}
 use Rattle.deploy.specs.declared.standing.Standing.{Standing}
-use Rattle.deploy.specs.Standing.{IsFirst}
+use Rattle.deploy.specs.Standing.{IsFirstOfTwoCopies}
 use Rattle.deploy.proofs.Formatted.{HeldAloneLaw}
 use Rattle.deploy.proofs.Found.{texts_at}
 
@@ -36,7 +36,7 @@ already_at place app g t u old new same text right written alone =
 
 -- the text that is found is the one that is held alone
 pub found_alone : HeldAloneLaw → (image : Image) (app g : ℕ) (t : List ℕ) (s : Standing)
-    → IsFirst (texts_at image app) s
+    → IsFirstOfTwoCopies (texts_at image app) s
     → IsAlone image (root_place app) g t → IsAlone image (root_place app) s.seen.generation s.seen.text
 found_alone law image app g t s first alone =
     let it : Seen = record { generation = g; text = t; copies = copies_that (λ c. true) 3 } in

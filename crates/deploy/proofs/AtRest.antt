@@ -44,7 +44,7 @@ module _ (still : StillLaw) (place : Place) (generation : ℕ) (text : List ℕ)
   unwritten told m law quiet = goes_none (PutStops place generation text m.image) law
       (λ c now. put_still m.image c (quiet c now))
 
-  -- a register that was to be made anew
+  -- a register that was to be formatted
   pub unformatted : (told : Bool) (m : Medium) → IsLawful told m → Quiet m
       → EachCase (FormatStops place generation text m.image) m m
   unformatted told m law quiet = goes_none (FormatStops place generation text m.image) law

@@ -14,10 +14,10 @@ use Rattle.deploy.specs.declared.roots.Installed.{Installed}
 use Rattle.deploy.specs.declared.roots.Root.TheVariants as root
 use Rattle.deploy.specs.declared.roots.Root.{Root}
 use Rattle.deploy.specs.declared.updating.Staged.{Staged}
-use Rattle.deploy.specs.Beginning.{IsRead}
+use Rattle.deploy.specs.Beginning.{AreReadContents}
 use Rattle.deploy.specs.Building.{StagedAt}
 use Rattle.deploy.specs.Made.{AreMade}
-use Rattle.deploy.specs.Roots.{IsKept, RootAt}
+use Rattle.deploy.specs.Roots.{RootAt, SaysDeployment}
 use Rattle.deploy.proofs.InUse.{AgainLaw}
 use Rattle.deploy.proofs.UpdateRow.{states_one}
 
@@ -25,7 +25,7 @@ use Rattle.deploy.proofs.UpdateRow.{states_one}
 pub states_read : AgainLaw → AloneLaw → (told : Bool) (image : Image) (app : ℕ) (i : Installed) (stored : List Stored)
     → RootAt told image app (root.Installed i)
     → i.previous ≡ None
-    → (read : IsRead told image (shapes_from app i.bank 0 (map storage_data i.active.deployment.storages))
+    → (read : AreReadContents told image (shapes_from app i.bank 0 (map storage_data i.active.deployment.storages))
     (map storage_data i.active.deployment.storages) stored)
     → IsTrue told → (app_at image app).states ≡ read.states
 states_read again alone told image app i stored at none read tells =
@@ -39,7 +39,7 @@ root_same told old new app r same at = subst (λ (image : Image). RootAt told im
 -- nothing is made of it yet
 pub staged_begun : (told : Bool) (old new : Image) (app : ℕ) (s : Staged) → new ≡ old → app < 8
     → RootAt told old app (root.Installed s.root) → s.app ≡ app
-    → s.root.previous ≡ None → generation_of s.root.cell < greatest_generation → IsKept s.version
+    → s.root.previous ≡ None → generation_of s.root.cell < greatest_generation → SaysDeployment s.version
     → AllFit (map storage_data s.version.deployment.storages) s.contents.items → s.built ≡ 0 → StagedAt told new app s
 staged_begun told old new app s same lt at of_app none left kept fit zero =
     subst (λ (image : Image). StagedAt told image app s) (sym same) (record {

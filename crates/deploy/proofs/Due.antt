@@ -14,7 +14,8 @@ use Rattle.root_text.specs.declared.versions.VersionText.{VersionText}
 use Rattle.root_text.specs.Views.{version_said}
 use Rattle.deploy_laws.specs.Apps.{App, absent, named}
 use Rattle.deploy_laws.specs.Places.{Named}
-use Rattle.deploy_rows.specs.Rows.{◌>>=◌, Offer, deployment_of, installed_app, installing, newer, not_worn, offered}
+use Rattle.deploy_rows.specs.Rows.{◌>>=◌, Offer, deployment_of, installed_app, installing, newer_version, not_worn}
+use Rattle.deploy_rows.specs.Rows.{offered}
 use Rattle.deploy_rows.specs.Rows.{rollback_with, rolling_back, said_or_broken}
 use Rattle.deploy.specs.declared.roots.Installed.{Installed}
 use Rattle.deploy.specs.declared.roots.Root.TheVariants as root
@@ -80,9 +81,9 @@ module _ (busy : Option (List ℕ)) (text : List ℕ) (i : Installed) (none : i.
   offer_takes free =
       let active : Named = named i.bank (version_said i.active) in
       takes_by (offered busy text (root_app (root.Installed i) []))
-      (deployment_of text >>= newer active (generation_of i.cell))
+      (deployment_of text >>= newer_version active (generation_of i.cell))
       (by_text busy text i none free (deployment_of text) refl)
-      (takes_then (deployment_of text) (newer active (generation_of i.cell)) (manifest_takes text)
+      (takes_then (deployment_of text) (newer_version active (generation_of i.cell)) (manifest_takes text)
       (λ d. takes_cond (nat_le d.version active.deployment.version)
       (error.VersionNotNewer active.deployment.version d.version)
       (record { generation = generation_of i.cell; active = active; deployment = d }) (λ at_once. at_once)))

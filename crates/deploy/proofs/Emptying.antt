@@ -1,4 +1,4 @@
--- A root is written, or made anew, that says that nothing is installed.
+-- A root is written, or formatted, that says that nothing is installed.
 use Rattle.std.proofs.Common.{◌≡◌, ℕ, ◌+◌, ◌^◌, ◌<◌, ◌≤◌, List, [], Option, Some, None, Bool, IsTrue, sym, ap, ◌∙◌}
 use Rattle.std.proofs.Common.{subst, arith}
 use Rattle.disk_model.specs.Frame.{Spares}
@@ -86,7 +86,7 @@ module _ (told : Bool) (app : ℕ) (lt : app < 8) (register : Option Cell) (old 
           (put_stands again app lt cell at_some.0 text.absent tt old new writing held.0 held.1 (puts tells)
           (none_clean old.image app (generation_of cell + 1)))
 
-  -- ---- a bad root is made anew
+  -- ---- a bad root is formatted
   module _ (none : register ≡ None) where
     says_first : empty_says register ≡ absent 1
     says_first = ap empty_says none

@@ -18,7 +18,7 @@ use Rattle.deploy_rows.specs.Rows.{initial_all, installed_app}
 use Rattle.deploy.specs.declared.roots.Installed.{Installed}
 use Rattle.deploy.specs.declared.roots.Root.TheVariants as root
 use Rattle.deploy.specs.Next.{next_app}
-use Rattle.deploy.specs.Roots.{IfKept, IsKept, IsRootOf, IsRootOn, RootAt}
+use Rattle.deploy.specs.Roots.{IfKept, IsRootOf, IsRootOn, RootAt, SaysDeployment}
 use Rattle.deploy.proofs.InUse.{AgainLaw, in_use}
 use Rattle.deploy.proofs.InstallRow.{installed_next}
 
@@ -43,14 +43,14 @@ module _ (again : AgainLaw) (alone : AloneLaw) (image : Image) (app : ℕ) (cell
       (installed_app (generation_of cell) now d)
   unfolding installed_app
   comes_later now d =
-      let counts : apps.generation_of (app_at image app).says ≡ generation_of cell =
-      ap apps.generation_of says_absent in
+      let counts : apps.says_generation (app_at image app).says ≡ generation_of cell =
+      ap apps.says_generation says_absent in
       next_root (omega (arith, counts))
 
 -- ---- a root that was written is in use
 
 pub root_written : (told : Bool) (image : Image) (app g : ℕ) (i : Installed) → IsCellOf (root_place app) (g + 1) i.cell
-    → i.bank ≤ 1 → IsKept i.active → IfKept i.previous
+    → i.bank ≤ 1 → SaysDeployment i.active → IfKept i.previous
     → (IsTrue told → CellAt image i.cell (root_text (text.installed i.bank (version_said i.active)
     (option_map version_said i.previous))))
     → RootAt told image app (root.Installed i)

@@ -1,4 +1,4 @@
--- Roots that are made anew, one application after another.
+-- Roots that are formatted, one application after another.
 use Rattle.std.proofs.Common.{◌≡◌, ℕ, ◌+◌, ◌<◌, ◌≤◌, List, [], ◌∷◌, Bool, true, length, refl, sym, ap, ◌∙◌, subst}
 use Rattle.std.proofs.Common.{⊎_elim, inl, inr, arith}
 use Rattle.std.specs.Prelude.{IsTrue, nat_le}

@@ -14,10 +14,10 @@ use Rattle.root_text.specs.Views.{root_said}
 use Rattle.deployment_model.specs.Conditions.{IsDeployment}
 use Rattle.deployment_model.specs.Data.{DeploymentData}
 use Rattle.manifest.specs.Reading.{deployment_in}
-use Rattle.deploy_laws.specs.Apps.{Says, app_at, lacking_in, nothing, root_sole, says_at, says_by, says_in}
+use Rattle.deploy_laws.specs.Apps.{Says, app_at, nothing, root_lacking, root_sole, says_at, says_by, says_in}
 use Rattle.deploy_laws.specs.Places.{root_place}
 use Rattle.deploy.specs.declared.standing.Standing.{Standing}
-use Rattle.deploy.specs.Standing.{IfSpelled, IsAmong, IsFirst, IsSpelled}
+use Rattle.deploy.specs.Standing.{IfSpelled, IsFirstOfTwoCopies, IsFoundAmong, IsSpelled}
 use Rattle.guarded_cell.specs.Slots.{IsSlotsOf}
 use Rattle.guarded_cell.specs.declared.slots.Slots.{Slots}
 use Rattle.deploy.specs.Views.{ShowsVersions, bad, seen_at, seen_by}
@@ -36,12 +36,13 @@ found_is P test (y ∷ ys) x e every = ⊎_elim
     (λ k d lt. every (suc k) d (omega (arith, lt))))
     (cases_Bool (test y))
 
-pub no_first : (seens : List Seen) (found : Option Standing) → found ≡ None → IsAmong seens found → IsAmong seens None
-no_first seens found is among = subst (λ (o : Option Standing). IsAmong seens o) is among
+pub no_first : (seens : List Seen) (found : Option Standing) → found ≡ None → IsFoundAmong seens found
+    → IsFoundAmong seens None
+no_first seens found is among = subst (λ (o : Option Standing). IsFoundAmong seens o) is among
 
-pub is_first : (seens : List Seen) (found : Option Standing) (s : Standing) → found ≡ Some s → IsAmong seens found
-    → IsFirst seens s
-is_first seens found s is among = subst (λ (o : Option Standing). IsAmong seens o) is among
+pub is_first : (seens : List Seen) (found : Option Standing) (s : Standing) → found ≡ Some s → IsFoundAmong seens found
+    → IsFirstOfTwoCopies seens s
+is_first seens found s is among = subst (λ (o : Option Standing). IsFoundAmong seens o) is among
 
 pub is_marked : (P : Standing → Type 0) (found : Option Standing) (s : Standing) → found ≡ Some s → IfSome found P → P s
 is_marked P found s is marked = subst (λ (o : Option Standing). IfSome o P) is marked
@@ -62,10 +63,10 @@ is_spelled found s is spelled = subst IfSpelled is spelled
 -- what is found among the texts that a look at the root's place gave
 pub among_at : (place : Place) (app : ℕ) (image : Image) (seens : List Seen) (found : Option Standing)
     → place ≡ root_place app
-    → seens ≡ held image place → IsAmong seens found
-    → IsAmong (held image (root_place app)) found
+    → seens ≡ held image place → IsFoundAmong seens found
+    → IsFoundAmong (held image (root_place app)) found
 among_at place app image seens found same are among =
-    subst (λ (xs : List Seen). IsAmong xs found) (are ∙ ap (λ (p : Place). held image p) same) among
+    subst (λ (xs : List Seen). IsFoundAmong xs found) (are ∙ ap (λ (p : Place). held image p) same) among
 
 -- of guarded_cell
 abbrev pub AmongLaw : Type 0
@@ -84,10 +85,10 @@ module _ (among : AmongLaw) (image : Image) (app : ℕ) where
   unfolding says_at
   says_among = ap says_in (among image (root_place app) 2)
 
-  pub none_says : IsAmong (texts_at image app) None → says_at image app ≡ nothing
+  pub none_says : IsFoundAmong (texts_at image app) None → says_at image app ≡ nothing
   none_says none = says_among ∙ none
 
-  module _ (s : Standing) (first : IsFirst (texts_at image app) s) where
+  module _ (s : Standing) (first : IsFirstOfTwoCopies (texts_at image app) s) where
     pub found_stands : standing image (root_place app) 2 ≡ Some s.seen
     found_stands = among image (root_place app) 2 ∙ first.stands
 
@@ -119,13 +120,13 @@ others_fail : (test : ℕ → Bool) → others (copies_that test 3) ≡ copies_t
 others_fail test = others_of (test 0) (test 1) (test 2)
 
 lacking_of : (image : Image) (app : ℕ) (r : text.Root) (g : ℕ) (seen : Seen)
-    → lacking_in image app (says_by g (Some r)) (Some seen)
+    → root_lacking image app (says_by g (Some r)) (Some seen)
     ≡ lacking image (root_place app) seen.generation seen.text
 lacking_of image app text.absent g seen = refl
 lacking_of image app (text.installed bank active previous) g seen = refl
 
 app_lacking : (image : Image) (app : ℕ) → (app_at image app).lacking
-    ≡ lacking_in image app (says_at image app) (standing image (root_place app) 2)
+    ≡ root_lacking image app (says_at image app) (standing image (root_place app) 2)
 unfolding app_at
 app_lacking image app = refl
 
@@ -139,8 +140,8 @@ module _ (chooses : ChoosesLaw) (image : Image) (app : ℕ) (seen : Seen)
   pub app_lacks : (r : text.Root) → says_at image app ≡ says_by seen.generation (Some r)
       → (app_at image app).lacking ≡ others seen.copies
   app_lacks r says = app_lacking image app
-      ∙ ap (λ (s : Says). lacking_in image app s (standing image (root_place app) 2)) says
-      ∙ ap (λ (o : Option Seen). lacking_in image app (says_by seen.generation (Some r)) o) stands
+      ∙ ap (λ (s : Says). root_lacking image app s (standing image (root_place app) 2)) says
+      ∙ ap (λ (o : Option Seen). root_lacking image app (says_by seen.generation (Some r)) o) stands
       ∙ lacking_of image app r seen.generation seen
       ∙ sym lacking_is
 

@@ -14,7 +14,7 @@ use Rattle.root_text.specs.declared.versions.VersionText.{VersionText}
 use Rattle.root_text.specs.RootText.{IsRoot, IfVersion, root_of, root_text}
 use Rattle.root_text.specs.RootText as text
 use Rattle.root_text.specs.Views.{version_said}
-use Rattle.deploy_laws.specs.Apps.{AreClean, AreVersions, App, IsCleanApp, Says, app_at, installed, lacking_in, named}
+use Rattle.deploy_laws.specs.Apps.{AreClean, AreVersions, App, IsCleanApp, Says, app_at, installed, root_lacking, named}
 use Rattle.deploy_laws.specs.Apps.{nothing, says_at, says_by, shapes_named}
 use Rattle.deploy_laws.specs.Laws.{AloneCleanLaw, AloneLaw, RootAloneLaw, RootSlotsLaw, VersionsLaw}
 use Rattle.deploy_laws.specs.Places.{IsNoRootFile, Named, root_place}
@@ -78,7 +78,7 @@ pub bad_app : (image : Image) (app : ℕ) → says_at image app ≡ nothing → 
 unfolding app_at
 bad_app image app none = ap (λ (s : Says). record {
   says = s;
-  lacking = lacking_in image app s (standing image (root_place app) 2);
+  lacking = root_lacking image app s (standing image (root_place app) 2);
   states = map (store_at image) (shapes_named app s);
 }) none
 

@@ -19,16 +19,17 @@ use Rattle.root_text.specs.RootText as text
 use Rattle.root_text.specs.Views.{version_said}
 use Rattle.deploy_laws.specs.Apps.{App, AreClean, Says, absent, installed, named, nothing, shapes_named}
 use Rattle.deploy_laws.specs.Apps as apps
-use Rattle.deploy_laws.specs.Places.{Named, shape_of, shapes_from, shapes_in}
+use Rattle.deploy_laws.specs.Places.{Named, shapes_from, shapes_in, storage_shape}
 use Rattle.deploy_rows.specs.Rows.{empty_app, finishing, not_busy, not_worn, rolling_back, wiping}
 use Rattle.deploy.specs.declared.leaving.Lone.{Lone}
 use Rattle.deploy.specs.declared.roots.Installed as parts
 use Rattle.deploy.specs.declared.roots.Outcome.{Outcome}
 use Rattle.deploy.specs.declared.roots.Root.{Root}
 use Rattle.deploy.specs.declared.roots.Root.TheVariants.{Bad, Absent, Installed}
-use Rattle.deploy.specs.Leaving.{IfRegister, IsEmptied, IsLone, IsRefused, IsRegister, Leads, app_saying, empty_says}
+use Rattle.deploy.specs.Leaving.{IfRegister, IsEmptied, IsLone, IsRegister, IsRootRefused, LeadsToRoot, app_saying}
+use Rattle.deploy.specs.Leaving.{empty_says}
 use Rattle.deploy.specs.Leaving.{refused_or, register_of}
-use Rattle.deploy.specs.Roots.{AreParts, previous_text, root_app, root_says, texts_in}
+use Rattle.deploy.specs.Roots.{AreParts, previous_texts, root_app, root_says, root_texts}
 
 -- ---- generations
 
@@ -46,7 +47,7 @@ first_states : (image : Image) (app bank n : ℕ) (ss : List StorageData) (more 
     → take (length ss) (map (store_at image) (shapes_from app bank n ss ++ more))
     ≡ map (store_at image) (shapes_from app bank n ss ++ [])
 first_states image app bank n [] more = refl
-first_states image app bank n (s ∷ ss) more = ap (λ (states : List State). store_at image (shape_of app bank n s)
+first_states image app bank n (s ∷ ss) more = ap (λ (states : List State). store_at image (storage_shape app bank n s)
     ∷ states) (first_states image app bank (suc n) ss more)
 
 append_none : (shapes : List Shape) → shapes ++ [] ≡ shapes
@@ -91,7 +92,7 @@ module _ (g : ℕ) (active previous : Named) (left : g < greatest_generation) wh
   unfolding shapes_named
   finish_clean image app all = first_clean image (shapes_in app active) (shapes_in app previous) all
 
-  finish_leads : Leads finishing both (installed (g + 1) active None)
+  finish_leads : LeadsToRoot finishing both (installed (g + 1) active None)
   finish_leads = record { row_is = finish_row; clean = finish_clean }
 
   rollback_row : (image : Image) (app : ℕ) → rolling_back None (app_saying image app both)
@@ -111,7 +112,7 @@ module _ (g : ℕ) (active previous : Named) (left : g < greatest_generation) wh
   unfolding shapes_named
   rollback_clean image app all = last_clean image (shapes_in app active) (shapes_in app previous) all
 
-  rollback_leads : Leads (rolling_back None) both (installed (g + 1) previous None)
+  rollback_leads : LeadsToRoot (rolling_back None) both (installed (g + 1) previous None)
   rollback_leads = record { row_is = rollback_row; clean = rollback_clean }
 
 installed_register : (i : parts.Installed) → generation_of i.cell < greatest_generation
@@ -149,17 +150,17 @@ module _ (cell : Cell) (bank : ℕ) (active : VersionText) where
   }
 
   pub first_text : (previous : Option VersionText) → active.text ∷ []
-      ≡ take 1 (texts_in (Installed (parts_with previous)))
+      ≡ take 1 (root_texts (Installed (parts_with previous)))
   first_text None = refl
   first_text (Some v) = refl
 
   pub last_text : (previous : Option VersionText) (v : VersionText) → previous ≡ Some v
-      → v.text ∷ [] ≡ drop 1 (texts_in (Installed (parts_with previous)))
-  last_text previous v some = sym (ap previous_text some)
+      → v.text ∷ [] ≡ drop 1 (root_texts (Installed (parts_with previous)))
+  last_text previous v some = sym (ap previous_texts some)
 
   pub finish_none : (previous : Option VersionText) (o : Outcome) → is_some previous ≡ false
       → o ≡ record { root = Installed (parts_with previous); refused = Some error.NoPreviousVersion }
-      → IsRefused finishing (Installed (parts_with previous)) o
+      → IsRootRefused finishing (Installed (parts_with previous)) o
   unfolding finishing
   finish_none None o none is = record {
     same = ap (λ (x : Outcome). x.root) is;
@@ -175,7 +176,7 @@ module _ (cell : Cell) (bank : ℕ) (active : VersionText) where
         refused =
             Some e;
       }
-      → IsRefused finishing (Installed (parts_with previous)) o
+      → IsRootRefused finishing (Installed (parts_with previous)) o
   unfolding finishing
   finish_worn None o e some le e_is is = absurd cc
   finish_worn (Some v) o e some le e_is is = record {
@@ -226,10 +227,10 @@ module _ (cell : Cell) (bank : ℕ) (active : VersionText) where
     pub rollback_refused : (previous : Option VersionText) (v : VersionText) (e : PerError) (o : Outcome)
         → previous ≡ Some v → refused ≡ Some e
         → o ≡ record { root = Installed (parts_with (Some v)); refused = Some e }
-        → IsRefused (rolling_back busy) (Installed (parts_with previous)) o
+        → IsRootRefused (rolling_back busy) (Installed (parts_with previous)) o
     unfolding rolling_back
     rollback_refused previous v e o some is made = subst
-        (λ (p : Option VersionText). IsRefused (rolling_back busy) (Installed (parts_with p)) o) (sym some)
+        (λ (p : Option VersionText). IsRootRefused (rolling_back busy) (Installed (parts_with p)) o) (sym some)
         (record {
           same = ap (λ (x : Outcome). x.root) made;
           refusal =
@@ -238,10 +239,10 @@ module _ (cell : Cell) (bank : ℕ) (active : VersionText) where
 
   pub rollback_none : (busy : Option (List ℕ)) (previous : Option VersionText) (o : Outcome) → previous ≡ None
       → o ≡ record { root = Installed (parts_with None); refused = Some error.NoPreviousVersion }
-      → IsRefused (rolling_back busy) (Installed (parts_with previous)) o
+      → IsRootRefused (rolling_back busy) (Installed (parts_with previous)) o
   unfolding rolling_back
   rollback_none busy previous o none is = subst (λ (p : Option VersionText).
-      IsRefused (rolling_back busy) (Installed (parts_with p)) o) (sym none)
+      IsRootRefused (rolling_back busy) (Installed (parts_with p)) o) (sym none)
       (record {
         same = ap (λ (x : Outcome). x.root) is;
         refusal =
@@ -252,8 +253,8 @@ module _ (cell : Cell) (bank : ℕ) (active : VersionText) where
 
 pub is_refused : (row : App → Result App PerError) (root same : Root) (o : Outcome) (e : PerError) → root ≡ same
     → o ≡ record { root = same; refused = Some e }
-    → row (root_app same []) ≡ Err e → IsRefused row root o
-is_refused row root same o e is made refuses = subst (λ (r : Root). IsRefused row r o) (sym is)
+    → row (root_app same []) ≡ Err e → IsRootRefused row root o
+is_refused row root same o e is made refuses = subst (λ (r : Root). IsRootRefused row r o) (sym is)
     (record { same = ap (λ (x : Outcome). x.root) made; refusal = (e, ap (λ (x : Outcome). x.refused) made, refuses) })
 
 pub finish_bad : finishing (root_app Bad []) ≡ Err (error.IntegrityCorrupted unit.Root)
@@ -279,7 +280,7 @@ rollback_absent busy cell = refl
 -- a wipe by the generation of the root, which is 0 for a bad one
 wipe_is : (busy : Option (List ℕ)) (says : Says) (lacking : List ℕ) (states : List State)
     → wiping busy (record { says = says; lacking = lacking; states = states })
-    ≡ not_busy busy (not_worn (apps.generation_of says) (Ok (empty_app (apps.generation_of says + 1))))
+    ≡ not_busy busy (not_worn (apps.says_generation says) (Ok (empty_app (apps.says_generation says + 1))))
 unfolding wiping
 wipe_is (Some name) says lacking states = refl
 wipe_is None nothing lacking states = refl
@@ -295,12 +296,12 @@ unfolding shapes_named
 none_clean image app g = tt
 
 -- the next root has the next generation
-empty_next : (root : Root) → empty_says (register_of root) ≡ absent (apps.generation_of (root_says root) + 1)
+empty_next : (root : Root) → empty_says (register_of root) ≡ absent (apps.says_generation (root_says root) + 1)
 empty_next Bad = refl
 empty_next (Absent cell) = refl
 empty_next (Installed i) = refl
 
-registered : (root : Root) → apps.generation_of (root_says root) < greatest_generation
+registered : (root : Root) → apps.says_generation (root_says root) < greatest_generation
     → IfRegister root (register_of root)
 registered Bad left = refl
 registered (Absent cell) left = record {
@@ -311,20 +312,20 @@ registered (Absent cell) left = record {
 }
 registered (Installed i) left = installed_register i left
 
-module _ (busy : Option (List ℕ)) (root : Root) (g : ℕ) (counts : g ≡ apps.generation_of (root_says root))
+module _ (busy : Option (List ℕ)) (root : Root) (g : ℕ) (counts : g ≡ apps.says_generation (root_says root))
     (refused : Option PerError)
     (row : (x : Result App PerError) → not_busy busy (not_worn g x) ≡ refused_or refused x) where
   row_next : (lacking : List ℕ) (states : List State) (now : Option PerError) → refused ≡ now
       → wiping busy (record { says = root_says root; lacking = lacking; states = states })
-      ≡ refused_or now (Ok (empty_app (apps.generation_of (root_says root) + 1)))
+      ≡ refused_or now (Ok (empty_app (apps.says_generation (root_says root) + 1)))
   row_next lacking states now is = wipe_is busy (root_says root) lacking states
-      ∙ subst (λ (n : ℕ). not_busy busy (not_worn n (Ok (empty_app (apps.generation_of (root_says root) + 1))))
-      ≡ refused_or now (Ok (empty_app (apps.generation_of (root_says root) + 1)))) counts
-      (row (Ok (empty_app (apps.generation_of (root_says root) + 1)))
-      ∙ ap (λ (o : Option PerError). refused_or o (Ok (empty_app (apps.generation_of (root_says root) + 1)))) is)
+      ∙ subst (λ (n : ℕ). not_busy busy (not_worn n (Ok (empty_app (apps.says_generation (root_says root) + 1))))
+      ≡ refused_or now (Ok (empty_app (apps.says_generation (root_says root) + 1)))) counts
+      (row (Ok (empty_app (apps.says_generation (root_says root) + 1)))
+      ∙ ap (λ (o : Option PerError). refused_or o (Ok (empty_app (apps.says_generation (root_says root) + 1)))) is)
 
   left_next : (now : Option PerError) → now ≡ None → IfNone now (g < greatest_generation)
-      → apps.generation_of (root_says root) < greatest_generation
+      → apps.says_generation (root_says root) < greatest_generation
   left_next None is left = subst (λ (n : ℕ). n < greatest_generation) counts left
   left_next (Some e) is left = absurd cc
 
@@ -332,13 +333,13 @@ module _ (busy : Option (List ℕ)) (root : Root) (g : ℕ) (counts : g ≡ apps
       → IfNone refused (g < greatest_generation) → IsEmptied (wiping busy) root cell
   wipe_emptied cell is none left = subst (λ (c : Option Cell). IsEmptied (wiping busy) root c) (sym is) (record {
     register = registered root (left_next refused none left);
-    leads = subst (λ (s : Says). Leads (wiping busy) (root_says root) s) (sym (empty_next root)) (record {
+    leads = subst (λ (s : Says). LeadsToRoot (wiping busy) (root_says root) s) (sym (empty_next root)) (record {
       row_is = λ image app. row_next [] (app_saying image app (root_says root)).states None none
-          ∙ ap (λ (a : App). Ok a) (sym (empty_named image app (apps.generation_of (root_says root) + 1)));
-      clean = λ image app all. none_clean image app (apps.generation_of (root_says root) + 1);
+          ∙ ap (λ (a : App). Ok a) (sym (empty_named image app (apps.says_generation (root_says root) + 1)));
+      clean = λ image app all. none_clean image app (apps.says_generation (root_says root) + 1);
     });
   })
 
   pub wipe_refused : (e : PerError) (o : Outcome) → refused ≡ Some e → o ≡ record { root = root; refused = Some e }
-      → IsRefused (wiping busy) root o
+      → IsRootRefused (wiping busy) root o
   wipe_refused e o is made = is_refused (wiping busy) root root o e refl made (row_next [] [] (Some e) is)

@@ -21,7 +21,7 @@ use Rattle.element_laws.specs.Apart.{FrameLaw}
 use Rattle.element_laws.specs.Phases.{IsOfPlace}
 use Rattle.update_plan.specs.Plans.{AllFit}
 use Rattle.deploy_laws.specs.Laws.{BesideLaw, StorageFilesLaw}
-use Rattle.deploy_laws.specs.Places.{IsBeside, IsOutsideBank, shape_of, shapes_from}
+use Rattle.deploy_laws.specs.Places.{IsBeside, IsOutsideBank, shapes_from, storage_shape}
 use Rattle.deploy.specs.Clauses.{Leaves}
 use Rattle.deploy.specs.Made.{AreMade}
 use Rattle.deploy.specs.Remaining.{IsBesideRest}
@@ -72,7 +72,7 @@ few_contents d cs is fit =
 -- where no file of the storages below a number changes
 module _ (frame : FrameLaw) (app bank limit : ℕ) (old new : Image)
     (spared : (number : ℕ) (s : StorageData) → number < limit
-    → Spares (IsOfPlace (shape_of app bank number s).place) old new) where
+    → Spares (IsOfPlace (storage_shape app bank number s).place) old new) where
   pub made_stays : (ss : List StorageData) (cs : List (List Fresh)) (from k : ℕ) → from + k ≤ limit
       → AreMade old (take k (shapes_from app bank from ss)) (take k cs)
       → AreMade new (take k (shapes_from app bank from ss)) (take k cs)
@@ -80,13 +80,14 @@ module _ (frame : FrameLaw) (app bank limit : ℕ) (old new : Image)
   made_stays [] cs from (suc k) low made = tt
   made_stays (s ∷ ss) [] from (suc k) low made = absurd made
   made_stays (s ∷ ss) (c ∷ cs) from (suc k) low made =
-      let same = frame (shape_of app bank from s) old new (spared from s (omega (arith, low))) in
+      let same = frame (storage_shape app bank from s) old new (spared from s (omega (arith, low))) in
       (same.state ∙ made.0, same.clean made.1, made_stays ss cs (suc from) k (omega (arith, low)) made.2)
 
 -- the files of a storage are beside those of one with a greater number
 pub earlier_spared : (files : StorageFilesLaw) (app bank later : ℕ) (old new : Image) → app < 8 → bank ≤ 1 → later ≤ 16
     → Spares (IsBeside app bank later) old new
-    → (number : ℕ) (s : StorageData) → number < later → Spares (IsOfPlace (shape_of app bank number s).place) old new
+    → (number : ℕ) (s : StorageData) → number < later → Spares
+    (IsOfPlace (storage_shape app bank number s).place) old new
 earlier_spared files app bank later old new lt ltb ltn spared number s before f of =
     let high = (files app bank number f s lt ltb (omega (arith, before, ltn)) of).1 in
     spared f (inl (omega (arith, high, before)))
@@ -97,20 +98,20 @@ module _ (image : Image) (app bank : ℕ) (x : StorageConfig) (fs : List Fresh) 
       → k < length ds → k < length cs
       → x ≡ get_or ds k x → fs ≡ get_or cs k fs
       → AreMade image (take k (shapes_from app bank from (map storage_data ds))) (take k cs)
-      → store_at image (shape_of app bank number (storage_data x)) ≡ fresh_state 1 (fresh_map fs)
-      → IsClean (shape_of app bank number (storage_data x)) image
+      → store_at image (storage_shape app bank number (storage_data x)) ≡ fresh_state 1 (fresh_map fs)
+      → IsClean (storage_shape app bank number (storage_data x)) image
       → AreMade image (take (suc k) (shapes_from app bank from (map storage_data ds))) (take (suc k) cs)
   made_more [] cs from k number sum lt ltc is here made state clean = absurd (omega (arith, lt))
   made_more (d ∷ ds) [] from k number sum lt ltc is here made state clean = absurd (omega (arith, ltc))
   made_more (d ∷ ds) (c ∷ cs) from zero number sum lt ltc is here made state clean =
       let at : number ≡ from = omega (arith, sum) in
-      let state_is = subst (λ (es : List Fresh). store_at image (shape_of app bank number (storage_data x))
+      let state_is = subst (λ (es : List Fresh). store_at image (storage_shape app bank number (storage_data x))
       ≡ fresh_state 1 (fresh_map es)) here state in (
-        subst (λ (n : ℕ). store_at image (shape_of app bank n (storage_data d)) ≡ fresh_state 1 (fresh_map c)) at
-            (subst (λ (y : StorageConfig). store_at image (shape_of app bank number (storage_data y))
+        subst (λ (n : ℕ). store_at image (storage_shape app bank n (storage_data d)) ≡ fresh_state 1 (fresh_map c)) at
+            (subst (λ (y : StorageConfig). store_at image (storage_shape app bank number (storage_data y))
             ≡ fresh_state 1 (fresh_map c)) is state_is),
-        subst (λ (n : ℕ). IsClean (shape_of app bank n (storage_data d)) image) at
-            (subst (λ (y : StorageConfig). IsClean (shape_of app bank number (storage_data y)) image) is clean),
+        subst (λ (n : ℕ). IsClean (storage_shape app bank n (storage_data d)) image) at
+            (subst (λ (y : StorageConfig). IsClean (storage_shape app bank number (storage_data y)) image) is clean),
         tt,
       )
   made_more (d ∷ ds) (c ∷ cs) from (suc k) number sum lt ltc is here made state clean = (
@@ -163,7 +164,7 @@ outside_rest told app bank built d cs old new keeps fit leaves =
 -- where a storage alone was made
 pub storage_outside : (told : Bool) (app bank number : ℕ) (s : StorageData) (shape : Shape) (old new : Medium)
     → BesideLaw → app < 8 → bank ≤ 1 → number < 16
-    → shape ≡ shape_of app bank number s
+    → shape ≡ storage_shape app bank number s
     → (IsTrue told → Spares (IsOutside shape.place) old.image new.image)
     → (IsTrue told → Quiet old → EachCase (IsSettledOn (IsOutside shape.place) old.image) old
     new)
@@ -176,7 +177,7 @@ storage_outside told app bank number s shape old new beside lt ltb ltn is elsewh
 
 -- ---- one after another
 
--- from number `built` on so many of the storages are made, and only files of those that remained changed
+-- from number `built` on that many of the storages are made, and only files of those that remained changed
 pub record IsMaking (told : Bool) (app bank built number : ℕ) (ds : List StorageConfig) (cs : List (List Fresh))
     (old now : Medium) : Type 0 where
   pub made : IsTrue told → AreMade now.image (take number (shapes_from app bank 0 (map storage_data ds)))
@@ -214,9 +215,9 @@ module _ (told : Bool) (app bank built number : ℕ) (ds : List StorageConfig) (
   module _ (frame : FrameLaw) (files : StorageFilesLaw) (x : StorageConfig) (fs : List Fresh) (lt : app < 8)
       (ltb : bank ≤ 1)
       (ltd : number < length ds) (is : x ≡ get_or ds number x) (here : fs ≡ get_or cs number fs)
-      (state : IsTrue told → store_at new.image (shape_of app bank number (storage_data x))
+      (state : IsTrue told → store_at new.image (storage_shape app bank number (storage_data x))
       ≡ fresh_state 1 (fresh_map fs))
-      (clean : IsTrue told → IsClean (shape_of app bank number (storage_data x)) new.image) (quiet : Quiet new)
+      (clean : IsTrue told → IsClean (storage_shape app bank number (storage_data x)) new.image) (quiet : Quiet new)
       (passes : new.faults ≡ mid.faults) where
     pub making_more : IsMaking told app bank built (number + 1) ds cs old new
     making_more =

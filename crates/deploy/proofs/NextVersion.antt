@@ -28,7 +28,7 @@ use Rattle.root_text.specs.RootText as text
 use Rattle.root_text.specs.Views.{version_said}
 use Rattle.root_text.specs.declared.versions.VersionText.{VersionText}
 use Rattle.update_plan.specs.Plans.{AllFit}
-use Rattle.deploy_laws.specs.Apps.{AreClean, AreOn, App, IsCleanApp, IsFree, Says, app_at, generation_of, named}
+use Rattle.deploy_laws.specs.Apps.{AreClean, AreOn, App, IsCleanApp, IsFree, Says, app_at, says_generation, named}
 use Rattle.deploy_laws.specs.Apps.{says_at, says_by, shapes_named}
 use Rattle.deploy_laws.specs.Laws.{AloneCleanLaw, AloneFrameLaw, AloneLaw, CreatingLaw, RootAloneLaw, RootFilesLaw}
 use Rattle.deploy_laws.specs.Laws.{RootSlotsLaw, VersionsLaw, WritingLaw}
@@ -73,7 +73,7 @@ before_is_free g bank None le = tt
 before_is_free g bank (Some v) le = λ (same : 1 - bank ≡ bank). absurd (omega (arith, le, same))
 
 before_counts : (g bank : ℕ) (previous : Option Version)
-    → generation_of (says_by g (Some (root_before bank previous))) ≡ g
+    → says_generation (says_by g (Some (root_before bank previous))) ≡ g
 before_counts g bank None = refl
 before_counts g bank (Some v) = refl
 
@@ -156,8 +156,8 @@ module _ (again : AgainLaw) (alone : AloneLaw) (app g bank : ℕ) (v : Version) 
 
     pub comes_later : IsLater (app_at start app) (after start)
     comes_later =
-        let counts : generation_of (app_at start app).says ≡ g =
-        ap (λ (a : App). generation_of a.says) app_before ∙ before_counts g bank previous in
+        let counts : says_generation (app_at start app).says ≡ g =
+        ap (λ (a : App). says_generation a.says) app_before ∙ before_counts g bank previous in
         next_root (omega (arith, counts))
 
   -- ---- storages are made

@@ -18,8 +18,9 @@ use Rattle.update_plan.specs.declared.contents.Stored.{Stored}
 use Rattle.update_plan.specs.Plans.{PlansAll, stored_for}
 use Rattle.deploy_laws.specs.Apps.{App, Says, named}
 use Rattle.deploy_laws.specs.Places.{Named}
-use Rattle.deploy_rows.specs.Rows.{◌>>=◌, Begins, BeginsWith, InProgress, Offer, deployment_of, newer, offer_over}
-use Rattle.deploy_rows.specs.Rows.{offered, stored_in}
+use Rattle.deploy_rows.specs.Rows.{◌>>=◌, BeginsUpdate, BeginsWith, InProgress, Offer, deployment_of, newer_version}
+use Rattle.deploy_rows.specs.Rows.{offer_over}
+use Rattle.deploy_rows.specs.Rows.{contents_stored, offered}
 use Rattle.deploy.specs.declared.roots.Installed.{Installed}
 use Rattle.deploy.specs.declared.roots.Root.{Root}
 use Rattle.deploy.specs.declared.roots.Root.TheVariants as root
@@ -61,10 +62,10 @@ module _ (busy : Option (List ℕ)) (text : List ℕ) (i : Installed) where
 
     module _ (free : busy ≡ None) where
       pub by_text : (r : Result DeploymentData PerError) → deployment_of text ≡ r
-          → offered busy text (root_app (root.Installed i) []) ≡ (r >>= newer active (generation_of i.cell))
+          → offered busy text (root_app (root.Installed i) []) ≡ (r >>= newer_version active (generation_of i.cell))
       by_text r is = over busy text i None none
           ∙ ap (λ (b : Option (List ℕ)). offer_over b text (generation_of i.cell) active None) free
-          ∙ ap (λ (s : Result DeploymentData PerError). s >>= newer active (generation_of i.cell)) is
+          ∙ ap (λ (s : Result DeploymentData PerError). s >>= newer_version active (generation_of i.cell)) is
 
       -- the manifest is rejected
       pub is_rejected : (e : PerError) → deployment_of text ≡ Err e
@@ -110,16 +111,17 @@ module _ (rules : List Rule) (answers : fns.Answers) (now : ℕ) (busy : Option 
     (begun : Result InProgress PerError) where
   pub begins_by : (row : Result Offer PerError) → offered busy text (root_app r []) ≡ row
       → BeginsWith rules answers now states row begun
-      → Begins rules answers now busy text (root_app r states) begun
+      → BeginsUpdate rules answers now busy text (root_app r states) begun
   begins_by row is begins =
       subst (λ (o : Result Offer PerError). BeginsWith rules answers now states o begun)
       (sym (offered_alike busy text r states ∙ is)) begins
 
 module _ (rules : List Rule) (answers : fns.Answers) (now : ℕ) (o : Offer) (stored : List Stored) (states : List State)
-    (is : stored ≡ stored_in o.active.deployment.storages states) where
+    (is : stored ≡ contents_stored o.active.deployment.storages states) where
   planned : (plan : Result (List (List Fresh)) PerError)
       → PlansAll rules answers now (stored_for o.active.deployment stored) o.deployment.storages plan
-      → PlansAll rules answers now (stored_for o.active.deployment (stored_in o.active.deployment.storages states))
+      → PlansAll rules answers now (stored_for o.active.deployment
+      (contents_stored o.active.deployment.storages states))
       o.deployment.storages plan
   planned plan plans = subst (λ (xs : List Stored). PlansAll rules answers now (stored_for o.active.deployment xs)
       o.deployment.storages plan) is plans

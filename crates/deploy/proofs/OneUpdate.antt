@@ -15,15 +15,15 @@ use Rattle.deploy_laws.specs.Laws.{StillAppLaw}
 use Rattle.deploy_laws.specs.Places.{IsFileOf}
 use Rattle.deploy_laws.specs.Stands.{IsLater, StandsCase, StandsThroughout}
 use Rattle.deploy_rows.specs.Laws.{UpdateLaterLaw}
-use Rattle.deploy_rows.specs.Rows.{Begins, BeginsWith, InProgress, MayLead, Offer, offered, updated_app}
+use Rattle.deploy_rows.specs.Rows.{BeginsUpdate, BeginsWith, InProgress, Offer, UpdateMayLead, offered, updated_app}
 use Rattle.deploy.specs.declared.roots.Outcome.{Outcome}
 use Rattle.deploy.specs.declared.roots.Root.{Root}
 use Rattle.deploy.specs.declared.updating.Begin.{Begin}
 use Rattle.deploy.specs.declared.updating.Begin.TheVariants as begin
 use Rattle.deploy.specs.declared.updating.Staged.{Staged}
-use Rattle.deploy.specs.Building.{IsBegun, StagedAt, begun_as, progress_in, root_in}
+use Rattle.deploy.specs.Building.{IsUpdateBegun, StagedAt, begun_as, staged_progress, staged_root}
 use Rattle.deploy.specs.Clauses.{IsBesideNext, Leaves}
-use Rattle.deploy.specs.Laws.{InUseLaw}
+use Rattle.deploy.specs.Laws.{RootInUseLaw}
 use Rattle.deploy.specs.Remaining.{IsBesideCommit}
 use Rattle.deploy.specs.Roots.{RootAt, free_bank, root_app, root_says}
 use Rattle.deploy.specs.Updates.{IsUpdated, LeadsTo}
@@ -75,7 +75,7 @@ module _ {T E : Type 0} (result : Result T E) (e : E) (passed : IsErrAnd result 
 -- ---- what begins
 
 -- where the root is in use, the application is what the root says
-pub app_in_use : InUseLaw → (image : Image) (app : ℕ) (told : Bool) (root : Root) (states : List State)
+pub app_in_use : RootInUseLaw → (image : Image) (app : ℕ) (told : Bool) (root : Root) (states : List State)
     → RootAt told image app root → IsTrue told
     → (app_at image app).states ≡ states → app_at image app ≡ root_app root states
 app_in_use in_use image app told root states at tells theirs =
@@ -128,10 +128,10 @@ module _ (app : ℕ) (old mid new : Medium) (first : Elapses old mid) (next : El
 
 module _ (rules : List Rule) (answers : fns.Answers) (now : ℕ) (busy : Option (List ℕ)) (text : List ℕ) (app : ℕ) where
   abbrev pub Row : App → Result InProgress PerError → Type 0
-  Row a row = Begins rules answers now busy text a row
+  Row a row = BeginsUpdate rules answers now busy text a row
 
   abbrev pub May : App → App → Type 0
-  May before after = MayLead rules answers now busy text before after
+  May before after = UpdateMayLead rules answers now busy text before after
 
   -- nothing is led on: it was refused, or stopped before its commit
   pub leads_nowhere : {T E : Type 0} (result : Result T E) (old new : Medium) → new.image ≡ old.image
@@ -146,13 +146,13 @@ module _ (rules : List Rule) (answers : fns.Answers) (now : ℕ) (busy : Option 
   module _ (told : Bool) (old mid : Medium) (r : Root) (b : Begin)
       (begins : (states : List State) × (IsTrue told → (app_at old.image app).states ≡ states)
       × Row (root_app r states) (begun_as b))
-      (begun : IsBegun told mid.image app r b) (same : mid.image ≡ old.image) where
+      (begun : IsUpdateBegun told mid.image app r b) (same : mid.image ≡ old.image) where
     -- ---- it is refused
 
     module _ (t : Root) (e : PerError) (is : b ≡ begin.Refused t e) (o : Outcome)
         (answer : o ≡ record { root = t; refused = Some e }) where
       handed_back : (t ≡ r) × RootAt told mid.image app t
-      handed_back = subst (λ (x : Begin). IsBegun told mid.image app r x) is begun
+      handed_back = subst (λ (x : Begin). IsUpdateBegun told mid.image app r x) is begun
 
       pub root_refused : RootAt told mid.image app o.root
       root_refused = subst (λ (x : Outcome). RootAt told mid.image app x.root) (sym answer) handed_back.1
@@ -177,8 +177,8 @@ module _ (rules : List Rule) (answers : fns.Answers) (now : ℕ) (busy : Option 
     -- ---- it is committed
 
     module _ (s : Staged) (is : b ≡ begin.Ready s) where
-      ready : StagedAt told mid.image app s × (root_in s ≡ r)
-      ready = subst (λ (x : Begin). IsBegun told mid.image app r x) is begun
+      ready : StagedAt told mid.image app s × (staged_root s ≡ r)
+      ready = subst (λ (x : Begin). IsUpdateBegun told mid.image app r x) is begun
 
       of_app : s.app ≡ app
       of_app = ready.0.memory.of_app
@@ -186,25 +186,25 @@ module _ (rules : List Rule) (answers : fns.Answers) (now : ℕ) (busy : Option 
       pub staged_at : StagedAt told mid.image s.app s
       staged_at = subst (λ (n : ℕ). StagedAt told mid.image n s) (sym of_app) ready.0
 
-      pub over_root : root_in s ≡ r
+      pub over_root : staged_root s ≡ r
       over_root = ready.1
 
-      begins_ready : Row (root_app r begins.0) (Ok (progress_in s))
+      begins_ready : Row (root_app r begins.0) (Ok (staged_progress s))
       begins_ready = subst (λ (x : Begin). Row (root_app r begins.0) (begun_as x)) is begins.2
 
       pub was_offered : IsOk (offered busy text (root_app r []))
       was_offered = subst (λ (o : Result Offer PerError). IsOk o) (offered_alike busy text r begins.0)
-          (offer_of_row rules answers now begins.0 (offered busy text (root_app r begins.0)) (progress_in s)
+          (offer_of_row rules answers now begins.0 (offered busy text (root_app r begins.0)) (staged_progress s)
           begins_ready)
 
       -- what it leads to, over what the disk says
       abbrev pub led : App
-      led = updated_app (progress_in s) (app_at old.image app)
+      led = updated_app (staged_progress s) (app_at old.image app)
 
-      may_lead : InUseLaw → RootAt told old.image app r → IsTrue told → May (app_at old.image app) led
+      may_lead : RootInUseLaw → RootAt told old.image app r → IsTrue told → May (app_at old.image app) led
       may_lead in_use at tells = inr (
-        Ok (progress_in s),
-        subst (λ (a : App). Row a (Ok (progress_in s))) (sym
+        Ok (staged_progress s),
+        subst (λ (a : App). Row a (Ok (staged_progress s))) (sym
             (app_in_use in_use old.image app told r begins.0 at tells (begins.1 tells))) begins_ready,
         refl,
       )
@@ -218,46 +218,50 @@ module _ (rules : List Rule) (answers : fns.Answers) (now : ℕ) (busy : Option 
         pub clause_of : (P : ℕ → Type 0) → P s.app → P app
         clause_of P holds = subst P of_app holds
 
-        app_led : (app_at new.image s.app ≡ updated_app (progress_in s) (app_at mid.image s.app))
+        app_led : (app_at new.image s.app ≡ updated_app (staged_progress s) (app_at mid.image s.app))
             → app_at new.image app ≡ led
-        app_led is = subst (λ (i : Image). app_at new.image app ≡ updated_app (progress_in s) (app_at i app)) same
-            (clause_of (λ n. app_at new.image n ≡ updated_app (progress_in s) (app_at mid.image n)) is)
+        app_led is = subst (λ (i : Image). app_at new.image app ≡ updated_app (staged_progress s) (app_at i app)) same
+            (clause_of (λ n. app_at new.image n ≡ updated_app (staged_progress s) (app_at mid.image n)) is)
 
-        pub updated_so : (next : Root) → root_says next ≡ (updated_app (progress_in s) (root_app (root_in s) [])).says
-            → (IsTrue told → app_at new.image s.app ≡ updated_app (progress_in s) (app_at mid.image s.app))
+        pub updated_so : (next : Root) → root_says next ≡ (updated_app (staged_progress s)
+            (root_app (staged_root s) [])).says
+            → (IsTrue told → app_at new.image s.app ≡ updated_app (staged_progress s) (app_at mid.image s.app))
             → IsUpdated told Row app old.image new.image r (record { root = next; refused = None })
         updated_so next says app_is = record {
           states = begins.0;
-          row = Ok (progress_in s);
+          row = Ok (staged_progress s);
           theirs = begins.1;
           begins = begins_ready;
           refused = tt;
-          says = says ∙ ap (λ (x : Root). (updated_app (progress_in s) (root_app x [])).says) over_root
-              ∙ says_by (progress_in s) [] [] begins.0 (root_says r);
+          says = says ∙ ap (λ (x : Root). (updated_app (staged_progress s) (root_app x [])).says) over_root
+              ∙ says_by (staged_progress s) [] [] begins.0 (root_says r);
           leads = λ tells. app_led (app_is tells);
         }
 
         module _ (first : Elapses old mid) (next : Elapses mid new) (idle : Quiet old → IsIdle old mid) where
-          pub leaves_led : Leaves told (IsBesideCommit s.app (free_bank (root_in s)) s.built (length s.contents.items))
+          pub leaves_led : Leaves told (IsBesideCommit s.app (free_bank (staged_root s)) s.built
+              (length s.contents.items))
               mid new
               → Leaves told (IsBesideNext app (free_bank r)) old new
           leaves_led leaves = leaves_then app old mid new first next idle same told (IsBesideNext app (free_bank r))
               (subst (λ (x : Root). Leaves told (IsBesideNext app (free_bank x)) mid new) over_root
-              (clause_of (λ n. Leaves told (IsBesideNext n (free_bank (root_in s))) mid new)
-              (leaves_whole told s.app (free_bank (root_in s)) s.built (length s.contents.items) mid new leaves
+              (clause_of (λ n. Leaves told (IsBesideNext n (free_bank (staged_root s))) mid new)
+              (leaves_whole told s.app (free_bank (staged_root s)) s.built (length s.contents.items) mid new leaves
               (few_storages app s ready.0.memory).0)))
 
-          module _ (in_use : InUseLaw) (later : UpdateLaterLaw) (still : StillAppLaw) (lt : app < 8)
+          module _ (in_use : RootInUseLaw) (later : UpdateLaterLaw) (still : StillAppLaw) (lt : app < 8)
               (at : RootAt told old.image app r) (tells : IsTrue told)
-              (stands : StandsThroughout s.app (updated_app (progress_in s) (app_at mid.image s.app)) mid new) where
+              (stands : StandsThroughout s.app (updated_app (staged_progress s) (app_at mid.image s.app)) mid new) where
             stands_led : StandsThroughout app led old new
             stands_led = stands_then app old mid new first next idle same still lt led
-                (later (progress_in s) (app_at old.image app))
-                (subst (λ (i : Image). StandsThroughout app (updated_app (progress_in s) (app_at i app)) mid new) same
-                (clause_of (λ n. StandsThroughout n (updated_app (progress_in s) (app_at mid.image n)) mid new) stands))
+                (later (staged_progress s) (app_at old.image app))
+                (subst (λ (i : Image). StandsThroughout app (updated_app (staged_progress s) (app_at i app)) mid new)
+                same
+                (clause_of (λ n. StandsThroughout n (updated_app (staged_progress s) (app_at mid.image n)) mid new)
+                stands))
 
             pub leads_led : {T E : Type 0} (result : Result T E)
-                → OnOk result (app_at new.image s.app ≡ updated_app (progress_in s) (app_at mid.image s.app))
+                → OnOk result (app_at new.image s.app ≡ updated_app (staged_progress s) (app_at mid.image s.app))
                 → LeadsTo app (May (app_at old.image app)) result old new
             leads_led {T} {E} result is = record {
               next = led;

@@ -26,10 +26,10 @@ use Rattle.element_state.specs.States.{Corrupt, Opens, State, store_at}
 use Rattle.update_plan.specs.declared.contents.Stored.{Stored}
 use Rattle.update_plan.specs.declared.contents.StorageContents.{StorageContents}
 use Rattle.update_plan.specs.declared.contents.StorageContents.TheVariants.{Damaged, Present}
-use Rattle.update_plan.specs.Plans.{AreOf, ArePresent, AreStored, IsOf, IsSmall, IsStored}
-use Rattle.deploy_laws.specs.Places.{shape_of, shapes_from}
-use Rattle.deploy_rows.specs.Rows.{contents_of, stored_in}
-use Rattle.deploy.specs.Beginning.{IsRead}
+use Rattle.update_plan.specs.Plans.{AreContentsOf, ArePresent, AreStored, IsSmall, IsStoredEntry, IsStoredOf}
+use Rattle.deploy_laws.specs.Places.{shapes_from, storage_shape}
+use Rattle.deploy_rows.specs.Rows.{contents_of, contents_stored}
+use Rattle.deploy.specs.Beginning.{AreReadContents}
 
 -- ---- one storage
 
@@ -48,7 +48,7 @@ small kind len (Good bytes) long le = subst (λ (n : ℕ). n ≤ max_len kind) (
 small kind len (Bad salvage) long le = tt
 
 entries_stored : (shape : Shape) (es : List Entry) → AllByRecursion (IsEntryOf shape) es
-    → AllByRecursion (IsStored shape.kind) es
+    → AllByRecursion (IsStoredEntry shape.kind) es
 entries_stored shape [] all = tt
 entries_stored shape (e ∷ es) all = (
   record { info = all.0.info; small = small shape.kind e.len e.content all.0.content all.0.len },
@@ -61,28 +61,29 @@ pub view_stored : (shape : Shape) (v : View) (kind : StoreKind) → shape.kind �
 view_stored shape v kind same is = subst (λ (k : StoreKind). AreStored k v.entries) same
     (record { names_ascend = is.names_ascend; each = entries_stored shape v.entries is.each })
 
-pub shape_kind : (app bank number : ℕ) (s : StorageData) (shape : Shape) → shape ≡ shape_of app bank number s
+pub shape_kind : (app bank number : ℕ) (s : StorageData) (shape : Shape) → shape ≡ storage_shape app bank number s
     → shape.kind ≡ s.kind
-unfolding shape_of
+unfolding storage_shape
 shape_kind app bank number s shape is = ap (λ (x : Shape). x.kind) is
 
 -- ---- one more
 
 more_shapes : (app bank number : ℕ) (ss : List StorageData) (s : StorageData)
     → shapes_from app bank number (ss ++ s ∷ []) ≡ shapes_from app bank number ss
-    ++ shape_of app bank (number + length ss) s ∷ []
+    ++ storage_shape app bank (number + length ss) s ∷ []
 more_shapes app bank number [] s =
     let here : number ≡ number + 0 = omega arith in
-    ap (λ (n : ℕ). shape_of app bank n s ∷ []) here
+    ap (λ (n : ℕ). storage_shape app bank n s ∷ []) here
 more_shapes app bank number (x ∷ ss) s =
     let on : suc number + length ss ≡ number + suc (length ss) = omega arith in
-    ap (λ (shapes : List Shape). shape_of app bank number x ∷ shapes) (more_shapes app bank (suc number) ss s)
-    ∙ ap (λ (n : ℕ). shape_of app bank number x ∷ (shapes_from app bank (suc number) ss ++ shape_of app bank n s ∷ []))
+    ap (λ (shapes : List Shape). storage_shape app bank number x ∷ shapes) (more_shapes app bank (suc number) ss s)
+    ∙ ap (λ (n : ℕ). storage_shape app bank number x ∷ (shapes_from app bank (suc number) ss
+    ++ storage_shape app bank n s ∷ []))
     on
 
 more_stored : (ss : List StorageData) (states : List State) (s : StorageData) (state : State)
     → length states ≡ length ss
-    → stored_in (ss ++ s ∷ []) (states ++ state ∷ []) ≡ stored_in ss states
+    → contents_stored (ss ++ s ∷ []) (states ++ state ∷ []) ≡ contents_stored ss states
     ++ record { name = s.name; contents = contents_of state } ∷ []
 more_stored [] [] s state same = refl
 more_stored [] (x ∷ states) s state same = absurd (omega (arith, same))
@@ -95,7 +96,7 @@ one_longer : {A : Type 0} (xs : List A) (x : A) → length (xs ++ x ∷ []) ≡ 
 one_longer [] x = refl
 one_longer (y ∷ xs) x = ap suc (one_longer xs x)
 
--- a state of these contents, and it is the storage's where the disk tells
+-- a state of these contents, and it is the storage's where the disk is modelled
 pub record IsStateOf (told : Bool) (theirs : State) (contents : StorageContents) : Type 0 where
   pub state : State
   pub same : IsTrue told → theirs ≡ state
@@ -113,17 +114,18 @@ state_of false theirs contents tells some = record {
 
 module _ (told : Bool) (image : Image) (app bank : ℕ) (ss : List StorageData) (s : StorageData) (contents : List Stored)
     (x : Stored) where
-  pub read_more : IsRead told image (shapes_from app bank 0 ss) ss contents → x.name ≡ s.name
-      → (IsTrue told → contents_of (store_at image (shape_of app bank (length ss) s)) ≡ x.contents)
+  pub read_more : AreReadContents told image (shapes_from app bank 0 ss) ss contents → x.name ≡ s.name
+      → (IsTrue told → contents_of (store_at image (storage_shape app bank (length ss) s)) ≡ x.contents)
       → (state : State) × (contents_of state ≡ x.contents)
-      → IsRead told image (shapes_from app bank 0 (ss ++ s ∷ [])) (ss ++ s ∷ []) (contents ++ x ∷ [])
+      → AreReadContents told image (shapes_from app bank 0 (ss ++ s ∷ [])) (ss ++ s ∷ []) (contents ++ x ∷ [])
   read_more read name tells some =
-      let shape : Shape = shape_of app bank (length ss) s in
+      let shape : Shape = storage_shape app bank (length ss) s in
       let of : IsStateOf told (store_at image shape) x.contents =
       state_of told (store_at image shape) x.contents tells some in
       let zero_on : 0 + length ss ≡ length ss = omega arith in
       let shapes : shapes_from app bank 0 (ss ++ s ∷ []) ≡ shapes_from app bank 0 ss ++ shape ∷ [] =
-      more_shapes app bank 0 ss s ∙ ap (λ (n : ℕ). shapes_from app bank 0 ss ++ shape_of app bank n s ∷ []) zero_on in
+      more_shapes app bank 0 ss s ∙ ap (λ (n : ℕ). shapes_from app bank 0 ss
+      ++ storage_shape app bank n s ∷ []) zero_on in
       let last : ◌≡◌ {A = Stored} x (record { name = s.name; contents = contents_of of.state }) =
       ap (λ (n : List ℕ). record { name = n; contents = x.contents }) name
       ∙ ap (λ (c : StorageContents). record { name = s.name; contents = c }) (sym of.holds) in
@@ -135,11 +137,12 @@ module _ (told : Bool) (image : Image) (app bank : ℕ) (ss : List StorageData) 
             ∙ ap (λ (states : List State). states ++ store_at image shape ∷ []) (read.theirs told_so)
             ∙ ap (λ (state : State). read.states ++ state ∷ []) (of.same told_so);
         stored = ap (λ (xs : List Stored). xs ++ x ∷ []) read.stored
-            ∙ ap (λ (y : Stored). stored_in ss read.states ++ y ∷ []) last
+            ∙ ap (λ (y : Stored). contents_stored ss read.states ++ y ∷ []) last
             ∙ sym (more_stored ss read.states s of.state read.each);
       }
 
-pub read_none : (told : Bool) (image : Image) (app bank : ℕ) → IsRead told image (shapes_from app bank 0 []) [] []
+pub read_none : (told : Bool) (image : Image) (app bank : ℕ) → AreReadContents told image
+    (shapes_from app bank 0 []) [] []
 read_none told image app bank = record { states = []; each = refl; theirs = λ _. refl; stored = refl }
 
 -- ---- of their kinds
@@ -150,8 +153,8 @@ all_more P [] x all is = (is, tt)
 all_more P (y ∷ xs) x all is = (all.0, all_more P xs x all.1 is)
 
 pub is_of : (d : DeploymentData) (s : StorageData) (x : Stored) → x.name ≡ s.name → storage_named d s.name ≡ Some s
-    → ArePresent s.kind x.contents → IsOf d x
-is_of d s x name found are = subst (λ (o : Option StorageData). AreOf o x.contents)
+    → ArePresent s.kind x.contents → IsStoredOf d x
+is_of d s x name found are = subst (λ (o : Option StorageData). AreContentsOf o x.contents)
     (sym (ap (λ (n : List ℕ). storage_named d n) name ∙ found)) are
 
 -- ---- a list and its images, by a number
@@ -179,12 +182,12 @@ as_long f (x ∷ xs) = ap suc (as_long f xs)
 
 -- ---- one after another
 
--- so many of the storages were read, and nothing changed
+-- that many of the storages were read, and nothing changed
 pub record IsReading (told : Bool) (app bank number : ℕ) (d : Deployment) (contents : List Stored)
     (old now : Medium) : Type 0 where
-  pub read : IsRead told old.image (shapes_from app bank 0 (take number (map storage_data d.storages)))
+  pub read : AreReadContents told old.image (shapes_from app bank 0 (take number (map storage_data d.storages)))
       (take number (map storage_data d.storages)) contents
-  pub kinds : AllByRecursion (IsOf (deployment_data d)) contents
+  pub kinds : AllByRecursion (IsStoredOf (deployment_data d)) contents
   pub image : now.image ≡ old.image
   pub idle : Quiet old → IsIdle old now
   pub written : now.written ≡ old.written
@@ -217,7 +220,7 @@ module _ (told : Bool) (app bank number : ℕ) (d : Deployment) (contents : List
   module _ (names : NamesLaw) (is : IsDeployment (deployment_data d)) (config : StorageConfig)
       (some : number < length d.storages)
       (here : config ≡ get_or d.storages number config) (x : Stored) (name : x.name ≡ config.name)
-      (theirs : IsTrue told → contents_of (store_at mid.image (shape_of app bank number (storage_data config)))
+      (theirs : IsTrue told → contents_of (store_at mid.image (storage_shape app bank number (storage_data config)))
       ≡ x.contents)
       (some_state : (state : State) × (contents_of state ≡ x.contents)) (present : ArePresent config.kind x.contents)
       (image : new.image ≡ mid.image) (idle : Quiet mid → IsIdle mid new) (written : new.written ≡ mid.written)
@@ -232,16 +235,17 @@ module _ (told : Bool) (app bank number : ℕ) (d : Deployment) (contents : List
         let its_number : length (take number ss) ≡ number = taken ss number low in
         subst (λ (n : ℕ). IsReading told app bank n d (contents ++ x ∷ []) old new) on
         (record {
-          read = subst (λ (ts : List StorageData). IsRead told old.image (shapes_from app bank 0 ts) ts
+          read = subst (λ (ts : List StorageData). AreReadContents told old.image (shapes_from app bank 0 ts) ts
               (contents ++ x ∷ []))
               (sym (taken_more storage_data d.storages number config some here))
               (read_more told old.image app bank (take number ss) s contents x before.read name
-              (λ tells. subst (λ (n : ℕ). contents_of (store_at old.image (shape_of app bank n s)) ≡ x.contents)
+              (λ tells. subst (λ (n : ℕ). contents_of (store_at old.image (storage_shape app bank n s)) ≡ x.contents)
               (sym its_number)
-              (subst (λ (i : Image). contents_of (store_at i (shape_of app bank number s)) ≡ x.contents) before.image
+              (subst (λ (i : Image). contents_of (store_at i (storage_shape app bank number s))
+              ≡ x.contents) before.image
               (theirs tells)))
               some_state);
-          kinds = all_more (IsOf (deployment_data d)) contents x before.kinds
+          kinds = all_more (IsStoredOf (deployment_data d)) contents x before.kinds
               (is_of (deployment_data d) s x name (names (deployment_data d) number s is
               (at_number storage_data d.storages number config some here)).0 present);
           image = image ∙ before.image;
@@ -254,9 +258,9 @@ module _ (told : Bool) (app bank number : ℕ) (d : Deployment) (contents : List
 -- all of them were
 pub read_all : (told : Bool) (app bank number : ℕ) (d : Deployment) (contents : List Stored) (old now : Medium)
     → IsReading told app bank number d contents old now
-    → length d.storages ≤ number → IsRead told old.image (shapes_from app bank 0 (map storage_data d.storages))
+    → length d.storages ≤ number → AreReadContents told old.image (shapes_from app bank 0 (map storage_data d.storages))
     (map storage_data d.storages) contents
 read_all told app bank number d contents old now reading past =
     let long = as_long storage_data d.storages in
-    subst (λ (ts : List StorageData). IsRead told old.image (shapes_from app bank 0 ts) ts contents)
+    subst (λ (ts : List StorageData). AreReadContents told old.image (shapes_from app bank 0 ts) ts contents)
     (take_all number (map storage_data d.storages) (omega (arith, long, past))) reading.read

@@ -18,7 +18,7 @@ use Rattle.deploy_laws.specs.Apps.{app_at}
 use Rattle.deploy_laws.specs.Laws.{UntouchedAppLaw}
 use Rattle.deploy_laws.specs.Places.{IsFileOf}
 use Rattle.deploy_laws.specs.Stands.{StandsCase, StandsThroughout}
-use Rattle.deploy_rows.specs.Rows.{Begins, BeginsWith, Offer, offered}
+use Rattle.deploy_rows.specs.Rows.{BeginsUpdate, BeginsWith, Offer, offered}
 use Rattle.deploy.specs.declared.errors.Stop.{Stop}
 use Rattle.deploy.specs.declared.roots.Root.{Root}
 use Rattle.deploy.specs.declared.roots.Root.TheVariants as root
@@ -61,16 +61,16 @@ module _ (rules : List Rule) (answers : fns.Answers) (now : ℕ) (busy : Option 
       → (result : Result Begin Stop)
       → IfOk result (λ b. (states : List State) × Theirs states × BeginsWith rules answers now states row (begun_as b))
       → IfOk result (λ b. (states : List State) × Theirs states
-      × Begins rules answers now busy text (root_app r states) (begun_as b))
+      × BeginsUpdate rules answers now busy text (root_app r states) (begun_as b))
   begins_over row is result = if_ok result
       (λ (b : Begin). (states : List State) × Theirs states × BeginsWith rules answers now states row (begun_as b))
       (λ (b : Begin). (states : List State) × Theirs states
-      × Begins rules answers now busy text (root_app r states) (begun_as b))
+      × BeginsUpdate rules answers now busy text (root_app r states) (begun_as b))
       (λ b begins. (begins.0, begins.1, begins_by rules answers now busy text r begins.0 (begun_as b) row is begins.2))
 
   -- or its refusal
   pub begins_not : (e : PerError) → offered busy text (root_app r []) ≡ Err e → (states : List State) → Theirs states
-      → (some : List State) × Theirs some × Begins rules answers now busy text (root_app r some) (Err e)
+      → (some : List State) × Theirs some × BeginsUpdate rules answers now busy text (root_app r some) (Err e)
   begins_not e is states theirs = (
     states,
     theirs,

@@ -17,7 +17,7 @@ use Rattle.disk_model.specs.Image.{Image}
 use Rattle.disk_model.specs.lemmas.Frames.{settled_on}
 use Rattle.disk_model.specs.Laws.{goes_none, goes_on}
 use Rattle.disk_model.specs.Medium.{EachCase, Elapses, IsIdle, IsLawful, Medium, Quiet}
-use Rattle.index_text.specs.Contents.{AreContents, IsFresh, fresh_size}
+use Rattle.index_text.specs.Contents.{AreContents, SuitsKind, fresh_size}
 use Rattle.index_text.specs.Rules.{max_len}
 use Rattle.deployment_model.specs.Data.{StorageData}
 use Rattle.element_maps.specs.Storages.{IsConfigured}
@@ -31,9 +31,10 @@ use Rattle.element_state.specs.States.{State, Corrupt, fresh_map, fresh_state, g
 use Rattle.element_state.specs.States.{salvage_of, store_at}
 use Rattle.element_store.specs.Rebuilds.{HasNext}
 use Rattle.update_plan.specs.Rows.{initial_contents}
-use Rattle.deploy_rows.specs.Recovering.{after_state, if_fits, is_worn_out, rebuilding, recovered_contents, recovering}
+use Rattle.deploy_rows.specs.Recovering.{after_state, if_contents_fit, is_worn_out, rebuilding, recovered_contents}
+use Rattle.deploy_rows.specs.Recovering.{recovering}
 use Rattle.deploy_rows.specs.Recovering.{resetting}
-use Rattle.deploy_rows.specs.Rows.{Answers}
+use Rattle.deploy_rows.specs.Rows.{AnswersRow}
 use Rattle.deploy.specs.Clauses.{ChangesNothing, Leaves}
 use Rattle.deploy.specs.Recovered.{AreElements}
 
@@ -58,8 +59,8 @@ worn_refused view contents worn = ap (λ (b : Bool). unless_worn b view contents
 
 pub worn_answers : (view : Option View) (contents : List Fresh) (e : PerError)
     → e ≡ error.LimitReached limit.Generations → is_worn_out view ≡ true
-    → Answers (Some e) (rebuilding (Corrupt view []) contents)
-worn_answers view contents e is worn = subst (λ (r : Result State PerError). Answers (Some e) r)
+    → AnswersRow (Some e) (rebuilding (Corrupt view []) contents)
+worn_answers view contents e is worn = subst (λ (r : Result State PerError). AnswersRow (Some e) r)
     (sym (worn_refused view contents worn)) (sym is)
 
 -- and the state stays
@@ -72,8 +73,8 @@ worn_stays state view contents read worn =
 
 -- with one it leads to the new contents
 pub next_answers : (view : Option View) (contents : List Fresh) → is_worn_out view ≡ false
-    → Answers None (rebuilding (Corrupt view []) contents)
-next_answers view contents fresh = subst (λ (b : Bool). Answers None (unless_worn b view contents)) (sym fresh) tt
+    → AnswersRow None (rebuilding (Corrupt view []) contents)
+next_answers view contents fresh = subst (λ (b : Bool). AnswersRow None (unless_worn b view contents)) (sym fresh) tt
 
 pub rebuilt_next : (state : State) (view : Option View) (contents : List Fresh) → view ≡ salvage_of state
     → is_worn_out view ≡ false
@@ -90,7 +91,7 @@ unless_large large s state contents = cond large (Err (error.OutOfStorageSpace (
 
 -- what fits is rebuilt, and what does not is refused with both sizes
 pub fits_row : (s : StorageData) (contents : List Fresh) → sum_by fresh_size contents ≤ s.maximum → (state : State)
-    → if_fits s state contents ≡ rebuilding state contents
+    → if_contents_fit s state contents ≡ rebuilding state contents
 fits_row s contents le state = ap (λ (b : Bool). unless_large b s state contents)
     (within (sum_by fresh_size contents) s.maximum le)
   where
@@ -98,7 +99,7 @@ fits_row s contents le state = ap (λ (b : Bool). unless_large b s state content
     within a b le = grind (arith, nat_tests, le)
 
 pub large_row : (s : StorageData) (contents : List Fresh) → s.maximum < sum_by fresh_size contents → (state : State)
-    → if_fits s state contents ≡ Err (error.OutOfStorageSpace (sum_by fresh_size contents) s.maximum)
+    → if_contents_fit s state contents ≡ Err (error.OutOfStorageSpace (sum_by fresh_size contents) s.maximum)
 large_row s contents lt state = ap (λ (b : Bool). unless_large b s state contents)
     (above (sum_by fresh_size contents) s.maximum lt)
   where
@@ -108,7 +109,7 @@ large_row s contents lt state = ap (λ (b : Bool). unless_large b s state conten
 -- what fits and is refused is worn out
 pub fits_worn : (s : StorageData) (contents : List Fresh) → sum_by fresh_size contents ≤ s.maximum
     → (state : State) (view : Option View) → view ≡ salvage_of state
-    → IsErr (if_fits s state contents) → is_worn_out view ≡ true
+    → IsErr (if_contents_fit s state contents) → is_worn_out view ≡ true
 fits_worn s contents le state view read err = ap is_worn_out read
     ∙ worn (is_worn_out (salvage_of state)) (subst (λ (r : Result State PerError). IsErr r)
     (fits_row s contents le state) err)
@@ -119,10 +120,11 @@ fits_worn s contents le state view read err = ap is_worn_out read
 
 if_recovered : (s : StorageData) (now : ℕ) (state : State) (view : Option View) (contents : List Fresh)
     → view ≡ salvage_of state
-    → contents ≡ recovered_contents s now view → recovering s now state ≡ if_fits s state contents
+    → contents ≡ recovered_contents s now view → recovering s now state ≡ if_contents_fit s state contents
 unfolding recovering
 if_recovered s now state view contents read made =
-    ap (λ (fs : List Fresh). if_fits s state fs) (ap (λ (v : Option View). recovered_contents s now v) (sym read)
+    ap (λ (fs : List Fresh). if_contents_fit s state fs) (ap (λ (v : Option View). recovered_contents s now v)
+    (sym read)
     ∙ sym made)
 
 pub recovery_row : (s : StorageData) (now : ℕ) (view : Option View) (contents : List Fresh)
@@ -145,7 +147,7 @@ pub reset_row : (s : StorageData) (now : ℕ) (view : Option View) (contents : L
 unfolding resetting
 reset_row s now view contents made state read = ap (λ (fs : List Fresh). rebuilding state fs) (sym made)
 
--- ---- the state that was read: on a disk that tells nothing, the view that was read
+-- ---- the state that was read: on a disk that models nothing, the view that was read
 
 abbrev seen_state : (told : Bool) (there : State) (view : Option View) → State
 seen_state told there view = cond told there (Corrupt view [])
@@ -160,18 +162,18 @@ seen_view false there view read = refl
 
 -- a state from which a row answers so
 abbrev pub AnswersFrom : (told : Bool) (there : State) (row : State → Result State PerError) → Option PerError → Type 0
-AnswersFrom told there row refused = (state : State) × (IsTrue told → there ≡ state) × Answers refused (row state)
+AnswersFrom told there row refused = (state : State) × (IsTrue told → there ≡ state) × AnswersRow refused (row state)
 
 module _ (row : State → Result State PerError) (view : Option View) (told : Bool) (there : State)
     (read : IsTrue told → view ≡ salvage_of there) where
   pub answers_row : (contents : List Fresh) → ((state : State) → view ≡ salvage_of state
       → row state ≡ rebuilding state contents)
-      → (refused : Option PerError) → Answers refused (rebuilding (Corrupt view []) contents)
+      → (refused : Option PerError) → AnswersRow refused (rebuilding (Corrupt view []) contents)
       → AnswersFrom told there row refused
   answers_row contents is refused answer = (
     seen_state told there view,
     seen_there told there view,
-    subst (λ (r : Result State PerError). Answers refused r)
+    subst (λ (r : Result State PerError). AnswersRow refused r)
         (ap (λ (v : Option View). unless_worn (is_worn_out v) v contents) (seen_view told there view read)
         ∙ sym (is (seen_state told there view) (seen_view told there view read))) answer,
   )
@@ -182,7 +184,7 @@ module _ (row : State → Result State PerError) (view : Option View) (told : Bo
   answers_large e is f same = (
     seen_state told there view,
     seen_there told there view,
-    subst (λ (r : Result State PerError). Answers (Some f) r)
+    subst (λ (r : Result State PerError). AnswersRow (Some f) r)
         (sym (is (seen_state told there view) (seen_view told there view read))) same,
   )
 
@@ -202,12 +204,12 @@ kind_small : (kind : StoreKind) → max_len kind ≤ 1048576
 kind_small Keys = omega arith
 kind_small Files = omega arith
 
-pub bytes_small : (kind : StoreKind) (contents : List Fresh) → AllByRecursion (IsFresh kind) contents
+pub bytes_small : (kind : StoreKind) (contents : List Fresh) → AllByRecursion (SuitsKind kind) contents
     → AllByRecursion (λ (x : Fresh). length x.bytes ≤ 1048576) contents
 bytes_small kind [] each = tt
 bytes_small kind (x ∷ xs) each = (small x each.0, bytes_small kind xs each.1)
   where
-    small : (x : Fresh) → IsFresh kind x → length x.bytes ≤ 1048576
+    small : (x : Fresh) → SuitsKind kind x → length x.bytes ≤ 1048576
     small x is = let most = kind_small kind in let len = is.small in omega (arith, most, len)
 
 pub elements_within : (kind : StoreKind) (maximum : ℕ) (contents : List Fresh) → AreElements kind contents

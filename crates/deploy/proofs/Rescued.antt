@@ -17,7 +17,7 @@ use Rattle.per_base.specs.declared.elements.Fresh.{Fresh}
 use Rattle.per_base.specs.declared.elements.StoreKind.{StoreKind}
 use Rattle.per_base.specs.declared.elements.StoreKind.TheVariants.{Keys, Files}
 use Rattle.per_base.specs.Names.{name_cmp}
-use Rattle.index_text.specs.Contents.{AreContents, IsFresh}
+use Rattle.index_text.specs.Contents.{AreContents, SuitsKind}
 use Rattle.index_text.specs.Rules.{has_info, max_len}
 use Rattle.value_model.specs.Kinds.{Kind}
 use Rattle.deployment_model.specs.Conditions.{IsElement, IsInitial, IsStorage, StartsAs}
@@ -56,7 +56,7 @@ starts_small kind (Some e) law bytes is = initial_small kind e.value_type bytes
 
 pub record IsRescued (kind : StoreKind) (name : List ℕ) (x : Fresh) : Type 0 where
   pub named : x.name ≡ name
-  pub fresh : IsFresh kind x
+  pub fresh : SuitsKind kind x
 
 abbrev pub Rescues : StoreKind → List ℕ → Option Fresh → Type 0
 Rescues kind name None = Unit {0}
@@ -112,10 +112,10 @@ module _ (s : StorageData) (now : ℕ) (starts : (name bytes : List ℕ) → ini
 
 module _ (kind : StoreKind) (f : Entry → Option Fresh) (Is : Entry → Type 0)
     (rescues : (e : Entry) → Is e → Rescues kind e.name (f e)) where
-  each_fresh : (es : List Entry) → AllByRecursion Is es → AllByRecursion (IsFresh kind) (filter_map f es)
+  each_fresh : (es : List Entry) → AllByRecursion Is es → AllByRecursion (SuitsKind kind) (filter_map f es)
   each_fresh [] h = tt
   each_fresh (e ∷ es) h = elim (f e) as (λ o. Rescues kind e.name o
-      → AllByRecursion (IsFresh kind) (cons_option o (filter_map f es))) [
+      → AllByRecursion (SuitsKind kind) (cons_option o (filter_map f es))) [
         | None ↦ λ r. each_fresh es h.1
         | Some x ↦ λ r. (r.fresh, each_fresh es h.1)
       ] (rescues e h.0)

@@ -9,12 +9,12 @@ use Rattle.deploy_laws.specs.Apps.{App, AreClean, IsCleanApp, Says, app_at, says
 use Rattle.deploy_laws.specs.Laws.{AloneLaw}
 use Rattle.deploy_laws.specs.Stands.{StandsThroughout}
 use Rattle.deploy_rows.specs.Laws.{RefusesAlike, SaysAlike}
-use Rattle.deploy_rows.specs.Rows.{Answers, after}
+use Rattle.deploy_rows.specs.Rows.{AnswersRow, after}
 use Rattle.deploy.specs.declared.errors.Stop.{Stop}
 use Rattle.deploy.specs.declared.roots.Outcome.{Outcome}
 use Rattle.deploy.specs.declared.roots.Root.{Root}
-use Rattle.deploy.specs.Leaving.{IfRegister, IsRefused, IsRegisterAt, Leads, app_saying}
-use Rattle.deploy.specs.Roots.{RootAt, root_app, root_says, texts_in}
+use Rattle.deploy.specs.Leaving.{IfRegister, IsRegisterAt, IsRootRefused, LeadsToRoot, app_saying}
+use Rattle.deploy.specs.Roots.{RootAt, root_app, root_says, root_texts}
 use Rattle.deploy.proofs.InUse.{AgainLaw, in_use, in_use_says}
 
 pub if_ok : {T E : Type 0} (P Q : T → Type 0) (r : Result T E) → ((x : T) → P x → Q x) → IfOk r P → IfOk r Q
@@ -28,14 +28,14 @@ pub err_of : {T E : Type 0} (P : E → Type 0) (r : Result T E) (e : E) → r �
 err_of {T} {E} P r e is found = subst (λ (s : Result T E). IfErr s P) is found
 
 answers_err : (refused : Option PerError) (r : Result App PerError) (e : PerError) → refused ≡ Some e → r ≡ Err e
-    → Answers refused r
-answers_err refused r e is row = subst (λ (o : Option PerError). Answers o r) (sym is)
-    (subst (λ (s : Result App PerError). Answers (Some e) s) (sym row) refl)
+    → AnswersRow refused r
+answers_err refused r e is row = subst (λ (o : Option PerError). AnswersRow o r) (sym is)
+    (subst (λ (s : Result App PerError). AnswersRow (Some e) s) (sym row) refl)
 
 answers_ok : (refused : Option PerError) (r : Result App PerError) (x : App) → refused ≡ None → r ≡ Ok x
-    → Answers refused r
-answers_ok refused r x is row = subst (λ (o : Option PerError). Answers o r) (sym is)
-    (subst (λ (s : Result App PerError). Answers None s) (sym row) tt)
+    → AnswersRow refused r
+answers_ok refused r x is row = subst (λ (o : Option PerError). AnswersRow o r) (sym is)
+    (subst (λ (s : Result App PerError). AnswersRow None s) (sym row) tt)
 
 -- ---- the root on the disk
 
@@ -61,11 +61,11 @@ register_at again alone told image app root (Some cell) at is =
 
 -- ---- a call that is refused
 
-module _ (row : App → Result App PerError) (root : Root) (o : Outcome) (refused : IsRefused row root o) where
+module _ (row : App → Result App PerError) (root : Root) (o : Outcome) (refused : IsRootRefused row root o) where
   pub refused_root : (told : Bool) (image : Image) (app : ℕ) → RootAt told image app root → RootAt told image app o.root
   refused_root told image app at = subst (λ (r : Root). RootAt told image app r) (sym refused.same) at
 
-  pub refused_answers : Answers o.refused (row (root_app root []))
+  pub refused_answers : AnswersRow o.refused (row (root_app root []))
   refused_answers = answers_err o.refused (row (root_app root [])) refused.refusal.0 refused.refusal.1 refused.refusal.2
 
   pub refused_says : root_says o.root ≡ (after (root_app root []) (row (root_app root []))).says
@@ -75,7 +75,7 @@ module _ (row : App → Result App PerError) (root : Root) (o : Outcome) (refuse
   pub refused_some : o.refused ≡ None → ⊥
   refused_some none = let some = refused.refusal.1 in absurd cc
 
-  pub refused_text : (texts : List (List ℕ)) → o.refused ≡ None → texts_in o.root ≡ texts
+  pub refused_text : (texts : List (List ℕ)) → o.refused ≡ None → root_texts o.root ≡ texts
   refused_text texts none = absurd (refused_some none)
 
   pub refused_app : RefusesAlike row → AgainLaw → AloneLaw → (told : Bool) (image : Image) (app : ℕ)
@@ -89,14 +89,14 @@ module _ (row : App → Result App PerError) (root : Root) (o : Outcome) (refuse
 -- ---- a call that leads to the next root
 
 pub led_text : (result : Result Outcome Stop) (written next : List (List ℕ))
-    → IfOk result (λ o. texts_in o.root ≡ written) → written ≡ next
-    → IfOk result (λ o. o.refused ≡ None → texts_in o.root ≡ next)
-led_text result written next is so = if_ok (λ (o : Outcome). texts_in o.root ≡ written)
-    (λ (o : Outcome). o.refused ≡ None → texts_in o.root ≡ next) result
+    → IfOk result (λ o. root_texts o.root ≡ written) → written ≡ next
+    → IfOk result (λ o. o.refused ≡ None → root_texts o.root ≡ next)
+led_text result written next is so = if_ok (λ (o : Outcome). root_texts o.root ≡ written)
+    (λ (o : Outcome). o.refused ≡ None → root_texts o.root ≡ next) result
     (λ o holds none. holds ∙ so) is
 
 module _ (row : App → Result App PerError) (alike : RefusesAlike row) (so_said : SaysAlike row) (root : Root)
-    (next : Says) (leads : Leads row (root_says root) next) where
+    (next : Says) (leads : LeadsToRoot row (root_says root) next) where
   in_memory : (r : Result App PerError) → row (root_app root []) ≡ r → (x : App) × (r ≡ Ok x) × (x.says ≡ next)
   in_memory (Ok x) so = (
     x,
@@ -121,9 +121,9 @@ module _ (row : App → Result App PerError) (alike : RefusesAlike row) (so_said
   led_ok = subst (λ (r : Result App PerError). IsOk r) (sym led.1) refl
 
   pub led_answers : (result : Result Outcome Stop) → IfOk result (λ o. o.refused ≡ None)
-      → IfOk result (λ o. Answers o.refused (row (root_app root [])))
+      → IfOk result (λ o. AnswersRow o.refused (row (root_app root [])))
   led_answers result done = if_ok (λ (o : Outcome). o.refused ≡ None)
-      (λ (o : Outcome). Answers o.refused (row (root_app root []))) result
+      (λ (o : Outcome). AnswersRow o.refused (row (root_app root []))) result
       (λ o none. answers_ok o.refused (row (root_app root [])) led.0 none led.1) done
 
   pub led_says : (result : Result Outcome Stop) → IfOk result (λ o. root_says o.root ≡ next)

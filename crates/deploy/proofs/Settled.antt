@@ -24,7 +24,7 @@ use Rattle.deploy_laws.specs.Places.{root_place}
 use Rattle.deploy.specs.declared.roots.Installed as parts
 use Rattle.deploy.specs.declared.roots.Root.{Root}
 use Rattle.deploy.specs.declared.roots.Root.TheVariants.{Installed}
-use Rattle.deploy.specs.Roots.{AreParts, IfKept, IsKept, IsRootCell, IsRootOf, IsRootOn, RootAt, root_says}
+use Rattle.deploy.specs.Roots.{AreParts, IfKept, IsRootCell, IsRootOf, IsRootOn, RootAt, SaysDeployment, root_says}
 use Rattle.deploy.proofs.InUse.{cell_alone, parts_say}
 
 -- ---- versions
@@ -34,7 +34,7 @@ abbrev pub KeepsLaw : Type 0
 KeepsLaw = (text : List ℕ) (d : DeploymentData) → deployment_in text ≡ Some d → IsDeployment d
 
 module _ (keeps : KeepsLaw) where
-  kept : (v : VersionText) → IsVersion (version_said v) → IsKept v
+  kept : (v : VersionText) → IsVersion (version_said v) → SaysDeployment v
   kept v is = record { said = is; keeps = keeps v.text (deployment_data v.deployment) is }
 
   if_kept : (previous : Option VersionText) → IfVersion (option_map version_said previous) → IfKept previous

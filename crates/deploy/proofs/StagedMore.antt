@@ -14,7 +14,7 @@ use Rattle.element_state.specs.States.{fresh_map, fresh_state, store_at}
 use Rattle.element_laws.specs.Apart.{FrameLaw}
 use Rattle.deploy_laws.specs.Apps.{IsCleanApp, IsFree, Says, app_at, says_at}
 use Rattle.deploy_laws.specs.Laws.{AloneFrameLaw, AloneLaw, CreatingLaw, RootFilesLaw, StorageFilesLaw}
-use Rattle.deploy_laws.specs.Places.{IsBeside, IsOutsideBank, shape_of, shapes_from}
+use Rattle.deploy_laws.specs.Places.{IsBeside, IsOutsideBank, shapes_from, storage_shape}
 use Rattle.deploy_laws.specs.Stands.{StandsThroughout, same_root}
 use Rattle.deploy_rows.specs.Rows.{InProgress}
 use Rattle.deploy.specs.declared.roots.Root.TheVariants as root
@@ -96,9 +96,9 @@ module _ (frame : FrameLaw) (storages : StorageFilesLaw) (framed : AloneFrameLaw
     (spared : IsTrue told → Spares (IsBeside app (1 - s.root.bank) s.built) old new) (x : StorageConfig)
     (fs : List Fresh)
     (here : x ≡ get_or s.version.deployment.storages s.built x) (its : fs ≡ get_or s.contents.items s.built fs)
-    (state : IsTrue told → store_at new (shape_of app (1 - s.root.bank) s.built (storage_data x))
+    (state : IsTrue told → store_at new (storage_shape app (1 - s.root.bank) s.built (storage_data x))
     ≡ fresh_state 1 (fresh_map fs))
-    (clean : IsTrue told → IsClean (shape_of app (1 - s.root.bank) s.built (storage_data x)) new) where
+    (clean : IsTrue told → IsClean (storage_shape app (1 - s.root.bank) s.built (storage_data x)) new) where
   few : s.built < 16
   few =
       let count = few_storages app s at.memory in

@@ -10,7 +10,7 @@ use Rattle.element_laws.specs.Phases.{IsOfPlace}
 use Rattle.root_text.specs.RootText.{root_text}
 use Rattle.root_text.specs.RootText as text
 use Rattle.deploy_laws.specs.Laws.{AloneFrameLaw, RootFilesLaw, SaysFrameLaw, StorageFilesLaw}
-use Rattle.deploy_laws.specs.Places.{IsFileOf, root_place, shape_of}
+use Rattle.deploy_laws.specs.Places.{IsFileOf, root_place, storage_shape}
 use Rattle.deploy.specs.declared.roots.Root.{Root}
 use Rattle.deploy.specs.declared.roots.Root.TheVariants.{Bad, Absent, Installed}
 use Rattle.deploy.specs.declared.updating.Staged.{Staged}
@@ -50,7 +50,7 @@ module _ (files : RootFilesLaw) (held : AloneFrameLaw) (says : SaysFrameLaw) (to
         (spared : IsTrue told → Spares (IsFileOf app) old new) (at : StagedAt told old app s) where
       -- each storage of a bank has files of the application alone
       bank_spared : IsTrue told → (number : ℕ) (x : StorageData) → number < 16
-          → Spares (IsOfPlace (shape_of app (1 - s.root.bank) number x).place) old new
+          → Spares (IsOfPlace (storage_shape app (1 - s.root.bank) number x).place) old new
       bank_spared tells number x ltn f of =
           let lt = at.memory.below in
           let ltb : 1 - s.root.bank ≤ 1 = omega arith in

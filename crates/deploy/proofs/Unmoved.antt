@@ -13,7 +13,7 @@ use Rattle.deploy_laws.specs.Laws.{AloneLaw, StillAppLaw}
 use Rattle.deploy_laws.specs.Places.{IsFileOf}
 use Rattle.deploy_laws.specs.Stands.{IsLater, StandsCase, StandsThroughout, same_root}
 use Rattle.deploy_rows.specs.Laws.{RefusesAlike}
-use Rattle.deploy_rows.specs.Rows.{Answers, after}
+use Rattle.deploy_rows.specs.Rows.{AnswersRow, after}
 use Rattle.deploy.specs.declared.roots.Outcome.{Outcome}
 use Rattle.deploy.specs.declared.roots.Root.{Root}
 use Rattle.deploy.specs.Roots.{RootAt, root_app, root_says}
@@ -22,8 +22,8 @@ use Rattle.deploy.proofs.InUse.{AgainLaw, app_says, in_use_says}
 -- ---- a refusal
 
 module _ (row : App → Result App PerError) (e : PerError) where
-  pub refused : (a : App) → row a ≡ Err e → Answers (Some e) (row a)
-  refused a refusal = subst (λ (r : Result App PerError). Answers (Some e) r) (sym refusal) refl
+  pub refused : (a : App) → row a ≡ Err e → AnswersRow (Some e) (row a)
+  refused a refusal = subst (λ (r : Result App PerError). AnswersRow (Some e) r) (sym refusal) refl
 
   pub same_after : (a : App) → row a ≡ Err e → a ≡ after a (row a)
   same_after a refusal = ap (λ (r : Result App PerError). after a r) (sym refusal)
@@ -48,8 +48,8 @@ module _ (row : App → Result App PerError) (e : PerError) (r given : Root) (o 
   pub row_given : row (root_app given []) ≡ Err e
   row_given = ap (λ (x : Root). row (root_app x [])) same ∙ refusal
 
-  pub answered : Answers o.refused (row (root_app given []))
-  answered = subst (λ (x : Outcome). Answers x.refused (row (root_app given []))) (sym is)
+  pub answered : AnswersRow o.refused (row (root_app given []))
+  answered = subst (λ (x : Outcome). AnswersRow x.refused (row (root_app given []))) (sym is)
       (refused row e (root_app given []) row_given)
 
   pub says_still : root_says o.root ≡ (after (root_app given []) (row (root_app given []))).says
@@ -78,9 +78,9 @@ stands_still still told app m next law lt later quiet clean = goes_none (StandsC
 
 -- ---- a call that its row leads on
 
-pub led_answers : (o : Option PerError) (r : Result App PerError) (b : App) → o ≡ None → r ≡ Ok b → Answers o r
-led_answers o r b none is = subst (λ (p : Option PerError). Answers p r) (sym none)
-    (subst (λ (s : Result App PerError). Answers None s) (sym is) tt)
+pub led_answers : (o : Option PerError) (r : Result App PerError) (b : App) → o ≡ None → r ≡ Ok b → AnswersRow o r
+led_answers o r b none is = subst (λ (p : Option PerError). AnswersRow p r) (sym none)
+    (subst (λ (s : Result App PerError). AnswersRow None s) (sym is) tt)
 
 pub led_after : (a b : App) (r : Result App PerError) → r ≡ Ok b → b ≡ after a r
 led_after a b r is = ap (λ (s : Result App PerError). after a s) (sym is)

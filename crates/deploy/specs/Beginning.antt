@@ -10,7 +10,7 @@ use Rattle.root_text.specs.declared.versions.VersionText.{VersionText}
 use Rattle.root_text.specs.Views.{version_said}
 use Rattle.update_plan.specs.declared.contents.Stored.{Stored}
 use Rattle.deploy_laws.specs.Apps.{named}
-use Rattle.deploy_rows.specs.Rows.{Offer, stored_in}
+use Rattle.deploy_rows.specs.Rows.{Offer, contents_stored}
 use Rattle.deploy.specs.declared.roots.Installed.{Installed}
 
 -- this version over this root
@@ -27,10 +27,10 @@ IsOffered row root (Ok v) = row ≡ Ok (offer_of root v)
 IsOffered row root (Err e) = row ≡ Err e
 
 -- what was read of storages is what some states have stored, a state for each, and those are theirs where the disk
--- tells
-pub record IsRead (told : Bool) (image : Image) (shapes : List Shape) (storages : List StorageData)
+-- is modelled
+pub record AreReadContents (told : Bool) (image : Image) (shapes : List Shape) (storages : List StorageData)
     (contents : List Stored) : Type 0 where
   pub states : List State
   pub each : length states ≡ length storages
   pub theirs : IsTrue told → map (store_at image) shapes ≡ states
-  pub stored : contents ≡ stored_in storages states
+  pub stored : contents ≡ contents_stored storages states

@@ -16,12 +16,12 @@ use Rattle.deploy.specs.declared.roots.Root.TheVariants.{Installed}
 use Rattle.deploy.specs.declared.updating.Begin.{Begin}
 use Rattle.deploy.specs.declared.updating.Begin.TheVariants as begin
 use Rattle.deploy.specs.declared.updating.Staged.{Staged}
-use Rattle.deploy.specs.Roots.{IsKept, IsRootOf, IsRootOn, RootAt}
+use Rattle.deploy.specs.Roots.{IsRootOf, IsRootOn, RootAt, SaysDeployment}
 use Rattle.deploy.specs.Made.{AreMade}
 
 -- the next version, the contents of its storages, and how many of them are made
-abbrev pub progress_in : Staged → InProgress
-progress_in s = record {
+abbrev pub staged_progress : Staged → InProgress
+staged_progress s = record {
   deployment = deployment_data s.version.deployment;
   contents = s.contents.items;
   built =
@@ -29,12 +29,12 @@ progress_in s = record {
 }
 
 -- the manifest of the next version
-abbrev pub text_in : Staged → List ℕ
-text_in s = s.version.text
+abbrev pub staged_text : Staged → List ℕ
+staged_text s = s.version.text
 
 -- the root over which it was begun
-abbrev pub root_in : Staged → Root
-root_in s = Installed s.root
+abbrev pub staged_root : Staged → Root
+staged_root s = Installed s.root
 
 -- the next version, in the other bank
 abbrev pub offered_in : Staged → Named
@@ -47,7 +47,7 @@ pub record IsStaged (app : ℕ) (s : Staged) : Type 0 where
   pub root : IsRootOf app (Installed s.root)
   pub no_previous : s.root.previous ≡ None
   pub not_worn : generation_of s.root.cell < greatest_generation
-  pub offers : IsKept s.version
+  pub offers : SaysDeployment s.version
   pub fit : AllFit (map storage_data s.version.deployment.storages) s.contents.items
   pub within : s.built ≤ length s.contents.items
 
@@ -65,10 +65,10 @@ one_more p = record p { built = cond (nat_lt p.built (length p.contents)) (suc p
 -- ---- how a beginning ended
 
 abbrev pub begun_as : Begin → Result InProgress PerError
-begun_as (begin.Ready s) = Ok (progress_in s)
+begun_as (begin.Ready s) = Ok (staged_progress s)
 begun_as (begin.Refused root e) = Err e
 
 -- it is ready over the same root, or the root is handed back
-abbrev pub IsBegun : (told : Bool) (image : Image) (app : ℕ) → Root → Begin → Type 0
-IsBegun told image app root (begin.Ready s) = StagedAt told image app s × (root_in s ≡ root)
-IsBegun told image app root (begin.Refused same e) = (same ≡ root) × RootAt told image app same
+abbrev pub IsUpdateBegun : (told : Bool) (image : Image) (app : ℕ) → Root → Begin → Type 0
+IsUpdateBegun told image app root (begin.Ready s) = StagedAt told image app s × (staged_root s ≡ root)
+IsUpdateBegun told image app root (begin.Refused same e) = (same ≡ root) × RootAt told image app same

@@ -12,8 +12,8 @@ use Rattle.deploy.specs.Building.{StagedAt}
 use Rattle.deploy.specs.Roots.{IsRootOf, IsRootOn, RootAt, root_app, root_says}
 
 -- the application is what its root says, with the states of the storages that it names, and no copy lacks the root
-abbrev pub InUseLaw : Type 0
-InUseLaw = (image : Image) (app : ℕ) (root : Root) → IsRootOf app root → IsRootOn image app root
+abbrev pub RootInUseLaw : Type 0
+RootInUseLaw = (image : Image) (app : ℕ) (root : Root) → IsRootOf app root → IsRootOn image app root
     → app_at image app ≡ root_app root (map (store_at image) (shapes_named app (root_says root)))
 
 -- one of the twelve files of a root

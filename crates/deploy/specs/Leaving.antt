@@ -11,7 +11,7 @@ use Rattle.deploy.specs.declared.leaving.Lone.{Lone}
 use Rattle.deploy.specs.declared.roots.Outcome.{Outcome}
 use Rattle.deploy.specs.declared.roots.Root.{Root}
 use Rattle.deploy.specs.declared.roots.Root.TheVariants.{Bad, Absent, Installed}
-use Rattle.deploy.specs.Roots.{IsKept, IsRootCell, IsRootOf, IsRootOn, root_app, root_says}
+use Rattle.deploy.specs.Roots.{IsRootCell, IsRootOf, IsRootOn, SaysDeployment, root_app, root_says}
 
 -- the application whose root says this in every copy, with its storages as they are on an image
 abbrev pub app_saying : Image → ℕ → Says → App
@@ -21,7 +21,7 @@ app_saying image app says = record { says = says; lacking = []; states = map (st
 abbrev pub lone_says : Lone → Says
 lone_says l = installed (generation_of l.cell + 1) (named l.bank (version_said l.version)) None
 
--- what the next root says in which none does: one without a register begins anew
+-- what the next root says in which none does: one without a register is formatted
 abbrev pub empty_says : Option Cell → Says
 empty_says None = absent 1
 empty_says (Some cell) = absent (generation_of cell + 1)
@@ -40,13 +40,13 @@ refused_or None x = x
 refused_or (Some e) x = Err e
 
 -- it leads from what the root says to what the next one says, which names storages of the same application, as they are
-pub record Leads (row : App → Result App PerError) (before next : Says) : Type 0 where
+pub record LeadsToRoot (row : App → Result App PerError) (before next : Says) : Type 0 where
   pub row_is : (image : Image) (app : ℕ) → row (app_saying image app before) ≡ Ok (app_saying image app next)
   pub clean : (image : Image) (app : ℕ) → AreClean image (shapes_named app before)
       → AreClean image (shapes_named app next)
 
 -- it refuses the root, which is handed back
-pub record IsRefused (row : App → Result App PerError) (root : Root) (o : Outcome) : Type 0 where
+pub record IsRootRefused (row : App → Result App PerError) (root : Root) (o : Outcome) : Type 0 where
   pub same : o.root ≡ root
   pub refusal : (e : PerError) × (o.refused ≡ Some e) × (row (root_app root []) ≡ Err e)
 
@@ -62,8 +62,8 @@ pub record IsRegister (root : Root) (cell : Cell) : Type 0 where
 pub record IsLone (row : App → Result App PerError) (root : Root) (l : Lone) : Type 0 where
   pub register : IsRegister root l.cell
   pub in_bank : l.bank ≤ 1
-  pub kept : IsKept l.version
-  pub leads : Leads row (root_says root) (lone_says l)
+  pub kept : SaysDeployment l.version
+  pub leads : LeadsToRoot row (root_says root) (lone_says l)
 
 -- the register in which the row leaves nothing: a bad root has none
 abbrev pub IfRegister : Root → Option Cell → Type 0
@@ -72,7 +72,7 @@ IfRegister root (Some cell) = IsRegister root cell
 
 pub record IsEmptied (row : App → Result App PerError) (root : Root) (cell : Option Cell) : Type 0 where
   pub register : IfRegister root cell
-  pub leads : Leads row (root_says root) (empty_says cell)
+  pub leads : LeadsToRoot row (root_says root) (empty_says cell)
 
 -- the register is in use on a disk; without one the root is bad
 abbrev pub IsRegisterAt : (told : Bool) → Image → ℕ → Option Cell → Type 0

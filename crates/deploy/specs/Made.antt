@@ -1,4 +1,4 @@
--- Storages that were made anew.
+-- Storages that were created.
 use Rattle.std.specs.Prelude.{◌≡◌, List, [], ◌∷◌, ⊤}
 use Rattle.per_base.specs.declared.elements.Fresh.{Fresh}
 use Rattle.disk_model.specs.Image.{Image}

@@ -6,7 +6,7 @@ use Rattle.per_base.specs.declared.elements.Entry.{Entry}
 use Rattle.per_base.specs.declared.elements.Fresh.{Fresh}
 use Rattle.per_base.specs.declared.elements.StoreKind.{StoreKind}
 use Rattle.per_base.specs.Names.{name_cmp}
-use Rattle.index_text.specs.Contents.{IsFresh}
+use Rattle.index_text.specs.Contents.{SuitsKind}
 use Rattle.deployment_model.specs.Data.{StorageData}
 use Rattle.element_state.specs.Views.{judged_content}
 use Rattle.deploy_rows.specs.Recovering.{is_content, rescued}
@@ -18,6 +18,6 @@ rescued_entry s now e = rescued s now e (judged_content (is_content s.kind) e.co
 -- elements of a storage of this kind, whatever their size together: at most 1024, each as its kind asks, and names that
 -- ascend
 pub record AreElements (kind : StoreKind) (contents : List Fresh) : Type 0 where
-  pub each : AllByRecursion (IsFresh kind) contents
+  pub each : AllByRecursion (SuitsKind kind) contents
   pub names_ascend : IsStrictlySortedBy name_cmp (map (λ (f : Fresh). f.name) contents)
   pub few : length contents ≤ 1024

@@ -28,14 +28,14 @@ abbrev pub root_app : Root → List State → App
 root_app root states = record { says = root_says root; lacking = []; states = states }
 
 -- the manifests of its versions, the active one's first
-abbrev pub previous_text : Option VersionText → List (List ℕ)
-previous_text None = []
-previous_text (Some v) = v.text ∷ []
+abbrev pub previous_texts : Option VersionText → List (List ℕ)
+previous_texts None = []
+previous_texts (Some v) = v.text ∷ []
 
-abbrev pub texts_in : Root → List (List ℕ)
-texts_in Bad = []
-texts_in (Absent cell) = []
-texts_in (Installed i) = i.active.text ∷ previous_text i.previous
+abbrev pub root_texts : Root → List (List ℕ)
+root_texts Bad = []
+root_texts (Absent cell) = []
+root_texts (Installed i) = i.active.text ∷ previous_texts i.previous
 
 -- the bank in which the storages of the next version are made
 abbrev pub free_bank : Root → ℕ
@@ -46,13 +46,13 @@ free_bank (Installed i) = 1 - i.bank
 -- ---- what is kept in memory
 
 -- the manifest of a version says its deployment
-pub record IsKept (v : VersionText) : Type 0 where
+pub record SaysDeployment (v : VersionText) : Type 0 where
   pub said : IsVersion (version_said v)
   pub keeps : IsDeployment (deployment_data v.deployment)
 
 abbrev pub IfKept : Option VersionText → Type 0
 IfKept None = ⊤
-IfKept (Some v) = IsKept v
+IfKept (Some v) = SaysDeployment v
 
 -- the register of this application's root
 pub record IsRootCell (app : ℕ) (cell : Cell) : Type 0 where
@@ -61,7 +61,7 @@ pub record IsRootCell (app : ℕ) (cell : Cell) : Type 0 where
 
 pub record AreParts (i : parts.Installed) : Type 0 where
   pub in_bank : i.bank ≤ 1
-  pub active : IsKept i.active
+  pub active : SaysDeployment i.active
   pub previous : IfKept i.previous
 
 -- the root is one of this application
@@ -79,7 +79,7 @@ IsRootOn image app (Absent cell) = CellAt image cell (root_text text.absent)
 IsRootOn image app (Installed i) = CellAt image i.cell
     (root_text (text.installed i.bank (version_said i.active) (option_map version_said i.previous)))
 
--- the root is in use on a disk: where the disk tells its bytes, they are the root's
+-- the root is in use on a disk: where the disk's bytes are modelled, they are the root's
 pub record RootAt (told : Bool) (image : Image) (app : ℕ) (root : Root) : Type 0 where
   pub memory : IsRootOf app root
   pub disk : IsTrue told → IsRootOn image app root

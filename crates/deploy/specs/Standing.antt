@@ -19,12 +19,12 @@ IfSpelled None = ⊤
 IfSpelled (Some s) = IsSpelled s
 
 -- two copies hold its text, the first such one of the texts that are held, and the text says the root that was read
-pub record IsFirst (seens : List Seen) (s : Standing) : Type 0 where
+pub record IsFirstOfTwoCopies (seens : List Seen) (s : Standing) : Type 0 where
   pub stands : standing_in 2 seens ≡ Some s.seen
   pub said : root_of s.seen.text ≡ Some (root_said s.says)
   pub sole : s.sole ≡ nat_le (length seens) 1
 
 -- none is found where what stands says nothing
-abbrev pub IsAmong : List Seen → Option Standing → Type 0
-IsAmong seens None = says_in (standing_in 2 seens) ≡ nothing
-IsAmong seens (Some s) = IsFirst seens s
+abbrev pub IsFoundAmong : List Seen → Option Standing → Type 0
+IsFoundAmong seens None = says_in (standing_in 2 seens) ≡ nothing
+IsFoundAmong seens (Some s) = IsFirstOfTwoCopies seens s

@@ -6,7 +6,7 @@ use Rattle.disk_model.specs.Medium.{Medium}
 use Rattle.element_state.specs.States.{State}
 use Rattle.deploy_laws.specs.Apps.{App, app_at}
 use Rattle.deploy_laws.specs.Stands.{StandsThroughout}
-use Rattle.deploy_rows.specs.Rows.{Answers, InProgress, after, updated}
+use Rattle.deploy_rows.specs.Rows.{AnswersRow, InProgress, after, updated_row}
 use Rattle.deploy.specs.declared.roots.Outcome.{Outcome}
 use Rattle.deploy.specs.declared.roots.Root.{Root}
 use Rattle.deploy.specs.Roots.{root_app, root_says}
@@ -20,9 +20,9 @@ pub record IsUpdated (told : Bool) (Rows : App → Result InProgress PerError �
   pub theirs : IsTrue told → (app_at old app).states ≡ states
   pub begins : Rows (root_app root states) row
   -- the answer, what the root says at the end, and the application
-  pub refused : Answers o.refused row
-  pub says : root_says o.root ≡ (after (root_app root states) (updated (root_app root states) row)).says
-  pub leads : IsTrue told → app_at new app ≡ after (app_at old app) (updated (app_at old app) row)
+  pub refused : AnswersRow o.refused row
+  pub says : root_says o.root ≡ (after (root_app root states) (updated_row (root_app root states) row)).says
+  pub leads : IsTrue told → app_at new app ≡ after (app_at old app) (updated_row (app_at old app) row)
 
 -- at every moment of a call the application stands between what it was and one other, to which the call may lead; the
 -- call's end, where it ends well, is that one

@@ -5,7 +5,7 @@ use Rattle.deployment_model.specs.Data.{deployment_data}
 use Rattle.deploy.specs.declared.viewing.RootView.{RootView}
 use Rattle.deploy.specs.declared.viewing.RootView.TheVariants.{Bad, Absent, Installed}
 use Rattle.deploy_laws.specs.Places.{Named}
-use Rattle.deploy_laws.specs.Apps.{ArePlaced, IsPlaced, Says, nothing, absent, installed, app_at, root_sole}
+use Rattle.deploy_laws.specs.Apps.{AreInTwoBanks, IsInBank, Says, nothing, absent, installed, app_at, root_sole}
 
 -- nothing counts; or nothing is installed; or these versions; and which copies lack the root, and whether no other text
 -- is held
@@ -33,5 +33,5 @@ seen_at image app = seen_by (app_at image app).says (app_at image app).lacking (
 abbrev pub ShowsVersions : RootSeen → Type 0
 ShowsVersions bad = ⊤
 ShowsVersions (no_version lacking sole) = ⊤
-ShowsVersions (versions active None lacking sole) = IsPlaced active
-ShowsVersions (versions active (Some previous) lacking sole) = ArePlaced active previous
+ShowsVersions (versions active None lacking sole) = IsInBank active
+ShowsVersions (versions active (Some previous) lacking sole) = AreInTwoBanks active previous

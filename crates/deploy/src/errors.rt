@@ -10,7 +10,7 @@ use std::alloc::{AllocError, AllocFailed};
 use thiserror::Error;
 
 /// Why a call stopped before its end. What it had begun is settled when the root is opened
-/// again, or the storage that was being made anew.
+/// again, or the storage that was being rebuilt.
 #[derive(Clone, Copy, Debug, PartialEq, Eq, Error)]
 pub enum Stop {
     /// The disk failed, and its count of faults rose.

@@ -1,4 +1,4 @@
-//! Roots that are made anew.
+//! Roots that are formatted.
 
 ghost use Rattle.std.specs.Prelude.{◌≡◌, ◌<◌, ℕ, IfOk, IsErrOf, IsTrue, OnOk};
 ghost use Rattle.per_base.specs.Causes.{Rose};
@@ -24,7 +24,7 @@ use std::alloc::Global;
 /// The applications of a disk.
 const APPS: u32 = 8;
 
-/// Makes the root of each application anew: nothing is installed. What the banks hold stays, and nothing names it.
+/// Formats the root of each application: nothing is installed. What the banks hold stays, and nothing names it.
 ///
 /// # Errors
 ///
@@ -55,7 +55,7 @@ pub fn format_all<D: Disk>(alloc: Global, disk: &mut D) -> Result<(), Stop>
     Ok(())
 }
 
-/// Makes one root anew.
+/// Formats one root.
 pub(crate) fn format_root<D: Disk>(alloc: Global, disk: &mut D, app: u32) -> Result<Cell, Stop>
     requires { app < 8 }
     ensures cell { IfOk result (IsCellOf (root_place app) 1) }

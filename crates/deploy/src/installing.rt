@@ -15,13 +15,13 @@ ghost use Rattle.update_plan.specs.Plans.{AllFit};
 ghost use Rattle.deploy_laws.specs.Apps.{IsCleanApp, app_at};
 ghost use Rattle.deploy_laws.specs.Places.{root_place, shapes_from};
 ghost use Rattle.deploy_laws.specs.Stands.{StandsThroughout};
-ghost use Rattle.deploy_rows.specs.Rows.{Answers, after, installed_app, installing};
+ghost use Rattle.deploy_rows.specs.Rows.{AnswersRow, after, installed_app, installing};
 ghost use Rattle.deploy.specs.Clauses.{IsBesideNext, Leaves};
 ghost use Rattle.deploy.specs.Made.{AreMade};
 ghost use Rattle.deploy.specs.Next.{next_app, root_before};
 ghost use Rattle.deploy.specs.Refusals.{TakesNoMemory};
 ghost use Rattle.deploy.specs.Remaining.{IsBesideCommit};
-ghost use Rattle.deploy.specs.Roots.{IsKept, IsRootCell, RootAt, root_app, root_says, texts_in};
+ghost use Rattle.deploy.specs.Roots.{IsRootCell, RootAt, SaysDeployment, root_app, root_says, root_texts};
 
 use crate::errors::Stop;
 use crate::making::{create_rest, initial_contents};
@@ -57,10 +57,10 @@ pub fn install<D: Disk>(
     requires root { RootAt D.told (D.medium disk.old).image app root }
 
     ensures root { IfOk result (λ o. RootAt D.told (D.medium disk.new).image app o.root) }
-    ensures refused { IfOk result (λ o. Answers o.refused (installing now manifest.now (root_app root []))) }
+    ensures refused { IfOk result (λ o. AnswersRow o.refused (installing now manifest.now (root_app root []))) }
     ensures says { IfOk result (λ o. root_says o.root ≡ (after (root_app root [])
         (installing now manifest.now (root_app root []))).says) }
-    ensures text { IfOk result (λ o. o.refused ≡ None → texts_in o.root ≡ manifest.now ∷ []) }
+    ensures text { IfOk result (λ o. o.refused ≡ None → root_texts o.root ≡ manifest.now ∷ []) }
     ensures app { IsTrue D.told → OnOk result (app_at (D.medium disk.new).image app
         ≡ after (app_at (D.medium disk.old).image app) (installing now manifest.now
         (app_at (D.medium disk.old).image app))) }
@@ -110,12 +110,12 @@ fn install_first<D: Disk>(
     requires root { RootAt D.told (D.medium disk.old).image app (Root.Absent cell) }
 
     ensures root { IfOk result (λ o. RootAt D.told (D.medium disk.new).image app o.root) }
-    ensures refused { IfOk result (λ o. Answers o.refused
+    ensures refused { IfOk result (λ o. AnswersRow o.refused
         (installing now manifest.now (root_app (Root.Absent cell) []))) }
     ensures says { IfOk result (λ o. root_says o.root
         ≡ (after (root_app (Root.Absent cell) []) (installing now manifest.now
         (root_app (Root.Absent cell) []))).says) }
-    ensures text { IfOk result (λ o. o.refused ≡ None → texts_in o.root ≡ manifest.now ∷ []) }
+    ensures text { IfOk result (λ o. o.refused ≡ None → root_texts o.root ≡ manifest.now ∷ []) }
     ensures app { IsTrue D.told → OnOk result (app_at (D.medium disk.new).image app
         ≡ after (app_at (D.medium disk.old).image app) (installing now manifest.now
         (app_at (D.medium disk.old).image app))) }
@@ -165,13 +165,13 @@ fn install_version<D: Disk>(
     requires app { app < 8 }
     requires root { RootAt D.told (D.medium disk.old).image app (Root.Absent cell) }
     requires not_worn { generation_of cell < greatest_generation }
-    requires version { IsKept version }
+    requires version { SaysDeployment version }
 
     ensures root { IfOk result (λ o. RootAt D.told (D.medium disk.new).image app o.root) }
     ensures installed { IfOk result (λ o. o.refused ≡ None) }
     ensures says { IfOk result (λ o. root_says o.root ≡ (installed_app (generation_of cell) now
         (deployment_data version.deployment)).says) }
-    ensures text { IfOk result (λ o. texts_in o.root ≡ version.text ∷ []) }
+    ensures text { IfOk result (λ o. root_texts o.root ≡ version.text ∷ []) }
     ensures app { IsTrue D.told → OnOk result
         (app_at (D.medium disk.new).image app ≡ installed_app (generation_of cell) now
         (deployment_data version.deployment)) }
@@ -220,7 +220,7 @@ pub(crate) fn make_version<D: Disk>(
     requires bank { bank ≤ 1 }
     requires cell { IsRootCell app cell }
     requires not_worn { generation_of cell < greatest_generation }
-    requires version { IsKept version.now }
+    requires version { SaysDeployment version.now }
     requires previous { ForSome previous (λ v. IsVersion (version_said v.now)) }
     requires fit { AllFit (map storage_data version.now.deployment.storages) contents.now }
     requires within { built ≤ length contents.now }

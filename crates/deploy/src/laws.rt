@@ -1,6 +1,6 @@
 //! The laws of roots in use, for the proofs of callers: none of these functions does anything when it runs.
 
-ghost use Rattle.deploy.specs.Laws.{InUseLaw, RootFrameLaw, StagedFrameLaw};
+ghost use Rattle.deploy.specs.Laws.{RootFrameLaw, RootInUseLaw, StagedFrameLaw};
 
 use deploy_laws::{files_lie_apart, roots_say};
 use element_laws::places_stand_apart;
@@ -9,7 +9,7 @@ use root_text::one_root;
 /// What an image says of an application whose root is in use is what the root says, with the states of the storages
 /// that it names.
 pub fn roots_in_use()
-    ensures app { InUseLaw }
+    ensures app { RootInUseLaw }
 {
     one_root();
     roots_say();

@@ -9,11 +9,12 @@ ghost use Rattle.guarded_cell.specs.Cells.{CellAt, generation_of};
 ghost use Rattle.element_state.specs.States.{greatest_generation};
 ghost use Rattle.deploy_laws.specs.Apps.{App, AreClean, IsCleanApp, app_at, shapes_named};
 ghost use Rattle.deploy_laws.specs.Stands.{StandsThroughout};
-ghost use Rattle.deploy_rows.specs.Rows.{Answers, after, finishing, not_busy, not_worn, rolling_back};
+ghost use Rattle.deploy_rows.specs.Rows.{AnswersRow, after, finishing, not_busy, not_worn, rolling_back};
 ghost use Rattle.deploy.specs.Clauses.{IsNoRootSlot, Leaves};
-ghost use Rattle.deploy.specs.Leaving.{IsLone, IsRefused, app_saying, lone_says, refused_or};
+ghost use Rattle.deploy.specs.Leaving.{IsLone, IsRootRefused, app_saying, lone_says, refused_or};
 ghost use Rattle.deploy.specs.Refusals.{TakesNoMemory};
-ghost use Rattle.deploy.specs.Roots.{AreParts, IsKept, IsRootCell, IsRootOf, RootAt, root_app, root_says, texts_in};
+ghost use Rattle.deploy.specs.Roots.{AreParts, IsRootCell, IsRootOf, RootAt, SaysDeployment, root_app, root_says};
+ghost use Rattle.deploy.specs.Roots.{root_texts};
 
 use crate::errors::Stop;
 use crate::installing::worn_out;
@@ -40,11 +41,11 @@ pub fn finish<D: Disk>(alloc: Global, disk: &mut D, root: Root) -> Result<Outcom
 
     ensures root { (app : ℕ) → app < 8 → RootAt D.told (D.medium disk.old).image app root
         → IfOk result (λ o. RootAt D.told (D.medium disk.new).image app o.root) }
-    ensures refused { IfOk result (λ o. Answers o.refused (finishing (root_app root []))) }
+    ensures refused { IfOk result (λ o. AnswersRow o.refused (finishing (root_app root []))) }
     ensures due { (e : PerError) → finishing (root_app root []) ≡ Err e → IsOk result }
     ensures says { IfOk result (λ o. root_says o.root ≡ (after (root_app root [])
         (finishing (root_app root []))).says) }
-    ensures text { IfOk result (λ o. o.refused ≡ None → texts_in o.root ≡ take 1 (texts_in root)) }
+    ensures text { IfOk result (λ o. o.refused ≡ None → root_texts o.root ≡ take 1 (root_texts root)) }
     ensures app { IsTrue D.told → (app : ℕ) → app < 8 → RootAt D.told (D.medium disk.old).image app root
         → OnOk result (app_at (D.medium disk.new).image app
         ≡ after (app_at (D.medium disk.old).image app) (finishing (app_at (D.medium disk.old).image app))) }
@@ -98,11 +99,11 @@ pub fn rollback<D: Disk>(
 
     ensures root { (app : ℕ) → app < 8 → RootAt D.told (D.medium disk.old).image app root
         → IfOk result (λ o. RootAt D.told (D.medium disk.new).image app o.root) }
-    ensures refused { IfOk result (λ o. Answers o.refused
+    ensures refused { IfOk result (λ o. AnswersRow o.refused
         (rolling_back (option_map (λ n. n.now) busy.entry) (root_app root []))) }
     ensures says { IfOk result (λ o. root_says o.root
         ≡ (after (root_app root []) (rolling_back (option_map (λ n. n.now) busy.entry) (root_app root []))).says) }
-    ensures text { IfOk result (λ o. o.refused ≡ None → texts_in o.root ≡ drop 1 (texts_in root)) }
+    ensures text { IfOk result (λ o. o.refused ≡ None → root_texts o.root ≡ drop 1 (root_texts root)) }
     ensures app { IsTrue D.told → (app : ℕ) → app < 8 → RootAt D.told (D.medium disk.old).image app root
         → OnOk result (app_at (D.medium disk.new).image app ≡ after (app_at (D.medium disk.old).image app)
         (rolling_back (option_map (λ n. n.now) busy.entry) (app_at (D.medium disk.old).image app))) }
@@ -183,8 +184,8 @@ impl Root {
     fn without_previous(self) -> Result<Lone, Outcome>
         requires { (app : ℕ) × IsRootOf app self }
         ensures lone { IfOk result (IsLone finishing self) }
-        ensures text { IfOk result (λ l. l.version.text ∷ [] ≡ take 1 (texts_in self)) }
-        ensures refused { IfErr result (IsRefused finishing self) }
+        ensures text { IfOk result (λ l. l.version.text ∷ [] ≡ take 1 (root_texts self)) }
+        ensures refused { IfErr result (IsRootRefused finishing self) }
     {
         match self {
             Root::Bad => Err(Root::Bad.refuses(PerError::IntegrityCorrupted { unit: Unit::Root })),
@@ -198,8 +199,9 @@ impl Root {
         requires { (app : ℕ) × IsRootOf app self }
         ensures lone { IfOk result (λ left. IfOk left (IsLone (rolling_back (option_map (λ n. n.now) busy.entry))
             self)) }
-        ensures text { IfOk result (λ left. IfOk left (λ l. l.version.text ∷ [] ≡ drop 1 (texts_in self))) }
-        ensures refused { IfOk result (λ left. IfErr left (IsRefused (rolling_back (option_map (λ n. n.now) busy.entry))
+        ensures text { IfOk result (λ left. IfOk left (λ l. l.version.text ∷ [] ≡ drop 1 (root_texts self))) }
+        ensures refused { IfOk result (λ left. IfErr left (IsRootRefused
+            (rolling_back (option_map (λ n. n.now) busy.entry))
             self)) }
         ensures due { (e : PerError) → rolling_back (option_map (λ n. n.now) busy.entry) (root_app self []) ≡ Err e
             → TakesNoMemory e ⊎ (busy.entry ≡ None) → IsOk result }
@@ -220,8 +222,8 @@ impl Installed {
     fn without_previous(self) -> Result<Lone, Outcome>
         requires { AreParts self }
         ensures lone { IfOk result (IsLone finishing (Root.Installed self)) }
-        ensures text { IfOk result (λ l. l.version.text ∷ [] ≡ take 1 (texts_in (Root.Installed self))) }
-        ensures refused { IfErr result (IsRefused finishing (Root.Installed self)) }
+        ensures text { IfOk result (λ l. l.version.text ∷ [] ≡ take 1 (root_texts (Root.Installed self))) }
+        ensures refused { IfErr result (IsRootRefused finishing (Root.Installed self)) }
     {
         if self.previous.is_none() {
             return Err(Root::Installed(self).refuses(PerError::NoPreviousVersion));
@@ -242,8 +244,9 @@ impl Installed {
         ensures lone { IfOk result (λ left. IfOk left (IsLone (rolling_back (option_map (λ n. n.now) busy.entry))
             (Root.Installed self))) }
         ensures text { IfOk result (λ left. IfOk left (λ l. l.version.text ∷ []
-            ≡ drop 1 (texts_in (Root.Installed self)))) }
-        ensures refused { IfOk result (λ left. IfErr left (IsRefused (rolling_back (option_map (λ n. n.now) busy.entry))
+            ≡ drop 1 (root_texts (Root.Installed self)))) }
+        ensures refused { IfOk result (λ left. IfErr left (IsRootRefused
+            (rolling_back (option_map (λ n. n.now) busy.entry))
             (Root.Installed self))) }
         ensures due { (e : PerError) → rolling_back (option_map (λ n. n.now) busy.entry)
             (root_app (Root.Installed self) []) ≡ Err e
@@ -285,7 +288,7 @@ impl Installed {
 impl Lone {
     // Writes a root in which this version stands alone.
     fn write<D: Disk>(self, alloc: Global, disk: &mut D) -> Result<Outcome, Stop>
-        requires version { IsKept self.version }
+        requires version { SaysDeployment self.version }
         requires bank { self.bank ≤ 1 }
         requires generation { generation_of self.cell < greatest_generation }
         requires held { IsTrue D.told → (text : List ℕ) × CellAt (D.medium disk.old).image self.cell text }
@@ -293,7 +296,7 @@ impl Lone {
         ensures root { (app : ℕ) → IsRootCell app self.cell
             → IfOk result (λ o. RootAt D.told (D.medium disk.new).image app o.root) }
         ensures says { IfOk result (λ o. root_says o.root ≡ lone_says self) }
-        ensures text { IfOk result (λ o. texts_in o.root ≡ self.version.text ∷ []) }
+        ensures text { IfOk result (λ o. root_texts o.root ≡ self.version.text ∷ []) }
         ensures done { IfOk result (λ o. o.refused ≡ None) }
         ensures app { IsTrue D.told → (app : ℕ) → app < 8 → IsRootCell app self.cell
             → OnOk result (app_at (D.medium disk.new).image app

@@ -10,7 +10,7 @@ ghost use Rattle.index_text.specs.Contents.{AreContents};
 ghost use Rattle.element_state.specs.Clean.{IsClean};
 ghost use Rattle.element_state.specs.States.{fresh_map, fresh_state, store_at};
 ghost use Rattle.update_plan.specs.Plans.{AllFit};
-ghost use Rattle.deploy_laws.specs.Places.{IsBeside, shape_of, shapes_from};
+ghost use Rattle.deploy_laws.specs.Places.{IsBeside, shapes_from, storage_shape};
 ghost use Rattle.deploy_rows.specs.Rows.{initial_all};
 ghost use Rattle.deploy.specs.Clauses.{Leaves};
 ghost use Rattle.deploy.specs.Made.{AreMade};
@@ -93,7 +93,7 @@ pub(crate) fn create_rest<D: Disk>(
     Ok(())
 }
 
-/// Makes one storage of a bank anew, with these contents.
+/// Creates one storage of a bank, with these contents.
 pub(crate) fn create_one<D: Disk>(
     alloc: Global,
     disk: &mut D,
@@ -110,9 +110,9 @@ pub(crate) fn create_one<D: Disk>(
     requires contents { AreContents config.now.kind config.now.maximum contents.now }
 
     ensures made { IsTrue D.told → OnOk result
-        (store_at (D.medium disk.new).image (shape_of app bank number (storage_data config.now))
+        (store_at (D.medium disk.new).image (storage_shape app bank number (storage_data config.now))
         ≡ fresh_state 1 (fresh_map contents.now)) }
-    ensures clean { IsTrue D.told → OnOk result (IsClean (shape_of app bank number (storage_data config.now))
+    ensures clean { IsTrue D.told → OnOk result (IsClean (storage_shape app bank number (storage_data config.now))
         (D.medium disk.new).image) }
     ensures quiet { OnOk result (Quiet (D.medium disk.new)) }
     ensures cause { IsErrOf result Stop.Device → Rose (D.medium disk.old).faults (D.medium disk.new).faults }

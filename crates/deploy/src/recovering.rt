@@ -1,4 +1,4 @@
-//! Making a closed storage anew: recovered, reset, or with contents that are given.
+//! Rebuilding a closed storage: recovered, reset, or with contents that are given.
 
 ghost use Rattle.std.specs.Prelude.{◌≡◌, ◌≤◌, ◌⊎◌, IfOk, IfSome, IsErr, IsErrOf, IsSome, IsTrue, None, OnOk, Some, []};
 ghost use Rattle.std.specs.Prelude.{filter_map, length, option_map, sum_by, true, ◌≢◌};
@@ -16,9 +16,9 @@ ghost use Rattle.element_state.specs.Conditions.{IsShape};
 ghost use Rattle.element_state.specs.Kept.{KeptThroughout};
 ghost use Rattle.element_state.specs.Read.{IsView};
 ghost use Rattle.element_state.specs.States.{Corrupt, State, salvage_of, store_at};
-ghost use Rattle.deploy_rows.specs.Recovering.{after_state, if_fits, is_content, is_worn_out, rebuilding};
+ghost use Rattle.deploy_rows.specs.Recovering.{after_state, if_contents_fit, is_content, is_worn_out, rebuilding};
 ghost use Rattle.deploy_rows.specs.Recovering.{recovered_contents, recovering, rescued, resetting};
-ghost use Rattle.deploy_rows.specs.Rows.{Answers};
+ghost use Rattle.deploy_rows.specs.Rows.{AnswersRow};
 ghost use Rattle.deploy.specs.Clauses.{ChangesNothing, Leaves};
 ghost use Rattle.deploy.specs.Recovered.{AreElements, rescued_entry};
 
@@ -57,7 +57,7 @@ pub fn recover_storage<D: Disk>(
 
     ensures refused { IfOk result (λ refused. (state : State)
         × (IsTrue D.told → store_at (D.medium disk.old).image shape.now ≡ state)
-        × Answers refused (recovering (storage_data config.now) now state)) }
+        × AnswersRow refused (recovering (storage_data config.now) now state)) }
     ensures state { IsTrue D.told → OnOk result (store_at (D.medium disk.new).image shape.now
         ≡ after_state (store_at (D.medium disk.old).image shape.now)
         (recovering (storage_data config.now) now (store_at (D.medium disk.old).image shape.now))) }
@@ -72,7 +72,7 @@ pub fn recover_storage<D: Disk>(
     ensures passes { OnOk result ((D.medium disk.new).faults ≡ (D.medium disk.old).faults) }
     ensures fed { IsErrOf result Stop.OutOfMemory → (D.medium disk.new).faults ≡ (D.medium disk.old).faults }
 
-    // Only files of the storage change, and at any moment it is as it was or as it is made anew.
+    // Only files of the storage change, and at any moment it is as it was or as it is rebuilt.
     ensures outside { Leaves D.told (IsOutside shape.now.place) (D.medium disk.old)
         (D.medium disk.new) }
     ensures any_moment { IsTrue D.told → KeptThroughout shape.now
@@ -94,7 +94,7 @@ pub fn recover_storage<D: Disk>(
     rebuild_over(alloc, disk, shape, &view, contents)
 }
 
-/// Makes a closed storage anew with its initial contents, at a moment in seconds.
+/// Rebuilds a closed storage with its initial contents, at a moment in seconds.
 ///
 /// It is refused with `LimitReached` and `Generations` where no generation is left: then nothing was written.
 ///
@@ -114,7 +114,7 @@ pub fn reset_storage<D: Disk>(
 
     ensures refused { IfOk result (λ refused. (state : State)
         × (IsTrue D.told → store_at (D.medium disk.old).image shape.now ≡ state)
-        × Answers refused (resetting (storage_data config.now) now state)) }
+        × AnswersRow refused (resetting (storage_data config.now) now state)) }
     ensures state { IsTrue D.told → OnOk result (store_at (D.medium disk.new).image shape.now
         ≡ after_state (store_at (D.medium disk.old).image shape.now)
         (resetting (storage_data config.now) now (store_at (D.medium disk.old).image shape.now))) }
@@ -129,7 +129,7 @@ pub fn reset_storage<D: Disk>(
     ensures passes { OnOk result ((D.medium disk.new).faults ≡ (D.medium disk.old).faults) }
     ensures fed { IsErrOf result Stop.OutOfMemory → (D.medium disk.new).faults ≡ (D.medium disk.old).faults }
 
-    // Only files of the storage change, and at any moment it is as it was or as it is made anew.
+    // Only files of the storage change, and at any moment it is as it was or as it is rebuilt.
     ensures outside { Leaves D.told (IsOutside shape.now.place) (D.medium disk.old)
         (D.medium disk.new) }
     ensures any_moment { IsTrue D.told → KeptThroughout shape.now
@@ -144,7 +144,7 @@ pub fn reset_storage<D: Disk>(
     rebuild_over(alloc, disk, shape, &view, contents)
 }
 
-/// Makes a closed storage anew with exactly these contents, infos included, under the generation of a reset.
+/// Rebuilds a closed storage with exactly these contents, infos included, under the generation of a reset.
 ///
 /// Refusals, the first that holds: `OutOfStorageSpace` where the contents are more than the storage may have;
 /// `LimitReached` with `Generations` where no generation is left. Then nothing was changed.
@@ -165,14 +165,14 @@ pub fn replace_contents<D: Disk>(
 
     ensures refused { IfOk result (λ refused. (state : State)
         × (IsTrue D.told → store_at (D.medium disk.old).image shape.now ≡ state)
-        × Answers refused (if_fits (storage_data config.now) state contents.items)) }
+        × AnswersRow refused (if_contents_fit (storage_data config.now) state contents.items)) }
     ensures state { IsTrue D.told → OnOk result (store_at (D.medium disk.new).image shape.now
         ≡ after_state (store_at (D.medium disk.old).image shape.now)
-        (if_fits (storage_data config.now) (store_at (D.medium disk.old).image shape.now) contents.items)) }
+        (if_contents_fit (storage_data config.now) (store_at (D.medium disk.old).image shape.now) contents.items)) }
     ensures unchanged { IfOk result (λ refused. IsSome refused
         → ChangesNothing (D.medium disk.old) (D.medium disk.new)) }
     // What the row refuses changes nothing, however the call ends.
-    ensures stays { IsTrue D.told → IsErr (if_fits (storage_data config.now)
+    ensures stays { IsTrue D.told → IsErr (if_contents_fit (storage_data config.now)
         (store_at (D.medium disk.old).image shape.now) contents.items)
         → ChangesNothing (D.medium disk.old) (D.medium disk.new) }
     ensures clean { IsTrue D.told → IfOk result (λ refused. (refused ≡ None)
@@ -183,12 +183,12 @@ pub fn replace_contents<D: Disk>(
     ensures passes { OnOk result ((D.medium disk.new).faults ≡ (D.medium disk.old).faults) }
     ensures fed { IsErrOf result Stop.OutOfMemory → (D.medium disk.new).faults ≡ (D.medium disk.old).faults }
 
-    // Only files of the storage change, and at any moment it is as it was or as it is made anew.
+    // Only files of the storage change, and at any moment it is as it was or as it is rebuilt.
     ensures outside { Leaves D.told (IsOutside shape.now.place) (D.medium disk.old)
         (D.medium disk.new) }
     ensures any_moment { IsTrue D.told → KeptThroughout shape.now
         (after_state (store_at (D.medium disk.old).image shape.now)
-        (if_fits (storage_data config.now) (store_at (D.medium disk.old).image shape.now) contents.items))
+        (if_contents_fit (storage_data config.now) (store_at (D.medium disk.old).image shape.now) contents.items))
         (D.medium disk.old) (D.medium disk.new) }
     ensures time { Elapses (D.medium disk.old) (D.medium disk.new) }
 {
@@ -204,7 +204,7 @@ pub fn replace_contents<D: Disk>(
     rebuild_over(alloc, disk, shape, &view, contents)
 }
 
-// Makes a storage anew over the view that was read of it, where a generation is left after that.
+// Rebuilds a storage over the view that was read of it, where a generation is left after that.
 fn rebuild_over<D: Disk>(
     alloc: Global,
     disk: &mut D,
@@ -216,7 +216,7 @@ fn rebuild_over<D: Disk>(
     requires contents { AreContents shape.now.kind shape.now.allowed contents.items }
     requires read { IsTrue D.told → view.now ≡ salvage_of (store_at (D.medium disk.old).image shape.now) }
 
-    ensures refused { IfOk result (λ refused. Answers refused (rebuilding (Corrupt view.now []) contents.items)) }
+    ensures refused { IfOk result (λ refused. AnswersRow refused (rebuilding (Corrupt view.now []) contents.items)) }
     ensures state { IsTrue D.told → OnOk result (store_at (D.medium disk.new).image shape.now
         ≡ after_state (store_at (D.medium disk.old).image shape.now)
         (rebuilding (store_at (D.medium disk.old).image shape.now) contents.items)) }
@@ -347,7 +347,7 @@ fn with_bytes(
 
 // The info of a file that a recovery changes now.
 fn changed_info(info: Option<FileInfo>, now: u64) -> Option<FileInfo>
-    ensures { result ≡ option_map (infos.changed now Cause.Recovery) info }
+    ensures { result ≡ option_map (infos.info_changed now Cause.Recovery) info }
 {
     match info {
         Some(info) => Some(changed(now, Cause::Recovery, info)),

@@ -5,7 +5,7 @@ ghost use Rattle.deployment_model.specs.Conditions.{IsStorage};
 ghost use Rattle.deployment_model.specs.Data.{storage_data};
 ghost use Rattle.element_maps.specs.Storages.{IsConfigured};
 ghost use Rattle.element_state.specs.Conditions.{IsShape};
-ghost use Rattle.deploy_laws.specs.Places.{place_at, root_place, shape_of, storage_file};
+ghost use Rattle.deploy_laws.specs.Places.{place_at, root_place, storage_file, storage_shape};
 
 use deployment_model::StorageConfig;
 use disk_model::Place;
@@ -23,7 +23,7 @@ pub fn shape_of(
     requires bank { bank ≤ 1 }
     requires number { number < 16 }
     requires config { IsStorage (storage_data config.now) }
-    ensures shape { IfOk result (λ shape. shape ≡ shape_of app bank number (storage_data config.now)) }
+    ensures shape { IfOk result (λ shape. shape ≡ storage_shape app bank number (storage_data config.now)) }
     ensures keeps { IfOk result IsShape }
     ensures configured { IfOk result (λ shape. IsConfigured config.now.kind (storage_data config.now) shape) }
 {

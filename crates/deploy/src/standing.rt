@@ -8,7 +8,7 @@ ghost use Rattle.guarded_cell.specs.Held.{held};
 ghost use Rattle.guarded_cell.specs.Seens.{IsSealable};
 ghost use Rattle.guarded_cell.specs.Slots.{IsSlotsOf};
 ghost use Rattle.deploy_laws.specs.Places.{root_place};
-ghost use Rattle.deploy.specs.Standing.{IfSpelled, IsAmong};
+ghost use Rattle.deploy.specs.Standing.{IfSpelled, IsFoundAmong};
 
 use crate::errors::Stop;
 use crate::shapes::root_place;
@@ -36,7 +36,7 @@ pub(crate) fn find_standing<D: Disk>(
     app: u32,
 ) -> Result<Option<Standing>, Stop>
     requires { app < 8 }
-    ensures among { IsTrue D.told → IfOk result (IsAmong (held (D.medium disk.old).image (root_place app))) }
+    ensures among { IsTrue D.told → IfOk result (IsFoundAmong (held (D.medium disk.old).image (root_place app))) }
     ensures slots { IsTrue D.told → IfOk result (λ found. IfSome found (λ s.
         IsSlotsOf (D.medium disk.old).image (root_place app) s.slots)) }
     ensures spelled { IfOk result IfSpelled }
@@ -57,7 +57,7 @@ pub(crate) fn find_standing<D: Disk>(
 // The first of the texts that two copies hold, where it says a root.
 fn root_among(alloc: Global, seens: Vec<Seen>, slots: Slots) -> Result<Option<Standing>, Stop>
     requires { All IsSealable seens.items }
-    ensures among { IfOk result (IsAmong seens.items) }
+    ensures among { IfOk result (IsFoundAmong seens.items) }
     ensures slots { IfOk result (λ found. IfSome found (λ s. s.slots ≡ slots)) }
     ensures spelled { IfOk result IfSpelled }
     ensures memory { ¬ (IsErrOf result Stop.Device) }

@@ -10,17 +10,18 @@ ghost use Rattle.deployment_model.specs.Conditions.{IsDeployment, IsStorage};
 ghost use Rattle.deployment_model.specs.Data.{deployment_data, storage_data};
 ghost use Rattle.element_state.specs.States.{State, store_at};
 ghost use Rattle.migrate_fns.specs.Stored.{answers_of, rules_of};
-ghost use Rattle.update_plan.specs.Plans.{ArePresent, IsOf};
+ghost use Rattle.update_plan.specs.Plans.{ArePresent, IsStoredOf};
 ghost use Rattle.deploy_laws.specs.Apps.{IsCleanApp, app_at};
-ghost use Rattle.deploy_laws.specs.Places.{IsBeside, shape_of, shapes_from};
+ghost use Rattle.deploy_laws.specs.Places.{IsBeside, shapes_from, storage_shape};
 ghost use Rattle.deploy_laws.specs.Stands.{StandsThroughout};
-ghost use Rattle.deploy_rows.specs.Rows.{Begins, BeginsWith, contents_of, offered, updated_app};
-ghost use Rattle.deploy.specs.Beginning.{IsOffered, IsRead, offer_of};
-ghost use Rattle.deploy.specs.Building.{IsBegun, IsStaged, StagedAt, begun_as, one_more, progress_in, root_in, text_in};
+ghost use Rattle.deploy_rows.specs.Rows.{BeginsUpdate, BeginsWith, contents_of, offered, updated_app};
+ghost use Rattle.deploy.specs.Beginning.{AreReadContents, IsOffered, offer_of};
+ghost use Rattle.deploy.specs.Building.{IsStaged, IsUpdateBegun, StagedAt, begun_as, one_more, staged_progress};
+ghost use Rattle.deploy.specs.Building.{staged_root, staged_text};
 ghost use Rattle.deploy.specs.Clauses.{IsNoRootSlot, Leaves};
 ghost use Rattle.deploy.specs.Refusals.{TakesNoMemory};
 ghost use Rattle.deploy.specs.Remaining.{IsBesideCommit};
-ghost use Rattle.deploy.specs.Roots.{IsKept, RootAt, free_bank, root_app, root_says, texts_in};
+ghost use Rattle.deploy.specs.Roots.{RootAt, SaysDeployment, free_bank, root_app, root_says, root_texts};
 
 use crate::errors::Stop;
 use crate::installing::{make_version, worn_out};
@@ -89,13 +90,13 @@ pub fn begin_update<D: Disk>(
     // The refusals of an update, in their order, or the contents of one plan.
     ensures begins { IfOk result (λ b. (states : List State)
         × (IsTrue D.told → (app_at (D.medium disk.old).image app).states ≡ states)
-        × Begins (rules_of migrations.now) (answers_of migrations.now) now (option_map (λ n. n.now) busy.entry)
+        × BeginsUpdate (rules_of migrations.now) (answers_of migrations.now) now (option_map (λ n. n.now) busy.entry)
         manifest.now
         (root_app root states) (begun_as b)) }
-    ensures staged { IfOk result (IsBegun D.told (D.medium disk.new).image app root) }
+    ensures staged { IfOk result (IsUpdateBegun D.told (D.medium disk.new).image app root) }
 
     // The next version has the manifest that was given.
-    ensures text { (s : Staged) → result ≡ Ok (Begin.Ready s) → text_in s ≡ manifest.now }
+    ensures text { (s : Staged) → result ≡ Ok (Begin.Ready s) → staged_text s ≡ manifest.now }
     ensures image { (D.medium disk.new).image ≡ (D.medium disk.old).image }
     ensures idle { Quiet (D.medium disk.old) → IsIdle (D.medium disk.old) (D.medium disk.new) }
     ensures written { (D.medium disk.new).written ≡ (D.medium disk.old).written }
@@ -143,11 +144,11 @@ fn begin_over<D: Disk>(
 
     ensures begins { IfOk result (λ b. (states : List State)
         × (IsTrue D.told → (app_at (D.medium disk.old).image app).states ≡ states)
-        × Begins (rules_of migrations.now) (answers_of migrations.now) now (option_map (λ n. n.now) busy.entry)
+        × BeginsUpdate (rules_of migrations.now) (answers_of migrations.now) now (option_map (λ n. n.now) busy.entry)
         manifest.now
         (root_app (Root.Installed root) states) (begun_as b)) }
-    ensures staged { IfOk result (IsBegun D.told (D.medium disk.new).image app (Root.Installed root)) }
-    ensures text { (s : Staged) → result ≡ Ok (Begin.Ready s) → text_in s ≡ manifest.now }
+    ensures staged { IfOk result (IsUpdateBegun D.told (D.medium disk.new).image app (Root.Installed root)) }
+    ensures text { (s : Staged) → result ≡ Ok (Begin.Ready s) → staged_text s ≡ manifest.now }
     ensures image { (D.medium disk.new).image ≡ (D.medium disk.old).image }
     ensures idle { Quiet (D.medium disk.old) → IsIdle (D.medium disk.old) (D.medium disk.new) }
     ensures written { (D.medium disk.new).written ≡ (D.medium disk.old).written }
@@ -188,7 +189,7 @@ fn offer(
         → TakesNoMemory e → IsOk result }
     ensures alone { IfOk result (λ offer. IfOk offer (λ version. root.now.previous ≡ None)) }
     ensures text { IfOk result (λ offer. IfOk offer (λ version. version.text ≡ manifest.now)) }
-    ensures kept { IfOk result (λ offer. IfOk offer IsKept) }
+    ensures kept { IfOk result (λ offer. IfOk offer SaysDeployment) }
     ensures memory { ¬ (IsErrOf result Stop.Device) }
 {
     if let Some(previous) = &root.previous {
@@ -224,14 +225,14 @@ fn begin_with<D: Disk>(
     requires app { app < 8 }
     requires root { RootAt D.told (D.medium disk.old).image app (Root.Installed root) }
     requires alone { root.previous ≡ None }
-    requires version { IsKept version }
+    requires version { SaysDeployment version }
 
     ensures begins { IfOk result (λ b. (states : List State)
         × (IsTrue D.told → (app_at (D.medium disk.old).image app).states ≡ states)
         × BeginsWith (rules_of migrations.now) (answers_of migrations.now) now states (Ok (offer_of root version))
         (begun_as b)) }
-    ensures staged { IfOk result (IsBegun D.told (D.medium disk.new).image app (Root.Installed root)) }
-    ensures text { (s : Staged) → result ≡ Ok (Begin.Ready s) → text_in s ≡ version.text }
+    ensures staged { IfOk result (IsUpdateBegun D.told (D.medium disk.new).image app (Root.Installed root)) }
+    ensures text { (s : Staged) → result ≡ Ok (Begin.Ready s) → staged_text s ≡ version.text }
     ensures image { (D.medium disk.new).image ≡ (D.medium disk.old).image }
     ensures idle { Quiet (D.medium disk.old) → IsIdle (D.medium disk.old) (D.medium disk.new) }
     ensures written { (D.medium disk.new).written ≡ (D.medium disk.old).written }
@@ -292,10 +293,10 @@ fn stored_contents<D: Disk>(
     requires bank { root.now.bank ≤ 1 }
     requires active { IsDeployment (deployment_data root.now.active.deployment) }
 
-    ensures read { IfOk result (IsRead D.told (D.medium disk.old).image
+    ensures read { IfOk result (AreReadContents D.told (D.medium disk.old).image
         (shapes_from app root.now.bank 0 (map storage_data root.now.active.deployment.storages))
         (map storage_data root.now.active.deployment.storages)) }
-    ensures kinds { IfOk result (λ contents. AllByRecursion (IsOf (deployment_data root.now.active.deployment))
+    ensures kinds { IfOk result (λ contents. AllByRecursion (IsStoredOf (deployment_data root.now.active.deployment))
         contents) }
     ensures image { (D.medium disk.new).image ≡ (D.medium disk.old).image }
     ensures idle { Quiet (D.medium disk.old) → IsIdle (D.medium disk.old) (D.medium disk.new) }
@@ -331,7 +332,7 @@ fn read_stored<D: Disk>(
 
     ensures name { IfOk result (λ stored. stored.name ≡ config.now.name) }
     ensures contents { IsTrue D.told → IfOk result (λ stored.
-        contents_of (store_at (D.medium disk.old).image (shape_of app bank number (storage_data config.now)))
+        contents_of (store_at (D.medium disk.old).image (storage_shape app bank number (storage_data config.now)))
         ≡ stored.contents) }
     ensures some { IfOk result (λ stored. (state : State) × (contents_of state ≡ stored.contents)) }
     ensures present { IfOk result (λ stored. ArePresent config.now.kind stored.contents) }
@@ -354,32 +355,32 @@ fn read_stored<D: Disk>(
 }
 
 impl Staged {
-    /// How many storages remain to be made. Takes no memory.
+    /// How many storages remain to be made. Does not allocate.
     pub fn remaining(&self) -> u32
         requires { IsStaged self.now.app self.now }
-        ensures { result ≡ length (progress_in self.now).contents - (progress_in self.now).built }
+        ensures { result ≡ length (staged_progress self.now).contents - (staged_progress self.now).built }
     {
         self.contents.len() as u32 - self.built
     }
 
-    /// The number of the next version. Takes no memory.
+    /// The number of the next version. Does not allocate.
     pub fn offered(&self) -> u32
-        ensures { result ≡ (progress_in self.now).deployment.version }
+        ensures { result ≡ (staged_progress self.now).deployment.version }
     {
         self.version.deployment.version
     }
 
-    /// The root over which it was begun. Takes no memory.
+    /// The root over which it was begun. Does not allocate.
     pub fn root(&self) -> &Installed
-        ensures { Root.Installed result.now ≡ root_in self.now }
+        ensures { Root.Installed result.now ≡ staged_root self.now }
     {
         &self.root
     }
 
     /// Gives the update up: the root is the one that it began over. What was made of the next version stays in its
-    /// bank, and nothing names it. Takes no memory.
+    /// bank, and nothing names it. Does not allocate.
     pub fn abort(self) -> Root
-        ensures { result ≡ root_in self }
+        ensures { result ≡ staged_root self }
     {
         Root::Installed(self.root)
     }
@@ -393,22 +394,22 @@ impl Staged {
         requires staged { StagedAt D.told (D.medium disk.old).image self.app self }
 
         ensures staged { IfOk result (λ s. StagedAt D.told (D.medium disk.new).image self.app s) }
-        ensures root { IfOk result (λ s. root_in s ≡ root_in self) }
-        ensures progress { IfOk result (λ s. progress_in s ≡ one_more (progress_in self)) }
-        ensures text { IfOk result (λ s. text_in s ≡ text_in self) }
+        ensures root { IfOk result (λ s. staged_root s ≡ staged_root self) }
+        ensures progress { IfOk result (λ s. staged_progress s ≡ one_more (staged_progress self)) }
+        ensures text { IfOk result (λ s. staged_text s ≡ staged_text self) }
         ensures app { IsTrue D.told → app_at (D.medium disk.new).image self.app
             ≡ app_at (D.medium disk.old).image self.app }
         ensures clean { IsTrue D.told → IsCleanApp self.app (D.medium disk.old).image
             → IsCleanApp self.app (D.medium disk.new).image }
         ensures quiet { Quiet (D.medium disk.old) → OnOk result (Quiet (D.medium disk.new)) }
-        ensures done { length (progress_in self).contents ≤ (progress_in self).built
+        ensures done { length (staged_progress self).contents ≤ (staged_progress self).built
             → (result ≡ Ok self) × (disk.new ≡ disk.old) }
         ensures cause { IsErrOf result Stop.Device → Rose (D.medium disk.old).faults (D.medium disk.new).faults }
         ensures passes { OnOk result ((D.medium disk.new).faults ≡ (D.medium disk.old).faults) }
         ensures fed { IsErrOf result Stop.OutOfMemory → (D.medium disk.new).faults ≡ (D.medium disk.old).faults }
 
         // Only files of that storage change, and at any moment the application stands as it was.
-        ensures outside { Leaves D.told (IsBeside self.app (free_bank (root_in self)) (progress_in self).built)
+        ensures outside { Leaves D.told (IsBeside self.app (free_bank (staged_root self)) (staged_progress self).built)
             (D.medium disk.old) (D.medium disk.new) }
         ensures any_moment { IsTrue D.told
             → StandsThroughout self.app (app_at (D.medium disk.old).image self.app) (D.medium disk.old)
@@ -450,10 +451,10 @@ impl Staged {
 
         ensures root { IfOk result (RootAt D.told (D.medium disk.new).image self.app) }
         ensures says { IfOk result (λ root. root_says root
-            ≡ (updated_app (progress_in self) (root_app (root_in self) [])).says) }
-        ensures text { IfOk result (λ root. texts_in root ≡ text_in self ∷ texts_in (root_in self)) }
+            ≡ (updated_app (staged_progress self) (root_app (staged_root self) [])).says) }
+        ensures text { IfOk result (λ root. root_texts root ≡ staged_text self ∷ root_texts (staged_root self)) }
         ensures app { IsTrue D.told → OnOk result (app_at (D.medium disk.new).image self.app
-            ≡ updated_app (progress_in self) (app_at (D.medium disk.old).image self.app)) }
+            ≡ updated_app (staged_progress self) (app_at (D.medium disk.old).image self.app)) }
         ensures clean { IsTrue D.told → IsCleanApp self.app (D.medium disk.old).image
             → OnOk result (IsCleanApp self.app (D.medium disk.new).image) }
         ensures quiet { OnOk result (Quiet (D.medium disk.new)) }
@@ -463,12 +464,13 @@ impl Staged {
 
         // Only slots of the root and files of the storages that remain change, with none remaining only slots of the
         // root, and at any moment the application stands as before or as after.
-        ensures outside { Leaves D.told (IsBesideCommit self.app (free_bank (root_in self)) (progress_in self).built
-            (length (progress_in self).contents)) (D.medium disk.old) (D.medium disk.new) }
-        ensures root_alone { length (progress_in self).contents ≤ (progress_in self).built
+        ensures outside { Leaves D.told (IsBesideCommit self.app (free_bank (staged_root self))
+            (staged_progress self).built
+            (length (staged_progress self).contents)) (D.medium disk.old) (D.medium disk.new) }
+        ensures root_alone { length (staged_progress self).contents ≤ (staged_progress self).built
             → Leaves D.told (IsNoRootSlot self.app) (D.medium disk.old) (D.medium disk.new) }
         ensures any_moment { IsTrue D.told → StandsThroughout self.app
-            (updated_app (progress_in self) (app_at (D.medium disk.old).image self.app)) (D.medium disk.old)
+            (updated_app (staged_progress self) (app_at (D.medium disk.old).image self.app)) (D.medium disk.old)
             (D.medium disk.new) }
         ensures time { Elapses (D.medium disk.old) (D.medium disk.new) }
     {

@@ -6,10 +6,10 @@ ghost use Rattle.per_base.specs.declared.errors.PerError.{PerError};
 ghost use Rattle.disk_model.specs.Medium.{Elapses, Quiet};
 ghost use Rattle.migrate_fns.specs.Stored.{answers_of, rules_of};
 ghost use Rattle.deploy_laws.specs.Apps.{IsCleanApp, app_at};
-ghost use Rattle.deploy_rows.specs.Rows.{Begins, MayLead, offered};
+ghost use Rattle.deploy_rows.specs.Rows.{BeginsUpdate, UpdateMayLead, offered};
 ghost use Rattle.deploy.specs.Clauses.{IsBesideNext, Leaves};
 ghost use Rattle.deploy.specs.Refusals.{TakesNoMemory};
-ghost use Rattle.deploy.specs.Roots.{RootAt, free_bank, root_app, texts_in};
+ghost use Rattle.deploy.specs.Roots.{RootAt, free_bank, root_app, root_texts};
 ghost use Rattle.deploy.specs.Updates.{IsUpdated, LeadsTo};
 
 use crate::errors::Stop;
@@ -48,12 +48,12 @@ pub fn update<D: Disk>(
 
     ensures root { IfOk result (λ o. RootAt D.told (D.medium disk.new).image app o.root) }
 
-    // One row is answered: its refusal, or the application to which it leads, in memory and where the disk tells.
+    // One row is answered: its refusal, or the application to which it leads, in memory and where the disk is modelled.
     ensures updates { IfOk result (IsUpdated D.told
-        (Begins (rules_of migrations.now) (answers_of migrations.now) now (option_map (λ n. n.now) busy.entry)
+        (BeginsUpdate (rules_of migrations.now) (answers_of migrations.now) now (option_map (λ n. n.now) busy.entry)
         manifest.now)
         app (D.medium disk.old).image (D.medium disk.new).image root) }
-    ensures text { IfOk result (λ o. o.refused ≡ None → texts_in o.root ≡ manifest.now ∷ texts_in root) }
+    ensures text { IfOk result (λ o. o.refused ≡ None → root_texts o.root ≡ manifest.now ∷ root_texts root) }
     ensures clean { IsTrue D.told → IsCleanApp app (D.medium disk.old).image
         → OnOk result (IsCleanApp app (D.medium disk.new).image) }
     ensures quiet { Quiet (D.medium disk.old) → OnOk result (Quiet (D.medium disk.new)) }
@@ -75,7 +75,7 @@ pub fn update<D: Disk>(
     // as one next application, to which the update may lead and which is there where it ends well.
     ensures outside { Leaves D.told (IsBesideNext app (free_bank root)) (D.medium disk.old) (D.medium disk.new) }
     ensures any_moment { IsTrue D.told → LeadsTo app
-        (MayLead (rules_of migrations.now) (answers_of migrations.now) now (option_map (λ n. n.now) busy.entry)
+        (UpdateMayLead (rules_of migrations.now) (answers_of migrations.now) now (option_map (λ n. n.now) busy.entry)
         manifest.now
         (app_at (D.medium disk.old).image app)) result (D.medium disk.old) (D.medium disk.new) }
     ensures time { Elapses (D.medium disk.old) (D.medium disk.new) }

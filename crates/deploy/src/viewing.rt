@@ -56,7 +56,7 @@ pub enum RootView {
 pub fn view_root<D: Disk>(alloc: Global, disk: &mut D, app: u32) -> Result<RootView, Stop>
     requires { app < 8 }
     ensures view { IsTrue D.told → IfOk result (λ view. root_seen view ≡ seen_at (D.medium disk.old).image app) }
-    // Whether the disk tells its bytes or not.
+    // Whether the disk's bytes are modelled or not.
     ensures versions { IfOk result (λ view. ShowsVersions (root_seen view)) }
     ensures quiet { OnOk result (Quiet (D.medium disk.new)) }
     ensures image { (D.medium disk.new).image ≡ (D.medium disk.old).image }

@@ -13,9 +13,9 @@ ghost use Rattle.root_text.specs.RootText.{absent, root_text};
 ghost use Rattle.deploy_laws.specs.Apps.{IsCleanApp, app_at};
 ghost use Rattle.deploy_laws.specs.Apps as apps;
 ghost use Rattle.deploy_laws.specs.Stands.{StandsThroughout};
-ghost use Rattle.deploy_rows.specs.Rows.{Answers, after, wiping};
+ghost use Rattle.deploy_rows.specs.Rows.{AnswersRow, after, wiping};
 ghost use Rattle.deploy.specs.Clauses.{IsNoRootSlot, Leaves};
-ghost use Rattle.deploy.specs.Leaving.{IsEmptied, IsRefused, IsRegisterAt, app_saying, empty_says, register_of};
+ghost use Rattle.deploy.specs.Leaving.{IsEmptied, IsRegisterAt, IsRootRefused, app_saying, empty_says, register_of};
 ghost use Rattle.deploy.specs.Roots.{RootAt, root_app, root_says};
 
 use crate::errors::Stop;
@@ -30,7 +30,7 @@ use per_base::Name;
 use root_text::{one_root, write_absent};
 use std::alloc::Global;
 
-/// Takes everything that is installed away: the root is written, and one that is bad is made anew. What the banks hold
+/// Takes everything that is installed away: the root is written, and one that is bad is formatted. What the banks hold
 /// stays, and nothing names it.
 ///
 /// Refusals, the first that holds: `ResourceBusy` where `busy` names an open storage; `LimitReached` with `Generations`
@@ -50,7 +50,7 @@ pub fn wipe<D: Disk>(
     requires root { RootAt D.told (D.medium disk.old).image app root }
 
     ensures root { IfOk result (λ o. RootAt D.told (D.medium disk.new).image app o.root) }
-    ensures refused { IfOk result (λ o. Answers o.refused
+    ensures refused { IfOk result (λ o. AnswersRow o.refused
         (wiping (option_map (λ n. n.now) busy.entry) (root_app root []))) }
     ensures says { IfOk result (λ o. root_says o.root
         ≡ (after (root_app root []) (wiping (option_map (λ n. n.now) busy.entry) (root_app root []))).says) }
@@ -97,7 +97,7 @@ impl Root {
     fn without_versions(self, busy: Option<&Name>) -> Result<Result<Option<Cell>, Outcome>, Stop>
         ensures emptied { IfOk result (λ left. IfOk left (IsEmptied (wiping (option_map (λ n. n.now) busy.entry))
             self)) }
-        ensures refused { IfOk result (λ left. IfErr left (IsRefused (wiping (option_map (λ n. n.now) busy.entry))
+        ensures refused { IfOk result (λ left. IfErr left (IsRootRefused (wiping (option_map (λ n. n.now) busy.entry))
             self)) }
         ensures due { busy.entry ≡ None → IsOk result }
         ensures memory { ¬ (IsErrOf result Stop.Device) }
@@ -110,7 +110,7 @@ impl Root {
 
     // The generation of the root's text, 0 where it is bad.
     fn generation(&self) -> u64
-        ensures { result ≡ apps.generation_of (root_says self.now) }
+        ensures { result ≡ apps.says_generation (root_says self.now) }
     {
         match self {
             Root::Bad => 0,
@@ -131,7 +131,7 @@ impl Root {
     }
 }
 
-// Writes the root's next text, or makes a root anew that has no register: nothing is installed.
+// Writes the root's next text, or formats a root that has no register: nothing is installed.
 fn empty<D: Disk>(
     alloc: Global,
     disk: &mut D,

@@ -13,8 +13,8 @@ ghost use Rattle.deployment_model.specs.Data.{deployment_data};
 ghost use Rattle.root_text.specs.RootText.{IsVersion, installed, root_text};
 ghost use Rattle.root_text.specs.Views.{version_said};
 ghost use Rattle.deploy_rows.specs.Rows.{deployment_of};
-ghost use Rattle.deploy.specs.Roots.{IsKept};
-ghost use Rattle.deploy.specs.Versions.{Told};
+ghost use Rattle.deploy.specs.Roots.{SaysDeployment};
+ghost use Rattle.deploy.specs.Versions.{TellsRow};
 
 use crate::errors::Stop;
 use disk_model::Disk;
@@ -29,9 +29,9 @@ pub(crate) fn read_version(
     alloc: Global,
     manifest: &[u8],
 ) -> Result<Result<VersionText, PerError>, Stop>
-    ensures told { IfOk result (Told (deployment_of manifest.now)) }
+    ensures told { IfOk result (TellsRow (deployment_of manifest.now)) }
     ensures text { IfOk result (λ version. IfOk version (λ v. v.text ≡ manifest.now)) }
-    ensures kept { IfOk result (λ version. IfOk version IsKept) }
+    ensures kept { IfOk result (λ version. IfOk version SaysDeployment) }
     ensures memory { ¬ (IsErrOf result Stop.Device) }
 {
     said_is_kept();

@@ -12,9 +12,9 @@ use Rattle.deployment_model.specs.Data.{StorageData}
 use Rattle.deployment_model.specs.Conditions.{IsStorage}
 use Rattle.element_state.specs.declared.shapes.Shape.{Shape}
 use Rattle.element_laws.specs.Phases.{IsOfPlace}
-use Rattle.deploy_laws.specs.Places.{Named, root_place, first_file, storage_file, shape_of, shapes_from, shapes_in}
+use Rattle.deploy_laws.specs.Places.{Named, root_place, first_file, storage_file, storage_shape, shapes_from, shapes_in}
 use Rattle.deploy_laws.specs.Places.{IsFileOf, IsNoFileOf, IsNoRootFile, IsBeside, IsOutsideBank}
-use Rattle.deploy_laws.specs.Apps.{Says, nothing, absent, installed, shapes_named, IsPlaced, AreVersions, IsFree}
+use Rattle.deploy_laws.specs.Apps.{Says, nothing, absent, installed, shapes_named, IsInBank, AreVersions, IsFree}
 
 -- ---- lists of storages
 
@@ -53,17 +53,18 @@ root_no_slot app f lt aside copy parity ltc ltp e = ⊎_elim (λ below. absurd (
 -- ---- a storage
 
 module _ (app bank number : ℕ) (s : StorageData) (lt : app < 8) (ltb : bank ≤ 1) (ltn : number < 16) where
-  pub storage_files : (f : ℕ) → IsOfPlace (shape_of app bank number s).place f
+  pub storage_files : (f : ℕ) → IsOfPlace (storage_shape app bank number s).place f
       → (storage_file app bank number ≤ f) × (f < storage_file app bank number + 32)
-  unfolding shape_of
+  unfolding storage_shape
   storage_files f of = let inside = of.inside in let small = of.small in let is = of.is in
       (omega (arith, lt, ltb, ltn, inside, small, is), omega (arith, lt, ltb, ltn, inside, small, is))
 
-  pub storage_own : (f : ℕ) → IsOfPlace (shape_of app bank number s).place f → IsFileOf app f
+  pub storage_own : (f : ℕ) → IsOfPlace (storage_shape app bank number s).place f → IsFileOf app f
   storage_own f of = let files = storage_files f of in let low = files.0 in let high = files.1 in
       (omega (arith, low), omega (arith, ltb, ltn, high))
 
-  pub storage_outside : (other f : ℕ) → other ≤ 1 → ¬ (bank ≡ other) → IsOfPlace (shape_of app bank number s).place f
+  pub storage_outside : (other f : ℕ) → other ≤ 1 → ¬ (bank ≡ other)
+      → IsOfPlace (storage_shape app bank number s).place f
       → IsOutsideBank app other f
   storage_outside other f lto differs of = let files = storage_files f of in let low = files.0 in let high =
       files.1 in ⊎_elim
@@ -73,7 +74,7 @@ module _ (app bank number : ℕ) (s : StorageData) (lt : app < 8) (ltb : bank �
       (cases_lt other bank)
 
   pub storage_beside : (other_bank other f : ℕ) → other_bank ≤ 1 → other < 16 → (bank ≡ other_bank → number ≡ other → ⊥)
-      → IsOfPlace (shape_of app bank number s).place f
+      → IsOfPlace (storage_shape app bank number s).place f
       → IsBeside app other_bank other f
   storage_beside other_bank other f lto ltm differs of = let files = storage_files f of in let low =
       files.0 in let high = files.1 in
@@ -89,29 +90,29 @@ module _ (app bank number : ℕ) (s : StorageData) (lt : app < 8) (ltb : bank �
       (cases_lt bank other_bank))
       (cases_lt other_bank bank)
 
-  pub storage_no_slot : (f : ℕ) → IsOfPlace (shape_of app bank number s).place f → IsNoSlot (root_place app) f
+  pub storage_no_slot : (f : ℕ) → IsOfPlace (storage_shape app bank number s).place f → IsNoSlot (root_place app) f
   storage_no_slot f of copy parity ltc ltp e = let files = storage_files f of in let low =
       files.0 in absurd (omega (arith, lt, low, ltc, ltp, e))
 
-  pub storage_no_root : (f : ℕ) → IsOfPlace (shape_of app bank number s).place f → IsNoRootFile app f
+  pub storage_no_root : (f : ℕ) → IsOfPlace (storage_shape app bank number s).place f → IsNoRootFile app f
   storage_no_root f of = let low = (storage_files f of).0 in inr (omega (arith, low))
 
   pub beside_outside : (f : ℕ) → IsBeside app bank number f
-      → IsOutside (shape_of app bank number s).place f
+      → IsOutside (storage_shape app bank number s).place f
   beside_outside f beside copy k ltc ltk e =
       let files = storage_files f (record { copy = copy; kind = k; inside = ltc; small = ltk; is = e }) in
       let low = files.0 in
       let high = files.1 in
       ⊎_elim (λ below. absurd (omega (arith, low, below))) (λ above. absurd (omega (arith, high, above))) beside
 
-  pub storage_fit : IsStorage s → IsFit (shape_of app bank number s)
-  unfolding shape_of
+  pub storage_fit : IsStorage s → IsFit (storage_shape app bank number s)
+  unfolding storage_shape
   storage_fit keeps = keeps.some_agree
 
 -- ---- the storages of a version, and all that a root names
 
 module _ (app bank : ℕ) (P : Shape → Type 0) (each : (number : ℕ) (s : StorageData) → number < 16 → IsStorage s
-    → P (shape_of app bank number s)) where
+    → P (storage_shape app bank number s)) where
   pub all_from : (number : ℕ) (ss : List StorageData) → number + length ss ≤ 16 → AllByRecursion IsStorage ss
       → AllByRecursion P (shapes_from app bank number ss)
   all_from number [] le keeps = tt
@@ -120,8 +121,8 @@ module _ (app bank : ℕ) (P : Shape → Type 0) (each : (number : ℕ) (s : Sto
     all_from (suc number) ss (omega (arith, le)) keeps.1,
   )
 
-pub all_in : (app : ℕ) (v : Named) (P : Shape → Type 0) → IsPlaced v
-    → ((number : ℕ) (s : StorageData) → number < 16 → IsStorage s → P (shape_of app v.bank number s))
+pub all_in : (app : ℕ) (v : Named) (P : Shape → Type 0) → IsInBank v
+    → ((number : ℕ) (s : StorageData) → number < 16 → IsStorage s → P (storage_shape app v.bank number s))
     → AllByRecursion P (shapes_in app v)
 all_in app v P is each = let keeps = is.keeps in let few = keeps.few in
     all_from app v.bank P each 0 v.deployment.storages (omega (arith, few)) keeps.each
@@ -133,7 +134,7 @@ joined P (x ∷ xs) ys h k = (h.0, joined P xs ys h.1 k)
 
 module _ (app : ℕ) (P : Shape → Type 0) where
   pub all_named : ((bank number : ℕ) (s : StorageData) → bank ≤ 1 → number < 16 → IsStorage s
-      → P (shape_of app bank number s))
+      → P (storage_shape app bank number s))
       → (says : Says) → AreVersions says → AllByRecursion P (shapes_named app says)
   unfolding shapes_named
   all_named each nothing is = tt
@@ -147,7 +148,7 @@ module _ (app : ℕ) (P : Shape → Type 0) where
 
   -- none is in this bank
   pub all_apart : (other : ℕ) → ((bank number : ℕ) (s : StorageData) → bank ≤ 1 → ¬ (bank ≡ other) → number < 16
-      → IsStorage s → P (shape_of app bank number s))
+      → IsStorage s → P (storage_shape app bank number s))
       → (says : Says) → AreVersions says → IsFree other says → AllByRecursion P (shapes_named app says)
   unfolding shapes_named
   all_apart other each nothing is free = tt

@@ -9,14 +9,14 @@ use Rattle.disk_model.specs.declared.place.Place.{Place}
 use Rattle.hash_guard.specs.SealedText.{VerifiesAs, verified}
 use Rattle.guarded_cell.specs.declared.looking.Seen.{Seen}
 use Rattle.guarded_cell.specs.Register.{Holds, IsAlone, IsBlank, own, other}
-use Rattle.guarded_cell.specs.Held.{holds, is_text, lacking, copies_that, standing}
+use Rattle.guarded_cell.specs.Held.{holds, is_slot_text, lacking, copies_that, standing}
 use Rattle.guarded_cell.specs.Stands.{SameSlots}
 use Rattle.element_state.specs.declared.shapes.Shape.{Shape}
 use Rattle.element_state.specs.States.{State, store_at}
 use Rattle.element_laws.specs.Apart.{FrameLaw}
 use Rattle.element_laws.specs.Phases.{IsOfPlace}
 use Rattle.deploy_laws.specs.Places.{root_place, IsFileOf, IsOutsideBank}
-use Rattle.deploy_laws.specs.Apps.{Says, nothing, absent, installed, App, says_in, says_at, app_at, lacking_in}
+use Rattle.deploy_laws.specs.Apps.{Says, nothing, absent, installed, App, says_in, says_at, app_at, root_lacking}
 use Rattle.deploy_laws.specs.Apps.{shapes_named, AreVersions, IsFree, IsCleanRoot, IsCleanApp, AreClean}
 use Rattle.deploy_laws.proofs.Files.{AreSpared, root_own, root_outside, own_spared, apart_spared}
 use Rattle.deploy_laws.proofs.Said.{says_is}
@@ -73,10 +73,10 @@ module _ (app : ℕ) (old new : Image) (spared : Spares (IsOfPlace (root_place a
   unfolding lacking
   lacking_same g t = same_copies (λ copy. not (holds new (root_place app) copy (g, t)))
       (λ copy. not (holds old (root_place app) copy (g, t))) 3
-      (λ copy lt. ap (λ (bytes : List ℕ). not (is_text (g, t) (verified bytes)))
+      (λ copy lt. ap (λ (bytes : List ℕ). not (is_slot_text (g, t) (verified bytes)))
       (same_slot copy (own g) lt (own_small g)))
 
-  lacking_in_same : (says : Says) (seen : Option Seen) → lacking_in new app says seen ≡ lacking_in old app says seen
+  lacking_in_same : (says : Says) (seen : Option Seen) → root_lacking new app says seen ≡ root_lacking old app says seen
   lacking_in_same nothing seen = refl
   lacking_in_same (absent g) None = refl
   lacking_in_same (absent g) (Some seen) = lacking_same seen.generation seen.text
@@ -111,14 +111,14 @@ module _ (app : ℕ) (old new : Image) (spared : Spares (IsOfPlace (root_place a
     app_with states same =
         ap (λ (s : Says). record {
           says = s;
-          lacking = lacking_in new app s (standing new (root_place app) 2);
+          lacking = root_lacking new app s (standing new (root_place app) 2);
           states =
               map (store_at new) (shapes_named app s);
         }) says_frame
         ∙ ap (λ (o : Option Seen). record {
           says = says_at old app;
           lacking =
-              lacking_in new app (says_at old app) o;
+              root_lacking new app (says_at old app) o;
           states =
               map (store_at new) (shapes_named app (says_at old app));
         }) found_same
@@ -132,7 +132,7 @@ module _ (app : ℕ) (old new : Image) (spared : Spares (IsOfPlace (root_place a
         ∙ ap (λ (ss : List State). record {
           says = says_at old app;
           lacking =
-              lacking_in old app (says_at old app) (standing old (root_place app) 2);
+              root_lacking old app (says_at old app) (standing old (root_place app) 2);
           states = ss;
         }) same
 

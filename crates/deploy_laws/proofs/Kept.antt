@@ -26,7 +26,8 @@ module _ (untouched : UntouchedLaw) (start : Image) (c : Case) (damaged : List �
   stay (shape ∷ shapes) [] count covers fit clean quiet = absurd (omega (arith, count))
   stay (shape ∷ shapes) (state ∷ after) count covers fit clean quiet =
       let tails : length after ≡ length shapes = omega (arith, count) in
-      let it = untouched shape start state c fit.0 clean.0 quiet.0 covers.sound.0 damaged image covers.decayed.0 in
+      let it = untouched shape start state c fit.0 clean.0 quiet.0 covers.sound.0.pieces damaged image
+      covers.decayed.0 in
       let others = stay shapes after tails (record { sound = covers.sound.1; decayed = covers.decayed.1 }) fit.1 clean.1
       quiet.1 in
       record { kept = (it.kept, others.kept); clean = (it.clean, others.clean) }

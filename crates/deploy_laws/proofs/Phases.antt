@@ -7,7 +7,7 @@ use Rattle.guarded_cell.specs.Stops.{PutStops}
 use Rattle.element_laws.specs.Phases.{UntouchedLaw}
 use Rattle.root_text.specs.RootText.{Root, root_of}
 use Rattle.root_text.specs.RootText as text
-use Rattle.deploy_laws.specs.Apps.{App, says_by, app_at, shapes_named, generation_of, AreVersions, AreOn, IsCleanApp}
+use Rattle.deploy_laws.specs.Apps.{App, says_by, app_at, shapes_named, says_generation, AreVersions, AreOn, IsCleanApp}
 use Rattle.deploy_laws.specs.Stands.{StandsCase}
 use Rattle.deploy_laws.proofs.Covered.{root_sound, root_decays, named_covers}
 use Rattle.deploy_laws.proofs.Files.{all_fit, beside_untouched}
@@ -21,7 +21,7 @@ use Rattle.deploy_laws.specs.Places.{root_place}
 abbrev pub SaidLaw : Type 0
 SaidLaw = (g : ℕ) (t : List ℕ) → AreVersions (says_by g (root_of t))
 
-generation_is : (g : ℕ) (r : Root) → generation_of (says_by g (Some r)) ≡ g
+generation_is : (g : ℕ) (r : Root) → says_generation (says_by g (Some r)) ≡ g
 generation_is g text.absent = refl
 generation_is g (text.installed bank active previous) = refl
 
@@ -47,11 +47,12 @@ module _ (said : SaidLaw) (app g : ℕ) (lt : app < 8) (t next : List ℕ) (root
   next_says : after.says ≡ says_by (g + 1) (root_of next)
   next_says = says_next ∙ ap (says_by (g + 1)) (sym is_next)
 
-  old_generation : generation_of before.says ≡ g
-  old_generation = let (r, read) = its_root in ap generation_of (says_before ∙ ap (says_by g) read) ∙ generation_is g r
+  old_generation : says_generation before.says ≡ g
+  old_generation = let (r, read) = its_root in ap says_generation (says_before ∙ ap (says_by g) read)
+      ∙ generation_is g r
 
-  new_generation : generation_of after.says ≡ g + 1
-  new_generation = ap generation_of says_next ∙ generation_is (g + 1) root
+  new_generation : says_generation after.says ≡ g + 1
+  new_generation = ap says_generation says_next ∙ generation_is (g + 1) root
 
   between : IsBetween app g t next before after start
   between = record {
@@ -61,8 +62,8 @@ module _ (said : SaidLaw) (app g : ℕ) (lt : app < 8) (t next : List ℕ) (root
       says = says_before;
       something_next = λ none. says_some (g + 1) root (sym says_next ∙ none);
       differs = λ same. let old = old_generation in let new =
-          new_generation in let one : generation_of after.says ≡ generation_of before.says =
-          ap generation_of same in omega (arith, old, new, one);
+          new_generation in let one : says_generation after.says ≡ says_generation before.says =
+          ap says_generation same in omega (arith, old, new, one);
     };
     is_next = (root, is_next);
     says_next = next_says;

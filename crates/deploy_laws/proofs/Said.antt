@@ -12,7 +12,7 @@ use Rattle.guarded_cell.specs.lemmas.StopLaws.{at_least_one, alone_only}
 use Rattle.root_text.specs.RootText.{Root, root_of}
 use Rattle.root_text.specs.RootText as text
 use Rattle.element_state.specs.States.{store_at}
-use Rattle.deploy_laws.specs.Apps.{Says, nothing, absent, installed, App, says_by, says_in, says_at, lacking_in}
+use Rattle.deploy_laws.specs.Apps.{Says, nothing, absent, installed, App, says_by, says_in, says_at, root_lacking}
 use Rattle.deploy_laws.specs.Apps.{shapes_named, app_at}
 use Rattle.deploy_laws.specs.Places.{root_place}
 
@@ -103,7 +103,7 @@ module _ (image : Image) (app g : ℕ) (t : List ℕ) (alone : IsAlone image (ro
       (is_holds image (root_place app) c (g, t) (alone.held c lt)))
 
   lacking_none : (says : Says) (seen : Seen) → seen.generation ≡ g → seen.text ≡ t
-      → lacking_in image app says (Some seen) ≡ []
+      → root_lacking image app says (Some seen) ≡ []
   lacking_none nothing seen same_g same_t = refl
   lacking_none (absent h) seen same_g same_t = ap (λ (x : ℕ). lacking image (root_place app) x seen.text) same_g
       ∙ ap (λ (u : List ℕ). lacking image (root_place app) g u) same_t ∙ nobody_lacks
@@ -116,17 +116,17 @@ module _ (image : Image) (app g : ℕ) (t : List ℕ) (alone : IsAlone image (ro
   app_by says = record { says = says; lacking = []; states = map (store_at image) (shapes_named app says) }
 
   app_is : (answer : Option Seen) (says : Says) → standing image (root_place app) 2 ≡ answer → says_at image app ≡ says
-      → lacking_in image app says answer ≡ [] → app_at image app ≡ app_by says
+      → root_lacking image app says answer ≡ [] → app_at image app ≡ app_by says
   unfolding app_at
   app_is answer says e is none =
       ap (λ (s : Says). record {
         says = s;
-        lacking = lacking_in image app s (standing image (root_place app) 2);
+        lacking = root_lacking image app s (standing image (root_place app) 2);
         states = map (store_at image) (shapes_named app s);
       }) is
       ∙ ap (λ (o : Option Seen). record {
         says = says;
-        lacking = lacking_in image app says o;
+        lacking = root_lacking image app says o;
         states =
             map (store_at image) (shapes_named app says);
       }) e

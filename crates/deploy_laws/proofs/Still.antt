@@ -16,8 +16,9 @@ use Rattle.element_laws.specs.Phases.{IsOfPlace, UntouchedLaw}
 use Rattle.root_text.specs.RootText.{Root, root_of}
 use Rattle.root_text.specs.RootText as text
 use Rattle.deploy_laws.specs.Places.{root_place}
-use Rattle.deploy_laws.specs.Apps.{Says, nothing, absent, installed, App, says_by, says_in, says_at, app_at, lacking_in}
-use Rattle.deploy_laws.specs.Apps.{shapes_named, generation_of, IsCleanApp}
+use Rattle.deploy_laws.specs.Apps.{Says, nothing, absent, installed, App, says_by, says_in, says_at, app_at}
+use Rattle.deploy_laws.specs.Apps.{root_lacking}
+use Rattle.deploy_laws.specs.Apps.{shapes_named, says_generation, IsCleanApp}
 use Rattle.deploy_laws.proofs.Files.{IsFit, AreUntouched}
 use Rattle.deploy_laws.specs.Pieces.{IsSoundApp, DecaysApp}
 use Rattle.deploy_laws.proofs.Covered.{root_sound, root_decays}
@@ -31,12 +32,12 @@ use Rattle.std.proofs.lemmas.List.{length-map}
 use Rattle.element_state.specs.States.{store_at}
 
 -- what a text of a generation says has this generation, or none
-no_greater : (g : ℕ) (r : Option Root) → generation_of (says_by g r) ≤ g
+no_greater : (g : ℕ) (r : Option Root) → says_generation (says_by g r) ≤ g
 no_greater g None = omega arith
 no_greater g (Some text.absent) = omega arith
 no_greater g (Some (text.installed bank active previous)) = omega arith
 
-own_generation : (g : ℕ) (r : Option Root) → ¬ (says_by g r ≡ nothing) → generation_of (says_by g r) ≡ g
+own_generation : (g : ℕ) (r : Option Root) → ¬ (says_by g r ≡ nothing) → says_generation (says_by g r) ≡ g
 own_generation g None some = absurd (some refl)
 own_generation g (Some text.absent) some = refl
 own_generation g (Some (text.installed bank active previous)) some = refl
@@ -45,32 +46,34 @@ own_generation g (Some (text.installed bank active previous)) some = refl
 
 module _ (app : ℕ) (start : Image) (damaged : List ℕ) (image : Image)
     (still : Stands app image damaged (app_at start app) (app_at start app))
-    (found : ¬ (says_at start app ≡ nothing) → generation_of (says_at image app) ≤ generation_of (says_at start app))
+    (found : ¬ (says_at start app ≡ nothing) → says_generation (says_at image app)
+    ≤ says_generation (says_at start app))
     (after : App) where
   says : (app_at start app).says ≡ says_at start app
   says = app_says start app
 
   -- the image does not say what a root of a greater generation says
-  never : generation_of (app_at start app).says < generation_of after.says → says_at image app ≡ after.says
+  never : says_generation (app_at start app).says < says_generation after.says → says_at image app ≡ after.says
       → (says_at start app ≡ nothing) ⊎ ¬ (says_at start app ≡ nothing) → ⊥
   never greater e (inl none) =
       let is_none : after.says ≡ nothing = ⊎_elim (λ x. sym e ∙ x) (λ x. sym e ∙ x ∙ says ∙ none)
       (still.bad (says ∙ none)) in
-      let zero_now : generation_of after.says ≡ 0 = ap generation_of is_none in
+      let zero_now : says_generation after.says ≡ 0 = ap says_generation is_none in
       omega (arith, greater, zero_now)
   never greater e (inr some) =
-      let small : generation_of (says_at image app) ≤ generation_of (says_at start app) = found some in
-      let is : generation_of (says_at image app) ≡ generation_of after.says = ap generation_of e in
-      let own : generation_of (app_at start app).says ≡ generation_of (says_at start app) = ap generation_of says in
+      let small : says_generation (says_at image app) ≤ says_generation (says_at start app) = found some in
+      let is : says_generation (says_at image app) ≡ says_generation after.says = ap says_generation e in
+      let own : says_generation (app_at start app).says ≡ says_generation
+      (says_at start app) = ap says_generation says in
       omega (arith, greater, small, is, own)
 
-  pub stands_greater : generation_of (app_at start app).says < generation_of after.says
+  pub stands_greater : says_generation (app_at start app).says < says_generation after.says
       → Stands app image damaged (app_at start app) after
   stands_greater greater = record {
     bad = λ none. inl (⊎_elim (λ x. x) (λ x. x ∙ none) (still.bad none));
     root = λ some enough. inl (⊎_elim (λ x. x) (λ x. x) (still.root some enough));
-    same = λ e same. absurd (let no : generation_of after.says ≡ generation_of (app_at start app).says =
-        ap generation_of same in omega (arith, greater, no));
+    same = λ e same. absurd (let no : says_generation after.says ≡ says_generation (app_at start app).says =
+        ap says_generation same in omega (arith, greater, no));
     old = λ e differs. still.same e refl;
     new = λ e differs. absurd (never greater e (is_nothing (says_at start app)));
     clean_root = still.clean_root;
@@ -92,9 +95,9 @@ module _ (untouched : UntouchedLaw) (app : ℕ) (start : Image) (c : Case) (clea
     -- the generation of what is found is no greater
     found_of : (answer : Option Seen) → standing start (root_place app) 2 ≡ answer → (found : Option Seen)
         → standing image (root_place app) 2 ≡ found → ¬ (says_at start app ≡ nothing)
-        → generation_of (says_at image app) ≤ generation_of (says_at start app)
+        → says_generation (says_at image app) ≤ says_generation (says_at start app)
     found_of None e found f some = absurd (some (says_is start app ∙ ap says_in e))
-    found_of (Some seen) e None f some = subst (λ (s : Says). generation_of s ≤ generation_of (says_at start app))
+    found_of (Some seen) e None f some = subst (λ (s : Says). says_generation s ≤ says_generation (says_at start app))
         (sym (says_is image app ∙ ap says_in f)) (omega arith)
     found_of (Some seen) e (Some new) f some =
         let stood : IsStanding start (root_place app) 2 seen.generation seen.text =
@@ -106,11 +109,11 @@ module _ (untouched : UntouchedLaw) (app : ℕ) (start : Image) (c : Case) (clea
         in
         let is : says_at image app ≡ says_by new.generation (root_of new.text) = says_is image app ∙ ap says_in f in
         let was : says_at start app ≡ says_by seen.generation (root_of seen.text) = says_is start app ∙ ap says_in e in
-        let small : generation_of (says_at image app) ≤ new.generation =
-        subst (λ (s : Says). generation_of s ≤ new.generation) (sym is)
+        let small : says_generation (says_at image app) ≤ new.generation =
+        subst (λ (s : Says). says_generation s ≤ new.generation) (sym is)
         (no_greater new.generation (root_of new.text)) in
-        let own : generation_of (says_at start app) ≡ seen.generation =
-        ap generation_of was ∙ own_generation seen.generation (root_of seen.text) (λ none. some (was ∙ none)) in
+        let own : says_generation (says_at start app) ≡ seen.generation =
+        ap says_generation was ∙ own_generation seen.generation (root_of seen.text) (λ none. some (was ∙ none)) in
         omega (arith, below, small, own)
 
     pub rests_later : (after : App) → IsLater (app_at start app) after
@@ -146,8 +149,8 @@ module _ (untouched : UntouchedLaw) (app : ℕ) (start : Image) (c : Case) (clea
         (cases_lt seen.generation h)
 
     found_so : (found : Option Seen) → standing image (root_place app) 2 ≡ found → ¬ (says_at start app ≡ nothing)
-        → generation_of (says_at image app) ≤ generation_of (says_at start app)
-    found_so None f some = subst (λ (s : Says). generation_of s ≤ generation_of (says_at start app))
+        → says_generation (says_at image app) ≤ says_generation (says_at start app)
+    found_so None f some = subst (λ (s : Says). says_generation s ≤ says_generation (says_at start app))
         (sym (says_is image app ∙ ap says_in f)) (omega arith)
     found_so (Some new) f some =
         let there : IsStanding image (root_place app) 2 new.generation new.text =
@@ -156,11 +159,11 @@ module _ (untouched : UntouchedLaw) (app : ℕ) (start : Image) (c : Case) (clea
         let is : says_at image app ≡ says_by new.generation (root_of new.text) = says_is image app ∙ ap says_in f in
         let was : says_at start app ≡ says_by seen.generation (root_of seen.text) =
         says_is start app ∙ ap says_in stood in
-        let small : generation_of (says_at image app) ≤ new.generation =
-        subst (λ (s : Says). generation_of s ≤ new.generation) (sym is)
+        let small : says_generation (says_at image app) ≤ new.generation =
+        subst (λ (s : Says). says_generation s ≤ new.generation) (sym is)
         (no_greater new.generation (root_of new.text)) in
-        let own : generation_of (says_at start app) ≡ seen.generation =
-        ap generation_of was ∙ own_generation seen.generation (root_of seen.text) (λ none. some (was ∙ none)) in
+        let own : says_generation (says_at start app) ≡ seen.generation =
+        ap says_generation was ∙ own_generation seen.generation (root_of seen.text) (λ none. some (was ∙ none)) in
         omega (arith, below, small, own)
 
     pub opens_later : (after : App) → IsLater (app_at start app) after
@@ -184,14 +187,14 @@ none_in n found = omega (arith, found.1)
 
 lacks : (app : ℕ) (start : Image) (seen : Seen) → standing start (root_place app) 2 ≡ Some seen → (says : Says)
     → ¬ (says ≡ nothing)
-    → lacking_in start app says (standing start (root_place app) 2)
+    → root_lacking start app says (standing start (root_place app) 2)
     ≡ lacking start (root_place app) seen.generation seen.text
 lacks app start seen e nothing some = absurd (some refl)
-lacks app start seen e (absent g) some = ap (lacking_in start app (absent g)) e
-lacks app start seen e (installed g active previous) some = ap (lacking_in start app (installed g active previous)) e
+lacks app start seen e (absent g) some = ap (root_lacking start app (absent g)) e
+lacks app start seen e (installed g active previous) some = ap (root_lacking start app (installed g active previous)) e
 
 app_lacking : (app : ℕ) (start : Image) → (app_at start app).lacking
-    ≡ lacking_in start app (says_at start app) (standing start (root_place app) 2)
+    ≡ root_lacking start app (says_at start app) (standing start (root_place app) 2)
 unfolding app_at
 app_lacking app start = refl
 

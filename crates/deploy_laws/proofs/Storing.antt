@@ -13,12 +13,12 @@ use Rattle.deployment_model.specs.Conditions.{IsStorage}
 use Rattle.deployment_model.specs.Data.{StorageData}
 use Rattle.element_state.specs.declared.shapes.Shape.{Shape}
 use Rattle.element_state.specs.Clean.{IsClean}
-use Rattle.element_state.specs.Kept.{IsKeptCase}
+use Rattle.element_state.specs.Kept.{IsKeptMending}
 use Rattle.element_state.specs.States.{State, store_at}
 use Rattle.element_laws.specs.Apart.{FrameLaw}
 use Rattle.element_laws.specs.Phases.{IsOfPlace, UntouchedLaw}
-use Rattle.deploy_laws.specs.Places.{Named, root_place, shape_of, shapes_from, shapes_in, IsFileOf, IsBeside}
-use Rattle.deploy_laws.specs.Apps.{Says, installed, says_at, app_at, shapes_named, AreClean, IsCleanApp, IsPlaced}
+use Rattle.deploy_laws.specs.Places.{Named, root_place, storage_shape, shapes_from, shapes_in, IsFileOf, IsBeside}
+use Rattle.deploy_laws.specs.Apps.{Says, installed, says_at, app_at, shapes_named, AreClean, IsCleanApp, IsInBank}
 use Rattle.deploy_laws.specs.Apps.{AreVersions}
 use Rattle.deploy_laws.specs.Stands.{AreKept, StandsCase}
 use Rattle.deploy_laws.proofs.Covered.{AreCovered, named_covers}
@@ -43,7 +43,7 @@ but_joined P (x ∷ xs) ys (suc k) lt h all = let less : k < length xs =
 
 module _ (app bank : ℕ) (P : Shape → Type 0) where
   from_above : (start : ℕ) (ss : List StorageData) → ((number : ℕ) (s : StorageData) → start ≤ number → number < 16
-      → IsStorage s → P (shape_of app bank number s))
+      → IsStorage s → P (storage_shape app bank number s))
       → start + length ss ≤ 16 → AllByRecursion IsStorage ss → AllByRecursion P (shapes_from app bank start ss)
   from_above start [] each le keeps = tt
   from_above start (s ∷ ss) each le keeps = (
@@ -53,7 +53,7 @@ module _ (app bank : ℕ) (P : Shape → Type 0) where
   )
 
   but_from : (start k : ℕ) (ss : List StorageData) → ((number : ℕ) (s : StorageData) → number < 16
-      → ¬ (number ≡ start + k) → IsStorage s → P (shape_of app bank number s))
+      → ¬ (number ≡ start + k) → IsStorage s → P (storage_shape app bank number s))
       → start + length ss ≤ 16 → AllByRecursion IsStorage ss → AllBut P (shapes_from app bank start ss) k
   but_from start k [] each le keeps = tt
   but_from start zero (s ∷ ss) each le keeps =
@@ -78,22 +78,22 @@ not_some : {A : Type 0} (x : A) → None ≡ Some x → ⊥
 not_some x e = absurd cc
 
 pub by_number : (app bank start number : ℕ) (ss : List StorageData) (s : StorageData) → slice_get ss number ≡ Some s
-    → slice_get (shapes_from app bank start ss) number ≡ Some (shape_of app bank (start + number) s)
+    → slice_get (shapes_from app bank start ss) number ≡ Some (storage_shape app bank (start + number) s)
 by_number app bank start number [] s e = absurd (not_some s e)
 by_number app bank start zero (x ∷ xs) s e =
     let zeroth : start ≡ start + 0 = omega arith in
-    subst (λ (n : ℕ). Some (shape_of app bank start x) ≡ Some (shape_of app bank n s)) zeroth
-    (ap (λ (y : StorageData). Some (shape_of app bank start y)) (same_some x s e))
+    subst (λ (n : ℕ). Some (storage_shape app bank start x) ≡ Some (storage_shape app bank n s)) zeroth
+    (ap (λ (y : StorageData). Some (storage_shape app bank start y)) (same_some x s e))
 by_number app bank start (suc number) (x ∷ xs) s e =
     let next : suc start + number ≡ start + suc number = omega arith in
-    subst (λ (n : ℕ). slice_get (shapes_from app bank (suc start) xs) number ≡ Some (shape_of app bank n s)) next
+    subst (λ (n : ℕ). slice_get (shapes_from app bank (suc start) xs) number ≡ Some (storage_shape app bank n s)) next
     (by_number app bank (suc start) number xs s e)
 
 pub number_in : (app bank number : ℕ) (ss : List StorageData) (s : StorageData) → slice_get ss number ≡ Some s
-    → slice_get (shapes_from app bank 0 ss) number ≡ Some (shape_of app bank number s)
+    → slice_get (shapes_from app bank 0 ss) number ≡ Some (storage_shape app bank number s)
 number_in app bank number ss s e =
     let zeroth : 0 + number ≡ number = omega arith in
-    subst (λ (n : ℕ). slice_get (shapes_from app bank 0 ss) number ≡ Some (shape_of app bank n s)) zeroth
+    subst (λ (n : ℕ). slice_get (shapes_from app bank 0 ss) number ≡ Some (storage_shape app bank n s)) zeroth
     (by_number app bank 0 number ss s e)
 
 get_below : {A : Type 0} (xs : List A) (n : ℕ) (x : A) → slice_get xs n ≡ Some x → n < length xs
@@ -109,7 +109,7 @@ get_joined (z ∷ zs) ys (suc n) x e = get_joined zs ys n x e
 module _ (app g number : ℕ) (active : Named) (previous : Option Named) (s : StorageData) (lt : app < 8)
     (there : slice_get active.deployment.storages number ≡ Some s) where
   abbrev its : Shape
-  its = shape_of app active.bank number s
+  its = storage_shape app active.bank number s
 
   its_number : number < length active.deployment.storages
   its_number = get_below active.deployment.storages number s there
@@ -120,8 +120,8 @@ module _ (app g number : ℕ) (active : Named) (previous : Option Named) (s : St
       (number_in app active.bank number active.deployment.storages s there)
 
   module _ (P : Shape → Type 0) (each : (bank i : ℕ) (t : StorageData) → bank ≤ 1 → i < 16
-      → (bank ≡ active.bank → i ≡ number → ⊥) → IsStorage t → P (shape_of app bank i t)) where
-    its_bank : IsPlaced active → AllBut P (shapes_in app active) number
+      → (bank ≡ active.bank → i ≡ number → ⊥) → IsStorage t → P (storage_shape app bank i t)) where
+    its_bank : IsInBank active → AllBut P (shapes_in app active) number
     its_bank is = let keeps = is.keeps in let few = keeps.few in
         but_from app active.bank P 0 number active.deployment.storages
         (λ i t lti differs is_storage. each active.bank i t is.in_bank lti (λ same e. differs (omega (arith, e)))
@@ -148,7 +148,7 @@ module _ (app g number : ℕ) (active : Named) (previous : Option Named) (s : St
 -- ---- one storage is on its way
 
 module _ (untouched : UntouchedLaw) (start : Image) (c : Case) (damaged : List ℕ) (image : Image) (shape : Shape)
-    (after : State) (kept : IsKeptCase shape start after c) where
+    (after : State) (kept : IsKeptMending shape start after c) where
   pub record StayBut (shapes : List Shape) (k : ℕ) : Type 0 where
     pub kept_all : AreKept image damaged shapes (map (store_at start) shapes)
         (slice_set (map (store_at start) shapes) k after)
@@ -159,14 +159,14 @@ module _ (untouched : UntouchedLaw) (start : Image) (c : Case) (damaged : List �
       → AllBut (λ other. IsSettledOn (IsOfPlace other.place) start c) shapes k → StayBut shapes k
   stay_but [] k is covers fit clean others = absurd (not_some shape is)
   stay_but (s ∷ ss) zero is covers fit clean others =
-      let it = subst (λ (x : Shape). IsKeptCase x start after c) (sym (same_some s shape is)) kept covers.sound.0
-      damaged image covers.decayed.0 in
+      let it = subst (λ (x : Shape). IsKeptMending x start after c) (sym (same_some s shape is)) kept
+      covers.sound.0.no_twins covers.sound.0.pieces damaged image covers.decayed.0 in
       let rest = stay untouched start c damaged image ss (map (store_at start) ss) (length-map ss (store_at start))
       (record { sound = covers.sound.1; decayed = covers.decayed.1 }) fit.1 clean.1 others in
       record { kept_all = (it.kept, rest.kept); all_clean = (it.clean, rest.clean) }
   stay_but (s ∷ ss) (suc k) is covers fit clean others =
-      let it = untouched s start (store_at start s) c fit.0 clean.0 others.0 covers.sound.0 damaged image
-      covers.decayed.0 in
+      let it = untouched s start (store_at start s) c fit.0 clean.0 others.0 covers.sound.0.pieces damaged
+      image covers.decayed.0 in
       let rest = stay_but ss k is (record { sound = covers.sound.1; decayed = covers.decayed.1 }) fit.1 clean.1 others.1
       in
       record { kept_all = (it.kept, rest.kept_all); all_clean = (it.clean, rest.all_clean) }
@@ -181,7 +181,7 @@ module _ (versions_law : (image : Image) (app : ℕ) → AreVersions (says_at im
     few_storages : number < 16
     few_storages = go previous versions
       where
-        count : IsPlaced active → number < 16
+        count : IsInBank active → number < 16
         count is = let keeps = is.keeps in let few = keeps.few in let its =
             its_number app g number active previous s lt there in omega (arith, few, its)
 
@@ -197,26 +197,26 @@ module _ (versions_law : (image : Image) (app : ℕ) → AreVersions (says_at im
         go (Some v) is = is.of_active.in_bank
 
     others_beside : (bank i : ℕ) (t : StorageData) → bank ≤ 1 → i < 16 → (bank ≡ active.bank → i ≡ number → ⊥) → (f : ℕ)
-        → IsOfPlace (shape_of app bank i t).place f
+        → IsOfPlace (storage_shape app bank i t).place f
         → IsFileOf app f × IsBeside app active.bank number f
     others_beside bank i t ltb lti differs f of = (
       storage_own app bank i t lt ltb lti f of,
       storage_beside app bank i t lt ltb lti active.bank number f active_bank few_storages differs of,
     )
 
-    shape_is : slice_get (shapes_named app (says_at start app)) number ≡ Some (shape_of app active.bank number s)
+    shape_is : slice_get (shapes_named app (says_at start app)) number ≡ Some (storage_shape app active.bank number s)
     shape_is = ap (λ (x : Says). slice_get (shapes_named app x) number) says
         ∙ its_shape app g number active previous s lt there
 
     others_by : (P : Shape → Type 0) → ((bank i : ℕ) (t : StorageData) → bank ≤ 1 → i < 16
-        → (bank ≡ active.bank → i ≡ number → ⊥) → IsStorage t → P (shape_of app bank i t))
+        → (bank ≡ active.bank → i ≡ number → ⊥) → IsStorage t → P (storage_shape app bank i t))
         → AllBut P (shapes_named app (says_at start app)) number
     others_by P each = subst (λ (x : Says). AllBut P (shapes_named app x) number) (sym says)
         (but_named app g number active previous s lt there P each versions)
 
     pub storing : UntouchedLaw → IsCleanApp app start → (after : State) (c : Case)
         → IsSettledOn (λ file. IsFileOf app file × IsBeside app active.bank number file) start c
-        → IsKeptCase (shape_of app active.bank number s) start after c
+        → IsKeptMending (storage_shape app active.bank number s) start after c
         → StandsCase app (app_at start app) (record (app_at start app) {
           states =
               slice_set (app_at start app).states number after;
@@ -226,7 +226,7 @@ module _ (versions_law : (image : Image) (app : ℕ) → AreVersions (says_at im
         let others = others_by (λ other. IsSettledOn (IsOfPlace other.place) start c)
         (λ bank i t ltb lti differs is. settled_less (λ f of. others_beside bank i t ltb lti differs f of) settled) in
         let both = λ (e : says_at image app ≡ says_at start app).
-        stay_but untouched start c damaged image (shape_of app active.bank number s) after kept
+        stay_but untouched start c damaged image (storage_shape app active.bank number s) after kept
         (shapes_named app (says_at start app)) number shape_is
         (named_covers app c sound damaged image decays (says_at start app) e) fit clean.storages others in
         stands_resting untouched app start c clean fit sound damaged image decays
@@ -274,17 +274,19 @@ module _ (versions_law : (image : Image) (app : ℕ) → AreVersions (says_at im
 
         pub stored : (app_at new app ≡ record (app_at start app) {
           states =
-              slice_set (app_at start app).states number (store_at new (shape_of app active.bank number s));
+              slice_set (app_at start app).states number (store_at new (storage_shape app active.bank number s));
         })
-            × (IsCleanApp app start → IsClean (shape_of app active.bank number s) new → IsCleanApp app new)
+            × (IsCleanApp app start → IsClean (storage_shape app active.bank number s) new → IsCleanApp app new)
         stored = (
           app_becomes app start new root_spared standing_law
-              (slice_set (app_at start app).states number (store_at new (shape_of app active.bank number s)))
-              (stored_states (shapes_named app (says_at start app)) number (shape_of app active.bank number s) shape_is
+              (slice_set (app_at start app).states number (store_at new (storage_shape app active.bank number s)))
+              (stored_states (shapes_named app (says_at start app)) number
+              (storage_shape app active.bank number s) shape_is
               others_spared
-              ∙ ap (λ (xs : List State). slice_set xs number (store_at new (shape_of app active.bank number s)))
+              ∙ ap (λ (xs : List State). slice_set xs number (store_at new (storage_shape app active.bank number s)))
               (sym (app_states start app))),
           λ clean it. app_clean_by app start new root_spared standing_law
-              (stored_clean (shapes_named app (says_at start app)) number (shape_of app active.bank number s) shape_is
+              (stored_clean (shapes_named app (says_at start app)) number
+              (storage_shape app active.bank number s) shape_is
               others_spared clean.storages it) clean.root,
         )

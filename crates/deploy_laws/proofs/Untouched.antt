@@ -23,7 +23,8 @@ use Rattle.element_state.specs.Clean.{IsPiece}
 use Rattle.element_laws.specs.Phases.{IsOfPlace, UntouchedLaw}
 use Rattle.root_text.specs.RootText.{Root, root_of}
 use Rattle.deploy_laws.specs.Places.{root_place}
-use Rattle.deploy_laws.specs.Apps.{Says, nothing, absent, installed, App, says_by, says_in, says_at, app_at, lacking_in}
+use Rattle.deploy_laws.specs.Apps.{Says, nothing, absent, installed, App, says_by, says_in, says_at, app_at}
+use Rattle.deploy_laws.specs.Apps.{root_lacking}
 use Rattle.deploy_laws.specs.Apps.{shapes_named, IsCleanRoot, IsCleanApp, AreClean}
 use Rattle.deploy_laws.specs.Pieces.{IsSoundApp, DecaysApp}
 use Rattle.deploy_laws.proofs.Covered.{root_sound, root_decays, named_covers}
@@ -80,13 +81,14 @@ module _ (app : ℕ) (start : Image) (clean : IsCleanApp app start) (damaged : L
 
   -- the copies that lack the root are those that do not hold what stood
   lacks : (seen : Seen) → standing start (root_place app) 2 ≡ Some seen → (says : Says) → ¬ (says ≡ nothing)
-      → lacking_in start app says (standing start (root_place app) 2)
+      → root_lacking start app says (standing start (root_place app) 2)
       ≡ lacking start (root_place app) seen.generation seen.text
   lacks seen e nothing some = absurd (some refl)
-  lacks seen e (absent g) some = ap (lacking_in start app (absent g)) e
-  lacks seen e (installed g active previous) some = ap (lacking_in start app (installed g active previous)) e
+  lacks seen e (absent g) some = ap (root_lacking start app (absent g)) e
+  lacks seen e (installed g active previous) some = ap (root_lacking start app (installed g active previous)) e
 
-  app_parts : (app_at start app).lacking ≡ lacking_in start app (says_at start app) (standing start (root_place app) 2)
+  app_parts : (app_at start app).lacking ≡ root_lacking start app (says_at start app)
+      (standing start (root_place app) 2)
   unfolding app_at
   app_parts = refl
 

@@ -35,10 +35,10 @@ pub record App : Type 0 where
   pub states : List State
 
 -- a root that says nothing has none
-abbrev pub generation_of : Says → ℕ
-generation_of nothing = 0
-generation_of (absent g) = g
-generation_of (installed g active previous) = g
+abbrev pub says_generation : Says → ℕ
+says_generation nothing = 0
+says_generation (absent g) = g
+says_generation (installed g active previous) = g
 
 -- ---- reading an image
 
@@ -60,19 +60,19 @@ unfoldable pub says_at : Image → ℕ → Says
 says_at image app = says_in (standing image (root_place app) 2)
 
 -- the copies that lack the text that stands, of a root that says something
-abbrev pub lacking_in : Image → ℕ → Says → Option Seen → List ℕ
-lacking_in image app nothing seen = []
-lacking_in image app (absent g) None = []
-lacking_in image app (absent g) (Some seen) = lacking image (root_place app) seen.generation seen.text
-lacking_in image app (installed g active previous) None = []
-lacking_in image app (installed g active previous) (Some seen) =
+abbrev pub root_lacking : Image → ℕ → Says → Option Seen → List ℕ
+root_lacking image app nothing seen = []
+root_lacking image app (absent g) None = []
+root_lacking image app (absent g) (Some seen) = lacking image (root_place app) seen.generation seen.text
+root_lacking image app (installed g active previous) None = []
+root_lacking image app (installed g active previous) (Some seen) =
     lacking image (root_place app) seen.generation seen.text
 
 -- the application, on every image
 unfoldable pub app_at : Image → ℕ → App
 app_at image app = record {
   says = says_at image app;
-  lacking = lacking_in image app (says_at image app) (standing image (root_place app) 2);
+  lacking = root_lacking image app (says_at image app) (standing image (root_place app) 2);
   states = map (store_at image) (shapes_named app (says_at image app));
 }
 
@@ -83,21 +83,21 @@ root_sole image app = nat_le (length (held image (root_place app))) 1
 -- ---- versions
 
 -- the version is in a bank and keeps what every deployment keeps
-pub record IsPlaced (v : Named) : Type 0 where
+pub record IsInBank (v : Named) : Type 0 where
   pub in_bank : v.bank ≤ 1
   pub keeps : IsDeployment v.deployment
 
 -- the version before it is in the other bank
-pub record ArePlaced (active previous : Named) : Type 0 where
-  pub of_active : IsPlaced active
-  pub of_previous : IsPlaced previous
+pub record AreInTwoBanks (active previous : Named) : Type 0 where
+  pub of_active : IsInBank active
+  pub of_previous : IsInBank previous
   pub apart : previous.bank ≡ 1 - active.bank
 
 abbrev pub AreVersions : Says → Type 0
 AreVersions nothing = ⊤
 AreVersions (absent g) = ⊤
-AreVersions (installed g active None) = IsPlaced active
-AreVersions (installed g active (Some previous)) = ArePlaced active previous
+AreVersions (installed g active None) = IsInBank active
+AreVersions (installed g active (Some previous)) = AreInTwoBanks active previous
 
 -- no version that it names is in this bank
 abbrev pub IsFree : (bank : ℕ) → Says → Type 0

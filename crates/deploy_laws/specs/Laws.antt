@@ -13,12 +13,12 @@ use Rattle.guarded_cell.specs.Stops.{PutStops, FormatStops}
 use Rattle.deployment_model.specs.Data.{StorageData}
 use Rattle.element_state.specs.declared.shapes.Shape.{Shape}
 use Rattle.element_state.specs.Clean.{IsPiece, IsSound, IsClean}
-use Rattle.element_state.specs.Kept.{IsKeptCase}
+use Rattle.element_state.specs.Kept.{IsKeptMending}
 use Rattle.element_state.specs.States.{State, store_at}
 use Rattle.element_laws.specs.Phases.{IsOfPlace}
 use Rattle.root_text.specs.RootText.{Root, root_of}
 use Rattle.root_text.specs.RootText as text
-use Rattle.deploy_laws.specs.Places.{Named, root_place, first_file, storage_file, shape_of, shapes_in, IsFileOf}
+use Rattle.deploy_laws.specs.Places.{Named, root_place, first_file, storage_file, storage_shape, shapes_in, IsFileOf}
 use Rattle.deploy_laws.specs.Places.{IsNoFileOf, IsNoRootFile, IsBeside, IsOutsideBank}
 use Rattle.deploy_laws.specs.Apps.{Says, nothing, absent, installed, App, says_by, says_at, app_at, shapes_named}
 use Rattle.deploy_laws.specs.Apps.{AreVersions, IsFree, AreClean, AreOn, IsCleanApp}
@@ -44,7 +44,7 @@ SaysFrameLaw = (app : ℕ) (old new : Image) → Spares (IsOfPlace (root_place a
 -- the storages of a version, by their numbers
 abbrev pub NumberLaw : Type 0
 NumberLaw = (app number : ℕ) (v : Named) (s : StorageData) → slice_get v.deployment.storages number ≡ Some s
-    → slice_get (shapes_in app v) number ≡ Some (shape_of app v.bank number s)
+    → slice_get (shapes_in app v) number ≡ Some (storage_shape app v.bank number s)
 
 -- where a root's text is held alone, the application is what it says
 abbrev pub AloneLaw : Type 0
@@ -71,7 +71,7 @@ RootFilesLaw = (app file : ℕ) → app < 8 → IsOfPlace (root_place app) file
 -- and each storage of a bank 32
 abbrev pub StorageFilesLaw : Type 0
 StorageFilesLaw = (app bank number file : ℕ) (s : StorageData) → app < 8 → bank ≤ 1 → number < 16
-    → IsOfPlace (shape_of app bank number s).place file
+    → IsOfPlace (storage_shape app bank number s).place file
     → (storage_file app bank number ≤ file) × (file < storage_file app bank number + 32)
 
 -- a file that is not among the root's is no slot of it
@@ -82,7 +82,7 @@ RootSlotsLaw = (app file : ℕ) → app < 8 → IsNoRootFile app file → IsNoSl
 abbrev pub BesideLaw : Type 0
 BesideLaw = (app bank number file : ℕ) (s : StorageData) → app < 8 → bank ≤ 1 → number < 16
     → IsBeside app bank number file
-    → IsOutside (shape_of app bank number s).place file
+    → IsOutside (storage_shape app bank number s).place file
 
 -- where files of the root alone change, each storage that a root may name is as it was
 abbrev pub RootAloneLaw : Type 0
@@ -103,17 +103,17 @@ StoredLaw = (app g number : ℕ) (old new : Image) (active : Named) (previous : 
     → Spares (λ file. IsFileOf app file × IsBeside app active.bank number file) old new
     → (app_at new app ≡ record (app_at old app) {
       states =
-          slice_set (app_at old app).states number (store_at new (shape_of app active.bank number s));
+          slice_set (app_at old app).states number (store_at new (storage_shape app active.bank number s));
     })
-    × (IsCleanApp app old → IsClean (shape_of app active.bank number s) new → IsCleanApp app new)
+    × (IsCleanApp app old → IsClean (storage_shape app active.bank number s) new → IsCleanApp app new)
 
 -- the files of one application are none of another's
 abbrev pub ApartLaw : Type 0
 ApartLaw = (one other file : ℕ) → ¬ (one ≡ other) → IsFileOf other file → IsNoFileOf one file
 
 -- what spares all files but those of one application leaves another one as it was
-abbrev pub OthersLaw : Type 0
-OthersLaw = (one other : ℕ) (old new : Image) → other < 8 → ¬ (one ≡ other) → Spares (IsNoFileOf one) old new
+abbrev pub OtherApplicationsLaw : Type 0
+OtherApplicationsLaw = (one other : ℕ) (old new : Image) → other < 8 → ¬ (one ≡ other) → Spares (IsNoFileOf one) old new
     → (app_at new other ≡ app_at old other) × (IsCleanApp other old → IsCleanApp other new)
 
 -- and at every moment its files are settled
@@ -169,7 +169,7 @@ OpeningLaw = (app : ℕ) (seen : Seen) (start : Image) (after : App) (c : Case) 
     → PutStops (root_place app) seen.generation seen.text start c
     → IsLater (app_at start app) after → StandsCase app (app_at start app) after c
 
--- a bad root is made anew
+-- a bad root is formatted
 abbrev pub FormattingLaw : Type 0
 FormattingLaw = (app : ℕ) (next : List ℕ) (start : Image) (c : Case) → IsCleanApp app start
     → says_at start app ≡ nothing → root_of next ≡ Some text.absent
@@ -199,7 +199,7 @@ StoringLaw = (app g number : ℕ) (start : Image) (active : Named) (previous : O
     → app < 8 → IsCleanApp app start → says_at start app ≡ installed g active previous
     → slice_get active.deployment.storages number ≡ Some s
     → IsSettledOn (λ file. IsFileOf app file × IsBeside app active.bank number file) start c
-    → IsKeptCase (shape_of app active.bank number s) start after c
+    → IsKeptMending (storage_shape app active.bank number s) start after c
     → StandsCase app (app_at start app) (record (app_at start app) {
       states =
           slice_set (app_at start app).states number after;

@@ -21,8 +21,8 @@ some_copies copies = omega arith
 pub few_copies : (copies : ℕ) → cut_copies copies ≤ 8
 few_copies copies = omega arith
 
-pub has_room : (first copies : ℕ) → cut_first first + 4 * cut_copies copies ≤ 4294967295
-has_room first copies = omega arith
+pub cut_has_room : (first copies : ℕ) → cut_first first + 4 * cut_copies copies ≤ 4294967295
+cut_has_room first copies = omega arith
 
 abbrev pub place_at : (first copies : ℕ) → Place
 place_at first copies = record {
@@ -30,7 +30,7 @@ place_at first copies = record {
   copies = cut_copies copies;
   some = some_copies copies;
   few = few_copies copies;
-  room = has_room first copies;
+  room = cut_has_room first copies;
 }
 
 -- the files of an application are 4096 from here on
@@ -46,8 +46,8 @@ storage_file app bank number = first_file app + 1024 + 512 * bank + 32 * number
 
 -- ---- shapes
 
-unfoldable pub shape_of : (app bank number : ℕ) → StorageData → Shape
-shape_of app bank number s = record {
+unfoldable pub storage_shape : (app bank number : ℕ) → StorageData → Shape
+storage_shape app bank number s = record {
   name = s.name;
   place = place_at (storage_file app bank number) s.n;
   kind = s.kind;
@@ -58,7 +58,7 @@ shape_of app bank number s = record {
 
 abbrev pub shapes_from : (app bank number : ℕ) → List StorageData → List Shape
 shapes_from app bank number [] = []
-shapes_from app bank number (s ∷ ss) = shape_of app bank number s ∷ shapes_from app bank (suc number) ss
+shapes_from app bank number (s ∷ ss) = storage_shape app bank number s ∷ shapes_from app bank (suc number) ss
 
 -- a version, in its bank
 pub record Named : Type 0 where

@@ -26,7 +26,7 @@ use Rattle.element_state.specs.Views.{entry_view, view_of}
 use Rattle.element_state.specs.States.{Opens, Corrupt, store_at}
 use Rattle.root_text.specs.RootText.{Root, root_of, root_in}
 use Rattle.root_text.specs.RootText as text
-use Rattle.deploy_laws.specs.Places.{root_place, shape_of}
+use Rattle.deploy_laws.specs.Places.{root_place, storage_shape}
 use Rattle.deploy_laws.specs.Apps.{Says, nothing, absent, installed, App, says_by, says_at, app_at, shapes_named}
 use Rattle.deploy_laws.specs.Apps.{root_sole}
 use Rattle.deploy_laws.specs.Laws.{AloneLaw}
@@ -37,7 +37,7 @@ unfolding voted sealed numbered verified generation_in length_in held_in_first s
     entry_text
     index_of header_at entry_at name_at info_at changed_at len_at many bytes_at number_at fit_index fit_texts entry_view
     view_of store_at sha256 digest_bytes hash_after compress rounds schedule first_words root_of root_in says_at app_at
-    shapes_named shape_of
+    shapes_named storage_shape
 computed = 0
 
 abbrev without : Says → List ℕ → App
@@ -113,7 +113,7 @@ abbrev favourites : DeploymentData
 favourites = record { version = 1; storages = fav ∷ [] }
 
 -- its storage is from file 1024 on
-place_of_fav : (shape_of 0 0 0 fav).place.first ≡ 1024
+place_of_fav : (storage_shape 0 0 0 fav).place.first ≡ 1024
 unfolding computed
 place_of_fav = refl
 
@@ -123,7 +123,7 @@ installed_app : AloneLaw → (image : Image) (manifest root : List ℕ)
     → IsAlone image (root_place 0) 2 root → app_at image 0 ≡ record {
       says = installed 2 (record { bank = 0; deployment = favourites }) None;
       lacking = [];
-      states = store_at image (shape_of 0 0 0 fav) ∷ [];
+      states = store_at image (storage_shape 0 0 0 fav) ∷ [];
     }
 unfolding shapes_named
 installed_app alone image manifest root is held = alone 0 2 root image held ∙ ap (λ (r : Option Root). record {
@@ -166,11 +166,12 @@ seen content lacking = record {
 }
 
 -- one spoiled area is a copy that lacks the storage; with two it is corrupt, and what is left is its salvage
-one_spoiled : store_at (spoiled (1026 ∷ [])) (shape_of 0 0 0 fav) ≡ Opens (seen (Good (3 ∷ 9 ∷ 0 ∷ [])) (1 ∷ [])) []
+one_spoiled : store_at (spoiled (1026 ∷ [])) (storage_shape 0 0 0 fav)
+    ≡ Opens (seen (Good (3 ∷ 9 ∷ 0 ∷ [])) (1 ∷ [])) []
 unfolding computed
 one_spoiled = refl
 
-two_spoiled : store_at (spoiled (1026 ∷ 1030 ∷ [])) (shape_of 0 0 0 fav)
+two_spoiled : store_at (spoiled (1026 ∷ 1030 ∷ [])) (storage_shape 0 0 0 fav)
     ≡ Corrupt (Some (seen (Bad (Some (3 ∷ 9 ∷ 0 ∷ []))) (1 ∷ 2 ∷ []))) []
 unfolding computed
 two_spoiled = refl

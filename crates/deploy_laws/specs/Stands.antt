@@ -8,7 +8,8 @@ use Rattle.element_state.specs.declared.shapes.Shape.{Shape}
 use Rattle.element_state.specs.States.{State, store_at}
 use Rattle.element_state.specs.Kept.{Kept}
 use Rattle.deploy_laws.specs.Places.{root_place}
-use Rattle.deploy_laws.specs.Apps.{nothing, App, says_at, app_at, shapes_named, generation_of, IsCleanRoot, IsCleanApp}
+use Rattle.deploy_laws.specs.Apps.{nothing, App, says_at, app_at, shapes_named, says_generation, IsCleanRoot}
+use Rattle.deploy_laws.specs.Apps.{IsCleanApp}
 use Rattle.deploy_laws.specs.Apps.{AreClean}
 use Rattle.deploy_laws.specs.Pieces.{IsSoundApp, DecaysApp}
 
@@ -61,4 +62,4 @@ StandsThroughout app after old new = Quiet old → IsCleanApp app old.image
 -- under the same root it has as many storages, and another root has a greater generation
 pub data IsLater (before after : App) : Type 0 where
   same_root : after.says ≡ before.says → length after.states ≡ length before.states → IsLater before after
-  next_root : generation_of before.says < generation_of after.says → IsLater before after
+  next_root : says_generation before.says < says_generation after.says → IsLater before after

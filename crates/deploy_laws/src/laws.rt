@@ -12,7 +12,8 @@ ghost use Rattle.deploy_laws.specs.Apps.{App, IsCleanApp, IsFree, app_at, nothin
 ghost use Rattle.deploy_laws.specs.Stands.{IsRootSpared, Stands};
 ghost use Rattle.deploy_laws.specs.Laws.{VersionsLaw, SaysFrameLaw, AloneFrameLaw, NumberLaw, AloneLaw, AloneCleanLaw};
 ghost use Rattle.deploy_laws.specs.Laws.{RootFilesLaw, RootSlotsLaw, StorageFilesLaw, BesideLaw, ApartLaw};
-ghost use Rattle.deploy_laws.specs.Laws.{RootAloneLaw, AppFrameLaw, StoredLaw, OthersLaw, OthersCaseLaw, CoveredLaw};
+ghost use Rattle.deploy_laws.specs.Laws.{RootAloneLaw, AppFrameLaw, StoredLaw, OtherApplicationsLaw, OthersCaseLaw};
+ghost use Rattle.deploy_laws.specs.Laws.{CoveredLaw};
 ghost use Rattle.deploy_laws.specs.Laws.{RootStandsLaw, StandsCleanLaw, RootMendLaw, UntouchedAppLaw, StillAppLaw};
 ghost use Rattle.deploy_laws.specs.Laws.{OpeningLaw, FormattingLaw, CreatingLaw, WritingLaw, StoringLaw};
 ghost use Rattle.deploy_laws.specs.Refused.{OldVersionLost, OtherRoot, RootRaised, RootTooEarly, StorageStrays};
@@ -58,7 +59,7 @@ pub fn others_stand()
         → (app_at new app ≡ app_at old app) × (IsCleanApp app old → IsCleanApp app new) }
     ensures stored { StoredLaw }
     ensures root { RootAloneLaw }
-    ensures others { OthersLaw }
+    ensures others { OtherApplicationsLaw }
     ensures cases { OthersCaseLaw }
 {
     said_is_kept();
@@ -87,7 +88,7 @@ pub fn untouched_stands()
     untouched_is_kept();
 }
 
-/// A stop while the root is brought to every copy, while a bad root is made anew, while storages are made in a bank in
+/// A stop while the root is brought to every copy, while a bad root is formatted, while storages are made in a bank in
 /// which no version is, and while the root is written, leaves the application as before or as after.
 pub fn deploying_stands()
     ensures opening { OpeningLaw }

@@ -13,7 +13,7 @@ use Rattle.migrate_fns.specs.Rules as fns
 use Rattle.deploy_laws.specs.Apps.{Says, nothing, absent, installed, App, app_at}
 use Rattle.deploy_laws.specs.Places.{Named}
 use Rattle.deploy_laws.specs.Refused.{RootTooEarly}
-use Rattle.deploy_rows.specs.Rows.{Answers, BeginsWith, InProgress, Offer, offered}
+use Rattle.deploy_rows.specs.Rows.{AnswersRow, BeginsWith, InProgress, Offer, offered}
 use Rattle.deploy.specs.declared.errors.Stop.{Stop}
 use Rattle.deploy.specs.declared.updating.Begin.{Begin}
 use Rattle.deploy.specs.Roots.{root_says}
@@ -80,7 +80,7 @@ pub due_wants_memory : DueWantsMemory
 due_wants_memory busy manifest g v p root result due says err =
     ok_or_err result _ (due (unfinished p) (not_offered busy manifest (root_says root) [] [] g v p says) tt) err
 
-not_done : (row : Result InProgress PerError) (e : PerError) → IsErrOf row e → Answers None row → ⊥
+not_done : (row : Result InProgress PerError) (e : PerError) → IsErrOf row e → AnswersRow None row → ⊥
 not_done (Ok p) e err answered = absurd cc
 not_done (Err f) e err answered = answered
 
@@ -89,7 +89,7 @@ refused_done rules answers told now busy manifest app g old new v p root o updat
     let begins = subst (λ (r : Result Offer PerError). BeginsWith rules answers now updated.states r updated.row)
     (not_offered busy manifest (root_says root) [] updated.states g v p says) updated.begins in
     not_done updated.row (unfinished p) begins
-    (subst (λ (r : Option PerError). Answers r updated.row) none updated.refused)
+    (subst (λ (r : Option PerError). AnswersRow r updated.row) none updated.refused)
 
 one_more_is : (n b : ℕ) (less : Bool) → less ≡ true → cond less (suc b) b ≡ suc b
 one_more_is n b less is = ap (λ (t : Bool). cond t (suc b) b) is

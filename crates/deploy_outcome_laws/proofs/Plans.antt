@@ -24,9 +24,9 @@ use Rattle.migrate_fns.specs.Rules as fns
 use Rattle.update_plan.specs.declared.contents.StorageContents.{StorageContents}
 use Rattle.update_plan.specs.declared.contents.StorageContents.TheVariants.{Damaged}
 use Rattle.update_plan.specs.Plans.{Continues, PlansAll, PlansFor, stored_for}
-use Rattle.deploy_rows.specs.Recovering.{if_fits, is_content, recovered_contents, recovering, rescued}
+use Rattle.deploy_rows.specs.Recovering.{if_contents_fit, is_content, recovered_contents, recovering, rescued}
 use Rattle.deploy_rows.specs.Recovering.{rescued_as}
-use Rattle.deploy_rows.specs.Rows.{BeginsWith, InProgress, Offer, begun, stored_in}
+use Rattle.deploy_rows.specs.Rows.{BeginsWith, InProgress, Offer, begun, contents_stored}
 use Rattle.deploy_outcome_laws.specs.Rows.{GenerationsFirst, InitialWhereConverted, OtherBankRead}
 use Rattle.deploy_outcome_laws.specs.Rows.{UnreadableKept}
 
@@ -47,10 +47,10 @@ module _ (rules : List Rule) (answers : fns.Answers) (now : ℕ) where
   refused : (states : List State) (o : Offer) (s : StorageData) (ss : List StorageData)
       (result : Result InProgress PerError)
       → BeginsWith rules answers now states (Ok o) result → o.deployment.storages ≡ s ∷ ss
-      → stored_for o.active.deployment (stored_in o.active.deployment.storages states) s ≡ Damaged
+      → stored_for o.active.deployment (contents_stored o.active.deployment.storages states) s ≡ Damaged
       → result ≡ Err (damaged s)
   refused states o s ss result begins are is =
-      let stored = stored_for o.active.deployment (stored_in o.active.deployment.storages states) in
+      let stored = stored_for o.active.deployment (contents_stored o.active.deployment.storages states) in
       let plan = begins.0 in
       let planned = subst (λ (xs : List StorageData). PlansAll rules answers now stored xs plan) are begins.1 in
       begins.2 ∙ ap (begun o) (damaged_first stored s ss plan is planned)
@@ -125,7 +125,7 @@ unfolding recovering
 unreadable_kept s now g view e bytes others f next keys one good none nothing row is =
     let no : recovered_contents s now (Some view) ≡ [] = filtered_none (rescued_of s now) e view.entries
     (rescues_none s now e bytes keys good none nothing) one in
-    let empty : if_fits s (Opens view others) [] ≡ Ok next =
-    sym (ap (λ (xs : List Fresh). if_fits s (Opens view others) xs) no) ∙ row in
+    let empty : if_contents_fit s (Opens view others) [] ≡ Ok next =
+    sym (ap (λ (xs : List Fresh). if_contents_fit s (Opens view others) xs) no) ∙ row in
     not_kept (view.generation + 1) g f
     (either_ok (nat_lt s.maximum 0) (is_worn view) _ _ _ next empty ∙ is)

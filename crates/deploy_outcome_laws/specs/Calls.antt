@@ -15,7 +15,7 @@ use Rattle.deploy_laws.specs.Apps.{App, installed, app_at, says_at, shapes_named
 use Rattle.deploy_laws.specs.Pieces.{IsSoundApp, DecaysApp}
 use Rattle.deploy_laws.specs.Places.{Named, root_place, storage_file}
 use Rattle.deploy_laws.specs.Stands.{StandsThroughout}
-use Rattle.deploy_rows.specs.Rows.{InProgress, Begins, offered}
+use Rattle.deploy_rows.specs.Rows.{InProgress, BeginsUpdate, offered}
 use Rattle.deploy.specs.declared.errors.Stop.{Stop}
 use Rattle.deploy.specs.declared.errors.Stop.TheVariants as stop
 use Rattle.deploy.specs.declared.roots.Outcome.{Outcome}
@@ -43,7 +43,7 @@ DueWantsMemory = (busy : Option (List ℕ)) (manifest : List ℕ) (g : ℕ) (act
 abbrev pub RefusedDone : List Rule → fns.Answers → Type 0
 RefusedDone rules answers = (told : Bool) (now : ℕ) (busy : Option (List ℕ))
     (manifest : List ℕ) (app g : ℕ) (old new : Image) (active previous : Named) (root : Root) (o : Outcome)
-    → IsUpdated told (Begins rules answers now busy manifest) app old new root o
+    → IsUpdated told (BeginsUpdate rules answers now busy manifest) app old new root o
     → root_says root ≡ installed g active (Some previous) → ¬ (o.refused ≡ None)
 
 -- a step makes a storage, and counts it as not made

@@ -21,13 +21,14 @@ use Rattle.update_plan.specs.Fates.{Renews, converted}
 use Rattle.update_plan.specs.Plans.{stored_for}
 use Rattle.migrate_fns.specs.Rules.{ConvertsTo, Rule}
 use Rattle.migrate_fns.specs.Rules as fns
-use Rattle.deploy_laws.specs.Apps.{App, nothing, absent, installed, app_at, ArePlaced}
+use Rattle.deploy_laws.specs.Apps.{App, nothing, absent, installed, app_at, AreInTwoBanks}
 use Rattle.deploy_laws.specs.Places.{Named}
 use Rattle.deploy_rows.specs.Recovering.{recovering}
-use Rattle.deploy_rows.specs.Rows.{InProgress, Offer, BeginsWith, after, finishing, reopened, rolling_back, stored_in}
+use Rattle.deploy_rows.specs.Rows.{InProgress, Offer, BeginsWith, after, finishing, reopened, rolling_back}
+use Rattle.deploy_rows.specs.Rows.{contents_stored}
 use Rattle.deploy_rows.specs.Rows.{updated_app, wiping}
 
--- an opening makes a bad root anew
+-- an opening formats a bad root
 abbrev pub BadRootAnew : Type 0
 BadRootAnew = (app generation : ℕ) (old new : Image) → app_at new app ≡ reopened (app_at old app)
     → (app_at old app).says ≡ nothing → ¬ ((app_at new app).says ≡ absent generation)
@@ -42,7 +43,7 @@ PreviousKept = (app h : ℕ) (old new : Image) (done : App) (active previous : N
 abbrev pub NewContentsKept : Type 0
 NewContentsKept = (app g h : ℕ) (busy : Option (List ℕ)) (old new : Image) (active previous : Named)
     → app_at new app ≡ after (app_at old app) (rolling_back busy (app_at old app))
-    → (app_at old app).says ≡ installed g active (Some previous) → ArePlaced active previous
+    → (app_at old app).says ≡ installed g active (Some previous) → AreInTwoBanks active previous
     → ¬ ((app_at new app).says ≡ installed h (record { bank = active.bank; deployment = previous.deployment }) None)
 
 -- a wipe leaves a copy of the root that lacks it
@@ -63,7 +64,7 @@ abbrev pub OtherBankRead : List Rule → fns.Answers → Type 0
 OtherBankRead rules answers = (now : ℕ) (states : List State) (o : Offer)
     (s : StorageData) (ss : List StorageData) (p : InProgress) (result : Result InProgress PerError)
     → BeginsWith rules answers now states (Ok o) result → o.deployment.storages ≡ s ∷ ss
-    → stored_for o.active.deployment (stored_in o.active.deployment.storages states) s ≡ Damaged
+    → stored_for o.active.deployment (contents_stored o.active.deployment.storages states) s ≡ Damaged
     → ¬ (result ≡ Ok p)
 
 -- that no generation is left is judged before the plan, which is refused
@@ -71,7 +72,7 @@ abbrev pub GenerationsFirst : List Rule → fns.Answers → Type 0
 GenerationsFirst rules answers = (now : ℕ) (states : List State) (o : Offer)
     (s : StorageData) (ss : List StorageData) (result : Result InProgress PerError)
     → BeginsWith rules answers now states (Ok o) result → o.deployment.storages ≡ s ∷ ss
-    → stored_for o.active.deployment (stored_in o.active.deployment.storages states) s ≡ Damaged
+    → stored_for o.active.deployment (contents_stored o.active.deployment.storages states) s ≡ Damaged
     → ¬ (result ≡ Err (error.LimitReached limit.Generations))
 
 -- a key gets another value, as its initial one, where a chain of converters is due: its bytes are none that they may

@@ -5,7 +5,7 @@ use Rattle.std.proofs.Common.{refl, subst, arith}
 use Rattle.per_base.specs.declared.errors.PerError.{PerError}
 use Rattle.deployment_model.specs.Data.{DeploymentData}
 use Rattle.element_state.specs.States.{State, greatest_generation}
-use Rattle.deploy_laws.specs.Apps.{Says, nothing, absent, installed, App, generation_of}
+use Rattle.deploy_laws.specs.Apps.{Says, nothing, absent, installed, App, says_generation}
 use Rattle.deploy_laws.specs.Stands.{IsLater, same_root, next_root}
 use Rattle.deploy_rows.specs.Rows.{◌>>=◌, not_worn, finishing, rolling_back, wiping, installing, installed_app}
 use Rattle.deploy_rows.specs.Rows.{deployment_of, InProgress, updated_app}
@@ -25,7 +25,7 @@ row_ok : (g : ℕ) (x b : App) → not_worn g (Ok x) ≡ Ok b → x ≡ b
 row_ok g x b is = worn_or (nat_le greatest_generation g) _ x b is
 
 -- a root of the next generation
-later_root : (a x b : App) → x ≡ b → generation_of x.says ≡ generation_of a.says + 1 → IsLater a b
+later_root : (a x b : App) → x ≡ b → says_generation x.says ≡ says_generation a.says + 1 → IsLater a b
 later_root a x b is next = subst (λ (y : App). IsLater a y) is (next_root (omega (arith, next)))
 
 abbrev app : Says → List ℕ → List State → App

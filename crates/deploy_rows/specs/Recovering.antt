@@ -12,7 +12,7 @@ use Rattle.per_base.specs.declared.errors.PerError.{PerError}
 use Rattle.per_base.specs.declared.errors.PerError.TheVariants as error
 use Rattle.per_base.specs.declared.errors.Limit.TheVariants as limit
 use Rattle.value_code.specs.Reading.{decoded}
-use Rattle.file_core.specs.Infos.{changed}
+use Rattle.file_core.specs.Infos.{info_changed}
 use Rattle.deployment_model.specs.Data.{StorageData}
 use Rattle.deployment_model.specs.Lookups.{initial_of}
 use Rattle.element_state.specs.declared.shapes.View.{View}
@@ -29,7 +29,7 @@ is_content Files bytes = true
 abbrev pub rescued_as : StorageData → ℕ → Entry → List ℕ → Fresh
 rescued_as s now e bytes = record {
   name = e.name;
-  info = option_map (changed now cause.Recovery) e.info;
+  info = option_map (info_changed now cause.Recovery) e.info;
   bytes =
       bytes;
 }
@@ -55,12 +55,12 @@ abbrev pub rebuilding : State → List Fresh → Result State PerError
 rebuilding state contents = cond (is_worn_out (salvage_of state)) (Err (error.LimitReached limit.Generations))
     (Ok (fresh_state (next_generation (salvage_of state)) (fresh_map contents)))
 
-abbrev pub if_fits : StorageData → State → List Fresh → Result State PerError
-if_fits s state contents = cond (nat_lt s.maximum (sum_by fresh_size contents))
+abbrev pub if_contents_fit : StorageData → State → List Fresh → Result State PerError
+if_contents_fit s state contents = cond (nat_lt s.maximum (sum_by fresh_size contents))
     (Err (error.OutOfStorageSpace (sum_by fresh_size contents) s.maximum)) (rebuilding state contents)
 
 unfoldable pub recovering : StorageData → ℕ → State → Result State PerError
-recovering s now state = if_fits s state (recovered_contents s now (salvage_of state))
+recovering s now state = if_contents_fit s state (recovered_contents s now (salvage_of state))
 
 unfoldable pub resetting : StorageData → ℕ → State → Result State PerError
 resetting s now state = rebuilding state (initial_contents s cause.Reset now)

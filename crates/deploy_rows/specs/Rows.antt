@@ -112,7 +112,7 @@ rolling_back busy a = elim a.says [
 abbrev pub empty_app : ℕ → App
 empty_app g = record { says = absent g; lacking = []; states = [] }
 
--- a bad root begins anew
+-- a bad root is formatted
 unfoldable pub wiping : (busy : Option (List ℕ)) → App → Result App PerError
 wiping busy a = not_busy busy (elim a.says [
   | nothing ↦ Ok (empty_app 1)
@@ -128,10 +128,11 @@ contents_of (Opens v others) = Present v.entries
 contents_of (Corrupt salvage others) = Damaged
 
 -- what is stored in the storages of a version; the states of further storages do not matter
-abbrev pub stored_in : List StorageData → List State → List Stored
-stored_in [] states = []
-stored_in (s ∷ ss) [] = []
-stored_in (s ∷ ss) (state ∷ states) = record { name = s.name; contents = contents_of state } ∷ stored_in ss states
+abbrev pub contents_stored : List StorageData → List State → List Stored
+contents_stored [] states = []
+contents_stored (s ∷ ss) [] = []
+contents_stored (s ∷ ss) (state ∷ states) = record { name = s.name; contents = contents_of state } ∷ contents_stored ss
+    states
 
 -- what an update starts from
 pub record Offer : Type 0 where
@@ -139,14 +140,14 @@ pub record Offer : Type 0 where
   pub active : Named
   pub deployment : DeploymentData
 
-abbrev pub newer : Named → ℕ → DeploymentData → Result Offer PerError
-newer active g d = cond (nat_le d.version active.deployment.version)
+abbrev pub newer_version : Named → ℕ → DeploymentData → Result Offer PerError
+newer_version active g d = cond (nat_le d.version active.deployment.version)
     (Err (error.VersionNotNewer active.deployment.version d.version))
     (Ok (record { generation = g; active = active; deployment = d }))
 
 abbrev pub offer_over : (busy : Option (List ℕ)) → List ℕ → ℕ → Named → Option Named → Result Offer PerError
 offer_over busy text g active (Some previous) = Err (error.UpdateNotFinished previous.deployment.version)
-offer_over busy text g active None = not_busy busy (deployment_of text >>= newer active g)
+offer_over busy text g active None = not_busy busy (deployment_of text >>= newer_version active g)
 
 -- the refusals before the plan
 unfoldable pub offered : (busy : Option (List ℕ)) → List ℕ → App → Result Offer PerError
@@ -170,14 +171,14 @@ abbrev pub BeginsWith : List Rule → fns.Answers → (now : ℕ) → List State
     → Result InProgress PerError → Type 0
 BeginsWith rules answers now states (Err e) result = IsErrOf result e
 BeginsWith rules answers now states (Ok o) result = (plan : Result (List (List Fresh)) PerError)
-    × PlansAll rules answers now (stored_for o.active.deployment (stored_in o.active.deployment.storages states))
+    × PlansAll rules answers now (stored_for o.active.deployment (contents_stored o.active.deployment.storages states))
     o.deployment.storages plan
     × (result ≡ begun o plan)
 
 -- an update begins: a refusal, or the contents of one plan
-abbrev pub Begins : List Rule → fns.Answers → (now : ℕ) → (busy : Option (List ℕ)) → List ℕ → App
+abbrev pub BeginsUpdate : List Rule → fns.Answers → (now : ℕ) → (busy : Option (List ℕ)) → List ℕ → App
     → Result InProgress PerError → Type 0
-Begins rules answers now busy text a result = BeginsWith rules answers now a.states (offered busy text a) result
+BeginsUpdate rules answers now busy text a result = BeginsWith rules answers now a.states (offered busy text a) result
 
 -- the application once an update in progress is committed: the new version in the other bank, and the old one after it
 -- as it was
@@ -193,18 +194,18 @@ updated_app p a = elim a.says [
 ]
 
 -- the row of an update in one call
-abbrev pub updated : App → Result InProgress PerError → Result App PerError
-updated a (Ok p) = Ok (updated_app p a)
-updated a (Err e) = Err e
+abbrev pub updated_row : App → Result InProgress PerError → Result App PerError
+updated_row a (Ok p) = Ok (updated_app p a)
+updated_row a (Err e) = Err e
 
 -- ---- answers
 
 -- a call answered a refusal exactly where the row has one
-abbrev pub Answers : {A : Type 0} → Option PerError → Result A PerError → Type 0
-Answers None (Ok x) = ⊤
-Answers None (Err e) = ⊥
-Answers (Some e) (Ok x) = ⊥
-Answers (Some e) (Err f) = f ≡ e
+abbrev pub AnswersRow : {A : Type 0} → Option PerError → Result A PerError → Type 0
+AnswersRow None (Ok x) = ⊤
+AnswersRow None (Err e) = ⊥
+AnswersRow (Some e) (Ok x) = ⊥
+AnswersRow (Some e) (Err f) = f ≡ e
 
 -- the application after a call: that of the row, or the same where it is refused
 abbrev pub after : App → Result App PerError → App
@@ -218,8 +219,9 @@ abbrev pub reopened : App → App
 reopened a = record a { lacking = [] }
 
 -- an application to which an update may lead, or the same
-abbrev pub MayLead : List Rule → fns.Answers → (now : ℕ) → (busy : Option (List ℕ)) → List ℕ → (before after : App)
+abbrev pub UpdateMayLead : List Rule → fns.Answers → (now : ℕ) → (busy : Option (List ℕ)) → List ℕ
+    → (before after : App)
     → Type 0
-MayLead rules answers now busy manifest before next = (next ≡ before)
-    ⊎ ((row : Result InProgress PerError) × Begins rules answers now busy manifest before row
-    × (next ≡ after before (updated before row)))
+UpdateMayLead rules answers now busy manifest before next = (next ≡ before)
+    ⊎ ((row : Result InProgress PerError) × BeginsUpdate rules answers now busy manifest before row
+    × (next ≡ after before (updated_row before row)))

@@ -16,7 +16,7 @@ use disk_model::MemDisk;
 use migrate_fns::Migrations;
 use std::alloc::Global;
 
-/// `MANIFEST/STEPS/END`: begins an update, makes so many storages, and commits, aborts or forgets it.
+/// `MANIFEST/STEPS/END`: begins an update, makes that many storages, and commits, aborts or forgets it.
 pub fn built(
     alloc: Global,
     disk: &mut MemDisk,
@@ -47,7 +47,7 @@ pub fn built(
     }
 }
 
-// Makes so many storages; the answers are the version that is offered, and how many storages remain.
+// Makes that many storages; the answers are the version that is offered, and how many storages remain.
 fn stepped(
     alloc: Global,
     disk: &mut MemDisk,

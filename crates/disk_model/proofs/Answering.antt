@@ -7,10 +7,11 @@ use Rattle.disk_model.specs.declared.memory.MemDisk.{MemDisk}
 use Rattle.disk_model.specs.Image.{Image, put_image, TornImage}
 use Rattle.disk_model.specs.Case.{WriteCase, WriteOrNot, Follows, Reaches}
 use Rattle.disk_model.specs.Medium.{Medium, Quiet, Elapses, OnlyReads, WritesNothing}
-use Rattle.disk_model.specs.History.{image_of, start_of, image_after, recorded, IsNoWrite}
+use Rattle.disk_model.specs.History.{image_of, start_image, image_after, recorded, IsNoWrite}
 use Rattle.per_base.specs.Causes.{raised}
 use Rattle.disk_model.specs.Memory.{mem_medium, starved_count, is_planned, is_stopped, HasNoOrders, IsUnchanged}
-use Rattle.disk_model.specs.Memory.{KeepsCounts, Answers, FailsForWant, Fails, Shows, SameRecord, Begins, Wants}
+use Rattle.disk_model.specs.Memory.{KeepsCounts, AnswersAsPlanned, FailsByMemoryAlone, Fails, Shows, SameRecord, Begins}
+use Rattle.disk_model.specs.Memory.{Wants}
 use Rattle.std.specs.Prelude.{Vec, Result, Ok, Err, OnErr, length}
 use Rattle.std.specs.declared.alloc.Global.{Global}
 use Rattle.disk_model.specs.Orders.{names, stops}
@@ -26,9 +27,9 @@ pub shown : (disk : MemDisk) (image start : Image) (calls : List Call) (written 
 shown disk image start calls written shows P p =
     let p1 = subst (λ i. P (recorded i start calls disk.faults written)) (sym shows.image_is) p in
     let p2 = subst (λ s. P (recorded (image_of disk.files) s calls disk.faults written)) (sym shows.start_is) p1 in
-    let p3 = subst (λ cs. P (recorded (image_of disk.files) (start_of disk.files disk.start) cs disk.faults written))
+    let p3 = subst (λ cs. P (recorded (image_of disk.files) (start_image disk.files disk.start) cs disk.faults written))
     (sym shows.calls_are) p2 in
-    subst (λ w. P (recorded (image_of disk.files) (start_of disk.files disk.start) disk.calls.items disk.faults w))
+    subst (λ w. P (recorded (image_of disk.files) (start_image disk.files disk.start) disk.calls.items disk.faults w))
     (sym shows.written_is) p3
 
 -- a call that writes nothing leaves what reads give
@@ -54,11 +55,12 @@ write_tied calls calls' image image' start start' file at copy bytes copied is s
 
 -- a disk that differs from another in its counts and orders alone, after a fault
 pub failed : (old new : MemDisk) → SameRecord old new → (mem_medium old).faults ≤ (mem_medium new).faults
-    → (mem_medium new).faults ≡ raised (mem_medium old).faults → Answers old new true → FailsForWant old new
+    → (mem_medium new).faults ≡ raised (mem_medium old).faults → AnswersAsPlanned old new true
+    → FailsByMemoryAlone old new
     → Fails old new
 failed old new same later rose answers for_want =
     let image = image_of old.files in
-    let start = start_of old.files old.start in
+    let start = start_image old.files old.start in
     let calls = old.calls.items in
     let law = record_is_lawful image start calls old.faults old.written old.tied in
     record {
@@ -143,11 +145,11 @@ on_err (Err e) P p = p
 
 -- a read that succeeds
 pub read_done : (old new : MemDisk) → KeepsCounts old new
-    → Shows new (image_of old.files) (start_of old.files old.start) (old.calls.items ++ Read ∷ []) old.written
+    → Shows new (image_of old.files) (start_image old.files old.start) (old.calls.items ++ Read ∷ []) old.written
     → OnlyReads (mem_medium old) (mem_medium new) × Elapses (mem_medium old) (mem_medium new)
 read_done old new counts shows =
     let image = image_of old.files in
-    let start = start_of old.files old.start in
+    let start = start_image old.files old.start in
     let calls = old.calls.items in (
       shown new image start (calls ++ Read ∷ []) old.written shows (λ m. OnlyReads (mem_medium old) m)
           (read_more image start calls old.faults new.faults old.written),
@@ -163,11 +165,11 @@ pub record SyncDone (old new : MemDisk) : Type 0 where
   pub time : Elapses (mem_medium old) (mem_medium new)
 
 pub sync_done : (old new : MemDisk) → KeepsCounts old new
-    → Shows new (image_of old.files) (start_of old.files old.start) (old.calls.items ++ Sync ∷ []) old.written
+    → Shows new (image_of old.files) (start_image old.files old.start) (old.calls.items ++ Sync ∷ []) old.written
     → SyncDone old new
 sync_done old new counts shows =
     let image = image_of old.files in
-    let start = start_of old.files old.start in
+    let start = start_image old.files old.start in
     let calls = old.calls.items in
     record {
       quiet = shown new image start (calls ++ Sync ∷ []) old.written shows (λ m. Quiet m)
@@ -191,12 +193,12 @@ pub record WriteDone (file at : ℕ) (bytes : List ℕ) (old new : MemDisk) : Ty
 
 pub write_done : (old mid new : MemDisk) (file at : ℕ) (bytes : List ℕ) (copy : Vec ℕ Global) → SameRecord old mid
     → copy.items ≡ bytes
-    → Shows new (put_image (image_of mid.files) file at bytes) (start_of mid.files mid.start)
+    → Shows new (put_image (image_of mid.files) file at bytes) (start_image mid.files mid.start)
     (mid.calls.items ++ Write file at copy ∷ []) (mid.written + length bytes)
     → (mem_medium old).faults ≤ (mem_medium new).faults → WriteDone file at bytes old new
 write_done old mid new file at bytes copy first copied next more =
     let image = image_of old.files in
-    let start = start_of old.files old.start in
+    let start = start_image old.files old.start in
     let calls = old.calls.items in
     let image' : Image = put_image image file at bytes in
     let count : ℕ = old.written + length bytes in

@@ -13,7 +13,7 @@ use Rattle.disk_model.specs.History.{image_after, base_after, pending_after, cas
 use Rattle.disk_model.specs.History.{grow_image}
 use Rattle.disk_model.specs.Medium.{IsOutcome}
 use Rattle.disk_model.specs.declared.memory.MemDisk.{MemDisk}
-use Rattle.disk_model.specs.History.{image_of, start_of}
+use Rattle.disk_model.specs.History.{image_of, start_image}
 use Rattle.disk_model.specs.HistoryLaws.{record_is_lawful}
 use Rattle.disk_model.specs.Memory.{mem_medium, synced_image, torn_image}
 use Rattle.disk_model.proofs.Answering.{same_torn}
@@ -197,14 +197,14 @@ some_stand pattern (Read ∷ calls) cases base image pending start =
 -- what reads give is an outcome
 pub kept : (disk : MemDisk) (image : Image) → image ≡ (mem_medium disk).image → IsOutcome (mem_medium disk) image
 kept disk image is =
-    let law = record_is_lawful (image_of disk.files) (start_of disk.files disk.start) disk.calls.items disk.faults
+    let law = record_is_lawful (image_of disk.files) (start_image disk.files disk.start) disk.calls.items disk.faults
     disk.written disk.tied in
     subst (IsOutcome (mem_medium disk)) (sym is) (law.reads_one refl)
 
 -- what reads gave after the last sync is an outcome
 pub lost : (disk : MemDisk) (image : Image) → image ≡ synced_image disk → IsOutcome (mem_medium disk) image
 lost disk image is =
-    let start = start_of disk.files disk.start in
+    let start = start_image disk.files disk.start in
     let settled : Case = record { base = start; full = start; left = start } in
     let none = none_stand disk.calls.items (IsSettledAt start) start start (record {
       case = settled;
@@ -217,9 +217,9 @@ lost disk image is =
 
 -- the case of a pattern
 pub torn : (disk : MemDisk) (pattern : ℕ) → TornCase pattern (mem_medium disk).now (synced_image disk)
-    (image_after disk.calls.items (start_of disk.files disk.start)) (pending_after disk.calls.items [])
+    (image_after disk.calls.items (start_image disk.files disk.start)) (pending_after disk.calls.items [])
 torn disk pattern =
-    let start = start_of disk.files disk.start in
+    let start = start_image disk.files disk.start in
     let settled : Case = record { base = start; full = start; left = start } in
     some_stand pattern disk.calls.items (IsSettledAt start) start start [] (record {
       case = settled;

@@ -9,7 +9,7 @@ use Rattle.disk_model.specs.Image.{Image}
 use Rattle.disk_model.specs.History.{image_after, base_after, pending_after}
 use Rattle.disk_model.proofs.Records.{image_after-append, base_after-append, pending_after-append}
 
--- of the first calls, so many are closed by the last sync among them
+-- of the first calls, that many are closed by the last sync among them
 pub record IsSynced (calls : List Call) (count : ℕ) : Type 0 where
   pub within : count ≤ length calls
   pub base : (image : Image) → base_after calls image image ≡ image_after (take count calls) image

@@ -23,9 +23,9 @@ abbrev pub image_of : Files → Image
 image_of files f = bytes_or_none (get nat_cmp files f)
 
 -- the image at the start of a record; no copy of it is kept before the first write
-abbrev pub start_of : Files → Option Files → Image
-start_of files None = image_of files
-start_of files (Some start) = image_of start
+abbrev pub start_image : Files → Option Files → Image
+start_image files None = image_of files
+start_image files (Some start) = image_of start
 
 -- what reads give after the calls
 abbrev pub image_after : List Call → Image → Image

@@ -6,12 +6,12 @@ use Rattle.disk_model.specs.declared.history.Call.{Call}
 use Rattle.disk_model.specs.Image.{Image}
 use Rattle.disk_model.specs.Case.{Case}
 use Rattle.disk_model.specs.Medium.{Medium, Quiet, Elapses, OnlyReads}
-use Rattle.disk_model.specs.History.{image_of, start_of, recorded, base_after, pending_after, torn_after}
+use Rattle.disk_model.specs.History.{image_of, start_image, recorded, base_after, pending_after, torn_after}
 use Rattle.disk_model.specs.Orders.{names, stops}
 
 -- what is said of it as a disk
 abbrev pub mem_medium : MemDisk → Medium
-mem_medium disk = recorded (image_of disk.files) (start_of disk.files disk.start) disk.calls.items disk.faults
+mem_medium disk = recorded (image_of disk.files) (start_image disk.files disk.start) disk.calls.items disk.faults
     disk.written
 
 -- how many calls failed because memory ran out
@@ -20,7 +20,7 @@ starved_count disk = disk.starved
 
 -- what reads gave after the last sync
 abbrev pub synced_image : MemDisk → Image
-synced_image disk = base_after disk.calls.items (start_of disk.files disk.start) (start_of disk.files disk.start)
+synced_image disk = base_after disk.calls.items (start_image disk.files disk.start) (start_image disk.files disk.start)
 
 -- what is left where the writes since the last sync stand that the pattern says, and every file is as long as all of
 -- them make it
@@ -61,14 +61,14 @@ pub record IsUnchanged (old new : Medium) : Type 0 where
   pub gave : (t : ℕ) (c : Case) → new.gave t c ↔ old.gave t c
   pub written : new.written ≡ old.written
 
--- the counts of faults and of want stay
+-- the counts of faults and of failed allocations stay
 pub record KeepsCounts (old new : MemDisk) : Type 0 where
   pub faults : (mem_medium new).faults ≡ (mem_medium old).faults
   pub starved : starved_count new ≡ starved_count old
 
 -- How a call answers: it fails where the plan names it and where it comes after the stop, and else because memory ran
 -- out alone, which is counted beside the fault.
-pub record Answers (old new : MemDisk) (failed : Bool) : Type 0 where
+pub record AnswersAsPlanned (old new : MemDisk) (failed : Bool) : Type 0 where
   pub due : IsTrue (is_due old) → IsTrue failed × (starved_count new ≡ starved_count old)
   pub starves : IsFalse (is_due old) → IsTrue failed → starved_count new ≡ raised (starved_count old)
   pub fails : IsTrue failed → (mem_medium new).faults ≡ raised (mem_medium old).faults
@@ -78,9 +78,9 @@ pub record Answers (old new : MemDisk) (failed : Bool) : Type 0 where
   pub stopped : (k : ℕ) → is_stopped new k ≡ is_stopped old (suc k)
 
 -- a disk with no plan and no stop has none after the call either, and its faults rise only together with the count of
--- want
-abbrev pub FailsForWant : MemDisk → MemDisk → Type 0
-FailsForWant old new = HasNoOrders old → HasNoOrders new
+-- failed allocations
+abbrev pub FailsByMemoryAlone : MemDisk → MemDisk → Type 0
+FailsByMemoryAlone old new = HasNoOrders old → HasNoOrders new
     × (KeepsCounts old new ⊎ (((mem_medium new).faults ≡ raised (mem_medium old).faults)
     × (starved_count new ≡ raised (starved_count old))))
 
@@ -90,21 +90,21 @@ pub record Fails (old new : MemDisk) : Type 0 where
   pub reads : OnlyReads (mem_medium old) (mem_medium new)
   pub time : Elapses (mem_medium old) (mem_medium new)
   pub cause : Rose (mem_medium old).faults (mem_medium new).faults
-  pub answers : Answers old new true
-  pub for_want : FailsForWant old new
+  pub answers : AnswersAsPlanned old new true
+  pub for_want : FailsByMemoryAlone old new
 
 -- ---- what parts of a call do
 
 -- the files, the start of the record, the record and the count of bytes, in the words above
 pub record Shows (disk : MemDisk) (image start : Image) (calls : List Call) (written : ℕ) : Type 0 where
   pub image_is : image_of disk.files ≡ image
-  pub start_is : start_of disk.files disk.start ≡ start
+  pub start_is : start_image disk.files disk.start ≡ start
   pub calls_are : disk.calls.items ≡ calls
   pub written_is : disk.written ≡ written
 
 -- nothing but the counts and the orders changed
 abbrev pub SameRecord : MemDisk → MemDisk → Type 0
-SameRecord old new = Shows new (image_of old.files) (start_of old.files old.start) old.calls.items old.written
+SameRecord old new = Shows new (image_of old.files) (start_image old.files old.start) old.calls.items old.written
 
 -- a call is counted among the orders, and fails where they say so
 pub record Begins (old new : MemDisk) (failed : Bool) : Type 0 where
@@ -131,5 +131,5 @@ pub record Wants (old new : MemDisk) : Type 0 where
 -- a call that succeeds: it was not to fail, and the counts stay
 pub record Passes (old new : MemDisk) : Type 0 where
   pub counts : KeepsCounts old new
-  pub answers : Answers old new false
-  pub for_want : FailsForWant old new
+  pub answers : AnswersAsPlanned old new false
+  pub for_want : FailsByMemoryAlone old new

@@ -1,9 +1,9 @@
--- A disk that tells nothing: no byte, no image and no case, so that only its count of faults says anything.
+-- A disk that models nothing: no byte, no image and no case, so that only its count of faults says anything.
 use Rattle.std.specs.Prelude.{ℕ, [], false}
 use Rattle.std.proofs.Common.{sym, true≢false}
 use Rattle.disk_model.specs.Medium.{Medium, IsLawful}
 
--- the disk that tells nothing, with this count of faults
+-- the disk that models nothing, with this count of faults
 abbrev pub silent_medium : ℕ → Medium
 silent_medium faults = record {
   image = λ _. [];

@@ -12,10 +12,10 @@ pub struct DiskFailed;
 
 /// A disk of files that are named by numbers. A file that was never written is empty.
 ///
-/// What is said of bytes holds where the disk tells them, and so does what is said of crashes: a disk that tells
+/// What is said of bytes holds where the disk models them, and so does what is said of crashes: a disk that models
 /// nothing names no case. Whether a disk tells is a constant of its type, so it never changes from call to call.
 pub trait Disk {
-    /// Whether a disk of this type tells its bytes.
+    /// Whether the bytes of a disk of this type are modelled.
     ghost told: { Bool };
 
     /// What reads give, what a crash may leave, the clock, and the counts of faults and of bytes written.

@@ -4,7 +4,7 @@ ghost use Rattle.std.specs.Prelude.{◌≡◌, ◌≤◌, ◌<◌, ◌+◌, ◌-
 ghost use Rattle.std.specs.Prelude.{min, length, take, drop, slice_index, slice_set, vec_len, if◌then◌else◌};
 ghost use Rattle.std.specs.Bool.{OnTrue, OnFalse};
 ghost use Rattle.disk_model.specs.Image.{Image, end_of, put_bytes, put_image};
-ghost use Rattle.disk_model.specs.History.{image_of, start_of, image_after, base_after, pending_after, torn_after};
+ghost use Rattle.disk_model.specs.History.{image_of, start_image, image_after, base_after, pending_after, torn_after};
 ghost use Rattle.disk_model.specs.History.{grown, grow_image, stands};
 
 use std::alloc::{AllocError, Global};
@@ -43,7 +43,7 @@ pub fn copy_of(files: &Files) -> Result<Files, AllocError>
 
 /// The files as a record begins: the copy of them, or what they are where no copy was made.
 pub fn begun(start: Option<Files>, files: Files) -> Files
-    ensures { image_of result ≡ start_of files start }
+    ensures { image_of result ≡ start_image files start }
 {
     match start {
         Some(start) => start,

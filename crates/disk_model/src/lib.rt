@@ -5,12 +5,12 @@
 //! call fails only where the count of faults rose. Between two syncs a crash may leave any bytes in the ranges that
 //! were written and past the old ends.
 //!
-//! [`MemDisk`] meets it in memory and answers for every moment: it fails where it is told to, stops after a number of
+//! [`MemDisk`] meets it in memory and answers for every moment: it fails where it is asked to, stops after a number of
 //! calls, takes damage, and crashes with the writes since the last sync kept, lost or torn. [`Place`] names the files
 //! of a storage's copies.
 //!
 //! The definitions that the crates above share stand in `specs/`: images, cases, frames of writes, soundness and
-//! damage. Limits: a disk is used by one caller at a time, and a disk that tells nothing of its bytes promises only
+//! damage. Limits: a disk is used by one caller at a time, and a disk whose bytes are not modelled promises only
 //! counts and causes.
 #![tactic(auto)]
 

@@ -1,4 +1,4 @@
-//! A disk in memory, which fails, stops, takes damage and crashes as it is told.
+//! A disk in memory, which fails, stops, takes damage and crashes as planned.
 
 ghost use Rattle.std.specs.Prelude.{◌≡◌, ◌≤◌, ◌<◌, ◌+◌, ◌-◌, ◌==◌, ◌↔◌, ◌++◌, ◌∷◌, [], MatchResult, Vec, ℕ, true};
 ghost use Rattle.std.specs.Prelude.{false, IsTrue, IfOk, OnOk, OnErr, is_err, nat_le, length, take, drop, min};
@@ -8,7 +8,7 @@ ghost use Rattle.per_base.specs.Causes.{Rose};
 ghost use Rattle.disk_model.specs.Image.{put_image, TornImage};
 ghost use Rattle.disk_model.specs.Case.{WriteCase, WriteOrNot, Follows, Reaches};
 ghost use Rattle.disk_model.specs.Medium.{Quiet, IsOutcome, Elapses, OnlyReads, WritesNothing};
-ghost use Rattle.disk_model.specs.History.{Files, image_of, start_of, image_after, IsNoWrite};
+ghost use Rattle.disk_model.specs.History.{Files, image_of, start_image, image_after, IsNoWrite};
 ghost use Rattle.disk_model.specs.declared.history.Call.{Call};
 
 use crate::disk::{Disk, DiskFailed};
@@ -32,7 +32,7 @@ pub struct MemDisk {
     faults: u64,
     starved: u64,
     written: u64,
-    ghost tied: { image_of files ≡ image_after calls.items (start_of files start) },
+    ghost tied: { image_of files ≡ image_after calls.items (start_image files start) },
 }
 
 impl MemDisk {
@@ -70,7 +70,7 @@ impl MemDisk {
     }
 
     /// Sets one byte of a quiet disk, as damage that stands in every case from then on; `false` and no change where the
-    /// file is not that long. The record begins anew.
+    /// file is not that long. The record starts over.
     pub fn spoil(&mut self, file: u32, at: u64, byte: u8) -> bool
         requires { Quiet (mem_medium self.old) }
         ensures within { IsTrue result ↔ (at < length ((mem_medium self.old).image file)) }
@@ -175,7 +175,8 @@ impl MemDisk {
     fn enter(&mut self, call: Call) -> Result<(), DiskFailed>
         requires { IsNoWrite call }
         ensures ok { OnOk result (Passes self.old self.new) }
-        ensures record { OnOk result (Shows self.new (image_of self.old.files) (start_of self.old.files self.old.start)
+        ensures record { OnOk result (Shows self.new (image_of self.old.files)
+            (start_image self.old.files self.old.start)
             (self.old.calls.items ++ call ∷ []) self.old.written) }
         ensures err { OnErr result (Fails self.old self.new) }
     {
@@ -209,7 +210,7 @@ impl MemDisk {
     // Adds a sync or a read to the record.
     fn note(&mut self, call: Call) -> Result<(), DiskFailed>
         requires { IsNoWrite call }
-        ensures ok { OnOk result (Shows self.new (image_of self.old.files) (start_of self.old.files self.old.start)
+        ensures ok { OnOk result (Shows self.new (image_of self.old.files) (start_image self.old.files self.old.start)
             (self.old.calls.items ++ call ∷ []) self.old.written) }
         ensures err { OnErr result (SameRecord self.old self.new) }
         ensures answer { MatchResult result (λ _. Succeeds self.old self.new) (λ _. Wants self.old self.new) }
@@ -224,7 +225,7 @@ impl MemDisk {
     fn write(&mut self, file: u32, at: u64, bytes: &[u8]) -> Result<(), AllocError>
         ensures ok { OnOk result ((copy : Vec ℕ Global) × (copy.items ≡ bytes.now)
             × Shows self.new (put_image (image_of self.old.files) file at bytes.now)
-            (start_of self.old.files self.old.start)
+            (start_image self.old.files self.old.start)
             (self.old.calls.items ++ Call.Write file at copy ∷ []) (self.old.written + length bytes.now)) }
         ensures err { OnErr result (SameRecord self.old self.new) }
         ensures rest { Succeeds self.old self.new }
@@ -249,8 +250,8 @@ impl MemDisk {
 
     // Keeps a copy of the files as the record begins, before the first write.
     fn keep_start(&mut self) -> Result<(), AllocError>
-        ensures start { OnOk result ((files : Files) → start_of files self.new.start
-            ≡ start_of self.old.files self.old.start) }
+        ensures start { OnOk result ((files : Files) → start_image files self.new.start
+            ≡ start_image self.old.files self.old.start) }
         ensures record { SameRecord self.old self.new }
         ensures rest { Succeeds self.old self.new }
     {
@@ -263,13 +264,13 @@ impl MemDisk {
 
 impl Disk for MemDisk {
     ghost use Rattle.disk_model.specs.HistoryLaws.{record_is_lawful};
-    ghost use Rattle.disk_model.specs.Memory.{mem_medium, Answers, FailsForWant, IsUnchanged};
+    ghost use Rattle.disk_model.specs.Memory.{mem_medium, AnswersAsPlanned, FailsByMemoryAlone, IsUnchanged};
 
     ghost told = { true };
 
     ghost medium = { mem_medium };
 
-    ghost lawful = { λ disk. record_is_lawful (image_of disk.files) (start_of disk.files disk.start) disk.calls.items
+    ghost lawful = { λ disk. record_is_lawful (image_of disk.files) (start_image disk.files disk.start) disk.calls.items
         disk.faults disk.written disk.tied };
 
     fn read(&mut self, file: u32, at: u64, out: &mut [u8]) -> Result<usize, DiskFailed>
@@ -283,8 +284,8 @@ impl Disk for MemDisk {
         ensures passes { OnOk result ((mem_medium self.new).faults ≡ (mem_medium self.old).faults) }
 
         // Which calls fail, and that they change nothing.
-        ensures answers { Answers self.old self.new (is_err result) }
-        ensures for_want { FailsForWant self.old self.new }
+        ensures answers { AnswersAsPlanned self.old self.new (is_err result) }
+        ensures for_want { FailsByMemoryAlone self.old self.new }
         ensures unchanged { OnErr result (IsUnchanged (mem_medium self.old) (mem_medium self.new)) }
     {
         self.enter(Call::Read)?;
@@ -312,8 +313,8 @@ impl Disk for MemDisk {
             (mem_medium self.new).now) }
 
         // Which calls fail, and that they change nothing.
-        ensures answers { Answers self.old self.new (is_err result) }
-        ensures for_want { FailsForWant self.old self.new }
+        ensures answers { AnswersAsPlanned self.old self.new (is_err result) }
+        ensures for_want { FailsByMemoryAlone self.old self.new }
         ensures unchanged { OnErr result (IsUnchanged (mem_medium self.old) (mem_medium self.new)) }
     {
         self.begin()?;
@@ -331,8 +332,8 @@ impl Disk for MemDisk {
         ensures passes { OnOk result ((mem_medium self.new).faults ≡ (mem_medium self.old).faults) }
 
         // Which calls fail, and that they change nothing.
-        ensures answers { Answers self.old self.new (is_err result) }
-        ensures for_want { FailsForWant self.old self.new }
+        ensures answers { AnswersAsPlanned self.old self.new (is_err result) }
+        ensures for_want { FailsByMemoryAlone self.old self.new }
         ensures unchanged { OnErr result (IsUnchanged (mem_medium self.old) (mem_medium self.new)) }
     {
         self.enter(Call::Read)?;
@@ -348,8 +349,8 @@ impl Disk for MemDisk {
         ensures passes { OnOk result ((mem_medium self.new).faults ≡ (mem_medium self.old).faults) }
 
         // Which calls fail, and that they change nothing.
-        ensures answers { Answers self.old self.new (is_err result) }
-        ensures for_want { FailsForWant self.old self.new }
+        ensures answers { AnswersAsPlanned self.old self.new (is_err result) }
+        ensures for_want { FailsByMemoryAlone self.old self.new }
         ensures unchanged { OnErr result (IsUnchanged (mem_medium self.old) (mem_medium self.new)) }
     {
         self.enter(Call::Sync)?;

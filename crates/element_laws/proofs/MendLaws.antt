@@ -21,7 +21,7 @@ use Rattle.block_files.specs.Areas.{block, joined, within, IsFull, area_of}
 use Rattle.block_files.specs.lemmas.AsideLaws.{counting_same}
 use Rattle.block_files.specs.lemmas.Joined.{length-blocks}
 use Rattle.block_files.specs.Contents.{counting, AreCopies}
-use Rattle.block_files.specs.BlockSets.{IsApart}
+use Rattle.block_files.specs.BlockSets.{IsNotAmong}
 use Rattle.block_files.specs.Writes.{IsNoneOf}
 use Rattle.index_text.specs.declared.entries.Index.{Index}
 use Rattle.index_text.specs.declared.entries.IndexEntry.{IndexEntry}
@@ -29,12 +29,13 @@ use Rattle.index_text.specs.Rules.{IsIndex, blocks_of}
 use Rattle.element_state.specs.declared.shapes.Shape.{Shape}
 use Rattle.element_state.specs.Views.{entry_view, given}
 use Rattle.m_of_n.specs.Vote.{voted}
-use Rattle.element_state.specs.Clean.{where_of, in_blocks, IsNamed, IsCounted, HasNoTwins}
-use Rattle.element_laws.specs.Phases.{KeepsBlocks, KeepsBlocksWhole, lacked, TakesMend, HasMended, IsSparing, IsMending}
+use Rattle.element_state.specs.Clean.{where_of, in_blocks, IsNamed, SomeCopyCounts, HasNoTwins}
+use Rattle.element_laws.specs.Phases.{KeepsBlockBytes, KeepsBlocksWhole, lacked, TakesMend, HasMended, IsSparing}
+use Rattle.element_laws.specs.Phases.{IsMending}
 use Rattle.element_laws.specs.Phases.{MendStartLaw, MendStepLaw, MendSyncLaw, MendLaw}
 use Rattle.element_laws.specs.lemmas.Lists.{Contains-In, In, all_by, all_in, append-In, flat_map-In, map-In, not_false}
 use Rattle.element_laws.specs.lemmas.Lists.{not_none, some_is}
-use Rattle.element_laws.specs.lemmas.Copies.{Gives, named_Contains, Contains_named, voted_given}
+use Rattle.element_laws.specs.lemmas.Copies.{CopyGives, named_Contains, Contains_named, voted_given}
 use Rattle.element_laws.specs.lemmas.Fits.{fit-spelled}
 use Rattle.element_laws.specs.lemmas.Standing.{gift_of}
 use Rattle.element_laws.specs.lemmas.Left.{is_whole_at, value_at, never_listed}
@@ -83,11 +84,11 @@ In-index xs i lt = Contains-In (slice_index xs i) xs (Contains-get_or xs i 0 lt)
 
 -- ---- one mend more
 
-keeps_all : (blocks file : List ℕ) → KeepsBlocks blocks file file
+keeps_all : (blocks file : List ℕ) → KeepsBlockBytes blocks file file
 keeps_all blocks file = record { bytes = λ i j lt small inside. refl; no_shorter = omega arith }
 
-keeps_on : (blocks old mid new : List ℕ) → KeepsBlocks blocks old mid → KeepsBlocks blocks mid new
-    → KeepsBlocks blocks old new
+keeps_on : (blocks old mid new : List ℕ) → KeepsBlockBytes blocks old mid → KeepsBlockBytes blocks mid new
+    → KeepsBlockBytes blocks old new
 keeps_on blocks old mid new a b = record {
   bytes = λ i j lt small inside. let longer = a.no_shorter in
       b.bytes i j lt small (omega (arith, inside, longer)) ∙ a.bytes i j lt small inside;
@@ -104,7 +105,7 @@ whole_on blocks old mid new a b = record {
   no_shorter = let x = a.no_shorter in let y = b.no_shorter in omega (arith, x, y);
 }
 
-whole_torn : (blocks old new : List ℕ) → KeepsBlocksWhole blocks old new → KeepsBlocks blocks old new
+whole_torn : (blocks old new : List ℕ) → KeepsBlocksWhole blocks old new → KeepsBlockBytes blocks old new
 whole_torn blocks old new keeps = record {
   bytes = λ i j lt small inside. keeps.bytes i j lt small;
   no_shorter =
@@ -137,7 +138,7 @@ module _ (shape : Shape) (start now : Image) (index : Index) (e : IndexEntry) (v
   -- an entry beside the one that is mended: either it is that one, and the area is spared, or their blocks are apart
   beside : (f : IndexEntry) → In f index.entries → (copy : ℕ) → ¬ (TakesMend shape start f copy)
       → spared (area shape.place copy) ⊎ ((i : ℕ) → i < length f.blocks
-      → IsApart e.blocks (slice_index f.blocks i))
+      → IsNotAmong e.blocks (slice_index f.blocks i))
   beside f h copy untaken = elim (two_entries index.entries e f is_index.blocks_apart
       (Contains-In e index.entries there) h) [
         | inl same ↦
@@ -148,8 +149,8 @@ module _ (shape : Shape) (start now : Image) (index : Index) (e : IndexEntry) (v
             (In-index e.blocks k ltk) (In-index f.blocks i lti) (sym same))
       ]
 
-  step_torn : (old new : Image) → Tears spared (IsApart e.blocks) old new
-      → IsSparing KeepsBlocks shape start now index old → IsSparing KeepsBlocks shape start now index new
+  step_torn : (old new : Image) → Tears spared (IsNotAmong e.blocks) old new
+      → IsSparing KeepsBlockBytes shape start now index old → IsSparing KeepsBlockBytes shape start now index new
   step_torn old new tears sparing = record {
     slots = λ f none. tears.files f (no_area_none shape.place (lacked shape start e) f are
         none) ∙ sparing.slots f none;
@@ -157,7 +158,7 @@ module _ (shape : Shape) (start now : Image) (index : Index) (e : IndexEntry) (v
         let at = area shape.place copy in
         keeps_on f.blocks (now at) (old at) (new at) (all_in _ index.entries sparing.kept f h copy lt untaken)
         (elim (beside f h copy untaken) [
-          | inl same ↦ subst (λ (file : List ℕ). KeepsBlocks f.blocks (old at) file) (sym (tears.files at same))
+          | inl same ↦ subst (λ (file : List ℕ). KeepsBlockBytes f.blocks (old at) file) (sym (tears.files at same))
               (keeps_all f.blocks (old at))
           | inr apart ↦ record {
             bytes = λ i j lti small inside. tears.bytes at (slice_index f.blocks i) j small (apart i lti) inside;
@@ -166,7 +167,7 @@ module _ (shape : Shape) (start now : Image) (index : Index) (e : IndexEntry) (v
         ]));
   }
 
-  step_whole : (old new : Image) → Keeps spared (IsApart e.blocks) old new
+  step_whole : (old new : Image) → Keeps spared (IsNotAmong e.blocks) old new
       → IsSparing KeepsBlocksWhole shape start now index old → IsSparing KeepsBlocksWhole shape start now index new
   step_whole old new keeps sparing = record {
     slots = λ f none. keeps.files f (no_area_none shape.place (lacked shape start e) f are
@@ -195,7 +196,7 @@ mend_step shape start now index e value old new is_index there agreed are mendin
 }
 
 torn_of : (shape : Shape) (start now : Image) (index : Index) (image : Image)
-    → IsSparing KeepsBlocksWhole shape start now index image → IsSparing KeepsBlocks shape start now index image
+    → IsSparing KeepsBlocksWhole shape start now index image → IsSparing KeepsBlockBytes shape start now index image
 torn_of shape start now index image sparing = record {
   slots = sparing.slots;
   kept = all_by _ index.entries (λ f h copy lt untaken.
@@ -216,7 +217,7 @@ settled_at shape start now index image c sparing durable settled = record {
   durable = subst (λ (im : Image). (im ≡ now) ⊎ HasMended shape start im index) (sym settled.base) durable;
   base = subst (λ (im : Image). IsSparing KeepsBlocksWhole shape start now index im) (sym settled.base) sparing;
   full = subst (λ (im : Image). IsSparing KeepsBlocksWhole shape start now index im) (sym settled.full) sparing;
-  left = subst (λ (im : Image). IsSparing KeepsBlocks shape start now index im) (sym settled.left)
+  left = subst (λ (im : Image). IsSparing KeepsBlockBytes shape start now index im) (sym settled.left)
       (torn_of shape start now index image sparing);
 }
 
@@ -248,7 +249,7 @@ listed (x ∷ xs) b (suc i) lt e = listed xs b i (omega (arith, lt)) e
 
 still_there : AsideLaw → (e : IndexEntry) (place : Place) (copy : ℕ) (now : Image) (file : List ℕ) → copy < place.copies
     → e.len ≤ 256 * length e.blocks
-    → KeepsBlocks e.blocks (now (area place copy)) file → within (now (area place copy)) e.blocks e.len ≡ true
+    → KeepsBlockBytes e.blocks (now (area place copy)) file → within (now (area place copy)) e.blocks e.len ≡ true
     → (counting file e.blocks e.len e.hash ≡ counting (now (area place copy)) e.blocks e.len e.hash)
     × (within file e.blocks e.len ≡ true)
 still_there aside e place copy now file lt enough keeps is =
@@ -357,8 +358,8 @@ mended_or_not shape start e copy = go (voted shape.m (given start shape.place e)
 
 -- a copy that gave a content whole did not lack it
 not_lacked : (shape : Shape) (start : Image) (e : IndexEntry) (v : List ℕ) (copy : ℕ) → 1 ≤ shape.m
-    → ((b : ℕ) (w : List ℕ) → b < shape.place.copies → Gives (gift_of start shape (where_of e)) b w → w ≡ v)
-    → is_whole_at start shape copy (where_of e) ≡ true → Gives (gift_of start shape (where_of e)) copy v
+    → ((b : ℕ) (w : List ℕ) → b < shape.place.copies → CopyGives (gift_of start shape (where_of e)) b w → w ≡ v)
+    → is_whole_at start shape copy (where_of e) ≡ true → CopyGives (gift_of start shape (where_of e)) copy v
     → ¬ (Contains (lacked shape start e) (copy + 1))
 unfolding entry_view
 not_lacked shape start e v copy positive only whole gives =
@@ -392,10 +393,10 @@ module _ (shape : Shape) (start now : Image) (i : Index) (c : Case) (positive : 
     (lt : copy < shape.place.copies)
     (takes : TakesMend shape start e copy) where
   -- a copy that gave the value at the start
-  abbrev giver : (b : ℕ) × (b < shape.place.copies) × Gives (gift_of start shape (where_of e)) b takes.value
+  abbrev giver : (b : ℕ) × (b < shape.place.copies) × CopyGives (gift_of start shape (where_of e)) b takes.value
   giver = voted_given shape.m shape.place.copies positive (gift_of start shape (where_of e)) takes.value takes.agreed
 
-  counted_now : c.base ≡ now → IsCounted shape.place c (where_of e) takes.value
+  counted_now : c.base ≡ now → SomeCopyCounts shape.place c (where_of e) takes.value
   counted_now same = record {
     copy = giver.0;
     inside = giver.1;
@@ -403,7 +404,7 @@ module _ (shape : Shape) (start now : Image) (i : Index) (c : Case) (positive : 
         (sym (ap (λ (image : Image). image (area shape.place giver.0)) same ∙ area_was giver.0)) giver.2);
   }
 
-  counted_then : HasMended shape start c.base i → IsCounted shape.place c (where_of e) takes.value
+  counted_then : HasMended shape start c.base i → SomeCopyCounts shape.place c (where_of e) takes.value
   counted_then mended =
       let (n, ltn, at) = takes.listed in
       let number : slice_index (lacked shape start e) n ≡ copy + 1 =
@@ -420,7 +421,7 @@ module _ (shape : Shape) (start now : Image) (i : Index) (c : Case) (positive : 
             e.blocks e.len e.hash takes.value (room i is_index e k) giver.2 full);
       }
 
-  value_counted : IsCounted shape.place c (where_of e) takes.value
+  value_counted : SomeCopyCounts shape.place c (where_of e) takes.value
   value_counted = elim mending.durable [ inl same ↦ counted_now same | inr mended ↦ counted_then mended ]
 
   -- so that a mended copy gives no other
@@ -440,7 +441,7 @@ given_or_value : AsideLaw → (shape : Shape) (start now : Image) (i : Index) (c
     → (copy : ℕ) (w : List ℕ) → copy < shape.place.copies
     → (counting (c.base (area shape.place copy)) e.blocks e.len e.hash ≡ Some w)
     ⊎ (counting (c.full (area shape.place copy)) e.blocks e.len e.hash ≡ Some w)
-    → Gives (gift_of start shape (where_of e)) copy w ⊎ (value_at start shape (where_of e) ≡ Some w)
+    → CopyGives (gift_of start shape (where_of e)) copy w ⊎ (value_at start shape (where_of e) ≡ Some w)
 given_or_value aside shape start now i c positive area_was is_index mending twins e k named copy w lt from =
     elim (mended_or_not shape start e copy) [
       | inl takes ↦ inr (mends_no_other shape start now i c positive area_was is_index mending e k copy lt takes twins
@@ -460,7 +461,7 @@ given_or_value aside shape start now i c positive area_was is_index mending twin
 -- ---- the law
 
 pub mend : AsideLaw → MendLaw
-mend aside shape start now g t i after c positive adopted is_index mending sound damaged image d =
+mend aside shape start now g t i after c positive adopted is_index mending twins sound damaged image d =
     let place = shape.place in
     let copies = shape.place.copies in
     let opens = adopted.opens in
@@ -480,7 +481,7 @@ mend aside shape start now g t i after c positive adopted is_index mending sound
       held = λ copy h u lt v. inr (only copy h u lt v);
       counted = λ at is copy w lt gives.
           let (e, k, same) = named_entry shape c.left g t i spells only at is in
-          let piece = sound.pieces (in_blocks (its_blocks shape copy at w))
+          let piece = sound (in_blocks (its_blocks shape copy at w))
           (given_piece shape copy at w c.left lt is gives) in
           let from : (counting (c.base (area place copy)) e.blocks e.len e.hash ≡ Some w)
           ⊎ (counting (c.full (area place copy)) e.blocks e.len e.hash ≡ Some w) =
@@ -490,9 +491,9 @@ mend aside shape start now g t i after c positive adopted is_index mending sound
             | inr p ↦ inr (subst (λ (x : Where). counting (c.full (area place copy)) x.blocks x.len x.hash ≡ Some w)
                 (sym same) p.counts)
           ] in
-          elim (given_or_value aside shape start now i c positive area_was is_index mending sound.no_twins e k
+          elim (given_or_value aside shape start now i c positive area_was is_index mending twins e k
           (named_base e k) copy w lt from) [
-            | inl was ↦ inl (subst (λ (x : Where). Gives (gift_of start shape x) copy w) same was)
+            | inl was ↦ inl (subst (λ (x : Where). CopyGives (gift_of start shape x) copy w) same was)
             | inr value ↦ inr (only, subst (λ (x : Where). value_at start shape x ≡ Some w) same value)
           ];
       text = λ copy lt spared v. subst (λ (bytes : List ℕ). VerifiesAs bytes g t) (sym (slot_same copy g))

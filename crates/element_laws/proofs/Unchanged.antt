@@ -13,7 +13,7 @@ use Rattle.disk_model.specs.lemmas.Frames.{settled_less}
 use Rattle.hash_guard.specs.SealedText.{VerifiesAs, verified}
 use Rattle.m_of_n.specs.Vote.{voted}
 use Rattle.guarded_cell.specs.Register.{Holds, IsAlone, IsBlank, own, other}
-use Rattle.guarded_cell.specs.Held.{held_in_first, of_parity, with_slot, is_text}
+use Rattle.guarded_cell.specs.Held.{held_in_first, of_parity, with_slot, is_slot_text}
 use Rattle.block_files.specs.Aside.{Where}
 use Rattle.block_files.specs.Areas.{within}
 use Rattle.block_files.specs.Contents.{counting, first_content, lacks, lacking}
@@ -24,13 +24,13 @@ use Rattle.element_state.specs.declared.shapes.Shape.{Shape}
 use Rattle.element_state.specs.declared.shapes.View.{View}
 use Rattle.element_state.specs.Fit.{FitText, fit_among, fit_texts, is_sole}
 use Rattle.element_state.specs.Views.{holds_text, counts, holds_all, supporters, qualifies, given, content_of}
-use Rattle.element_state.specs.Views.{entry_view, entries_of, store_lacking, lacks_number, view_of}
-use Rattle.element_state.specs.States.{Opens, corrupt_state, store_at, state_of, picked, beside}
+use Rattle.element_state.specs.Views.{entry_view, entries_seen, store_lacking, lacks_number, view_of}
+use Rattle.element_state.specs.States.{Opens, corrupt_state, store_at, state_of, first_picked, beside}
 use Rattle.element_state.specs.Clean.{counting_at, IsNamed, IsClean}
 use Rattle.element_state.specs.Conditions.{IsInUse}
 use Rattle.element_state.specs.lemmas.Supported.{copies_alike}
 use Rattle.element_laws.specs.Phases.{IsOfPlace}
-use Rattle.element_laws.specs.Apart.{IsUnchanged, FrameLaw, OutsideLaw, ElsewhereLaw, ElsewhereCaseLaw}
+use Rattle.element_laws.specs.Apart.{IsStorageUnchanged, FrameLaw, OutsideLaw, ElsewhereLaw, ElsewhereCaseLaw}
 use Rattle.element_laws.specs.lemmas.Phases.{untouched}
 
 -- ---- lists by functions that agree
@@ -58,10 +58,11 @@ all_each : {A : Type 0} (f g : A → Bool) → ((x : A) → f x ≡ g x) → (xs
 all_each f g same [] = refl
 all_each f g same (x ∷ xs) = ap (λ b. b && list_all f xs) (same x) ∙ ap (λ b. g x && b) (all_each f g same xs)
 
-picked_each : {A : Type 0} (f g : A → Bool) → ((x : A) → f x ≡ g x) → (xs : List A) → picked f xs ≡ picked g xs
+picked_each : {A : Type 0} (f g : A → Bool) → ((x : A) → f x ≡ g x) → (xs : List A) → first_picked f xs
+    ≡ first_picked g xs
 picked_each f g same [] = refl
 picked_each f g same (x ∷ xs) =
-    ap (λ b. cond b (Some (x, xs)) (beside x (picked f xs))) (same x)
+    ap (λ b. cond b (Some (x, xs)) (beside x (first_picked f xs))) (same x)
     ∙ ap (λ o. cond (g x) (Some (x, xs)) (beside x o)) (picked_each f g same xs)
 
 -- ---- the state
@@ -110,7 +111,7 @@ module _ (shape : Shape) (old new : Image) (same : (f : ℕ) → IsOfPlace shape
 
   text_same : (text : FitText) (copy : ℕ) → copy < place.copies
       → holds_text new shape.place text copy ≡ holds_text old shape.place text copy
-  text_same text copy lt = ap (λ bytes. is_text (text.0.generation, text.0.text) (verified bytes))
+  text_same text copy lt = ap (λ bytes. is_slot_text (text.0.generation, text.0.text) (verified bytes))
       (own_same copy text.0.generation lt)
 
   counts_same : (e : IndexEntry) (copy : ℕ) → copy < place.copies
@@ -181,14 +182,14 @@ module _ (shape : Shape) (old new : Image) (same : (f : ℕ) → IsOfPlace shape
       } in v) in
       let lacks_by = λ (image : Image) (entries : List Entry).
       store_lacking shape.scope (λ copy. not (holds_text image shape.place text copy)) entries place.copies in
-      ap (λ texts. view texts (entries_of new shape text) (lacks_by new (entries_of new shape text))) fit_same
+      ap (λ texts. view texts (entries_seen new shape text) (lacks_by new (entries_seen new shape text))) fit_same
       ∙ ap (λ entries. view (fit_texts shape old) entries (lacks_by new entries)) (entries_same text.1.entries)
-      ∙ ap (view (fit_texts shape old) (entries_of old shape text)) (copies_alike
-      (λ copy. lacks_number shape.scope (not (holds_text new shape.place text copy)) (entries_of old shape text)
+      ∙ ap (view (fit_texts shape old) (entries_seen old shape text)) (copies_alike
+      (λ copy. lacks_number shape.scope (not (holds_text new shape.place text copy)) (entries_seen old shape text)
       (copy + 1))
-      (λ copy. lacks_number shape.scope (not (holds_text old shape.place text copy)) (entries_of old shape text)
+      (λ copy. lacks_number shape.scope (not (holds_text old shape.place text copy)) (entries_seen old shape text)
       (copy + 1)) place.copies
-      (λ copy lt. ap (λ b. lacks_number shape.scope (not b) (entries_of old shape text) (copy + 1))
+      (λ copy lt. ap (λ b. lacks_number shape.scope (not b) (entries_seen old shape text) (copy + 1))
       (text_same text copy lt)))
 
   state_by : (texts : List FitText) (o : Option (FitText × List FitText))
@@ -201,10 +202,10 @@ module _ (shape : Shape) (old new : Image) (same : (f : ℕ) → IsOfPlace shape
   pub state_same : store_at new shape ≡ store_at old shape
   unfolding store_at
   state_same =
-      ap (λ texts. state_of (view_of new shape) texts (picked (qualifies new shape) texts)) fit_same
+      ap (λ texts. state_of (view_of new shape) texts (first_picked (qualifies new shape) texts)) fit_same
       ∙ ap (state_of (view_of new shape) (fit_texts shape old))
       (picked_each (qualifies new shape) (qualifies old shape) qualifies_same (fit_texts shape old))
-      ∙ state_by (fit_texts shape old) (picked (qualifies old shape) (fit_texts shape old))
+      ∙ state_by (fit_texts shape old) (first_picked (qualifies old shape) (fit_texts shape old))
 
   -- ---- a clean place
 
@@ -256,7 +257,7 @@ module _ (shape : Shape) (old new : Image) (same : (f : ℕ) → IsOfPlace shape
     mended = is.mended;
   }
 
-  pub unchanged : IsUnchanged shape old new
+  pub unchanged : IsStorageUnchanged shape old new
   unchanged = record { state = state_same; clean = clean_same; in_use = in_use_same }
 
 -- ---- the laws

@@ -17,14 +17,14 @@ use Rattle.element_laws.specs.Phases.{IsOfPlace}
 -- ---- what a storage is on two images
 
 -- it denotes the same, its place is clean and it is in use where that was so
-pub record IsUnchanged (shape : Shape) (old new : Image) : Type 0 where
+pub record IsStorageUnchanged (shape : Shape) (old new : Image) : Type 0 where
   pub state : store_at new shape ≡ store_at old shape
   pub clean : IsClean shape old → IsClean shape new
   pub in_use : (index : Index) (v : View) → IsInUse shape old index v → IsInUse shape new index v
 
 -- only the files of its place tell what it is
 abbrev pub FrameLaw : Type 0
-FrameLaw = (shape : Shape) (old new : Image) → Spares (IsOfPlace shape.place) old new → IsUnchanged shape old new
+FrameLaw = (shape : Shape) (old new : Image) → Spares (IsOfPlace shape.place) old new → IsStorageUnchanged shape old new
 
 -- ---- places apart
 
@@ -40,7 +40,7 @@ OutsideLaw = (one other : Place) → LieApart one other → (file : ℕ) → IsO
 -- what spares all files outside one place leaves a storage at the other as it was
 abbrev pub ElsewhereLaw : Type 0
 ElsewhereLaw = (one : Place) (shape : Shape) (old new : Image) → LieApart one shape.place
-    → Spares (IsOutside one) old new → IsUnchanged shape old new
+    → Spares (IsOutside one) old new → IsStorageUnchanged shape old new
 
 -- a case in which all files outside one place are settled keeps a storage at the other, whatever its next state is to
 -- be

@@ -10,7 +10,7 @@ use Rattle.disk_model.specs.Case.{Case, IsSettledAt}
 use Rattle.disk_model.specs.Damage.{DecaysFor}
 use Rattle.disk_model.specs.Frame.{Spares, IsSettledOn, Keeps, KeepsCase}
 use Rattle.m_of_n.specs.Vote.{voted}
-use Rattle.block_files.specs.BlockSets.{IsApart}
+use Rattle.block_files.specs.BlockSets.{IsNotAmong}
 use Rattle.block_files.specs.Contents.{AreCopies}
 use Rattle.block_files.specs.Writes.{IsNoneOf}
 use Rattle.disk_model.specs.Place.{area, IsNoSlot, IsNoArea}
@@ -31,7 +31,7 @@ use Rattle.element_state.specs.Clean.{where_of, counting_at, IsNamed, IsPiece, I
 use Rattle.element_state.specs.Chosen.{chosen}
 use Rattle.element_state.specs.Conditions.{IsMended, IsInUse}
 use Rattle.index_text.specs.Spelling.{index_text}
-use Rattle.element_state.specs.Kept.{heading, Kept, IsKeptCase}
+use Rattle.element_state.specs.Kept.{heading, Kept, IsKeptCase, IsKeptMending}
 
 -- ---- what nobody touched
 
@@ -158,7 +158,7 @@ abbrev pub IsHeaded : IndexEntry → Entry → Type 0
 IsHeaded e f = (e.name, e.info, e.len, e.changed) ≡ heading f
 
 -- a content that was written, in every copy
-pub record IsWritten (shape : Shape) (now : Image) (e : IndexEntry) (f : Entry) : Type 0 where
+pub record IsContentWritten (shape : Shape) (now : Image) (e : IndexEntry) (f : Entry) : Type 0 where
   pub headed : IsHeaded e f
   pub value : List ℕ
   pub good : f.content ≡ Good value
@@ -181,11 +181,11 @@ IndexLaw = (shape : Shape) (start now then : Image) (generation : ℕ) (text : L
     → IsAdopted shape start now generation text index → IsIndex index → TakesBlocks taken index
     → Keeps (IsNoArea shape.place) (λ k. taken k ≡ true) now then
     → fit_index shape next ≡ Some new_index → view.generation ≡ generation + 1
-    → AllZip (λ e f. IsWritten shape then e f ⊎ IsCarried shape start index e f) new_index.entries view.entries
+    → AllZip (λ e f. IsContentWritten shape then e f ⊎ IsCarried shape start index e f) new_index.entries view.entries
     → PutStops shape.place (generation + 1) next then c
     → IsKeptCase shape start (Opens view others) c
 
--- ---- a corrupt storage is made anew
+-- ---- a corrupt storage is rebuilt
 
 -- after all texts but that of the salvage were taken away, copies hold less, and only that one
 abbrev pub GivenUpLaw : Type 0
@@ -202,8 +202,8 @@ TakesNamed taken place image = (at : Where) → IsNamed place image at
     → ((i : ℕ) → i < length at.blocks → taken (slice_index at.blocks i) ≡ true) × (at.len ≤ 256 * length at.blocks)
 
 -- where one text alone is held, these are the contents of its index
-abbrev pub TakenLaw : Type 0
-TakenLaw = (place : Place) (image : Image) (text : List ℕ) (index : Index) (taken : ℕ → Bool)
+abbrev pub TakenBlocksLaw : Type 0
+TakenBlocksLaw = (place : Place) (image : Image) (text : List ℕ) (index : Index) (taken : ℕ → Bool)
     → ((copy h : ℕ) (u : List ℕ) → copy < place.copies → Holds image place copy h u → u ≡ text)
     → index_of text ≡ Some index → IsIndex index → TakesBlocks taken index → TakesNamed taken place image
 
@@ -232,7 +232,7 @@ AnewIndexLaw = (shape : Shape) (start now then : Image) (taken : ℕ → Bool) (
     → ((text : FitText) → IsSalvageAt shape start text → generation ≡ text.0.generation + 1)
     → Keeps (IsNoArea shape.place) (λ k. taken k ≡ true) now then
     → fit_index shape next ≡ Some new_index → view.generation ≡ generation
-    → AllZip (IsWritten shape then) new_index.entries view.entries
+    → AllZip (IsContentWritten shape then) new_index.entries view.entries
     → PutStops shape.place generation next then c
     → IsKeptCase shape start (Opens view others) c
 
@@ -264,12 +264,12 @@ SoundLaw = (shape : Shape) (image : Image) (c : Case) → IsSettledAt image c �
 abbrev pub SettledLaw : Type 0
 SettledLaw = (shape : Shape) (start image : Image) (after : State) (c : Case) → IsSettledAt image c
     → IsClean shape image
-    → IsKeptCase shape start after c → Kept shape [] (store_at image shape) (store_at start shape) after
+    → IsKeptMending shape start after c → Kept shape [] (store_at image shape) (store_at start shape) after
 
 -- ---- contents are mended in place
 
 -- after writes that a crash may have cut short, an area has what it had in these blocks, and is no shorter
-pub record KeepsBlocks (blocks : List ℕ) (old new : List ℕ) : Type 0 where
+pub record KeepsBlockBytes (blocks : List ℕ) (old new : List ℕ) : Type 0 where
   pub bytes : (i j : ℕ) → i < length blocks → j < 256 → 256 * slice_index blocks i + j < length old
       → slice_index new (256 * slice_index blocks i + j) ≡ slice_index old (256 * slice_index blocks i + j)
   pub no_shorter : length old ≤ length new
@@ -308,7 +308,7 @@ HasMended shape start image index = AllByRecursion (λ (e : IndexEntry). (value 
 pub record IsMending (shape : Shape) (start now : Image) (index : Index) (c : Case) : Type 0 where
   pub base : IsSparing KeepsBlocksWhole shape start now index c.base
   pub full : IsSparing KeepsBlocksWhole shape start now index c.full
-  pub left : IsSparing KeepsBlocks shape start now index c.left
+  pub left : IsSparing KeepsBlockBytes shape start now index c.left
   pub durable : (c.base ≡ now) ⊎ HasMended shape start c.base index
 
 -- so it is at the beginning
@@ -322,7 +322,7 @@ MendStepLaw = (shape : Shape) (start now : Image) (index : Index) (e : IndexEntr
     → IsIndex index → Contains index.entries e
     → voted shape.m (given start shape.place e) ≡ Some value → AreCopies shape.place.copies (lacked shape start e)
     → IsMending shape start now index old
-    → KeepsCase (IsNoneOf shape.place (lacked shape start e)) (IsApart e.blocks) old new
+    → KeepsCase (IsNoneOf shape.place (lacked shape start e)) (IsNotAmong e.blocks) old new
     → IsMending shape start now index new
 
 -- and after a sync, once all of them are mended
@@ -335,7 +335,7 @@ abbrev pub MendLaw : Type 0
 MendLaw = (shape : Shape) (start now : Image) (generation : ℕ) (text : List ℕ) (index : Index) (after : State)
     (c : Case) → 1 ≤ shape.m
     → IsAdopted shape start now generation text index → IsIndex index → IsMending shape start now index c
-    → IsKeptCase shape start after c
+    → IsKeptMending shape start after c
 
 -- ---- a storage in use
 

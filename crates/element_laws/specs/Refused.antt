@@ -45,7 +45,7 @@ IndexFirst = (shape : Shape) (g : ℕ) (was is : List ℕ) → shape.m ≤ shape
     → ¬ (Kept shape [] (Opens (one (g + 1) (Bad None)) []) (Opens (one g (Good was)) [])
     (Opens (one (g + 1) (Good is)) []))
 
--- and so while a corrupt storage is made anew
+-- and so while a corrupt storage is rebuilt
 abbrev pub IndexFirstAnew : Type 0
 IndexFirstAnew = (shape : Shape) (g : ℕ) (salvage : Option View) (is : List ℕ) → shape.m ≤ shape.place.copies
     → ¬ (Kept shape [] (Opens (one g (Bad None)) []) (Corrupt salvage []) (Opens (one g (Good is)) []))
@@ -87,7 +87,7 @@ SalvageRaised = (shape : Shape) (g : ℕ) (was is : List ℕ) (others rest : Lis
     → ¬ (Kept shape [] (Opens (one g (Good was)) rest) (Corrupt (Some (one g (Bad None))) others)
     (Opens (one (g + 1) (Good is)) []))
 
--- a corrupt storage blanked before it is made anew: its salvage is lost
+-- a corrupt storage blanked before it is rebuilt: its salvage is lost
 abbrev pub SalvageLost : Type 0
 SalvageLost = (shape : Shape) (g : ℕ) (was is : List ℕ) → 1 ≤ shape.place.copies
     → ¬ (Kept shape [] (Corrupt None []) (Corrupt (Some (one g (Good was))) []) (Opens (one (g + 1) (Good is)) []))

@@ -1,7 +1,7 @@
 //! The laws, one after another, for the proofs of callers: none of these functions does anything when it runs.
 
 ghost use Rattle.element_laws.specs.Phases.{OpenedLaw, CorruptLaw, DamageLaw, UntouchedLaw, AdoptLaw, KeepLaw};
-ghost use Rattle.element_laws.specs.Phases.{ContentsLaw, ContentsDoneLaw, IndexLaw, GivenUpLaw, TakenLaw};
+ghost use Rattle.element_laws.specs.Phases.{ContentsLaw, ContentsDoneLaw, IndexLaw, GivenUpLaw, TakenBlocksLaw};
 ghost use Rattle.element_laws.specs.Phases.{AnewContentsLaw, AnewDoneLaw, AnewIndexLaw, CleanLaw, AdoptedLaw, SoundLaw};
 ghost use Rattle.element_laws.specs.Phases.{SettledLaw, MendStartLaw, MendStepLaw, MendSyncLaw, MendLaw, InUseLaw};
 ghost use Rattle.element_laws.specs.Phases.{CarriedLaw, WholeLaw};
@@ -50,10 +50,10 @@ pub fn index_keeps()
     contents_stand_aside();
 }
 
-/// A stop while a corrupt storage is made anew, after `adopting_keeps`, leaves it corrupt or with what it is given.
+/// A stop while a corrupt storage is rebuilt, after `adopting_keeps`, leaves it corrupt or with what it is given.
 pub fn making_anew_keeps()
     ensures given_up { GivenUpLaw }
-    ensures taken { TakenLaw }
+    ensures taken { TakenBlocksLaw }
     ensures contents { AnewContentsLaw }
     ensures done { AnewDoneLaw }
     ensures index { AnewIndexLaw }

@@ -4,7 +4,7 @@
 //! which a caller calls to cite it. They speak of one case of a crash: nobody touched the place
 //! ([`untouched_is_kept`]), its index is adopted or given up ([`adopting_keeps`]), contents are written
 //! ([`contents_keep`]) or mended in place ([`mending_keeps`]), and the next index is written ([`index_keeps`]), or a
-//! corrupt storage is made anew ([`making_anew_keeps`]). In each the storage is kept, from its state before to the one
+//! corrupt storage is rebuilt ([`making_anew_keeps`]). In each the storage is kept, from its state before to the one
 //! after, in both scopes and with shared blocks: it stands as before or as after, no text or value comes up that was
 //! never synchronised, no copy is lost that was not damaged, and its place stays clean.
 //!
@@ -13,8 +13,8 @@
 //! [`places_are_clean`] and [`use_is_adopted`] say where the laws begin and end, and [`outcomes_are_refused`] what they
 //! exclude.
 //!
-//! The premises are that no torn piece passes its hash by chance and no two contents have the same hash, and that one
-//! storage has one caller at a time.
+//! The premises are that no torn piece passes its hash by chance, where contents are mended in place that no two
+//! contents have the same hash ([`mending_keeps`] alone), and that one storage has one caller at a time.
 #![tactic(auto)]
 
 mod laws;

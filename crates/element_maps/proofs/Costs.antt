@@ -15,10 +15,10 @@ use Rattle.per_base.specs.declared.elements.Change.{Change}
 use Rattle.per_base.specs.declared.elements.Change.TheVariants.{Remove}
 use Rattle.per_base.specs.Changes.{changed_name, change_at}
 use Rattle.index_text.specs.Rules.{has_info}
-use Rattle.block_files.specs.Parts.{blocks_for, changed, changed_to, is_changed}
+use Rattle.block_files.specs.Parts.{blocks_for, changed_below, changed_blocks, is_changed}
 use Rattle.element_state.specs.declared.shapes.Shape.{Shape}
 use Rattle.element_state.specs.declared.shapes.View.{View}
-use Rattle.element_state.specs.Changes.{item_at, entry_at, entry_name, same_content, same_element, same_info}
+use Rattle.element_state.specs.Changes.{item_at, entry_by_name, entry_name, same_content, same_element, same_info}
 use Rattle.element_state.specs.Chosen.{HasLength}
 use Rattle.element_state.specs.Read.{IsEntryOf}
 use Rattle.element_state.specs.Views.{judged_content}
@@ -26,7 +26,7 @@ use Rattle.element_state.specs.Written.{bytes_of, whole_cost, cost_over, cost_be
 use Rattle.element_state.specs.Written.{element_cost, map_cost}
 use Rattle.element_maps.specs.Differences.{difference, replacement, touch, put, same_bytes, same_value}
 use Rattle.element_maps.specs.Laws.{IsUntested}
-use Rattle.element_maps.specs.Sessions.{IsHeld, IsSync}
+use Rattle.element_maps.specs.Sessions.{IsHeldElement, IsSync}
 use Rattle.element_maps.specs.lemmas.Names.{false_true, eq_itself}
 use Rattle.element_maps.specs.lemmas.InOrder.{item_each, item_named, weight_of, sum_by_names}
 use Rattle.element_maps.specs.lemmas.Same.{both, with_both, number_itself, content_is}
@@ -38,15 +38,15 @@ zero_le n = omega arith
 
 -- ---- fewer blocks differ than there are
 
-changed_le : (bytes was : List ℕ) (n : ℕ) → changed_to bytes was n ≤ n
+changed_le : (bytes was : List ℕ) (n : ℕ) → changed_below bytes was n ≤ n
 changed_le bytes was zero = omega arith
 changed_le bytes was (suc n) = let before = changed_le bytes was n in by (is_changed bytes was n) before
   where
-    by : (b : Bool) → changed_to bytes was n ≤ n → changed_to bytes was n + cond b 1 0 ≤ suc n
+    by : (b : Bool) → changed_below bytes was n ≤ n → changed_below bytes was n + cond b 1 0 ≤ suc n
     by true before = omega arith
     by false before = omega arith
 
-shared_le : (bytes was : List ℕ) → 256 * changed bytes was ≤ whole_cost bytes
+shared_le : (bytes was : List ℕ) → 256 * changed_blocks bytes was ≤ whole_cost bytes
 shared_le bytes was = mul-le-mul_left 256 (changed_le bytes was (blocks_for (length bytes)))
 
 -- a content that fails the test is written whole
@@ -55,7 +55,7 @@ judged_le : (kind : StoreKind) (test : List ℕ → Bool) (old : Content) (bytes
 judged_le Keys test old bytes = omega arith
 judged_le Files test (Good value) bytes = by (test value)
   where
-    by : (b : Bool) → 256 * changed bytes value ≤ cost_over Files (cond b (Good value) (Bad None)) bytes
+    by : (b : Bool) → 256 * changed_blocks bytes value ≤ cost_over Files (cond b (Good value) (Bad None)) bytes
     by true = omega arith
     by false = shared_le bytes value
 judged_le Files test (Bad None) bytes = omega arith
@@ -86,11 +86,12 @@ same_none Keys (Some a) None has also none = absurd cc
 same_none Files (Some a) None has also none = absurd cc
 same_none kind old (Some b) has also none = absurd cc
 
-put_cost : (kind : StoreKind) (name : List ℕ) (new : Element) (es : List Entry) (e : Entry) → entry_at name es ≡ Some e
+put_cost : (kind : StoreKind) (name : List ℕ) (new : Element) (es : List Entry) (e : Entry) → entry_by_name name es
+    ≡ Some e
     → change_cost kind es (put name new) ≡ cost_over kind e.content (bytes_of new.content)
 put_cost kind name new es e found = ap (λ o. cost_beside kind (content_of o) (bytes_of new.content)) found
 
-put_alone : (kind : StoreKind) (name : List ℕ) (new : Element) (es : List Entry) → entry_at name es ≡ None
+put_alone : (kind : StoreKind) (name : List ℕ) (new : Element) (es : List Entry) → entry_by_name name es ≡ None
     → change_cost kind es (put name new) ≡ whole_cost (bytes_of new.content)
 put_alone kind name new es found = ap (λ o. cost_beside kind (content_of o) (bytes_of new.content)) found
 
@@ -110,7 +111,7 @@ bytes_content old new bytes good same =
 
 -- what replaces an entry costs no more than its content, and nothing where that is the same
 replaced_cost : (kind : StoreKind) (test : List ℕ → Bool) (name : List ℕ) (es : List Entry) (e : Entry) (new : Element)
-    → entry_at name es ≡ Some e → IsRead kind e → IsOther kind new
+    → entry_by_name name es ≡ Some e → IsRead kind e → IsOther kind new
     → same_element (judged_element test e) new ≡ false
     → change_cost kind es (replacement name (judged_element test e) new)
     ≤ element_cost kind (Some (judged_element test e)) new
@@ -165,8 +166,8 @@ element_weight kind old (Some new) = element_cost kind old new
 
 point_cost : (kind : StoreKind) (test : List ℕ → Bool) (name : List ℕ) (es : List Entry) (old : Option Entry)
     (new : Option Element)
-    → entry_at name es ≡ old → ((e : Entry) → old ≡ Some e → IsRead kind e)
-    → ((element : Element) → new ≡ Some element → IsHeld kind (option_map (judged_element test) old) element
+    → entry_by_name name es ≡ old → ((e : Entry) → old ≡ Some e → IsRead kind e)
+    → ((element : Element) → new ≡ Some element → IsHeldElement kind (option_map (judged_element test) old) element
     element.content)
     → (c : Change) → difference name (option_map (judged_element test) old) new ≡ Some c
     → change_cost kind es c ≤ element_weight kind (option_map (judged_element test) old) new
@@ -194,8 +195,8 @@ point_cost kind test name es (Some e) (Some new) found read held c is =
 
 -- and no less, where no content of a file fails the test
 point_cost_back : (kind : StoreKind) (test : List ℕ → Bool) → IsUntested kind test
-    → (name : List ℕ) (es : List Entry) (old : Option Entry) (new : Element) → entry_at name es ≡ old
-    → IsHeld kind (option_map (judged_element test) old) new new.content
+    → (name : List ℕ) (es : List Entry) (old : Option Entry) (new : Element) → entry_by_name name es ≡ old
+    → IsHeldElement kind (option_map (judged_element test) old) new new.content
     → element_cost kind (option_map (judged_element test) old) new
     ≤ weight_of (change_cost kind es) (difference name (option_map (judged_element test) old) (Some new))
 point_cost_back kind test untested name es None new found held =
@@ -248,17 +249,18 @@ module _ (shape : Shape) (test : List ℕ → Bool) (v : View) (synced new : Map
   unfolding commit_cost map_cost weight
   cost_le = sum_by_names pair_name weight changed_name (change_cost shape.kind v.entries) changes new
       sync.made.names_ascend (λ name c is.
-      let as_held : difference name (option_map (judged_element test) (entry_at name v.entries)) (element_at new name)
+      let as_held : difference name (option_map (judged_element test) (entry_by_name name v.entries))
+      (element_at new name)
       ≡ Some c =
       ap (λ o. difference name o (element_at new name)) (sym (held_at shape test v synced new changes sync name))
       ∙ sym (sync.made.exact name) ∙ is in
       let cost : change_cost shape.kind v.entries c ≤ element_weight shape.kind
-      (option_map (judged_element test) (entry_at name v.entries)) (element_at new name) =
-      point_cost shape.kind test name v.entries (entry_at name v.entries) (element_at new name) refl
+      (option_map (judged_element test) (entry_by_name name v.entries)) (element_at new name) =
+      point_cost shape.kind test name v.entries (entry_by_name name v.entries) (element_at new name) refl
       (λ e found. (let is = item_each entry_name (IsEntryOf shape) name v.entries e sync.read.each found in
       record { info = is.info; length = is.content })) (held_new shape test v synced new changes sync name) c
       as_held in
-      let one : element_weight shape.kind (option_map (judged_element test) (entry_at name v.entries))
+      let one : element_weight shape.kind (option_map (judged_element test) (entry_by_name name v.entries))
       (element_at new name) ≡ weight_of weight (item_at pair_name name new) =
       ap (λ o. element_weight shape.kind o (element_at new name))
       (sym (held_at shape test v synced new changes sync name)) ∙ weight_is name (element_at new name)
@@ -271,20 +273,20 @@ module _ (shape : Shape) (test : List ℕ → Bool) (v : View) (synced new : Map
       sync.next.names_ascend (λ name e is.
       let named : e.0 ≡ name = item_named pair_name name new e is in
       let here : element_at new name ≡ Some e.1 = found_in_map name new e is in
-      let cost : element_cost shape.kind (option_map (judged_element test) (entry_at name v.entries)) e.1
+      let cost : element_cost shape.kind (option_map (judged_element test) (entry_by_name name v.entries)) e.1
       ≤ weight_of (change_cost shape.kind v.entries) (difference name
-      (option_map (judged_element test) (entry_at name v.entries)) (Some e.1)) =
-      point_cost_back shape.kind test untested name v.entries (entry_at name v.entries) e.1 refl
+      (option_map (judged_element test) (entry_by_name name v.entries)) (Some e.1)) =
+      point_cost_back shape.kind test untested name v.entries (entry_by_name name v.entries) e.1 refl
       (held_new shape test v synced new changes sync name e.1 here) in
-      let change_is : difference name (option_map (judged_element test) (entry_at name v.entries)) (Some e.1)
+      let change_is : difference name (option_map (judged_element test) (entry_by_name name v.entries)) (Some e.1)
       ≡ change_at name changes =
       ap (λ o. difference name o (Some e.1)) (sym (held_at shape test v synced new changes sync name))
       ∙ ap (λ o. difference name (element_at synced name) o) (sym here) ∙ sym (sync.made.exact name) in
       let two : weight_of (change_cost shape.kind v.entries)
-      (difference name (option_map (judged_element test) (entry_at name v.entries)) (Some e.1))
+      (difference name (option_map (judged_element test) (entry_by_name name v.entries)) (Some e.1))
       ≡ weight_of (change_cost shape.kind v.entries) (change_at name changes) =
       ap (λ o. weight_of (change_cost shape.kind v.entries) o) change_is in
-      let one : element_cost shape.kind (option_map (judged_element test) (entry_at name v.entries)) e.1
+      let one : element_cost shape.kind (option_map (judged_element test) (entry_by_name name v.entries)) e.1
       ≡ element_cost shape.kind (element_at synced e.0) e.1 =
       ap (λ o. element_cost shape.kind o e.1) (sym (held_at shape test v synced new changes sync name))
       ∙ ap (λ n. element_cost shape.kind (element_at synced n) e.1) (sym named) in

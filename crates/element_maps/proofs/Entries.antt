@@ -9,7 +9,7 @@ use Rattle.per_base.specs.declared.elements.FileInfo.{FileInfo}
 use Rattle.per_base.specs.declared.elements.Change.{Change}
 use Rattle.per_base.specs.declared.elements.Change.TheVariants.{Put, Remove, Touch}
 use Rattle.per_base.specs.Changes.{changed_name, change_at}
-use Rattle.element_state.specs.Changes.{entry_at, entry_name, touched, after_change, after_changes}
+use Rattle.element_state.specs.Changes.{entry_by_name, entry_name, touched, after_change, after_changes}
 use Rattle.element_state.specs.States.{fresh_entry, fresh_element}
 use Rattle.element_maps.specs.lemmas.Names.{same_names, eq_back}
 use Rattle.element_maps.specs.lemmas.InOrder.{NamesAscend, first, rest, item_named, item_above, item_put, item_without}
@@ -39,13 +39,13 @@ touched_name generation name info e = by (bytes_eq e.name name)
 -- ---- one change
 
 after_one : (generation : ℕ) (es : List Entry) (c : Change) (name : List ℕ)
-    → entry_at name (after_change generation es c) ≡ cond (bytes_eq (changed_name c) name)
-    (changed_entry generation c (entry_at name es)) (entry_at name es)
+    → entry_by_name name (after_change generation es c) ≡ cond (bytes_eq (changed_name c) name)
+    (changed_entry generation c (entry_by_name name es)) (entry_by_name name es)
 after_one generation es (Put f) name = item_put entry_name name (fresh_entry generation (fresh_element f)) es
 after_one generation es (Remove other) name = item_without entry_name name other es
 after_one generation es (Touch other info) name =
     item_map entry_name entry_name (touched generation other info) (touched_name generation other info) name es
-    ∙ by (entry_at name es) (λ e is. item_named entry_name name es e is)
+    ∙ by (entry_by_name name es) (λ e is. item_named entry_name name es e is)
   where
     at_one : (b : Bool) (e : Entry) → Some (cond b (informed generation info e) e)
         ≡ cond b (Some (informed generation info e)) (Some e)
@@ -79,23 +79,25 @@ ascends_after generation es (c ∷ cs) sorted = ascends_after generation (after_
     (ascends_one generation es c sorted)
 
 pub after_all : (generation : ℕ) (es : List Entry) (cs : List Change) (name : List ℕ) → NamesAscend changed_name cs
-    → entry_at name (after_changes generation es cs) ≡ entry_after generation (change_at name cs) (entry_at name es)
+    → entry_by_name name (after_changes generation es cs) ≡ entry_after generation (change_at name cs)
+    (entry_by_name name es)
 after_all generation es [] name sorted = refl
 after_all generation es (c ∷ cs) name sorted =
-    let later : entry_at name (after_changes generation (after_change generation es c) cs)
-    ≡ entry_after generation (change_at name cs) (entry_at name (after_change generation es c)) =
+    let later : entry_by_name name (after_changes generation (after_change generation es c) cs)
+    ≡ entry_after generation (change_at name cs) (entry_by_name name (after_change generation es c)) =
     after_all generation (after_change generation es c) cs name (rest changed_name c cs sorted) in
     elim (cases_Bool (bytes_eq (changed_name c) name)) [
       | inl t ↦
           let none : change_at name cs ≡ None = subst (λ (n : List ℕ). change_at n cs ≡ None)
           (same_names (changed_name c) name t) (item_above changed_name (changed_name c) cs
           (first changed_name c cs sorted)) in
-          let now : entry_at name (after_change generation es c) ≡ changed_entry generation c (entry_at name es) =
+          let now : entry_by_name name (after_change generation es c)
+          ≡ changed_entry generation c (entry_by_name name es) =
           after_one generation es c name ∙ rw t refl in
-          later ∙ ap (λ o. entry_after generation o (entry_at name (after_change generation es c))) none ∙ now
+          later ∙ ap (λ o. entry_after generation o (entry_by_name name (after_change generation es c))) none ∙ now
           ∙ rw t refl
       | inr f ↦
-          let now : entry_at name (after_change generation es c) ≡ entry_at name es =
+          let now : entry_by_name name (after_change generation es c) ≡ entry_by_name name es =
           after_one generation es c name ∙ rw f refl in
           later ∙ ap (λ o. entry_after generation (change_at name cs) o) now ∙ rw f refl
     ]

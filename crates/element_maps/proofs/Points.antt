@@ -14,13 +14,13 @@ use Rattle.per_base.specs.declared.elements.FileInfo.{FileInfo}
 use Rattle.per_base.specs.declared.elements.Change.{Change}
 use Rattle.per_base.specs.declared.elements.Change.TheVariants.{Remove}
 use Rattle.index_text.specs.Rules.{has_info, max_len}
-use Rattle.element_state.specs.Changes.{same_element, is_same, kept_or_fresh, entry_at}
+use Rattle.element_state.specs.Changes.{same_element, is_same, kept_or_fresh, entry_by_name}
 use Rattle.element_state.specs.Conditions.{IsChange, IsGoodEntry}
 use Rattle.element_state.specs.States.{fresh_entry, fresh_element}
 use Rattle.element_state.specs.Views.{judged_content}
 use Rattle.element_state.specs.Written.{bytes_of}
 use Rattle.element_maps.specs.Differences.{difference, replacement, touch, put, same_bytes, same_value}
-use Rattle.element_maps.specs.Sessions.{IsHeld, IsWritable}
+use Rattle.element_maps.specs.Sessions.{IsHeldElement, IsWritable}
 use Rattle.element_maps.specs.lemmas.Names.{false_true}
 use Rattle.element_maps.specs.lemmas.Same.{both, same_number, element, same_is, same_from, is_same_from}
 use Rattle.element_maps.proofs.Entries.{changed_entry, entry_after}
@@ -66,11 +66,11 @@ pub record IsOther (kind : StoreKind) (new : Element) : Type 0 where
   pub good : new.content ≡ Good bytes
   pub writable : IsWritable kind new bytes
 
-pub is_other : (kind : StoreKind) (old : Option Element) (new : Element) → IsHeld kind old new new.content
+pub is_other : (kind : StoreKind) (old : Option Element) (new : Element) → IsHeldElement kind old new new.content
     → is_same old new ≡ false → IsOther kind new
 is_other kind old new held differs = by new.content refl held
   where
-    by : (content : Content) → new.content ≡ content → IsHeld kind old new content → IsOther kind new
+    by : (content : Content) → new.content ≡ content → IsHeldElement kind old new content → IsOther kind new
     by (Good bytes) e held = record { bytes = bytes; good = e; writable = held }
     by (Bad salvage) e held = absurd (false_true (is_same old new) differs (is_same_from old new held))
 
@@ -119,7 +119,7 @@ replaced kind test generation name e new named other = by (same_bytes (judged_el
 pub point : (kind : StoreKind) (test : List ℕ → Bool) (generation : ℕ) (name : List ℕ) (old : Option Entry)
     (new : Option Element)
     → ((e : Entry) → old ≡ Some e → e.name ≡ name)
-    → ((element : Element) → new ≡ Some element → IsHeld kind (option_map (judged_element test) old) element
+    → ((element : Element) → new ≡ Some element → IsHeldElement kind (option_map (judged_element test) old) element
     element.content)
     → entry_after generation (difference name (option_map (judged_element test) old) new) old
     ≡ option_map (λ element. kept_or_fresh generation (is_same (option_map (judged_element test) old) element) old
@@ -154,8 +154,8 @@ of_files Files info has = refl
 -- a change that makes the one element into the other may be committed beside an entry that denotes the one
 pub point_taken : (kind : StoreKind) (test : List ℕ → Bool) (name : List ℕ) (es : List Entry) (old : Option Entry)
     (new : Option Element)
-    → entry_at name es ≡ old
-    → ((element : Element) → new ≡ Some element → IsHeld kind (option_map (judged_element test) old) element
+    → entry_by_name name es ≡ old
+    → ((element : Element) → new ≡ Some element → IsHeldElement kind (option_map (judged_element test) old) element
     element.content)
     → (c : Change) → difference name (option_map (judged_element test) old) new ≡ Some c → IsChange kind es c
 point_taken kind test name es None None found held c is = absurd cc

@@ -20,15 +20,15 @@ use Rattle.per_base.specs.declared.elements.Change.{Change}
 use Rattle.per_base.specs.Changes.{changed_name, change_at}
 use Rattle.element_state.specs.declared.shapes.Shape.{Shape}
 use Rattle.element_state.specs.declared.shapes.View.{View}
-use Rattle.element_state.specs.Changes.{item_at, entry_at, entry_name, is_same, kept_or_fresh, committed_entry}
+use Rattle.element_state.specs.Changes.{item_at, entry_by_name, entry_name, is_same, kept_or_fresh, committed_entry}
 use Rattle.element_state.specs.Changes.{after_changes, committed_by, committed}
-use Rattle.element_state.specs.Conditions.{AreChanges, IsChange, size_of}
+use Rattle.element_state.specs.Conditions.{AreCommittable, IsChange, size_of}
 use Rattle.element_state.specs.Chosen.{HasLength}
 use Rattle.element_state.specs.Read.{IsEntryOf, IsView}
 use Rattle.element_state.specs.States.{fresh_entry, whole_view, lacking_by, greatest_generation}
 use Rattle.element_state.specs.Views.{element_of, judged_entry, judged_content, lacks_one, map_of}
 use Rattle.element_maps.specs.Differences.{difference}
-use Rattle.element_maps.specs.Sessions.{IsHeld, IsNext, IsSync, Passes, synchronised}
+use Rattle.element_maps.specs.Sessions.{IsHeldElement, IsNext, IsSync, PassesTest, synchronised}
 use Rattle.element_maps.specs.lemmas.Names.{eq_back, same_names}
 use Rattle.element_maps.specs.lemmas.InOrder.{NamesAscend, item_each, item_named, item_first, each_item, item_map}
 use Rattle.element_maps.specs.lemmas.InOrder.{ascends_map, same_lists, names_apart}
@@ -83,18 +83,18 @@ maps_through test (e ∷ es) = ap (λ m. (e.name, judged_element test e) ∷ m) 
 
 -- what is synchronised under a name
 pub synced_at : (test : List ℕ → Bool) (v : View) (name : List ℕ)
-    → element_at (synchronised test v) name ≡ option_map (judged_element test) (entry_at name v.entries)
+    → element_at (synchronised test v) name ≡ option_map (judged_element test) (entry_by_name name v.entries)
 synced_at test v name = go v.entries
   where
     go : (es : List Entry) → element_at (map element_of (map (judged_entry test) es)) name
-        ≡ option_map (judged_element test) (entry_at name es)
+        ≡ option_map (judged_element test) (entry_by_name name es)
     go [] = refl
     go (e ∷ es) = rw (at_name name e.name) (by (bytes_eq e.name name) (go es))
       where
         by : (b : Bool) → element_at (map element_of (map (judged_entry test) es)) name
-            ≡ option_map (judged_element test) (entry_at name es)
+            ≡ option_map (judged_element test) (entry_by_name name es)
             → cond b (Some (judged_element test e)) (element_at (map element_of (map (judged_entry test) es)) name)
-            ≡ option_map (judged_element test) (cond b (Some e) (entry_at name es))
+            ≡ option_map (judged_element test) (cond b (Some e) (entry_by_name name es))
         by true later = refl
         by false later = later
 
@@ -135,12 +135,12 @@ synced_size test (e ∷ es) =
 
 -- an entry that is read shows an element as its kind asks
 read_held : (shape : Shape) (test : List ℕ → Bool) (x : Entry) (e : Element) → IsEntryOf shape x
-    → judged_element test x ≡ e → IsHeld shape.kind (Some e) e e.content
-read_held shape test x e read is = subst (λ (y : Element). IsHeld shape.kind (Some y) y y.content) is
+    → judged_element test x ≡ e → IsHeldElement shape.kind (Some e) e e.content
+read_held shape test x e read is = subst (λ (y : Element). IsHeldElement shape.kind (Some y) y y.content) is
     (by (judged_content test x.content) refl)
   where
     by : (content : Content) → judged_content test x.content ≡ content
-        → IsHeld shape.kind (Some (judged_element test x)) (judged_element test x) content
+        → IsHeldElement shape.kind (Some (judged_element test x)) (judged_element test x) content
     by (Good bytes) good = record {
       info = read.info;
       length = subst (λ (c : Content). HasLength x.len c) (judged_good test x.content bytes good) read.content;
@@ -158,14 +158,14 @@ owed shape test v read = record {
       let same : maps.size_of (synchronised test v) ≡ size_of v.entries =
       ap maps.size_of (maps_through test v.entries) ∙ synced_size test v.entries in omega arith;
   each = λ name e is.
-      let found : option_map (judged_element test) (entry_at name v.entries) ≡ Some e =
+      let found : option_map (judged_element test) (entry_by_name name v.entries) ≡ Some e =
       sym (synced_at test v name) ∙ is in
-      subst (λ (o : Option Element). IsHeld shape.kind o e e.content) (sym is)
-      (by name e (entry_at name v.entries) refl found);
+      subst (λ (o : Option Element). IsHeldElement shape.kind o e e.content) (sym is)
+      (by name e (entry_by_name name v.entries) refl found);
 }
   where
-    by : (name : List ℕ) (e : Element) (o : Option Entry) → entry_at name v.entries ≡ o
-        → option_map (judged_element test) o ≡ Some e → IsHeld shape.kind (Some e) e e.content
+    by : (name : List ℕ) (e : Element) (o : Option Entry) → entry_by_name name v.entries ≡ o
+        → option_map (judged_element test) o ≡ Some e → IsHeldElement shape.kind (Some e) e e.content
     by name e None at found = absurd cc
     by name e (Some x) at found = let one : judged_element test x ≡ e =
         cc in read_held shape test x e (item_each entry_name (IsEntryOf shape) name v.entries x read.each at) one
@@ -180,7 +180,8 @@ module _ (shape : Shape) (test : List ℕ → Bool) (v : View) (synced new : Map
   abbrev pub after : List Entry
   after = after_changes (v.generation + 1) v.entries changes
 
-  pub held_at : (name : List ℕ) → element_at synced name ≡ option_map (judged_element test) (entry_at name v.entries)
+  pub held_at : (name : List ℕ) → element_at synced name ≡ option_map (judged_element test)
+      (entry_by_name name v.entries)
   held_at name = ap (λ (m : Map). element_at m name) sync.held ∙ synced_at test v name
 
   kept_name : (b : Bool) (e : List ℕ × Element) (o : Option Entry) → ((x : Entry) → o ≡ Some x → x.name ≡ e.0)
@@ -190,31 +191,33 @@ module _ (shape : Shape) (test : List ℕ → Bool) (v : View) (synced new : Map
   kept_name false e o named = refl
 
   made_name : (e : List ℕ × Element) → entry_name (made e) ≡ pair_name e
-  made_name e = kept_name (is_same (element_at synced e.0) e.1) e (entry_at e.0 v.entries)
+  made_name e = kept_name (is_same (element_at synced e.0) e.1) e (entry_by_name e.0 v.entries)
       (λ x is. item_named entry_name e.0 v.entries x is)
 
   pub held_new : (name : List ℕ) (e : Element) → element_at new name ≡ Some e
-      → IsHeld shape.kind (option_map (judged_element test) (entry_at name v.entries)) e e.content
-  held_new name e is = subst (λ (o : Option Element). IsHeld shape.kind o e e.content) (held_at name)
+      → IsHeldElement shape.kind (option_map (judged_element test) (entry_by_name name v.entries)) e e.content
+  held_new name e is = subst (λ (o : Option Element). IsHeldElement shape.kind o e e.content) (held_at name)
       (sync.next.each name e is)
 
-  after_at : (name : List ℕ) → entry_at name after ≡ entry_at name (map made new)
+  after_at : (name : List ℕ) → entry_by_name name after ≡ entry_by_name name (map made new)
   after_at name =
-      let old : Option Entry = entry_at name v.entries in
+      let old : Option Entry = entry_by_name name v.entries in
       after_all (v.generation + 1) v.entries changes name sync.made.names_ascend
-      ∙ ap (λ c. entry_after (v.generation + 1) c (entry_at name v.entries)) (sync.made.exact name)
-      ∙ ap (λ o. entry_after (v.generation + 1) (difference name o (element_at new name)) (entry_at name v.entries))
+      ∙ ap (λ c. entry_after (v.generation + 1) c (entry_by_name name v.entries)) (sync.made.exact name)
+      ∙ ap (λ o. entry_after (v.generation + 1) (difference name o (element_at new name))
+      (entry_by_name name v.entries))
       (held_at name)
-      ∙ point shape.kind test (v.generation + 1) name (entry_at name v.entries) (element_at new name)
+      ∙ point shape.kind test (v.generation + 1) name (entry_by_name name v.entries) (element_at new name)
       (λ e is. item_named entry_name name v.entries e is) (held_new name)
-      ∙ ap (λ o. option_map (λ e. kept_or_fresh (v.generation + 1) (is_same o e) (entry_at name v.entries) (name, e))
+      ∙ ap (λ o. option_map (λ e. kept_or_fresh (v.generation + 1) (is_same o e) (entry_by_name name v.entries)
+      (name, e))
       (element_at new name)) (sym (held_at name))
       ∙ through (element_at new name)
       ∙ ap (λ o. option_map made o) (sym (item_in_map name new))
       ∙ sym (item_map pair_name entry_name made made_name name new)
     where
       through : (o : Option Element) → option_map (λ e. kept_or_fresh (v.generation + 1)
-          (is_same (element_at synced name) e) (entry_at name v.entries) (name, e)) o
+          (is_same (element_at synced name) e) (entry_by_name name v.entries) (name, e)) o
           ≡ option_map made (option_map (paired name) o)
       through None = refl
       through (Some e) = refl
@@ -240,8 +243,9 @@ module _ (shape : Shape) (test : List ℕ → Bool) (v : View) (synced new : Map
 
   made_read : (e : List ℕ × Element) → element_at new e.0 ≡ Some e.1 → IsName e.0 → IsEntryOf shape (made e)
   made_read e is name = subst (λ (o : Option Element). IsEntryOf shape
-      (kept_or_fresh (v.generation + 1) (is_same o e.1) (entry_at e.0 v.entries) e)) (sym (held_at e.0))
-      (by (entry_at e.0 v.entries) refl (is_same (option_map (judged_element test) (entry_at e.0 v.entries)) e.1) refl)
+      (kept_or_fresh (v.generation + 1) (is_same o e.1) (entry_by_name e.0 v.entries) e)) (sym (held_at e.0))
+      (by (entry_by_name e.0 v.entries) refl (is_same (option_map (judged_element test) (entry_by_name e.0 v.entries))
+      e.1) refl)
     where
       fresh : IsOther shape.kind e.1 → IsEntryOf shape (fresh_entry (v.generation + 1) e)
       fresh other = record {
@@ -253,16 +257,18 @@ module _ (shape : Shape) (test : List ℕ → Bool) (v : View) (synced new : Map
         ascend = (no_numbers shape.place.copies).ascend;
       }
 
-      by : (o : Option Entry) → entry_at e.0 v.entries ≡ o → (b : Bool)
+      by : (o : Option Entry) → entry_by_name e.0 v.entries ≡ o → (b : Bool)
           → is_same (option_map (judged_element test) o) e.1 ≡ b
           → IsEntryOf shape (kept_or_fresh (v.generation + 1) b o e)
       by (Some x) found true same = item_each entry_name (IsEntryOf shape) e.0 v.entries x sync.read.each found
       by None found true same = absurd cc
       by (Some x) found false same = fresh (is_other shape.kind (Some (judged_element test x)) e.1
-          (subst (λ (o : Option Entry). IsHeld shape.kind (option_map (judged_element test) o) e.1 e.1.content) found
+          (subst (λ (o : Option Entry). IsHeldElement shape.kind (option_map (judged_element test) o) e.1 e.1.content)
+          found
           (held_new e.0 e.1 is)) same)
       by None found false same = fresh (is_other shape.kind None e.1
-          (subst (λ (o : Option Entry). IsHeld shape.kind (option_map (judged_element test) o) e.1 e.1.content) found
+          (subst (λ (o : Option Entry). IsHeldElement shape.kind (option_map (judged_element test) o) e.1 e.1.content)
+          found
           (held_new e.0 e.1 is)) same)
 
   all_made : (P : Entry → Type 0) (m : Map) → AllByRecursion (λ e. P (made e)) m → AllByRecursion P (map made m)
@@ -270,10 +276,11 @@ module _ (shape : Shape) (test : List ℕ → Bool) (v : View) (synced new : Map
   all_made P (e ∷ m) all = (all.0, all_made P m all.1)
 
   -- an element that is made shows what the map says
-  shown : Passes test new → (e : List ℕ × Element) → element_at new e.0 ≡ Some e.1 → judged_pair test (made e) ≡ e
+  shown : PassesTest test new → (e : List ℕ × Element) → element_at new e.0 ≡ Some e.1 → judged_pair test (made e) ≡ e
   shown passes e is = subst (λ (o : Option Element). judged_pair test
-      (kept_or_fresh (v.generation + 1) (is_same o e.1) (entry_at e.0 v.entries) e) ≡ e) (sym (held_at e.0))
-      (by (entry_at e.0 v.entries) refl (is_same (option_map (judged_element test) (entry_at e.0 v.entries)) e.1) refl)
+      (kept_or_fresh (v.generation + 1) (is_same o e.1) (entry_by_name e.0 v.entries) e) ≡ e) (sym (held_at e.0))
+      (by (entry_by_name e.0 v.entries) refl (is_same (option_map (judged_element test) (entry_by_name e.0 v.entries))
+      e.1) refl)
     where
       judged : (other : IsOther shape.kind e.1) → judged_content test e.1.content ≡ e.1.content
       judged other =
@@ -283,7 +290,7 @@ module _ (shape : Shape) (test : List ℕ → Bool) (v : View) (synced new : Map
       fresh : IsOther shape.kind e.1 → judged_pair test (fresh_entry (v.generation + 1) e) ≡ e
       fresh other = ap (λ c. (e.0, element e.1.info e.1.len c)) (judged other)
 
-      by : (o : Option Entry) → entry_at e.0 v.entries ≡ o → (b : Bool)
+      by : (o : Option Entry) → entry_by_name e.0 v.entries ≡ o → (b : Bool)
           → is_same (option_map (judged_element test) o) e.1 ≡ b
           → judged_pair test (kept_or_fresh (v.generation + 1) b o e) ≡ e
       by (Some x) found true same =
@@ -292,10 +299,12 @@ module _ (shape : Shape) (test : List ℕ → Bool) (v : View) (synced new : Map
           ap (λ n. (n, judged_element test x)) (item_named entry_name e.0 v.entries x found) ∙ ap (λ y. (e.0, y)) one
       by None found true same = absurd cc
       by (Some x) found false same = fresh (is_other shape.kind (Some (judged_element test x)) e.1
-          (subst (λ (o : Option Entry). IsHeld shape.kind (option_map (judged_element test) o) e.1 e.1.content) found
+          (subst (λ (o : Option Entry). IsHeldElement shape.kind (option_map (judged_element test) o) e.1 e.1.content)
+          found
           (held_new e.0 e.1 is)) same)
       by None found false same = fresh (is_other shape.kind None e.1
-          (subst (λ (o : Option Entry). IsHeld shape.kind (option_map (judged_element test) o) e.1 e.1.content) found
+          (subst (λ (o : Option Entry). IsHeldElement shape.kind (option_map (judged_element test) o) e.1 e.1.content)
+          found
           (held_new e.0 e.1 is)) same)
 
   map_back : (m : Map) → AllByRecursion (λ e. judged_pair test (made e) ≡ e) m → map (judged_pair test) (map made m) ≡ m
@@ -303,7 +312,7 @@ module _ (shape : Shape) (test : List ℕ → Bool) (v : View) (synced new : Map
   map_back (e ∷ m) all = ap (λ x. x ∷ map (judged_pair test) (map made m)) all.0
       ∙ ap (λ rest. e ∷ rest) (map_back m all.1)
 
-  pub held_next : Passes test new → synchronised test (committed shape v synced new) ≡ new
+  pub held_next : PassesTest test new → synchronised test (committed shape v synced new) ≡ new
   unfolding committed
   held_next passes = maps_through test (map made new) ∙ map_back new
       (each_new (λ e. judged_pair test (made e) ≡ e) (λ name e is. shown passes (name, e) is))
@@ -311,9 +320,11 @@ module _ (shape : Shape) (test : List ℕ → Bool) (v : View) (synced new : Map
   -- ---- the size
 
   made_len : (e : List ℕ × Element) → (made e).len ≡ e.1.len
-  made_len e = subst (λ (o : Option Element). (kept_or_fresh (v.generation + 1) (is_same o e.1) (entry_at e.0 v.entries)
+  made_len e = subst (λ (o : Option Element). (kept_or_fresh (v.generation + 1) (is_same o e.1)
+      (entry_by_name e.0 v.entries)
       e).len ≡ e.1.len) (sym (held_at e.0))
-      (by (entry_at e.0 v.entries) (is_same (option_map (judged_element test) (entry_at e.0 v.entries)) e.1) refl)
+      (by (entry_by_name e.0 v.entries) (is_same (option_map (judged_element test) (entry_by_name e.0 v.entries)) e.1)
+      refl)
     where
       by : (o : Option Entry) (b : Bool) → is_same (option_map (judged_element test) o) e.1 ≡ b
           → (kept_or_fresh (v.generation + 1) b o e).len ≡ e.1.len
@@ -381,10 +392,11 @@ module _ (shape : Shape) (test : List ℕ → Bool) (v : View) (synced new : Map
 
   -- ---- the changes may be committed
 
-  pub taken : v.generation < greatest_generation → AreChanges shape v changes
+  pub taken : v.generation < greatest_generation → AreCommittable shape v changes
   taken not_worn = record {
     each = each_item changed_name (IsChange shape.kind v.entries) changes sync.made.names_ascend (λ name c is.
-        point_taken shape.kind test name v.entries (entry_at name v.entries) (element_at new name) refl (held_new name)
+        point_taken shape.kind test name v.entries (entry_by_name name v.entries) (element_at new name) refl
+        (held_new name)
         c
         (ap (λ o. difference name o (element_at new name)) (sym (held_at name)) ∙ sym (sync.made.exact name) ∙ is));
     names_apart = names_apart (map changed_name changes) sync.made.names_ascend;

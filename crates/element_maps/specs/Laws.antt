@@ -13,18 +13,18 @@ use Rattle.element_state.specs.declared.shapes.Shape.{Shape}
 use Rattle.element_state.specs.declared.shapes.View.{View}
 use Rattle.element_state.specs.States.{greatest_generation}
 use Rattle.element_state.specs.Changes.{after_changes, committed_by, committed, same_element}
-use Rattle.element_state.specs.Conditions.{AreChanges, size_of}
+use Rattle.element_state.specs.Conditions.{AreCommittable, size_of}
 use Rattle.element_state.specs.Read.{IsView}
 use Rattle.element_state.specs.Views.{map_of}
 use Rattle.element_state.specs.Written.{commit_cost, map_cost}
 use Rattle.element_maps.specs.Differences.{MakeInto}
-use Rattle.element_maps.specs.Sessions.{IsNext, IsSync, Passes, same_map, synced_view, synchronised}
+use Rattle.element_maps.specs.Sessions.{IsNext, IsSync, PassesTest, same_map, synchronised, view_once_synced}
 
 -- they may be committed
-abbrev pub TakenLaw : Type 0
-TakenLaw = (shape : Shape) (test : List ℕ → Bool) (v : View) (synced new : Map) (changes : List Change)
+abbrev pub CommittableLaw : Type 0
+CommittableLaw = (shape : Shape) (test : List ℕ → Bool) (v : View) (synced new : Map) (changes : List Change)
     → IsSync shape test v synced new changes
-    → v.generation < greatest_generation → AreChanges shape v changes
+    → v.generation < greatest_generation → AreCommittable shape v changes
 
 -- the storage is then the one that its two maps say
 abbrev pub CommittedLaw : Type 0
@@ -36,7 +36,7 @@ CommittedLaw = (shape : Shape) (test : List ℕ → Bool) (v : View) (synced new
 abbrev pub HeldLaw : Type 0
 HeldLaw = (shape : Shape) (test : List ℕ → Bool) (v : View) (synced new : Map) (changes : List Change)
     → IsSync shape test v synced new changes
-    → Passes test new → synchronised test (committed shape v synced new) ≡ new
+    → PassesTest test new → synchronised test (committed shape v synced new) ≡ new
 
 -- as it will be read, where all its names are in the grammar
 abbrev pub ReadLaw : Type 0
@@ -73,8 +73,8 @@ NothingLaw = (shape : Shape) (test : List ℕ → Bool) (v : View) (synced new :
     → (changes ≡ []) ↔ (synced ≡ new)
 
 -- no change has a name at which both maps are alike
-abbrev pub OthersLaw : Type 0
-OthersLaw = (synced new : Map) (changes : List Change) → MakeInto changes synced new
+abbrev pub UnchangedNamesLaw : Type 0
+UnchangedNamesLaw = (synced new : Map) (changes : List Change) → MakeInto changes synced new
     → (name : List ℕ) → element_at synced name ≡ element_at new name
     → All (λ change. changed_name change ≢ name) changes
 
@@ -101,9 +101,9 @@ DecidesLaw = (a b : Map) → (same_map a b ≡ true) ↔ (a ≡ b)
 
 -- the view stays where nothing differs
 abbrev pub StaysLaw : Type 0
-StaysLaw = (shape : Shape) (v : View) (synced new : Map) → synced ≡ new → synced_view shape v synced new ≡ v
+StaysLaw = (shape : Shape) (v : View) (synced new : Map) → synced ≡ new → view_once_synced shape v synced new ≡ v
 
 -- and is the next one where something does
 abbrev pub NextLaw : Type 0
 NextLaw = (shape : Shape) (v : View) (synced new : Map) → synced ≢ new
-    → synced_view shape v synced new ≡ committed shape v synced new
+    → view_once_synced shape v synced new ≡ committed shape v synced new

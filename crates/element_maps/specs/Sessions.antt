@@ -32,9 +32,9 @@ pub record IsWritable (kind : StoreKind) (new : Element) (bytes : List ℕ) : Ty
   pub small : new.len ≤ max_len kind
 
 -- an element that cannot be read is the very one that is synchronised
-abbrev pub IsHeld : StoreKind → Option Element → Element → Content → Type 0
-IsHeld kind synced new (Good bytes) = IsWritable kind new bytes
-IsHeld kind synced new (Bad salvage) = synced ≡ Some new
+abbrev pub IsHeldElement : StoreKind → Option Element → Element → Content → Type 0
+IsHeldElement kind synced new (Good bytes) = IsWritable kind new bytes
+IsHeldElement kind synced new (Bad salvage) = synced ≡ Some new
 
 -- a map in the order of the names and within the limits of the storage, each element as its kind asks
 pub record IsNext (shape : Shape) (synced new : Map) : Type 0 where
@@ -42,11 +42,11 @@ pub record IsNext (shape : Shape) (synced new : Map) : Type 0 where
   pub few : length new ≤ 1024
   pub small : size_of new ≤ shape.allowed
   pub each : (name : List ℕ) (element : Element) → element_at new name ≡ Some element
-      → IsHeld shape.kind (element_at synced name) element element.content
+      → IsHeldElement shape.kind (element_at synced name) element element.content
 
 -- its values pass the test
-abbrev pub Passes : (List ℕ → Bool) → Map → Type 0
-Passes test new = (name : List ℕ) (element : Element) (bytes : List ℕ) → element_at new name ≡ Some element
+abbrev pub PassesTest : (List ℕ → Bool) → Map → Type 0
+PassesTest test new = (name : List ℕ) (element : Element) (bytes : List ℕ) → element_at new name ≡ Some element
     → element.content ≡ Good bytes → IsTrue (test bytes)
 
 -- the changes by which a storage that was read as this view comes to hold the new map in place of what is synchronised
@@ -67,5 +67,5 @@ same_map [] (f ∷ fs) = false
 same_map (e ∷ es) (f ∷ fs) = bytes_eq e.0 f.0 && same_element e.1 f.1 && same_map es fs
 
 -- the view of the storage once it holds the new map: that of before where nothing differs, and else the next
-abbrev pub synced_view : Shape → View → (synced new : Map) → View
-synced_view shape v synced new = cond (same_map synced new) v (committed shape v synced new)
+abbrev pub view_once_synced : Shape → View → (synced new : Map) → View
+view_once_synced shape v synced new = cond (same_map synced new) v (committed shape v synced new)

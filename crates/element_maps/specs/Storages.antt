@@ -14,7 +14,7 @@ use Rattle.element_state.specs.declared.shapes.View.{View}
 use Rattle.element_state.specs.Changes.{item_at}
 use Rattle.element_state.specs.Chosen.{opened_of}
 use Rattle.element_state.specs.Clean.{IsClean}
-use Rattle.element_state.specs.Kept.{KeptThroughout}
+use Rattle.element_state.specs.Kept.{KeptWhileMending}
 use Rattle.element_state.specs.Reports.{reports}
 use Rattle.element_state.specs.States.{State, store_at, mended_view}
 use Rattle.element_state.specs.Written.{IsWithin, map_cost}
@@ -41,9 +41,9 @@ pub record Opened : Type 0 where
   pub synced : Map
   pub reports : List Report
 
--- What an opening gives, with a test of contents, on an image where the disk tells its bytes. An element on whose bytes
--- enough copies agree, but which fail the test, is reported as one that cannot be read, with the copies that lacked it
--- before the opening.
+-- What an opening gives, with a test of contents, on an image where the disk's bytes are modelled. An element on whose
+-- bytes enough copies agree, but which fail the test, is reported as one that cannot be read, with the copies that
+-- lacked it before the opening.
 pub record IsOpened (told : Bool) (image : Image) (shape : Shape) (test : List ℕ → Bool) (given : Opened) : Type 0 where
   -- what the storage was seen as before the opening
   pub before : View
@@ -56,12 +56,12 @@ pub record IsOpened (told : Bool) (image : Image) (shape : Shape) (test : List �
 -- ---- what a call leaves of the disk
 
 -- However a call on a storage ends: no file outside the place changes, at the end and at any moment, and a stop at any
--- moment leaves the storage of before or that of after.
+-- moment leaves the storage of before or that of after. It is said of openings too, which may mend contents in place.
 pub record IsStoring (told : Bool) (shape : Shape) (after : State) (old new : Medium) : Type 0 where
   pub elsewhere : IsTrue told → Spares (IsOutside shape.place) old.image new.image
   pub outside : IsTrue told → Quiet old → EachCase (IsSettledOn (IsOutside shape.place)
       old.image) old new
-  pub any_moment : IsTrue told → KeptThroughout shape after old new
+  pub any_moment : IsTrue told → KeptWhileMending shape after old new
   pub time : Elapses old new
 
 -- Where a call has put a map in the place of the synchronised one, under an index text of this length: what differed is

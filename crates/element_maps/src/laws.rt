@@ -1,13 +1,14 @@
 //! The laws, for the proofs of callers: none of these functions does anything when it runs.
 
 ghost use Rattle.element_maps.specs.Laws.{CommittedLaw, CostLaw, DecidesLaw, ExactCostLaw, HeldLaw, NextLaw};
-ghost use Rattle.element_maps.specs.Laws.{NothingLaw, OthersLaw, ReadLaw, SameLaw, SizeLaw, StaysLaw, SynchronisedLaw};
-ghost use Rattle.element_maps.specs.Laws.{TakenLaw, UntestedLaw};
+ghost use Rattle.element_maps.specs.Laws.{NothingLaw, ReadLaw, SameLaw, SizeLaw, StaysLaw, SynchronisedLaw};
+ghost use Rattle.element_maps.specs.Laws.{UnchangedNamesLaw};
+ghost use Rattle.element_maps.specs.Laws.{CommittableLaw, UntestedLaw};
 
 /// The changes that make the map that a storage holds into another may be committed; the storage then holds the other,
 /// and only what differs is written, nothing where both are equal, and no element that both have alike is named.
 pub fn changes_make_maps()
-    ensures taken { TakenLaw }
+    ensures taken { CommittableLaw }
     ensures committed { CommittedLaw }
     ensures held { HeldLaw }
     ensures read { ReadLaw }
@@ -15,7 +16,7 @@ pub fn changes_make_maps()
     ensures cost { CostLaw }
     ensures exact_cost { ExactCostLaw }
     ensures nothing { NothingLaw }
-    ensures others { OthersLaw }
+    ensures others { UnchangedNamesLaw }
 {}
 
 /// What a view denotes is a map as a session owes it; with no test of contents it is the view's own. Elements that

@@ -17,10 +17,11 @@ use Rattle.element_state.specs.declared.shapes.Shape.{Shape}
 use Rattle.element_state.specs.declared.shapes.View.{View}
 use Rattle.element_state.specs.declared.surveying.Found.{Found}
 use Rattle.element_state.specs.Fit.{FitText, fit_index, with_index, fit_among, fit_texts, is_sole}
-use Rattle.element_state.specs.Views.{qualifies, view_of, entries_of}
-use Rattle.element_state.specs.States.{State, Corrupt, store_at, salvage_of, state_of, picked, beside}
-use Rattle.element_state.specs.Chosen.{chosen, or_first, first_of, opened_of, IsFit, IsReadBy}
-use Rattle.element_state.specs.Surveys.{IsFound, IsHeldOn, IsOf, IsViewedOn, opened_view, opened_if, text_of, view_by}
+use Rattle.element_state.specs.Views.{qualifies, view_of, entries_seen}
+use Rattle.element_state.specs.States.{State, Corrupt, store_at, salvage_of, state_of, first_picked, beside}
+use Rattle.element_state.specs.Chosen.{chosen, or_first, first_fit, opened_of, IsFit, IsReadBy}
+use Rattle.element_state.specs.Surveys.{IsFoundView, IsHeldOn, OpensOrSalvages, IsViewedOn, opened_view, opened_if}
+use Rattle.element_state.specs.Surveys.{found_text, view_by}
 use Rattle.element_state.specs.lemmas.Entrywise.{all_at}
 use Rattle.element_state.proofs.Viewing.{view_is}
 use Rattle.element_state.specs.lemmas.ViewsRead.{AreNumbers, view_read, lacking_are}
@@ -76,9 +77,9 @@ picked_step true x xs o p e = refl
 picked_step false x xs o p e = first_beside x o ∙ e
 
 -- the one that is picked is the first that passes
-pub picked_first : {A : Type 0} (test : A → Bool) (xs : List A) → first_option (picked test xs) ≡ find test xs
+pub picked_first : {A : Type 0} (test : A → Bool) (xs : List A) → first_option (first_picked test xs) ≡ find test xs
 picked_first test [] = refl
-picked_first test (x ∷ xs) = picked_step (test x) x xs (picked test xs) (find test xs) (picked_first test xs)
+picked_first test (x ∷ xs) = picked_step (test x) x xs (first_picked test xs) (find test xs) (picked_first test xs)
 
 -- ---- what is so of all texts is so of those that fit
 
@@ -128,18 +129,18 @@ module _ (image : Image) (shape : Shape) (texts : List FitText) (are : texts ≡
       → chosen image shape ≡ Some (false, get_or texts 0 d)
   chosen_first d none some = chosen_by None none ∙ first_is texts d some
     where
-      first_is : (ts : List FitText) (d : FitText) → 0 < length ts → first_of ts ≡ Some (false, get_or ts 0 d)
+      first_is : (ts : List FitText) (d : FitText) → 0 < length ts → first_fit ts ≡ Some (false, get_or ts 0 d)
       first_is [] d some = absurd (omega (arith, some))
       first_is (t ∷ ts) d some = refl
 
   pub chosen_none : find (qualifies image shape) texts ≡ None → texts ≡ [] → chosen image shape ≡ None
-  chosen_none none empty = chosen_by None none ∙ ap first_of empty
+  chosen_none none empty = chosen_by None none ∙ ap first_fit empty
 
 -- ---- the state, by the text that is chosen
 
 abbrev pub Matches : (FitText → View) → Option (Bool × FitText) → State → Type 0
 Matches view None state = state ≡ Corrupt None []
-Matches view (Some c) state = IsOf c.0 (view c.1) state
+Matches view (Some c) state = OpensOrSalvages c.0 (view c.1) state
 
 state_matches : (view : FitText → View) (texts : List FitText) (o : Option (FitText × List FitText))
     → Matches view (or_first texts (first_option o)) (state_of view texts o)
@@ -154,14 +155,14 @@ chosen_matches image shape =
     let texts = fit_texts shape image in
     let test = qualifies image shape in
     subst (λ (o : Option FitText). Matches (view_of image shape) (or_first texts o)
-    (state_of (view_of image shape) texts (picked test texts)))
-    (picked_first test texts) (state_matches (view_of image shape) texts (picked test texts))
+    (state_of (view_of image shape) texts (first_picked test texts)))
+    (picked_first test texts) (state_matches (view_of image shape) texts (first_picked test texts))
 
-of_opened : (b : Bool) (v : View) (s : State) → IsOf b v s → opened_of s ≡ opened_if b v
+of_opened : (b : Bool) (v : View) (s : State) → OpensOrSalvages b v s → opened_of s ≡ opened_if b v
 of_opened true v s is = ap opened_of is.1
 of_opened false v s is = ap opened_of is.1
 
-of_salvage : (b : Bool) (v : View) (s : State) → IsOf b v s → salvage_of s ≡ Some v
+of_salvage : (b : Bool) (v : View) (s : State) → OpensOrSalvages b v s → salvage_of s ≡ Some v
 of_salvage true v s is = ap salvage_of is.1
 of_salvage false v s is = ap salvage_of is.1
 
@@ -170,13 +171,13 @@ module _ (image : Image) (shape : Shape) where
   none_corrupt e = subst (λ (c : Option (Bool × FitText)). Matches (view_of image shape) c (store_at image shape))
       (sym e) (chosen_matches image shape)
 
-  pub survey_opened : (found : Option Found) → option_map text_of found ≡ chosen image shape
+  pub survey_opened : (found : Option Found) → option_map found_text found ≡ chosen image shape
       → IfSome found (IsViewedOn image shape)
       → opened_of (store_at image shape) ≡ opened_view found
   survey_opened None e viewed = ap opened_of (none_corrupt e)
   survey_opened (Some f) e viewed = of_opened f.opens f.view (store_at image shape) viewed.state
 
-  pub survey_salvaged : (found : Option Found) → option_map text_of found ≡ chosen image shape
+  pub survey_salvaged : (found : Option Found) → option_map found_text found ≡ chosen image shape
       → IfSome found (IsViewedOn image shape)
       → salvage_of (store_at image shape) ≡ option_map (λ (f : Found). f.view) found
   survey_salvaged None e viewed = ap salvage_of (none_corrupt e)
@@ -185,7 +186,7 @@ module _ (image : Image) (shape : Shape) where
 -- ---- what is handed up
 
 pub found_chosen : (f : Found) (b : Bool) (t : FitText) → f.opens ≡ b → (f.seen, f.index) ≡ t
-    → Some (text_of f) ≡ Some (b, t)
+    → Some (found_text f) ≡ Some (b, t)
 found_chosen f b t eo et =
     ap (λ (o : Bool). let p : Bool × FitText = (o, (f.seen, f.index)) in Some p) eo
     ∙ ap (λ (x : FitText). let p : Bool × FitText = (b, x) in Some p) et
@@ -195,7 +196,7 @@ module _ (shape : Shape) (texts : List FitText) (f : Found) (at : ℕ) (sole : B
     (text : (f.seen, f.index) ≡ get_or texts at (f.seen, f.index))
     (view : f.view ≡ view_by shape f.seen sole entries) where
   pub found_read : AllByRecursion (IsFit shape) texts → AllZip (IsReadBy shape.place.copies)
-      (get_or texts at (f.seen, f.index)).1.entries entries → IsFound shape f
+      (get_or texts at (f.seen, f.index)).1.entries entries → IsFoundView shape f
   found_read fit read =
       let is = subst (IsFit shape) (sym text) (all_at (IsFit shape) texts at (f.seen, f.index) fit lt) in
       let rows = subst (λ (es : List Entry). AllZip (IsReadBy shape.place.copies) f.index.entries es)
@@ -213,7 +214,7 @@ module _ (shape : Shape) (texts : List FitText) (f : Found) (at : ℕ) (sole : B
 
   pub found_viewed : (image : Image) → texts ≡ fit_texts shape image → AllByRecursion (IsHeldOn image shape) texts
       → sole ≡ is_sole texts
-      → entries ≡ entries_of image shape (f.seen, f.index) → Some (text_of f) ≡ chosen image shape
+      → entries ≡ entries_seen image shape (f.seen, f.index) → Some (found_text f) ≡ chosen image shape
       → IsViewedOn image shape f
   found_viewed image are held settles reads chose =
       let here = subst (IsHeldOn image shape) (sym text) (all_at (IsHeldOn image shape) texts at (f.seen, f.index) held
@@ -222,7 +223,7 @@ module _ (shape : Shape) (texts : List FitText) (f : Found) (at : ℕ) (sole : B
       record {
         view = is;
         copies = here;
-        state = subst (λ (v : View). IsOf f.opens v (store_at image shape)) (sym is)
+        state = subst (λ (v : View). OpensOrSalvages f.opens v (store_at image shape)) (sym is)
             (subst (λ (c : Option (Bool × FitText)). Matches (view_of image shape) c (store_at image shape)) (sym chose)
             (chosen_matches image shape));
       }

@@ -18,7 +18,7 @@ use Rattle.index_text.specs.declared.entries.IndexEntry.{IndexEntry}
 use Rattle.element_state.specs.declared.shapes.Shape.{Shape}
 use Rattle.element_state.specs.declared.shapes.View.{View}
 use Rattle.element_state.specs.Fit.{FitText, fit_texts, is_sole}
-use Rattle.element_state.specs.Views.{holds_text, counts, given, entry_view, entries_of, lacks_number, store_lacking}
+use Rattle.element_state.specs.Views.{holds_text, counts, given, entry_view, entries_seen, lacks_number, store_lacking}
 use Rattle.element_state.specs.Views.{view_of}
 use Rattle.element_state.specs.Chosen.{Vouches}
 use Rattle.element_state.specs.Surveys.{IsHeldOn, view_by}
@@ -99,7 +99,7 @@ view_alike generation l m a b es fs el ea ee =
 
 pub view_is : (image : Image) (shape : Shape) (seen : Seen) (index : Index) (sole : Bool) (entries : List Entry)
     → IsHeldOn image shape (seen, index) → sole ≡ is_sole (fit_texts shape image)
-    → entries ≡ entries_of image shape (seen, index)
+    → entries ≡ entries_seen image shape (seen, index)
     → view_by shape seen sole entries ≡ view_of image shape (seen, index)
 unfolding view_of
 view_is image shape seen index sole entries are settles reads =
@@ -112,9 +112,9 @@ view_is image shape seen index sole entries are settles reads =
     lt)) in
     view_alike seen.generation
     (store_lacking shape.scope (λ copy. not (named_in seen.copies (copy + 1))) entries shape.place.copies)
-    (store_lacking shape.scope (λ copy. not (holds_text image shape.place text copy)) (entries_of image shape text)
+    (store_lacking shape.scope (λ copy. not (holds_text image shape.place text copy)) (entries_seen image shape text)
     shape.place.copies)
-    sole (is_sole (fit_texts shape image)) entries (entries_of image shape text)
+    sole (is_sole (fit_texts shape image)) entries (entries_seen image shape text)
     (lack entries ∙ ap (λ (es : List Entry). store_lacking shape.scope
     (λ copy. not (holds_text image shape.place text copy)) es shape.place.copies) reads)
     settles reads

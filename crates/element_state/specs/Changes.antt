@@ -36,8 +36,8 @@ module _ {X : Type 0} (name_of : X → List ℕ) where
 abbrev pub entry_name : Entry → List ℕ
 entry_name e = e.name
 
-abbrev pub entry_at : List ℕ → List Entry → Option Entry
-entry_at name entries = item_at entry_name name entries
+abbrev pub entry_by_name : List ℕ → List Entry → Option Entry
+entry_by_name name entries = item_at entry_name name entries
 
 abbrev pub touched : (generation : ℕ) → List ℕ → FileInfo → Entry → Entry
 touched generation name info e = cond (bytes_eq e.name name)
@@ -91,7 +91,7 @@ kept_or_fresh generation false e element = fresh_entry generation element
 
 abbrev pub committed_entry : (generation : ℕ) → List Entry → (synced : Map) → List ℕ × Element → Entry
 committed_entry generation entries synced element =
-    kept_or_fresh generation (is_same (element_at synced element.0) element.1) (entry_at element.0 entries) element
+    kept_or_fresh generation (is_same (element_at synced element.0) element.1) (entry_by_name element.0 entries) element
 
 -- the view after a commit that makes one map of contents into another
 unfoldable pub committed : Shape → View → (synced new : Map) → View

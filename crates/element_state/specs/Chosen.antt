@@ -13,7 +13,7 @@ use Rattle.block_files.specs.BlockSets.{Ascend}
 use Rattle.block_files.specs.Contents.{AreCopies}
 use Rattle.index_text.specs.declared.entries.Index.{Index}
 use Rattle.index_text.specs.declared.entries.IndexEntry.{IndexEntry}
-use Rattle.index_text.specs.Rules.{IsIndex, InRange, block_count}
+use Rattle.index_text.specs.Rules.{IsIndex, EntriesInRange, block_count}
 use Rattle.index_text.specs.Sizes.{Fits}
 use Rattle.index_text.specs.Spelling.{index_text}
 use Rattle.element_state.specs.declared.shapes.Shape.{Shape}
@@ -23,12 +23,12 @@ use Rattle.element_state.specs.Views.{counts, qualifies}
 use Rattle.element_state.specs.States.{State, Opens, Corrupt}
 
 -- the first text, where there is one
-abbrev pub first_of : List FitText → Option (Bool × FitText)
-first_of [] = None
-first_of (text ∷ texts) = Some (false, text)
+abbrev pub first_fit : List FitText → Option (Bool × FitText)
+first_fit [] = None
+first_fit (text ∷ texts) = Some (false, text)
 
 abbrev pub or_first : List FitText → Option FitText → Option (Bool × FitText)
-or_first texts None = first_of texts
+or_first texts None = first_fit texts
 or_first texts (Some text) = Some (true, text)
 
 -- the text at which the storage opens, with true, or else the first that fits, with false
@@ -62,7 +62,7 @@ pub record IsReadBy (copies : ℕ) (e : IndexEntry) (f : Entry) : Type 0 where
 pub record IsFitIndex (shape : Shape) (text : List ℕ) (index : Index) : Type 0 where
   pub spelled : text ≡ index_text index
   pub rules : IsIndex index
-  pub in_range : InRange index
+  pub in_range : EntriesInRange index
   pub fits : Fits shape.kind shape.allowed index
   pub fit : fit_index shape text ≡ Some index
 
@@ -75,7 +75,7 @@ pub record IsFit (shape : Shape) (text : FitText) : Type 0 where
 abbrev pub HasBlocks : IndexEntry → Type 0
 HasBlocks e = length e.blocks ≡ block_count e.len
 
--- ---- what is so where the disk tells its bytes
+-- ---- what is so where the disk's bytes are modelled
 
 -- the content of an entry counts in each copy that does not lack the element
 abbrev pub Vouches : Image → Place → IndexEntry → Entry → Type 0

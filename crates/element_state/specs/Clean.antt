@@ -70,7 +70,7 @@ pub record IsClean (shape : Shape) (image : Image) : Type 0 where
 -- ---- assumptions on hash collisions
 
 -- some copy gives these bytes under the entry, after the last sync or with the writes since then done whole
-pub record IsCounted (place : Place) (c : Case) (at : Where) (bytes : List ℕ) : Type 0 where
+pub record SomeCopyCounts (place : Place) (c : Case) (at : Where) (bytes : List ℕ) : Type 0 where
   pub copy : ℕ
   pub inside : copy < place.copies
   pub counts : (counting_at c.base place copy at ≡ Some bytes) ⊎ (counting_at c.full place copy at ≡ Some bytes)
@@ -78,8 +78,8 @@ pub record IsCounted (place : Place) (c : Case) (at : Where) (bytes : List ℕ) 
 -- No two contents have the same hash: all that counts for a content which an index names that was held after the last
 -- sync is the same bytes.
 abbrev pub HasNoTwins : Place → Case → Type 0
-HasNoTwins place c = (at : Where) (s t : List ℕ) → IsNamed place c.base at → IsCounted place c at s
-    → IsCounted place c at t → s ≡ t
+HasNoTwins place c = (at : Where) (s t : List ℕ) → IsNamed place c.base at → SomeCopyCounts place c at s
+    → SomeCopyCounts place c at t → s ≡ t
 
 -- A sound case, for a place: no torn piece passes its hash by chance, and no two contents have the same hash. It is a
 -- matter of hashes alone.

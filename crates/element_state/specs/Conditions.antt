@@ -14,14 +14,14 @@ use Rattle.per_base.specs.Changes.{changed_name}
 use Rattle.disk_model.specs.Image.{Image}
 use Rattle.guarded_cell.specs.Register.{IsAlone}
 use Rattle.index_text.specs.declared.entries.Index.{Index}
-use Rattle.index_text.specs.Contents.{IsFresh}
+use Rattle.index_text.specs.Contents.{SuitsKind}
 use Rattle.index_text.specs.Spelling.{index_text}
 use Rattle.element_state.specs.declared.shapes.Shape.{Shape}
 use Rattle.element_state.specs.declared.shapes.View.{View}
 use Rattle.element_state.specs.Fit.{fit_index}
 use Rattle.element_state.specs.Views.{entry_view}
 use Rattle.element_state.specs.States.{Opens, store_at, greatest_generation}
-use Rattle.element_state.specs.Changes.{entry_at, after_changes}
+use Rattle.element_state.specs.Changes.{entry_by_name, after_changes}
 
 -- from one copy to all must agree, and at most 4 MiB are allowed
 pub record IsShape (shape : Shape) : Type 0 where
@@ -41,12 +41,12 @@ IsGoodEntry (Some e) = (value : List ℕ) × (e.content ≡ Good value)
 -- a change that a storage of this kind with these entries can take: a new info comes for a file that is there and
 -- readable
 abbrev pub IsChange : StoreKind → List Entry → Change → Type 0
-IsChange kind entries (Put f) = IsFresh kind f
+IsChange kind entries (Put f) = SuitsKind kind f
 IsChange kind entries (Remove name) = ⊤
-IsChange kind entries (Touch name info) = (kind ≡ Files) × IsGoodEntry (entry_at name entries)
+IsChange kind entries (Touch name info) = (kind ≡ Files) × IsGoodEntry (entry_by_name name entries)
 
 -- the changes of a commit: each name once, and what comes of them within the limits
-pub record AreChanges (shape : Shape) (v : View) (changes : List Change) : Type 0 where
+pub record AreCommittable (shape : Shape) (v : View) (changes : List Change) : Type 0 where
   pub each : AllByRecursion (IsChange shape.kind v.entries) changes
   pub names_apart : IsDistinct bytes_eq (map changed_name changes)
   pub few : length (after_changes (v.generation + 1) v.entries changes) ≤ 1024

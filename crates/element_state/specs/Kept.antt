@@ -8,7 +8,7 @@ use Rattle.per_base.specs.declared.elements.Content.TheVariants.{Good, Bad}
 use Rattle.per_base.specs.declared.elements.Entry.{Entry}
 use Rattle.disk_model.specs.Image.{Image}
 use Rattle.disk_model.specs.Case.{Case}
-use Rattle.disk_model.specs.Damage.{DecaysFor, IsUndamaged, AtLeast}
+use Rattle.disk_model.specs.Damage.{DecaysFor, IsSoundFor, IsUndamaged, AtLeast}
 use Rattle.disk_model.specs.Medium.{Medium, Quiet, EachCase}
 use Rattle.guarded_cell.specs.Register.{Holds}
 use Rattle.element_state.specs.declared.shapes.Shape.{Shape}
@@ -16,7 +16,7 @@ use Rattle.element_state.specs.declared.shapes.View.{View}
 use Rattle.element_state.specs.States.{State, Opens, Corrupt, store_at, salvage_of, others_of}
 use Rattle.element_state.specs.Fit.{FitText}
 use Rattle.element_state.specs.Views.{view_of}
-use Rattle.element_state.specs.Clean.{IsPiece, IsClean, IsSound}
+use Rattle.element_state.specs.Clean.{HasNoTwins, IsPiece, IsClean}
 use Rattle.element_state.specs.Chosen.{chosen}
 
 -- ---- views beside one another
@@ -70,13 +70,13 @@ CostsNoCopy shape damaged left there = AllZip (λ e f. (value : List ℕ) (copy 
 
 -- ---- what is left of a storage
 
-abbrev pub listed : Option View → List View
-listed None = []
-listed (Some v) = v ∷ []
+abbrev pub views_in : Option View → List View
+views_in None = []
+views_in (Some v) = v ∷ []
 
 -- the view that a state opens at or has as salvage, and those of its other texts
 abbrev pub all_views : State → List View
-all_views state = listed (salvage_of state) ++ others_of state
+all_views state = views_in (salvage_of state) ++ others_of state
 
 -- it opens at the view of before, or at that of after and then no copy was lost on the way
 abbrev pub StaysAs : Shape → (damaged : List ℕ) → (left before : View) → (after : State) → Type 0
@@ -93,10 +93,10 @@ BecomesAs shape damaged left (Opens v others) = SameHeadings left v × KeepsGood
 BecomesAs shape damaged left (Corrupt salvage others) = ⊥
 
 -- with enough copies left of a storage that opens, it opens; one that was corrupt opens at most at the view of after
-abbrev pub Stays : Shape → (damaged : List ℕ) → (left before after : State) → Type 0
-Stays shape damaged left (Opens v others) after = HasEnough shape damaged v.lacking
+abbrev pub StaysOpen : Shape → (damaged : List ℕ) → (left before after : State) → Type 0
+StaysOpen shape damaged left (Opens v others) after = HasEnough shape damaged v.lacking
     → (w : View) × (rest : List View) × (left ≡ Opens w rest) × StaysAs shape damaged w v after
-Stays shape damaged left (Corrupt salvage others) after =
+StaysOpen shape damaged left (Corrupt salvage others) after =
     (w : View) (rest : List View) → left ≡ Opens w rest → BecomesAs shape damaged w after
 
 -- where both open alike, the stop has cost no copy
@@ -139,8 +139,8 @@ SalvageStays shape damaged left (Corrupt (Some v) others) after = HasOne shape d
 pub record Kept (shape : Shape) (damaged : List ℕ) (left before after : State) : Type 0 where
   -- every text that fits, and not only the one that it opens at, denotes something known: later damage may bring it
   -- up
-  pub known : AllByRecursion (λ w. IsFromOneOf w (all_views before ++ listed (salvage_of after))) (all_views left)
-  pub stays : Stays shape damaged left before after
+  pub known : AllByRecursion (λ w. IsFromOneOf w (all_views before ++ views_in (salvage_of after))) (all_views left)
+  pub stays : StaysOpen shape damaged left before after
   pub copies : CopiesStay shape damaged left before
   pub salvage : SalvageStays shape damaged left before after
 
@@ -169,12 +169,21 @@ pub record IsKeptOn (shape : Shape) (damaged : List ℕ) (start image : Image) (
 
 -- ---- every moment of a call
 
--- so it is of each sound case, after each damage
+-- so it is of each case in which no torn piece passes its hash by chance, after each damage
 abbrev pub IsKeptCase : Shape → (start : Image) → (after : State) → Case → Type 0
-IsKeptCase shape start after c = IsSound shape.place c → (damaged : List ℕ) (image : Image)
+IsKeptCase shape start after c = IsSoundFor (IsPiece shape.place) c → (damaged : List ℕ) (image : Image)
     → DecaysFor (IsPiece shape.place) damaged c.left image → IsKeptOn shape damaged start image after
+
+-- so it is where contents may be mended in place, if no two contents have the same hash either
+abbrev pub IsKeptMending : Shape → (start : Image) → (after : State) → Case → Type 0
+IsKeptMending shape start after c = HasNoTwins shape.place c → IsKeptCase shape start after c
 
 -- so it is of every moment since a start at which nothing was pending and the place was clean
 abbrev pub KeptThroughout : Shape → (after : State) → (old new : Medium) → Type 0
 KeptThroughout shape after old new = Quiet old → IsClean shape old.image
     → EachCase (IsKeptCase shape old.image after) old new
+
+-- and of a call that may mend contents in place
+abbrev pub KeptWhileMending : Shape → (after : State) → (old new : Medium) → Type 0
+KeptWhileMending shape after old new = Quiet old → IsClean shape old.image
+    → EachCase (IsKeptMending shape old.image after) old new

@@ -40,9 +40,9 @@ abbrev pub report_some : ReportKind → Shape → Option (List ℕ) → List ℕ
 report_some kind shape element [] = []
 report_some kind shape element (copy ∷ copies) = report_of kind shape element (copy ∷ copies) ∷ []
 
-abbrev pub is_readable : (List ℕ → Bool) → Content → Bool
-is_readable test (Good value) = test value
-is_readable test (Bad salvage) = false
+abbrev pub is_readable_by : (List ℕ → Bool) → Content → Bool
+is_readable_by test (Good value) = test value
+is_readable_by test (Bad salvage) = false
 
 -- with storage scope a copy that lacks an element lacks the storage, which is reported once
 abbrev pub recovered_reports : Scope → Shape → Entry → List Report
@@ -51,7 +51,7 @@ recovered_reports scope.Storage shape e = []
 
 -- an element is readable where its content passes the test
 abbrev pub element_reports : (List ℕ → Bool) → Shape → Entry → List Report
-element_reports test shape e = cond (is_readable test e.content)
+element_reports test shape e = cond (is_readable_by test e.content)
     (recovered_reports shape.scope shape e)
     (report_of (element_failed shape.kind) shape (Some e.name) e.lacking ∷ [])
 

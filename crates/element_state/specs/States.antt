@@ -29,9 +29,9 @@ beside x None = None
 beside x (Some found) = Some (found.0, x ∷ found.1)
 
 -- the first item that passes, and the other items
-abbrev pub picked : {A : Type 0} → (A → Bool) → List A → Option (A × List A)
-picked test [] = None
-picked test (x ∷ xs) = cond (test x) (Some (x, xs)) (beside x (picked test xs))
+abbrev pub first_picked : {A : Type 0} → (A → Bool) → List A → Option (A × List A)
+first_picked test [] = None
+first_picked test (x ∷ xs) = cond (test x) (Some (x, xs)) (beside x (first_picked test xs))
 
 abbrev pub corrupt_state : List View → State
 corrupt_state [] = Corrupt None []
@@ -44,7 +44,7 @@ state_of view texts (Some found) = Opens (view found.0) (map view found.1)
 -- the first text that fits and qualifies is what the storage opens at
 unfoldable pub store_at : Image → Shape → State
 store_at image shape = state_of (view_of image shape) (fit_texts shape image)
-    (picked (qualifies image shape) (fit_texts shape image))
+    (first_picked (qualifies image shape) (fit_texts shape image))
 
 -- ---- what a state holds
 

@@ -11,26 +11,26 @@ use Rattle.element_state.specs.declared.shapes.Shape.{Shape}
 use Rattle.element_state.specs.declared.shapes.View.{View}
 use Rattle.element_state.specs.declared.surveying.Found.{Found}
 use Rattle.element_state.specs.Fit.{FitText}
-use Rattle.element_state.specs.Views.{holds_text, qualifies, entries_of, store_lacking, view_of}
+use Rattle.element_state.specs.Views.{holds_text, qualifies, entries_seen, store_lacking, view_of}
 use Rattle.element_state.specs.States.{State, Opens, Corrupt, store_at}
 use Rattle.element_state.specs.Chosen.{IsFit, IsReadBy}
 use Rattle.element_state.specs.Read.{IsView}
 
 -- a text that fits, and a view by its entries
-pub record IsFound (shape : Shape) (found : Found) : Type 0 where
+pub record IsFoundView (shape : Shape) (found : Found) : Type 0 where
   pub text : IsFit shape (found.seen, found.index)
   pub generation : found.view.generation ≡ found.seen.generation
   pub entries : AllZip (IsReadBy shape.place.copies) found.index.entries found.view.entries
   pub read : IsView shape found.view
 
 -- whether the storage opens at the text, and the text
-abbrev pub text_of : Found → Bool × FitText
-text_of found = (found.opens, (found.seen, found.index))
+abbrev pub found_text : Found → Bool × FitText
+found_text found = (found.opens, (found.seen, found.index))
 
 -- the state opens at the view, or has it as salvage
-abbrev pub IsOf : (opens : Bool) → View → State → Type 0
-IsOf true v state = (others : List View) × (state ≡ Opens v others)
-IsOf false v state = (others : List View) × (state ≡ Corrupt (Some v) others)
+abbrev pub OpensOrSalvages : (opens : Bool) → View → State → Type 0
+OpensOrSalvages true v state = (others : List View) × (state ≡ Opens v others)
+OpensOrSalvages false v state = (others : List View) × (state ≡ Corrupt (Some v) others)
 
 -- just these copies hold the text
 abbrev pub IsHeldOn : Image → Shape → FitText → Type 0
@@ -40,7 +40,7 @@ IsHeldOn image shape text = text.0.copies ≡ copies_that (holds_text image shap
 pub record IsViewedOn (image : Image) (shape : Shape) (found : Found) : Type 0 where
   pub view : found.view ≡ view_of image shape (found.seen, found.index)
   pub copies : IsHeldOn image shape (found.seen, found.index)
-  pub state : IsOf found.opens found.view (store_at image shape)
+  pub state : OpensOrSalvages found.opens found.view (store_at image shape)
 
 -- the view of what was found, where the storage opens at it
 abbrev pub opened_if : Bool → View → Option View
@@ -56,18 +56,19 @@ opened_view (Some found) = opened_if found.opens found.view
 -- a text that qualifies is read, and one that does not is not handed up
 abbrev pub IsTried : Image → Shape → FitText → Option (List Entry) → Type 0
 IsTried image shape text None = qualifies image shape text ≡ false
-IsTried image shape text (Some entries) = (qualifies image shape text ≡ true) × (entries ≡ entries_of image shape text)
+IsTried image shape text (Some entries) = (qualifies image shape text ≡ true)
+    × (entries ≡ entries_seen image shape text)
 
 -- the first text that qualifies, by its place in the list, with its elements
-abbrev pub IsFirst : Image → Shape → List FitText → Option (ℕ × List Entry) → Type 0
-IsFirst image shape texts None = find (qualifies image shape) texts ≡ None
-IsFirst image shape texts (Some at) = (d : FitText) → (find (qualifies image shape) texts
+abbrev pub IsFirstQualified : Image → Shape → List FitText → Option (ℕ × List Entry) → Type 0
+IsFirstQualified image shape texts None = find (qualifies image shape) texts ≡ None
+IsFirstQualified image shape texts (Some at) = (d : FitText) → (find (qualifies image shape) texts
     ≡ Some (slice_index_or texts at.0 d))
-    × (at.1 ≡ entries_of image shape (slice_index_or texts at.0 d))
+    × (at.1 ≡ entries_seen image shape (slice_index_or texts at.0 d))
 
 -- it is one of the texts, and the elements were read by its entries
-abbrev pub IsAmong : (copies : ℕ) → List FitText → ℕ × List Entry → Type 0
-IsAmong copies texts at = (at.0 < length texts) × ((d : FitText)
+abbrev pub IsReadText : (copies : ℕ) → List FitText → ℕ × List Entry → Type 0
+IsReadText copies texts at = (at.0 < length texts) × ((d : FitText)
     → AllZip (IsReadBy copies) (slice_index_or texts at.0 d).1.entries at.1)
 
 -- the view of a text by the copies that hold it and by its elements

@@ -80,16 +80,16 @@ abbrev pub store_lacking : Scope → (lacks_text : ℕ → Bool) → List Entry 
 store_lacking scope lacks_text entries copies = copies_that
     (λ copy. lacks_number scope (lacks_text copy) entries (copy + 1)) copies
 
-abbrev pub entries_of : Image → Shape → FitText → List Entry
-entries_of image shape text = map (entry_view image shape.place shape.m) text.1.entries
+abbrev pub entries_seen : Image → Shape → FitText → List Entry
+entries_seen image shape text = map (entry_view image shape.place shape.m) text.1.entries
 
 unfoldable pub view_of : Image → Shape → FitText → View
 view_of image shape text = record {
   generation = text.0.generation;
   lacking = store_lacking shape.scope (λ copy. not (holds_text image shape.place text copy))
-      (entries_of image shape text) shape.place.copies;
+      (entries_seen image shape text) shape.place.copies;
   sole = is_sole (fit_texts shape image);
-  entries = entries_of image shape text;
+  entries = entries_seen image shape text;
 }
 
 -- ---- a view as a map, and with a test of contents, as whether the bytes of a key encode a value

@@ -9,8 +9,8 @@ use Rattle.per_base.specs.declared.elements.Element.{Element}
 use Rattle.per_base.specs.Maps.{Map, element_at}
 use Rattle.per_base.specs.declared.elements.Change.{Change}
 use Rattle.per_base.specs.declared.elements.Change.TheVariants.{Put, Remove, Touch}
-use Rattle.block_files.specs.Parts.{blocks_for, changed}
-use Rattle.element_state.specs.Changes.{entry_at, same_content}
+use Rattle.block_files.specs.Parts.{blocks_for, changed_blocks}
+use Rattle.element_state.specs.Changes.{entry_by_name, same_content}
 
 -- whole blocks for a content
 abbrev pub whole_cost : List ℕ → ℕ
@@ -20,17 +20,17 @@ whole_cost bytes = 256 * blocks_for (length bytes)
 abbrev pub cost_over : StoreKind → Content → List ℕ → ℕ
 cost_over Keys old bytes = whole_cost bytes
 cost_over Files (Bad salvage) bytes = whole_cost bytes
-cost_over Files (Good old) bytes = 256 * changed bytes old
+cost_over Files (Good old) bytes = 256 * changed_blocks bytes old
 
 abbrev pub cost_beside : StoreKind → Option Content → List ℕ → ℕ
 cost_beside kind None bytes = whole_cost bytes
 cost_beside kind (Some old) bytes = cost_over kind old bytes
 
-abbrev pub content_at : List ℕ → List Entry → Option Content
-content_at name entries = elim (entry_at name entries) [ None ↦ None | Some e ↦ Some e.content ]
+abbrev pub content_named : List ℕ → List Entry → Option Content
+content_named name entries = elim (entry_by_name name entries) [ None ↦ None | Some e ↦ Some e.content ]
 
 abbrev pub change_cost : StoreKind → List Entry → Change → ℕ
-change_cost kind entries (Put f) = cost_beside kind (content_at f.name entries) f.bytes
+change_cost kind entries (Put f) = cost_beside kind (content_named f.name entries) f.bytes
 change_cost kind entries (Remove name) = 0
 change_cost kind entries (Touch name info) = 0
 

@@ -9,9 +9,10 @@ ghost use Rattle.disk_model.specs.Medium.{OnlyReads, Elapses};
 ghost use Rattle.disk_model.specs.Orders.{named_in};
 ghost use Rattle.element_state.specs.Conditions.{IsShape};
 ghost use Rattle.element_state.specs.Fit.{fit_texts};
-ghost use Rattle.element_state.specs.Views.{lacks_one, lacks_number, entries_of, qualifies, store_lacking};
+ghost use Rattle.element_state.specs.Views.{lacks_one, lacks_number, entries_seen, qualifies, store_lacking};
 ghost use Rattle.element_state.specs.Chosen.{chosen, IsFit, IsReadBy};
-ghost use Rattle.element_state.specs.Surveys.{IsAmong, IsFirst, IsFound, IsHeldOn, IsTried, IsViewedOn, text_of};
+ghost use Rattle.element_state.specs.Surveys.{IsFirstQualified, IsFoundView, IsHeldOn, IsReadText, IsTried, IsViewedOn};
+ghost use Rattle.element_state.specs.Surveys.{found_text};
 ghost use Rattle.element_state.specs.Surveys.{view_by};
 
 use crate::errors::StoreError;
@@ -37,12 +38,12 @@ pub(crate) fn choose<D: Disk>(
     requires fit { AllByRecursion (IsFit shape.now) texts.items }
     requires texts { IsTrue D.told → texts.items ≡ fit_texts shape.now (D.medium disk.old).image }
     requires held { IsTrue D.told → AllByRecursion (IsHeldOn (D.medium disk.old).image shape.now) texts.items }
-    ensures chosen { IsTrue D.told → IfOk result (λ found. option_map text_of found
+    ensures chosen { IsTrue D.told → IfOk result (λ found. option_map found_text found
         ≡ chosen (D.medium disk.old).image shape.now) }
     ensures viewed { IsTrue D.told → IfOk result (λ found.
         IfSome found (IsViewedOn (D.medium disk.old).image shape.now)) }
     ensures slots { IfOk result (λ found. IfSome found (λ f. f.slots ≡ slots)) }
-    ensures found { IfOk result (λ found. IfSome found (IsFound shape.now)) }
+    ensures found { IfOk result (λ found. IfSome found (IsFoundView shape.now)) }
     ensures reads { OnlyReads (D.medium disk.old) (D.medium disk.new) }
     ensures time { Elapses (D.medium disk.old) (D.medium disk.new) }
     ensures never_corrupt { ¬ (IsErrOf result StoreError.Corrupt) }
@@ -118,8 +119,9 @@ fn first_qualifying<D: Disk>(
     requires shape { IsShape shape.now }
     requires fit { AllByRecursion (IsFit shape.now) texts.now }
     requires held { IsTrue D.told → AllByRecursion (IsHeldOn (D.medium disk.old).image shape.now) texts.now }
-    ensures first { IsTrue D.told → IfOk result (λ found. IsFirst (D.medium disk.old).image shape.now texts.now found) }
-    ensures among { IfOk result (λ found. IfSome found (IsAmong shape.now.place.copies texts.now)) }
+    ensures first { IsTrue D.told → IfOk result (λ found. IsFirstQualified
+        (D.medium disk.old).image shape.now texts.now found) }
+    ensures among { IfOk result (λ found. IfSome found (IsReadText shape.now.place.copies texts.now)) }
     ensures reads { OnlyReads (D.medium disk.old) (D.medium disk.new) }
     ensures time { Elapses (D.medium disk.old) (D.medium disk.new) }
     ensures never_corrupt { ¬ (IsErrOf result StoreError.Corrupt) }
@@ -178,7 +180,7 @@ fn is_supported<D: Disk>(
 ) -> Result<bool, StoreError>
     requires enough { shape.now.m ≤ length seen.now.copies }
     requires length { length entries.now ≡ length index.now.entries }
-    requires views { IsTrue D.told → entries.now ≡ entries_of (D.medium disk.old).image shape.now
+    requires views { IsTrue D.told → entries.now ≡ entries_seen (D.medium disk.old).image shape.now
         (seen.now, index.now) }
     requires held { IsTrue D.told → IsHeldOn (D.medium disk.old).image shape.now (seen.now, index.now) }
     ensures qualifies { IsTrue D.told → IfOk result (λ b. b

@@ -4,7 +4,7 @@ ghost use Rattle.std.specs.Prelude.{◌≡◌, ◌==◌, ◌≤◌, IfOk, IfErr,
 ghost use Rattle.std.specs.List.{AllByRecursion, list_all};
 ghost use Rattle.index_text.specs.Rules.{IsIndex};
 ghost use Rattle.index_text.specs.Sizes.{fits, size_of};
-ghost use Rattle.index_text.specs.Spelling.{kind_code};
+ghost use Rattle.index_text.specs.Spelling.{store_kind_code};
 ghost use Rattle.element_state.specs.Fit.{fit_among, fit_index};
 ghost use Rattle.element_state.specs.Chosen.{IsFitIndex};
 
@@ -71,7 +71,7 @@ fn fits(shape: &Shape, index: &Index) -> bool
 }
 
 fn is_same_kind(a: StoreKind, b: StoreKind) -> bool
-    ensures { result ≡ (kind_code a == kind_code b) }
+    ensures { result ≡ (store_kind_code a == store_kind_code b) }
 {
     match (a, b) {
         (StoreKind::Keys, StoreKind::Keys) | (StoreKind::Files, StoreKind::Files) => true,

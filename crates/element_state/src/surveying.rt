@@ -9,7 +9,7 @@ ghost use Rattle.element_state.specs.Conditions.{IsShape};
 ghost use Rattle.element_state.specs.States.{store_at, salvage_of};
 ghost use Rattle.element_state.specs.Chosen.{chosen, opened_of};
 ghost use Rattle.element_state.specs.Read.{IsView};
-ghost use Rattle.element_state.specs.Surveys.{IsFound, IsViewedOn, opened_view, text_of};
+ghost use Rattle.element_state.specs.Surveys.{IsFoundView, IsViewedOn, found_text, opened_view};
 
 use crate::choosing::choose;
 use crate::errors::StoreError;
@@ -49,7 +49,7 @@ pub fn survey<D: Disk>(
     requires { IsShape shape.now }
 
     // Which text it is.
-    ensures chosen { IsTrue D.told → IfOk result (λ found. option_map text_of found
+    ensures chosen { IsTrue D.told → IfOk result (λ found. option_map found_text found
         ≡ chosen (D.medium disk.old).image shape.now) }
     ensures viewed { IsTrue D.told → IfOk result (λ found.
         IfSome found (IsViewedOn (D.medium disk.old).image shape.now)) }
@@ -61,8 +61,8 @@ pub fn survey<D: Disk>(
     ensures slots { IsTrue D.told → IfOk result (λ found. IfSome found (λ f.
         IsSlotsOf (D.medium disk.old).image shape.now.place f.slots)) }
 
-    // Whether the disk tells its bytes or not.
-    ensures found { IfOk result (λ found. IfSome found (IsFound shape.now)) }
+    // Whether the disk's bytes are modelled or not.
+    ensures found { IfOk result (λ found. IfSome found (IsFoundView shape.now)) }
 
     ensures quiet { OnOk result (Quiet (D.medium disk.new)) }
     ensures image { (D.medium disk.new).image ≡ (D.medium disk.old).image }
@@ -92,7 +92,7 @@ pub fn inspect<D: Disk>(alloc: Global, disk: &mut D, shape: &Shape) -> Result<Vi
     ensures corrupt { IsTrue D.told → IsErrOf result StoreError.Corrupt
         → opened_of (store_at (D.medium disk.old).image shape.now) ≡ None }
 
-    // Whether the disk tells its bytes or not.
+    // Whether the disk's bytes are modelled or not.
     ensures read { IfOk result (IsView shape.now) }
 
     ensures quiet { OnOk result (Quiet (D.medium disk.new)) }
@@ -133,7 +133,7 @@ pub fn salvage<D: Disk>(
     ensures view { IsTrue D.told → IfOk result (λ view. view
         ≡ salvage_of (store_at (D.medium disk.old).image shape.now)) }
 
-    // Whether the disk tells its bytes or not.
+    // Whether the disk's bytes are modelled or not.
     ensures read { IfOk result (λ view. IfSome view (IsView shape.now)) }
 
     ensures quiet { OnOk result (Quiet (D.medium disk.new)) }

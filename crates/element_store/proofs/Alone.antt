@@ -20,7 +20,7 @@ use Rattle.element_state.specs.declared.shapes.Shape.{Shape}
 use Rattle.element_state.specs.declared.shapes.View.{View}
 use Rattle.element_state.specs.Fit.{FitText, fit_index, fit_texts, is_sole}
 use Rattle.element_state.specs.Views.{holds_text, supporters, qualifies, entry_view, lacks_one, store_lacking, view_of}
-use Rattle.element_state.specs.States.{Opens, store_at, state_of, picked, beside, whole_view, lacking_by}
+use Rattle.element_state.specs.States.{Opens, store_at, state_of, first_picked, beside, whole_view, lacking_by}
 
 -- ---- copies that pass a test
 
@@ -195,10 +195,11 @@ module _ (image : Image) (shape : Shape) (g : ℕ) (text : List ℕ) (index : In
   opens_alone enough =
       let passes : qualifies image shape alone_text ≡ true =
       le-leb shape.m (length (supporters shape.scope image shape.place alone_text)) enough in
-      ap (λ (ts : List FitText). state_of (view_of image shape) ts (picked (qualifies image shape) ts)) texts_alone
+      ap (λ (ts : List FitText). state_of (view_of image shape) ts (first_picked (qualifies image shape) ts))
+      texts_alone
       ∙ ap (state_of (view_of image shape) (alone_text ∷ []))
       (cond-true (qualifies image shape alone_text) (Some (alone_text, []))
-      (beside alone_text (picked (qualifies image shape) [])) passes)
+      (beside alone_text (first_picked (qualifies image shape) [])) passes)
       ∙ ap (λ (v : View). Opens v []) view_alone
 
   -- with element scope every copy supports it

@@ -16,13 +16,14 @@ use Rattle.per_base.specs.declared.elements.Entry.{Entry}
 use Rattle.block_files.specs.BlockSets.{AreDistinct}
 use Rattle.index_text.specs.declared.entries.IndexEntry.{IndexEntry}
 use Rattle.index_text.specs.Rules.{IsEntry, has_info}
-use Rattle.element_state.specs.Changes.{insert_item, without_item, entry_at, entry_name, touched}
+use Rattle.element_state.specs.Changes.{insert_item, without_item, entry_by_name, entry_name, touched}
 use Rattle.element_state.specs.Conditions.{IsGoodEntry}
 use Rattle.element_store.specs.declared.jobs.Job.{Job}
 use Rattle.element_store.specs.Plans.{HasAll, AreDisjoint, AreLaidApart}
 use Rattle.element_store.specs.Named.{NamesAscend}
 use Rattle.element_store.specs.Commits.{AreBeside, IsHeadedBy, IsCarriedFrom, IsWrittenBy}
-use Rattle.element_store.specs.Changing.{named_by, IsSeenAs, IsStanding, IsOwn, IsSound, IsPlanned, touched_entry}
+use Rattle.element_store.specs.Changing.{named_by, IsSeenAs, AreStandingEntries, IsOwn, IsSoundEntry, IsPlanned}
+use Rattle.element_store.specs.Changing.{touched_entry}
 use Rattle.element_store.proofs.InOrder.{each_insert, each_without, ascends_without, zip_without, zip_names, found_here}
 use Rattle.element_store.proofs.Places.{same_default, each_at, each_both, each_by_place, each_through, zip_at}
 use Rattle.element_store.proofs.Places.{zip_through, zip_by_place}
@@ -118,7 +119,7 @@ module _ (kind : StoreKind) (standing : List IndexEntry) (views : List Entry) wh
 
   -- ---- nothing is changed yet
 
-  pub planned_start : (start : List Bool) → IsStanding kind start standing views
+  pub planned_start : (start : List Bool) → AreStandingEntries kind start standing views
       → IsPlanned kind standing views start start standing views []
   planned_start start st = record {
     entries = zip_by_place IsSeenAs (Pair []) standing views (λ k e f lt less one two s. inr (record {
@@ -131,7 +132,8 @@ module _ (kind : StoreKind) (standing : List IndexEntry) (views : List Entry) wh
       content = refl;
       lacking = inl refl;
     })) st.read;
-    sound = each_by_place (λ (e : IndexEntry). IsEntry 2 kind e × HasAll start e.blocks) (IsSound kind standing start)
+    sound = each_by_place (λ (e : IndexEntry). IsEntry 2 kind e × HasAll start e.blocks)
+        (IsSoundEntry kind standing start)
         standing
         (λ k e lt is both. record { rules = both.0; taken = both.1; own = own k e lt is })
         (each_both (IsEntry 2 kind) (λ (e : IndexEntry). HasAll start e.blocks)
@@ -162,7 +164,7 @@ module _ (kind : StoreKind) (standing : List IndexEntry) (views : List Entry) wh
       jobs
   planned_remove start now es fs jobs name p = record {
     entries = zip_without named_by entry_name (Pair jobs) (pair_names jobs) name es fs p.entries;
-    sound = each_without named_by (IsSound kind standing now) name es p.sound;
+    sound = each_without named_by (IsSoundEntry kind standing now) name es p.sound;
     ascend = ascends_without named_by name es p.ascend;
     laid = laid_without name es p.laid;
     taken = p.taken;
@@ -187,8 +189,8 @@ module _ (kind : StoreKind) (standing : List IndexEntry) (views : List Entry) wh
     touched_names (e ∷ es) = ap (λ (n : List ℕ). n ∷ map named_by (map (touched_entry generation name info) es))
         (touched_name e) ∙ ap (λ (ns : List (List ℕ)). e.name ∷ ns) (touched_names es)
 
-    sound_touched : (now : List Bool) (e : IndexEntry) → kind ≡ Files → IsSound kind standing now e
-        → IsSound kind standing now (touched_entry generation name info e)
+    sound_touched : (now : List Bool) (e : IndexEntry) → kind ≡ Files → IsSoundEntry kind standing now e
+        → IsSoundEntry kind standing now (touched_entry generation name info e)
     sound_touched now e files s = elim (cases_Bool (bytes_eq e.name name)) [
       | inl t ↦ rw t (record {
         rules = record {
@@ -205,7 +207,7 @@ module _ (kind : StoreKind) (standing : List IndexEntry) (views : List Entry) wh
       | inr f ↦ rw f s
     ]
 
-    good_seen : NamesAscend named_by standing → AllZip IsSeenAs standing views → IsGoodEntry (entry_at name views)
+    good_seen : NamesAscend named_by standing → AllZip IsSeenAs standing views → IsGoodEntry (entry_by_name name views)
         → (was : IndexEntry) (seen : Entry)
         → AreBeside standing views was seen → was.name ≡ name → IsGoodEntry (Some seen)
     good_seen sorted read good was seen beside is =
@@ -216,7 +218,7 @@ module _ (kind : StoreKind) (standing : List IndexEntry) (views : List Entry) wh
         (λ d. ap entry_name (same_default views beside.at d seen beside.within) ∙ e) (sym beside.two)) good
 
     pair_touched : (jobs : List Job) (e : IndexEntry) (f : Entry) → NamesAscend named_by standing
-        → AllZip IsSeenAs standing views → IsGoodEntry (entry_at name views)
+        → AllZip IsSeenAs standing views → IsGoodEntry (entry_by_name name views)
         → Pair jobs e f → Pair jobs (touched_entry generation name info e) (touched generation name info f)
     pair_touched jobs e f sorted read good pair =
         let same : bytes_eq f.name name ≡ bytes_eq e.name name =
@@ -256,13 +258,13 @@ module _ (kind : StoreKind) (standing : List IndexEntry) (views : List Entry) wh
 
     pub planned_touch : (start now : List Bool) (es : List IndexEntry) (fs : List Entry) (jobs : List Job)
         → NamesAscend named_by standing → AllZip IsSeenAs standing views
-        → kind ≡ Files → IsGoodEntry (entry_at name views) → IsPlanned kind standing views start now es fs jobs
+        → kind ≡ Files → IsGoodEntry (entry_by_name name views) → IsPlanned kind standing views start now es fs jobs
         → IsPlanned kind standing views start now (map (touched_entry generation name info) es)
         (map (touched generation name info) fs) jobs
     planned_touch start now es fs jobs sorted read files good p = record {
       entries = zip_through (Pair jobs) (touched_entry generation name info) (touched generation name info) es fs
           (λ e f pair. pair_touched jobs e f sorted read good pair) p.entries;
-      sound = each_through (IsSound kind standing now) (touched_entry generation name info) es
+      sound = each_through (IsSoundEntry kind standing now) (touched_entry generation name info) es
           (λ e s. sound_touched now e files s) p.sound;
       ascend = subst (λ (ns : List (List ℕ)). IsStrictlySortedBy name_cmp ns) (sym (touched_names es)) p.ascend;
       laid = laid_as (touched_entry generation name info) es touched_blocks p.laid;

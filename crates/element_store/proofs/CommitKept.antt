@@ -47,13 +47,13 @@ use Rattle.element_state.specs.Conditions.{IsShape, IsInUse}
 use Rattle.element_state.specs.Kept.{IsKeptCase, KeptThroughout}
 use Rattle.element_state.specs.Written.{commit_cost, IsWithin}
 use Rattle.element_laws.specs.Phases.{IsOfPlace, UntouchedLaw, IsAdopted, ContentsLaw, ContentsDoneLaw, IndexLaw}
-use Rattle.element_laws.specs.Phases.{InUseLaw, CarriedLaw, IsWritten, IsCarried}
+use Rattle.element_laws.specs.Phases.{InUseLaw, CarriedLaw, IsContentWritten, IsCarried}
 use Rattle.element_laws.specs.lemmas.Lists.{zip_with}
 use Rattle.element_store.specs.declared.jobs.Job.{Job}
 use Rattle.element_store.specs.declared.store.Store.{Store}
-use Rattle.element_store.specs.Jobs.{IsDone, HasShared, IsLeftByAll, IsJobsCase, jobs_cost}
-use Rattle.element_store.specs.Plans.{HasAll, ArePlaced}
-use Rattle.element_store.specs.Stores.{IsUsed, view_in, generation_in}
+use Rattle.element_store.specs.Jobs.{IsJobWritten, HasShared, IsLeftByAll, IsJobsCase, jobs_cost}
+use Rattle.element_store.specs.Plans.{HasAll, ArePlacedJobs}
+use Rattle.element_store.specs.Stores.{IsUsed, view_in, store_generation}
 use Rattle.element_store.specs.Commits.{IsHeadedBy, IsWrittenBy, IsCarriedOver, IsCommitPlan}
 use Rattle.element_store.specs.Committing.{listed_length, index_length}
 use Rattle.element_store.proofs.PlanSteps.{left_of_placed, jobs_to_contents}
@@ -69,7 +69,8 @@ use Rattle.element_store.proofs.Committed.{after_clean}
 
 module _ (in_use : InUseLaw) (shape : Shape) (set now : List Bool) (index : Index) (v : View) (jobs : List Job)
     (is : IsShape shape) (rules : IsIndex index)
-    (takes : AllByRecursion (λ (e : IndexEntry). HasAll set e.blocks) index.entries) (placed : ArePlaced set now jobs)
+    (takes : AllByRecursion (λ (e : IndexEntry). HasAll set e.blocks) index.entries)
+    (placed : ArePlacedJobs set now jobs)
     (old : Medium) (used : IsInUse shape old.image index v) where
   adopted : IsClean shape old.image → IsAdopted shape old.image old.image v.generation (index_text index) index
   adopted clean = in_use shape old.image index v clean used
@@ -102,7 +103,7 @@ module _ (in_use : InUseLaw) (shape : Shape) (set now : List Bool) (index : Inde
 
   module _ (carried : CarriedLaw) (mid : Medium) (next : Index) (entries : List Entry)
       (zip : AllZip (IsPutOrStill shape old.image mid.image index) next.entries entries) where
-    written_of : (e : IndexEntry) (f : Entry) → IsPut shape mid.image e f → IsWritten shape mid.image e f
+    written_of : (e : IndexEntry) (f : Entry) → IsPut shape mid.image e f → IsContentWritten shape mid.image e f
     written_of e f put =
         let seen = view_full mid.image shape.place shape.m e put.bytes is.some is.enough put.full put.hash put.len in
         record {
@@ -117,9 +118,10 @@ module _ (in_use : InUseLaw) (shape : Shape) (set now : List Bool) (index : Inde
     carried_of e f still = carried shape old.image index v still.was e f used still.there still.place still.headed
         still.content
 
-    of_laws : AllZip (λ e f. IsWritten shape mid.image e f ⊎ IsCarried shape old.image index e f) next.entries entries
+    of_laws : AllZip (λ e f. IsContentWritten shape mid.image e f
+        ⊎ IsCarried shape old.image index e f) next.entries entries
     of_laws = zip_with (IsPutOrStill shape old.image mid.image index)
-        (λ e f. IsWritten shape mid.image e f ⊎ IsCarried shape old.image index e f) next.entries entries
+        (λ e f. IsContentWritten shape mid.image e f ⊎ IsCarried shape old.image index e f) next.entries entries
         (λ e f i j r. ⊎_elim (λ put. inl (written_of e f put)) (λ still. inr (carried_of e f still)) r) zip
 
     pub index_kept : IndexLaw → (new : Medium) → fit_index shape (index_text next) ≡ Some next
@@ -197,13 +199,13 @@ module _ (told : Bool) (store : Store) (changes : List Change) (now : List Bool)
   -- and the index after them
   module _ (mid new : Medium) (text : List ℕ) (spelled : text ≡ index_text next)
       (keeps : Keeps (IsNoArea place) (IsLeftByAll jobs) old.image mid.image)
-      (done : All (IsDone mid.image place) jobs) where
+      (done : All (IsJobWritten mid.image place) jobs) where
     zip : AllZip (IsPutOrStill shape old.image mid.image store.index) next.entries after
     zip = entries_of_plan shape old.image store.index v in_use_now mid.image jobs done next.entries after plan.entries
 
     module _ (before : Elapses old mid) (later : Elapses mid new) (all : Type 0)
         (each : EachCase (IsJobsCase place jobs old mid all) old mid)
-        (stops : EachCase (PutStops (place_of store.cell) (generation_in store + 1)
+        (stops : EachCase (PutStops (place_of store.cell) (store_generation store + 1)
         text mid.image) mid new) where
       stops_here : EachCase (PutStops place (v.generation + 1) (index_text next) mid.image) mid new
       stops_here = subst (λ (t : List ℕ). EachCase (PutStops place (v.generation + 1) t mid.image)
@@ -231,7 +233,7 @@ module _ (told : Bool) (store : Store) (changes : List Change) (now : List Bool)
           (stops_here c second).elsewhere))
           (cases_on before later c past)
 
-    module _ (cell : Cell) (of : IsCellOf (place_of store.cell) (generation_in store + 1) cell)
+    module _ (cell : Cell) (of : IsCellOf (place_of store.cell) (store_generation store + 1) cell)
         (held : CellAt new.image cell text)
         (same : Spares (IsNoSlot (place_of store.cell)) mid.image new.image) where
       alone : IsAlone new.image place (v.generation + 1) (index_text next)
@@ -301,16 +303,16 @@ module _ (told : Bool) (store : Store) (changes : List Change) (now : List Bool)
   module _ (mid : Medium) (first_cost : mid.written ≤ old.written + store.shape.place.copies * jobs_cost jobs)
       (spares : Spares (IsNoArea store.shape.place) old.image mid.image) where
     pub commit_differs : (new : Medium) (text : List ℕ) → text ≡ index_text next
-        → new.written ≤ mid.written + texts_cost (place_of store.cell) (own (generation_in store + 1))
-        (sealed (generation_in store + 1) text) mid.image (place_of store.cell).copies
+        → new.written ≤ mid.written + texts_cost (place_of store.cell) (own (store_generation store + 1))
+        (sealed (store_generation store + 1) text) mid.image (place_of store.cell).copies
         + (place_of store.cell).copies * header
         → new.written ≤ old.written
         + store.shape.place.copies * (commit_cost store.shape.kind (view_in store).entries changes + 44)
-        + texts_cost store.shape.place (own (generation_in store + 1))
-        (sealed (generation_in store + 1) (index_text next)) old.image store.shape.place.copies
+        + texts_cost store.shape.place (own (store_generation store + 1))
+        (sealed (store_generation store + 1) (index_text next)) old.image store.shape.place.copies
     commit_differs new text spelled then =
         let n = store.shape.place.copies in
-        let g = generation_in store + 1 in
+        let g = store_generation store + 1 in
         let c = commit_cost store.shape.kind (view_in store).entries changes in
         let few : n * jobs_cost jobs ≤ n * c = mul-le-mul_left n plan.cost in
         let split : n * (c + 44) ≡ n * c + n * 44 = omega arith in

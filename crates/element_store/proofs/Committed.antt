@@ -54,7 +54,7 @@ use Rattle.element_laws.specs.lemmas.Fits.{picked_parts}
 use Rattle.element_laws.specs.lemmas.IndexLaws.{names_it}
 use Rattle.element_laws.specs.lemmas.AnewLaws.{clean_alone}
 use Rattle.element_store.specs.declared.jobs.Job.{Job}
-use Rattle.element_store.specs.Jobs.{HasShared, IsDone}
+use Rattle.element_store.specs.Jobs.{HasShared, IsJobWritten}
 use Rattle.element_store.specs.Plans.{HasAll}
 use Rattle.element_store.specs.Commits.{AreBeside, IsCarriedOver, IsWrittenBy, IsBesideOld, SharesOld}
 use Rattle.element_store.proofs.Alone.{alone_text, texts_alone, opens_alone, supports_element, all_hold}
@@ -217,12 +217,12 @@ module _ (shape : Shape) (old : Image) (index : Index) (v : View) (used : IsInUs
         lacking = lacking_still carried.was carried.seen f there is carried.lacking;
       }
 
-  put_of : (mid : Image) (jobs : List Job) → All (IsDone mid shape.place) jobs
+  put_of : (mid : Image) (jobs : List Job) → All (IsJobWritten mid shape.place) jobs
       → (e : IndexEntry) (f : Entry) → IsWrittenBy jobs e f → IsPut shape mid e f
   put_of mid jobs done e f written =
       let (k, lt, is) = written.among in
-      let done_it : IsDone mid shape.place written.job =
-      subst (λ (job : Job). IsDone mid shape.place job) is (done k written.job lt) in
+      let done_it : IsJobWritten mid shape.place written.job =
+      subst (λ (job : Job). IsJobWritten mid shape.place job) is (done k written.job lt) in
       record {
         bytes = written.job.bytes.now;
         full = subst (λ (bs : List ℕ). AllFull shape.place bs written.job.bytes.now mid)
@@ -234,7 +234,7 @@ module _ (shape : Shape) (old : Image) (index : Index) (v : View) (used : IsInUs
         lacking = written.lacking;
       }
 
-  pub entries_of_plan : (mid : Image) (jobs : List Job) → All (IsDone mid shape.place) jobs
+  pub entries_of_plan : (mid : Image) (jobs : List Job) → All (IsJobWritten mid shape.place) jobs
       → (es : List IndexEntry) (fs : List Entry)
       → AllZip (λ e f. IsWrittenBy jobs e f ⊎ IsCarriedOver index v e f) es fs
       → AllZip (IsPutOrStill shape old mid index) es fs

@@ -24,7 +24,7 @@ use Rattle.element_state.specs.Clean.{IsClean}
 use Rattle.element_state.specs.Fit.{fit_index}
 use Rattle.element_state.specs.Conditions.{IsShape, IsInUse}
 use Rattle.element_store.specs.declared.store.Store.{Store}
-use Rattle.element_store.specs.Plans.{IsMade}
+use Rattle.element_store.specs.Plans.{IsWrittenEntry}
 use Rattle.element_store.specs.Spelled.{ShowsFresh, IsTextOf}
 use Rattle.element_store.specs.Stores.{AreTaken, IsUsed, view_in}
 use Rattle.element_store.proofs.Fulls.{view_areas}
@@ -32,7 +32,7 @@ use Rattle.element_store.proofs.Made.{shown_still, whole_fresh, made_in_use}
 use Rattle.element_store.proofs.Cleaned.{made_clean}
 
 read_of_made : (copies generation : ℕ) (contents : List Fresh) (entries : List IndexEntry)
-    → AllZip (IsMade generation) contents entries
+    → AllZip (IsWrittenEntry generation) contents entries
     → AllZip (IsReadBy copies) entries (map (fresh_entry generation) (fresh_map contents))
 read_of_made copies g [] [] zip = tt
 read_of_made copies g [] (e ∷ es) zip = absurd zip
@@ -76,7 +76,7 @@ module _ (told : Bool) (mid image : Image) (shape : Shape) (generation : ℕ) (c
 
   module _ (alloc : Global) (entries : Vec Entry Global) (set : List Bool)
       (taken : AreTaken (area_blocks shape.allowed) index.entries set)
-      (made : AllZip (IsMade generation) contents index.entries)
+      (made : AllZip (IsWrittenEntry generation) contents index.entries)
       (filled : entries.items ≡ map (fresh_entry generation) (fresh_map contents)) (least : 1 ≤ generation) where
     pub created_view : whole_view shape cell.generation entries.items ≡ fresh_view generation (fresh_map contents)
     created_view =

@@ -13,7 +13,7 @@ use Rattle.element_state.specs.Fit.{FitText, fit_texts}
 use Rattle.element_state.specs.Views.{qualifies, view_of}
 use Rattle.element_state.specs.States.{State, store_at}
 use Rattle.element_state.specs.Chosen.{chosen, or_first, opened_of}
-use Rattle.element_state.specs.Surveys.{IsOf, IsViewedOn, text_of}
+use Rattle.element_state.specs.Surveys.{IsViewedOn, OpensOrSalvages, found_text}
 
 abbrev flagged : Bool → FitText → Option (Bool × FitText)
 flagged b t = Some (b, t)
@@ -38,7 +38,8 @@ from_or_first (x ∷ texts) None t e = absurd (never e)
     never : flagged true t ≡ flagged false x → ⊥
     never e = differ (ap flag_of e)
 
-opens_is : (opens : Bool) (v : View) (state : State) → opens ≡ true → IsOf opens v state → opened_of state ≡ Some v
+opens_is : (opens : Bool) (v : View) (state : State) → opens ≡ true → OpensOrSalvages opens v state → opened_of state
+    ≡ Some v
 opens_is true v state e is = ap opened_of is.1
 opens_is false v state e is = absurd (never e)
   where
@@ -47,12 +48,12 @@ opens_is false v state e is = absurd (never e)
 
 module _ (image : Image) (shape : Shape) (found : Option Found) (f : Found) (is : found ≡ Some f)
     (opens : f.opens ≡ true)
-    (chose : option_map text_of found ≡ chosen image shape) (viewed : IfSome found (IsViewedOn image shape)) where
+    (chose : option_map found_text found ≡ chosen image shape) (viewed : IfSome found (IsViewedOn image shape)) where
   pub found_first : find (qualifies image shape) (fit_texts shape image) ≡ Some (f.seen, f.index)
   unfolding chosen
   found_first = from_or_first (fit_texts shape image) (find (qualifies image shape) (fit_texts shape image))
       (f.seen, f.index)
-      (ap (λ (b : Bool). flagged b (f.seen, f.index)) (sym opens) ∙ sym (ap (option_map text_of) is) ∙ chose)
+      (ap (λ (b : Bool). flagged b (f.seen, f.index)) (sym opens) ∙ sym (ap (option_map found_text) is) ∙ chose)
 
   its_view : IsViewedOn image shape f
   its_view = subst (λ (o : Option Found). IfSome o (IsViewedOn image shape)) is viewed

@@ -25,7 +25,7 @@ use Rattle.element_store.specs.Changing.{IsSmallChange, IsGrownBy}
 use Rattle.element_store.specs.Committing.{index_length}
 use Rattle.element_store.specs.Taking.{AreOfEither}
 use Rattle.element_store.specs.Spelled.{IsTextOf}
-use Rattle.element_store.specs.Stores.{IsStore, IsUsed, AreTaken, view_in, generation_in}
+use Rattle.element_store.specs.Stores.{IsStore, IsUsed, AreTaken, view_in, store_generation}
 use Rattle.element_store.proofs.PlanSteps.{each_map}
 use Rattle.element_store.proofs.Changed.{views_ascend}
 use Rattle.element_store.proofs.Standing.{standing_of}
@@ -92,24 +92,25 @@ contents_within store changes slice before after same cost =
 module _ (told : Bool) (store s : Store) (changes : List Change) (alloc : Global) (cell : Cell) (index : Index)
     (entries : Vec Entry Global) (used : List Bool)
     (is : s ≡ record { alloc = alloc; shape = store.shape; cell = cell; index = index; entries = entries; used = used })
-    (old : IsStore store) (of : IsCellOf (place_of store.cell) (generation_in store + 1) cell)
+    (old : IsStore store) (of : IsCellOf (place_of store.cell) (store_generation store + 1) cell)
     (made : entries.items ≡ after_changes (cell.generation) store.entries.items changes) where
-  after_is : entries.items ≡ after_changes (generation_in store + 1) store.entries.items changes
+  after_is : entries.items ≡ after_changes (store_generation store + 1) store.entries.items changes
   after_is = made ∙ ap (λ (g : ℕ). after_changes g store.entries.items changes) of.counts
 
   committed_view : committed_by store.shape (view_in store) changes
-      ≡ whole_view store.shape (generation_in store + 1) (after_changes (generation_in store + 1) store.entries.items
+      ≡ whole_view store.shape (store_generation store + 1) (after_changes
+      (store_generation store + 1) store.entries.items
       changes)
   unfolding committed_by
   committed_view = refl
 
   pub finished_view : view_in s ≡ committed_by store.shape (view_in store) changes
   finished_view = ap view_in is ∙ ap (λ (g : ℕ). whole_view store.shape g entries.items) of.counts
-      ∙ ap (λ (es : List Entry). whole_view store.shape (generation_in store + 1) es) after_is ∙ sym committed_view
+      ∙ ap (λ (es : List Entry). whole_view store.shape (store_generation store + 1) es) after_is ∙ sym committed_view
 
   pub finished_used : (image : Image) → IsTextOf store.shape (index_text index) index
       → AllZip (IsReadBy store.shape.place.copies) index.entries
-      (after_changes (generation_in store + 1) store.entries.items changes)
+      (after_changes (store_generation store + 1) store.entries.items changes)
       → AreTaken (area_blocks store.shape.allowed) index.entries used
       → (IsTrue told → IsInUse store.shape image index (committed_by store.shape (view_in store) changes))
       → IsUsed told image s

@@ -19,7 +19,7 @@ use Rattle.std.proofs.lemmas.List.Sorted.{searchable_from_sorted}
 use Rattle.per_base.specs.Names.{name_cmp}
 use Rattle.std.specs.Prelude.{cond}
 use Rattle.element_state.specs.Changes.{item_at, insert_item, without_item}
-use Rattle.element_store.specs.Named.{NamesAscend, IsPlaceOf}
+use Rattle.element_store.specs.Named.{NamesAscend, IsSearchResult}
 
 -- names that differ by their order differ
 pub differs : (a b : List ℕ) → name_cmp a b ≢ Equal → bytes_eq a b ≡ false
@@ -124,18 +124,18 @@ module _ {X : Type 0} (name_of : X → List ℕ) where
   -- where a search by halves ends
   pub placed_by : (name : List ℕ) (xs : List X) → NamesAscend name_of xs → (r : Result ℕ ℕ)
       → IsSearchInRange r (length xs)
-      → IsBinarySearchResult (λ x. name_cmp (name_of x) name) xs r → IsPlaceOf name_of name xs r
+      → IsBinarySearchResult (λ x. name_cmp (name_of x) name) xs r → IsSearchResult name_of name xs r
   placed_by name xs sorted (Ok i) within equal = (within, λ d. same_names (name_of (get_or xs i d)) name (equal d))
   placed_by name xs sorted (Err i) within parted = (
     within,
     parted (searchable_from_sorted nat_list_cmp_total name_of xs name (λ k d low lt. rises xs sorted k d lt)),
   )
 
-  pub place_moved : (xs ys : List X) (m n : List ℕ) (r : Result ℕ ℕ) → ys ≡ xs → m ≡ n → IsPlaceOf name_of m ys r
-      → IsPlaceOf name_of n xs r
+  pub place_moved : (xs ys : List X) (m n : List ℕ) (r : Result ℕ ℕ) → ys ≡ xs → m ≡ n → IsSearchResult name_of m ys r
+      → IsSearchResult name_of n xs r
   place_moved xs ys m n r lists is place =
-      subst (λ (k : List ℕ). IsPlaceOf name_of k xs r) is
-      (subst (λ (zs : List X). IsPlaceOf name_of m zs r) lists place)
+      subst (λ (k : List ℕ). IsSearchResult name_of k xs r) is
+      (subst (λ (zs : List X). IsSearchResult name_of m zs r) lists place)
 
   pub ascends_as : (xs ys : List X) → xs ≡ ys → NamesAscend name_of ys → NamesAscend name_of xs
   ascends_as xs ys e sorted = subst (λ (zs : List X). NamesAscend name_of zs) (sym e) sorted

@@ -21,7 +21,7 @@ use Rattle.disk_model.specs.lemmas.Frames.{keeps_none, keeps_tears}
 use Rattle.disk_model.specs.Laws.{elapses_none, elapses_on, cases_on}
 use Rattle.disk_model.specs.declared.place.Place.{Place}
 use Rattle.m_of_n.specs.Vote.{voted}
-use Rattle.block_files.specs.BlockSets.{IsApart, AreDistinct}
+use Rattle.block_files.specs.BlockSets.{IsNotAmong, AreDistinct}
 use Rattle.block_files.specs.Areas.{NamedFull, area_of}
 use Rattle.block_files.specs.Contents.{AreCopies, first_content}
 use Rattle.block_files.specs.Writes.{Wrote, Tore, IsNoneOf}
@@ -33,7 +33,7 @@ use Rattle.element_state.specs.Views.{entry_view, given, content_of}
 use Rattle.element_state.specs.Chosen.{HasLength, IsReadBy}
 use Rattle.element_state.specs.Conditions.{IsMended}
 use Rattle.element_laws.specs.Phases.{MendStartLaw, MendStepLaw, MendSyncLaw, IsMending, IsSparing, TakesMend}
-use Rattle.element_laws.specs.Phases.{KeepsBlocks, KeepsBlocksWhole, lacked}
+use Rattle.element_laws.specs.Phases.{KeepsBlockBytes, KeepsBlocksWhole, lacked}
 use Rattle.element_store.specs.Mends.{IsAsBefore, IsWholeIn, AreShown, MendsCase, SparesOthers}
 use Rattle.element_store.proofs.PlanSteps.{both_ways}
 use Rattle.element_store.proofs.Shown.{content_good}
@@ -95,7 +95,8 @@ never_same xs p q distinct less lt same = both_ways (nat_eq (get_or xs p 0) (get
 -- the blocks of one entry are none of another's
 pub entries_apart : (es : List IndexEntry) (i j : ℕ) (d : IndexEntry) → IsDistinct nat_eq (blocks_of es) → i < length es
     → j < length es → i ≢ j
-    → (m : ℕ) → m < length (get_or es i d).blocks → IsApart (get_or es j d).blocks (get_or (get_or es i d).blocks m 0)
+    → (m : ℕ) → m < length (get_or es i d).blocks → IsNotAmong (get_or es j d).blocks
+    (get_or (get_or es i d).blocks m 0)
 entries_apart es i j d distinct lti ltj other m ltm n ltn same =
     let a = place_at es i d lti m ltm in
     let b = place_at es j d ltj n ltn in
@@ -130,7 +131,7 @@ less_blocks : (shape : Shape) (start now image : Image) (es : List IndexEntry)
     → AllByRecursion (λ (e : IndexEntry). (copy : ℕ) → copy < shape.place.copies → ¬ (TakesMend shape start e copy)
     → KeepsBlocksWhole e.blocks (now (area shape.place copy)) (image (area shape.place copy))) es
     → AllByRecursion (λ (e : IndexEntry). (copy : ℕ) → copy < shape.place.copies → ¬ (TakesMend shape start e copy)
-    → KeepsBlocks e.blocks (now (area shape.place copy)) (image (area shape.place copy))) es
+    → KeepsBlockBytes e.blocks (now (area shape.place copy)) (image (area shape.place copy))) es
 less_blocks shape start now image [] all = tt
 less_blocks shape start now image (e ∷ es) all = (
   λ copy lt untaken. record {
@@ -142,7 +143,7 @@ less_blocks shape start now image (e ∷ es) all = (
 )
 
 less_sparing : (shape : Shape) (start now image : Image) (index : Index)
-    → IsSparing KeepsBlocksWhole shape start now index image → IsSparing KeepsBlocks shape start now index image
+    → IsSparing KeepsBlocksWhole shape start now index image → IsSparing KeepsBlockBytes shape start now index image
 less_sparing shape start now image index s = record {
   slots = s.slots;
   kept =
@@ -300,7 +301,7 @@ module _ (told : Bool) (shape : Shape) (index : Index) (views : List Entry) (rul
     has = (i, lt, sym is_e)
 
     one_step : (start : Image) (d c : Case) → AreShown shape index views start → IsMending shape start old.image index d
-        → KeepsCase (IsNoneOf shape.place f.lacking) (IsApart e.blocks) d c
+        → KeepsCase (IsNoneOf shape.place f.lacking) (IsNotAmong e.blocks) d c
         → IsMending shape start old.image index c
     one_step start d c shown was keeps =
         let same = shown_at start shown in
@@ -308,11 +309,11 @@ module _ (told : Bool) (shape : Shape) (index : Index) (views : List Entry) (rul
         step shape start old.image index e v d c rules has
         (seen_good shape start e v (sym (ap (λ (x : Entry). x.content) same) ∙ good))
         (subst (λ (cs : List ℕ). AreCopies shape.place.copies cs) lack reads.lacking)
-        was (subst (λ (cs : List ℕ). KeepsCase (IsNoneOf shape.place cs) (IsApart e.blocks) d c) lack keeps)
+        was (subst (λ (cs : List ℕ). KeepsCase (IsNoneOf shape.place cs) (IsNotAmong e.blocks) d c) lack keeps)
 
     module _ (n : ℕ) (new : Medium) where
       pub still_during : (was : AreMended told shape index views i old mid) → Elapses mid new
-          → Follows (KeepsCase (IsNoneOf shape.place f.lacking) (IsApart e.blocks)) mid.now (new.since mid.moment)
+          → Follows (KeepsCase (IsNoneOf shape.place f.lacking) (IsNotAmong e.blocks)) mid.now (new.since mid.moment)
           → EachCase (MendsCase shape index views old.image) old new
       still_during was time follows c past = ⊎_elim
           (λ before. was.during c before)
@@ -321,7 +322,7 @@ module _ (told : Bool) (shape : Shape) (index : Index) (views : List Entry) (rul
           (cases_on was.time time c past)
 
       pub torn_areas : AreMended told shape index views i old mid
-          → Tore told (IsNoneOf shape.place f.lacking) (IsApart e.blocks) n mid new
+          → Tore told (IsNoneOf shape.place f.lacking) (IsNotAmong e.blocks) n mid new
           → IsTrue told → Spares (IsNoArea shape.place) old.image new.image
       torn_areas was tore tells file none = (tore.tears tells).files file (no_area f.lacking reads.lacking file none)
           ∙ was.areas tells file none
@@ -335,14 +336,14 @@ module _ (told : Bool) (shape : Shape) (index : Index) (views : List Entry) (rul
           subst (λ (x : Content). IsMended x f.lacking) good its
 
       pub torn_idle : AreMended told shape index views i old mid
-          → Tore told (IsNoneOf shape.place f.lacking) (IsApart e.blocks) n mid new
+          → Tore told (IsNoneOf shape.place f.lacking) (IsNotAmong e.blocks) n mid new
           → (f.lacking ≡ [] → n ≡ 0) → IsTrue told → AllByRecursion (λ (f : Entry). IsMended f.content f.lacking) views
           → IsAsBefore old new
       torn_idle was tore few tells mended = in_none shape.place n f.lacking old mid new (nothing_lacks mended)
           (few (nothing_lacks mended)) (was.idle tells mended)
           (tore.tears tells).files tore.written tore.time
 
-      pub mended_more : (f.lacking ≡ [] → n ≡ 0) → Wrote told (IsNoneOf shape.place f.lacking) (IsApart e.blocks)
+      pub mended_more : (f.lacking ≡ [] → n ≡ 0) → Wrote told (IsNoneOf shape.place f.lacking) (IsNotAmong e.blocks)
           n mid new
           → (IsTrue told → NamedFull shape.place f.lacking e.blocks v new.image)
           → AreMended told shape index views i old mid → AreMended told shape index views (i + 1) old new
@@ -363,11 +364,11 @@ module _ (told : Bool) (shape : Shape) (index : Index) (views : List Entry) (rul
             (λ other w is k ltk.
             let same_d : get_or index.entries x d ≡ get_or index.entries x e =
             get_or_default index.entries x d e inside in
-            full_kept (IsNoneOf shape.place f.lacking) (IsApart e.blocks) mid.image new.image
+            full_kept (IsNoneOf shape.place f.lacking) (IsNotAmong e.blocks) mid.image new.image
             (area_of shape.place (get_or (get_or views x g).lacking k 0)) (get_or index.entries x d).blocks w
             (wrote.keeps tells)
-            (λ m ltm. subst (λ (y : IndexEntry). IsApart e.blocks (get_or y.blocks m 0)) (sym same_d)
-            (subst (λ (y : IndexEntry). IsApart y.blocks (get_or (get_or index.entries x e).blocks m 0)) (sym is_e)
+            (λ m ltm. subst (λ (y : IndexEntry). IsNotAmong e.blocks (get_or y.blocks m 0)) (sym same_d)
+            (subst (λ (y : IndexEntry). IsNotAmong y.blocks (get_or (get_or index.entries x e).blocks m 0)) (sym is_e)
             (entries_apart index.entries x i e rules.blocks_apart inside lt other m
             (subst (λ (y : IndexEntry). m < length y.blocks) same_d ltm))))
             (was.full tells x d g (omega (arith, less, other)) inside w is k ltk))

@@ -18,7 +18,7 @@ use Rattle.element_state.specs.declared.shapes.Shape.{Shape}
 use Rattle.element_state.specs.States.{State, store_at}
 use Rattle.element_state.specs.Clean.{IsClean}
 use Rattle.element_state.specs.Conditions.{IsShape}
-use Rattle.element_state.specs.Kept.{IsKeptCase}
+use Rattle.element_state.specs.Kept.{IsKeptCase, IsKeptMending}
 use Rattle.element_laws.specs.Phases.{IsOfPlace, UntouchedLaw, AdoptLaw, MendLaw, OpensAt}
 use Rattle.element_store.specs.Mends.{AreShown, MendsCase}
 
@@ -44,8 +44,8 @@ module _ (shape : Shape) (old one : Medium) (is : IsShape shape) (clean : IsClea
         (alone : IsAlone two.image shape.place g text)
         (areas : Spares (IsNoSlot shape.place) one.image two.image)
         (t3 : Elapses two three) (during : EachCase (MendsCase shape index views two.image) two three) where
-      pub third_kept : (c : Case) → three.since old.moment c → IsKeptCase shape old.image after c
-      third_kept c past = ⊎_elim (second_kept c)
+      pub third_kept : (c : Case) → three.since old.moment c → IsKeptMending shape old.image after c
+      third_kept c past = ⊎_elim (λ earlier twins. second_kept c earlier)
           (λ later. mend shape old.image two.image g text index after c is.some
           (record {
             clean = clean;

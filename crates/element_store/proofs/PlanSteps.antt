@@ -12,7 +12,7 @@ use Rattle.per_base.specs.declared.elements.Content.TheVariants.{Good}
 use Rattle.disk_model.specs.declared.place.Place.{Place}
 use Rattle.disk_model.specs.Image.{Image}
 use Rattle.block_files.specs.Parts.{blocks_for, is_changed}
-use Rattle.block_files.specs.BlockSets.{contains, AreDistinct, IsApart, AreFree, IsAdded}
+use Rattle.block_files.specs.BlockSets.{contains, AreDistinct, IsNotAmong, AreFree, IsAdded}
 use Rattle.block_files.specs.Areas.{AllFull}
 use Rattle.block_files.specs.lemmas.PartLemmas.{same_part, changed_to-le}
 use Rattle.block_files.specs.lemmas.Partly.{length-part}
@@ -28,9 +28,11 @@ use Rattle.disk_model.specs.lemmas.Frames.{case_less}
 use Rattle.block_files.specs.Areas.{HoldsShared}
 use Rattle.block_files.specs.lemmas.Everywhere.{shared_none}
 use Rattle.element_store.specs.Spelled.{IsContentsCase}
-use Rattle.element_store.specs.Jobs.{IsRoomy, AreApart, IsDone, IsLeftBy, IsLeftByAll, HasShared, IsJobsCase, job_cost}
+use Rattle.element_store.specs.Jobs.{IsRoomy, AreApart, IsJobWritten, IsSparedByJob, IsLeftByAll, HasShared, IsJobsCase}
+use Rattle.element_store.specs.Jobs.{job_cost}
 use Rattle.element_store.specs.Jobs.{jobs_cost}
-use Rattle.element_store.specs.Plans.{HasAll, KeepsBlocks, AreDisjoint, AreLaidApart, IsPlaced, ArePlaced, IsMade}
+use Rattle.element_store.specs.Plans.{HasAll, KeepsTaken, AreDisjoint, AreLaidApart, IsPlacedJob, ArePlacedJobs}
+use Rattle.element_store.specs.Plans.{IsWrittenEntry}
 use Rattle.element_store.specs.Plans.{IsPlanOf, blocks_of_all}
 use Rattle.element_store.proofs.Fulls.{view_full}
 
@@ -70,7 +72,7 @@ pub both_ways : (b : Bool) → b ≡ true → b ≡ false → ⊥
 both_ways b is isnt = cc
 
 -- a block is one of these, or apart from them
-pub apart_or_one : (blocks : List ℕ) (b : ℕ) → IsApart blocks b
+pub apart_or_one : (blocks : List ℕ) (b : ℕ) → IsNotAmong blocks b
     ⊎ ((i : ℕ) × (i < length blocks) × (b ≡ get_or blocks i 0))
 apart_or_one [] b = inl (λ i lt e. absurd (omega (arith, lt)))
 apart_or_one (x ∷ blocks) b = ⊎_elim
@@ -81,17 +83,17 @@ apart_or_one (x ∷ blocks) b = ⊎_elim
     (apart_or_one blocks b))
     (cases_eq b x)
   where
-    at : (i : ℕ) → i < length (x ∷ blocks) → b ≡ get_or (x ∷ blocks) i 0 → b ≢ x → IsApart blocks b → ⊥
+    at : (i : ℕ) → i < length (x ∷ blocks) → b ≡ get_or (x ∷ blocks) i 0 → b ≢ x → IsNotAmong blocks b → ⊥
     at zero lt e other apart = other e
     at (suc i) lt e other apart = apart i (omega (arith, lt)) e
 
-pub added_keeps : (blocks : List ℕ) (old new : List Bool) → IsAdded blocks old new → KeepsBlocks old new
+pub added_keeps : (blocks : List ℕ) (old new : List Bool) → IsAdded blocks old new → KeepsTaken old new
 added_keeps blocks old new added b is = ⊎_elim
     (λ apart. added.kept b apart ∙ is)
     (λ one. let (i, lt, e) = one in ap (contains new) e ∙ added.added i lt)
     (apart_or_one blocks b)
 
-pub keeps_all : (old new : List Bool) (blocks : List ℕ) → KeepsBlocks old new → HasAll old blocks → HasAll new blocks
+pub keeps_all : (old new : List Bool) (blocks : List ℕ) → KeepsTaken old new → HasAll old blocks → HasAll new blocks
 keeps_all old new blocks keeps all i lt = keeps (get_or blocks i 0) (all i lt)
 
 -- what the set has, and what it lacks
@@ -113,7 +115,7 @@ laid_push (f ∷ entries) e laid distinct all = (
 
 -- ---- jobs, one more
 
-module _ (start now new : List Bool) (jobs : List Job) (job : Job) (keeps : KeepsBlocks start now)
+module _ (start now new : List Bool) (jobs : List Job) (job : Job) (keeps : KeepsTaken start now)
     (added : IsAdded job.blocks now new) (roomy : IsRoomy job)
     (written : (i : ℕ) → i < length job.blocks → is_changed job.bytes.now job.was.now i ≡ true
     → contains now (get_or job.blocks i 0) ≡ false)
@@ -123,7 +125,7 @@ module _ (start now new : List Bool) (jobs : List Job) (job : Job) (keeps : Keep
   not_at_start b out = ⊎_elim (λ was. absurd (both_ways (contains now b) (keeps b was) out)) (λ none. none)
       (cases_Bool (contains start b))
 
-  job_placed : IsPlaced start new job
+  job_placed : IsPlacedJob start new job
   job_placed = record {
     taken = added.added;
     written = λ i lt is.
@@ -131,7 +133,7 @@ module _ (start now new : List Bool) (jobs : List Job) (job : Job) (keeps : Keep
     shared = shared;
   }
 
-  others_placed : All (IsPlaced start now) jobs → All (IsPlaced start new) jobs
+  others_placed : All (IsPlacedJob start now) jobs → All (IsPlacedJob start new) jobs
   others_placed all k d lt = let it = all k d lt in
       record {
         taken = keeps_all now new (get_or jobs k d).blocks (added_keeps job.blocks now new added) it.taken;
@@ -140,12 +142,14 @@ module _ (start now new : List Bool) (jobs : List Job) (job : Job) (keeps : Keep
       }
 
   -- the blocks of an earlier job are none that the new one writes
-  earlier_left : (x : Job) → IsPlaced start now x → (m : ℕ) → m < length x.blocks → IsLeftBy job (get_or x.blocks m 0)
+  earlier_left : (x : Job) → IsPlacedJob start now x → (m : ℕ) → m < length x.blocks
+      → IsSparedByJob job (get_or x.blocks m 0)
   earlier_left x placed m lt i less is e = both_ways (contains now (get_or job.blocks i 0))
       (sym (ap (contains now) e) ∙ placed.taken m lt) (written i less is)
 
   -- the blocks of the new one are none that an earlier job writes
-  new_left : (x : Job) → IsPlaced start now x → (m : ℕ) → m < length job.blocks → IsLeftBy x (get_or job.blocks m 0)
+  new_left : (x : Job) → IsPlacedJob start now x → (m : ℕ) → m < length job.blocks
+      → IsSparedByJob x (get_or job.blocks m 0)
   new_left x placed m lt i less is e = ⊎_elim
       (λ differs. both_ways (contains now (get_or job.blocks m 0)) (ap (contains now) e ∙ placed.taken i less)
       (written m lt differs))
@@ -160,9 +164,9 @@ module _ (start now new : List Bool) (jobs : List Job) (job : Job) (keeps : Keep
   at_new i d e = get_or_push jobs job d i e
 
   abbrev Leaves : Job → Job → Type 0
-  Leaves x y = (m : ℕ) → m < length x.blocks → IsLeftBy y (get_or x.blocks m 0)
+  Leaves x y = (m : ℕ) → m < length x.blocks → IsSparedByJob y (get_or x.blocks m 0)
 
-  all_apart : All (IsPlaced start now) jobs → AreApart jobs → AreApart (jobs ++ job ∷ [])
+  all_apart : All (IsPlacedJob start now) jobs → AreApart jobs → AreApart (jobs ++ job ∷ [])
   all_apart placed apart i j d differ lt less =
       let long = length_push jobs job in
       let P : Job → Type 0 = λ x. Leaves x (get_or (jobs ++ job ∷ []) j d) in
@@ -180,14 +184,14 @@ module _ (start now new : List Bool) (jobs : List Job) (job : Job) (keeps : Keep
       (new_left (get_or jobs j d) (placed j d lower))))
       (cases_lt i (length jobs))
 
-  pub placed_push : ArePlaced start now jobs → ArePlaced start new (jobs ++ job ∷ [])
+  pub placed_push : ArePlacedJobs start now jobs → ArePlacedJobs start new (jobs ++ job ∷ [])
   placed_push was = record {
     roomy = All-push IsRoomy jobs job was.roomy roomy;
-    placed = All-push (IsPlaced start new) jobs job (others_placed was.placed) job_placed;
+    placed = All-push (IsPlacedJob start new) jobs job (others_placed was.placed) job_placed;
     apart = all_apart was.placed was.apart;
   }
 
-pub placed_none : (set : List Bool) → ArePlaced set set []
+pub placed_none : (set : List Bool) → ArePlacedJobs set set []
 placed_none set = record {
   roomy = λ k d lt. absurd (omega (arith, lt));
   placed =
@@ -222,12 +226,12 @@ plan_none generation set = record {
 
 pub plan_push : (generation : ℕ) (contents : List Fresh) (start now new : List Bool) (entries : List IndexEntry)
     (jobs : List Job) (f : Fresh) (e : IndexEntry) (job : Job)
-    → IsMade generation f e → AreFree now e.blocks → IsAdded e.blocks now new → job.blocks ≡ e.blocks
+    → IsWrittenEntry generation f e → AreFree now e.blocks → IsAdded e.blocks now new → job.blocks ≡ e.blocks
     → job.bytes.now ≡ f.bytes → job.was.now ≡ []
     → IsPlanOf generation contents start now entries jobs
     → IsPlanOf generation (contents ++ f ∷ []) start new (entries ++ e ∷ []) (jobs ++ job ∷ [])
 plan_push generation contents start now new entries jobs f e job made free added blocks bytes was plan = record {
-  made = zip_push (IsMade generation) contents entries f e plan.made made;
+  made = zip_push (IsWrittenEntry generation) contents entries f e plan.made made;
   laid = laid_push entries e plan.laid (free_distinct now e.blocks free)
       (each_map (λ (h : IndexEntry). HasAll now h.blocks) (λ (h : IndexEntry). AreDisjoint h.blocks e.blocks) entries
       (λ h has. disjoint_by now h.blocks e.blocks has free.free) plan.taken);
@@ -265,11 +269,11 @@ plan_push generation contents start now new entries jobs f e job made free added
   views = λ image place m some enough done.
       zip_push (λ (g : Fresh) (h : IndexEntry). entry_view image place m h ≡ fresh_entry generation (fresh_element g))
       contents entries f e
-      (plan.views image place m some enough (all_front (IsDone image place) jobs job done))
-      (shown image place m some enough (all_last (IsDone image place) jobs job done));
+      (plan.views image place m some enough (all_front (IsJobWritten image place) jobs job done))
+      (shown image place m some enough (all_last (IsJobWritten image place) jobs job done));
 }
   where
-    grows : KeepsBlocks now new
+    grows : KeepsTaken now new
     grows = added_keeps e.blocks now new added
 
     long : length job.blocks ≡ length e.blocks
@@ -287,7 +291,7 @@ plan_push generation contents start now new entries jobs f e job made free added
     }
 
     shown : (image : Image) (place : Place) (m : ℕ) → 1 ≤ m → m ≤ place.copies
-        → IsDone image place job
+        → IsJobWritten image place job
         → entry_view image place m e ≡ fresh_entry generation (fresh_element f)
     shown image place m some enough done =
         let a : AllFull place e.blocks job.bytes.now image =
@@ -343,7 +347,7 @@ shared_of_whole image place jobs whole k d lt c few =
     (shared_none (image (area place c)) (get_or jobs k d).blocks (get_or jobs k d).bytes.now)
 
 -- what was in the set at the start is written by no job
-pub left_of_placed : (start now : List Bool) (jobs : List Job) → ArePlaced start now jobs → (k : ℕ)
+pub left_of_placed : (start now : List Bool) (jobs : List Job) → ArePlacedJobs start now jobs → (k : ℕ)
     → contains start k ≡ true → IsLeftByAll jobs k
 left_of_placed start now jobs placed k taken x d lt i less is e =
     both_ways (contains start k) taken (ap (contains start) e ∙ (placed.placed x d lt).written i less is)
@@ -357,7 +361,7 @@ written_of_plan copies blocks was now jobs few written =
     omega (arith, written, wider)
 
 pub jobs_to_contents : (place : Place) (start now : List Bool) (jobs : List Job) (old new : Medium)
-    (done more : Type 0) → ArePlaced start now jobs → (done → more)
+    (done more : Type 0) → ArePlacedJobs start now jobs → (done → more)
     → (c : Case) → IsJobsCase place jobs old new done c → IsContentsCase place start old new more c
 jobs_to_contents place start now jobs old new done more placed to c is = ⊎_elim
     (λ some. let (d, was, step) = some in inl (

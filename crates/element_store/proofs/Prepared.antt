@@ -1,4 +1,4 @@
--- A storage whose copies were settled on the text beside which it is made anew.
+-- A storage whose copies were settled on the text beside which it is rebuilt.
 use Rattle.std.proofs.Common.{◌≡◌, ℕ, ◌+◌, ◌-◌, ◌^◌, ◌/◌, ◌<◌, ◌≤◌, min, List, Bool, true, false, Some, None, sym}
 use Rattle.std.proofs.Common.{subst, arith}
 use Rattle.std.specs.List.{All, AllByRecursion}
@@ -21,7 +21,7 @@ use Rattle.element_state.specs.Conditions.{IsShape}
 use Rattle.element_state.specs.Fit.{fit_index}
 use Rattle.element_state.specs.Kept.{KeptThroughout}
 use Rattle.element_state.specs.States.{State, store_at, salvage_of}
-use Rattle.element_state.specs.Surveys.{IsFound, text_of}
+use Rattle.element_state.specs.Surveys.{IsFoundView, found_text}
 use Rattle.element_laws.specs.lemmas.Phases.{untouched, adopt as adopt_law, keep as keep_law, contents as contents_law}
 use Rattle.element_laws.specs.lemmas.Phases.{contents_done as contents_done_law, corrupt_found as corrupt_law}
 use Rattle.element_laws.specs.lemmas.IndexLaws.{index as index_law}
@@ -58,7 +58,7 @@ module _ (shape : Shape) (is : IsShape shape) (old mid : Medium) (same : mid.ima
         keep_kept shape is state untouched keep_law old mid new (seen, index) before later idle same chose stops
 
     pub settled_kept : (found : Found) (state : State) → Elapses old mid → Elapses mid new
-        → (Quiet old → IsIdle old mid) → Some (text_of found) ≡ chosen old.image shape
+        → (Quiet old → IsIdle old mid) → Some (found_text found) ≡ chosen old.image shape
         → EachCase (OneTextStops found.opens shape.place found.seen.generation found.seen.text
         mid.image) mid new → KeptThroughout shape state old new
     settled_kept found state before later idle chose stops =
@@ -86,12 +86,12 @@ module _ (shape : Shape) (is : IsShape shape) (old mid : Medium) (same : mid.ima
         (anew_index aside) (seen, index)
         clean chose fit rules takes left areas
 
-    module _ (found : Found) (found_is : IsFound shape found) (set : List Bool)
+    module _ (found : Found) (found_is : IsFoundView shape found) (set : List Bool)
         (taken : AreTaken (area_blocks shape.allowed) found.index.entries set) where
       pub settled_ready : (next : ℕ) → HasNext (salvage_of (store_at old.image shape))
           → salvage_of (store_at old.image shape) ≡ Some found.view
           → next ≡ min (found.view.generation + 1) (2 ^ 64 - 1) → IsClean shape old.image
-          → Some (text_of found) ≡ chosen old.image shape
+          → Some (found_text found) ≡ chosen old.image shape
           → IsLeftWith found.opens shape.place found.seen.generation found.seen.text mid.image
           new.image
           → Spares (IsNoSlot shape.place) mid.image new.image
@@ -109,7 +109,7 @@ module _ (shape : Shape) (is : IsShape shape) (old mid : Medium) (same : mid.ima
           (subst (λ (im : Image). Spares (IsNoSlot shape.place) im new.image) same areas))
 
 -- the blocks of the text
-module _ (shape : Shape) (found : Found) (found_is : IsFound shape found) (es : List IndexEntry)
+module _ (shape : Shape) (found : Found) (found_is : IsFoundView shape found) (es : List IndexEntry)
     (same : es ≡ found.index.entries) (blocks : ℕ) (many : blocks ≡ area_blocks shape.allowed) where
   pub found_below : All (λ b. b < blocks) (blocks_of es)
   found_below =

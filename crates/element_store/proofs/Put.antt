@@ -22,12 +22,13 @@ use Rattle.index_text.specs.declared.entries.IndexEntry.{IndexEntry}
 use Rattle.index_text.specs.Rules.{IsEntry, has_info}
 use Rattle.element_state.specs.Changes.{insert_item, without_item, entry_name}
 use Rattle.element_state.specs.Chosen.{HasLength}
-use Rattle.index_text.specs.Contents.{IsFresh}
+use Rattle.index_text.specs.Contents.{SuitsKind}
 use Rattle.element_state.specs.States.{fresh_entry, fresh_element}
 use Rattle.element_store.specs.declared.jobs.Job.{Job}
-use Rattle.element_store.specs.Plans.{HasAll, KeepsBlocks, AreDisjoint, ArePlaced, IsMade}
+use Rattle.element_store.specs.Plans.{HasAll, KeepsTaken, AreDisjoint, ArePlacedJobs, IsWrittenEntry}
 use Rattle.element_store.specs.Commits.{AreBeside, SharesWith}
-use Rattle.element_store.specs.Changing.{named_by, IsSeenAs, IsStanding, IsEarlier, IsOwn, IsSound, IsPlanned}
+use Rattle.element_store.specs.Changing.{named_by, IsSeenAs, AreStandingEntries, IsEarlierContent, IsOwn, IsSoundEntry}
+use Rattle.element_store.specs.Changing.{IsPlanned}
 use Rattle.element_store.proofs.InOrder.{eq_names, each_without, ascends_put, apart_without, zip_insert, zip_without}
 use Rattle.element_store.proofs.InOrder.{each_insert}
 use Rattle.element_store.proofs.Places.{same_default, each_at, each_both, zip_at, zip_map, in_front, at_last}
@@ -37,8 +38,8 @@ use Rattle.element_store.proofs.Changed.{Pair, pair_names, laid_disjoint, laid_e
 -- ---- what is known of the earlier content
 
 module _ (kind : StoreKind) (now : List Bool) (standing : List IndexEntry) (views : List Entry)
-    (st : IsStanding kind now standing views)
-    (name bytes blocks : List ℕ) (earlier : IsEarlier kind standing views name bytes blocks) where
+    (st : AreStandingEntries kind now standing views)
+    (name bytes blocks : List ℕ) (earlier : IsEarlierContent kind standing views name bytes blocks) where
   long_by : (len : ℕ) (content : Content) → HasLength len content → content ≡ Good bytes → length bytes ≡ len
   long_by len content has is = subst (HasLength len) is has
 
@@ -79,8 +80,8 @@ module _ (kind : StoreKind) (now : List Bool) (standing : List IndexEntry) (view
 
 -- the set keeps what it has, and so what stands
 pub standing_keeps : (kind : StoreKind) (now new : List Bool) (standing : List IndexEntry) (views : List Entry)
-    → KeepsBlocks now new
-    → IsStanding kind now standing views → IsStanding kind new standing views
+    → KeepsTaken now new
+    → AreStandingEntries kind now standing views → AreStandingEntries kind new standing views
 standing_keeps kind now new standing views keeps st = record {
   rules = st.rules;
   ascend = st.ascend;
@@ -95,13 +96,13 @@ standing_keeps kind now new standing views keeps st = record {
 module _ (kind : StoreKind) (standing : List IndexEntry) (views : List Entry) (start now new : List Bool)
     (es : List IndexEntry) (fs : List Entry) (jobs : List Job)
     (generation : ℕ) (f : Fresh) (e : IndexEntry) (job : Job) (old_blocks : List ℕ)
-    (st : IsStanding kind now standing views) (fresh : IsFresh kind f) (made : IsMade generation f e)
-    (earlier : IsEarlier kind standing views f.name job.was.now old_blocks)
+    (st : AreStandingEntries kind now standing views) (fresh : SuitsKind kind f) (made : IsWrittenEntry generation f e)
+    (earlier : IsEarlierContent kind standing views f.name job.was.now old_blocks)
     (shared : SharesBlocks job.bytes.now job.was.now old_blocks now job.blocks) (distinct : AreDistinct job.blocks)
     (added : IsAdded job.blocks now new)
     (is_blocks : e.blocks ≡ job.blocks) (is_bytes : job.bytes.now ≡ f.bytes)
     (p : IsPlanned kind standing views start now es fs jobs) where
-  grows : KeepsBlocks now new
+  grows : KeepsTaken now new
   grows = added_keeps job.blocks now new added
 
   count : length job.blocks ≡ blocks_for (length job.bytes.now)
@@ -222,7 +223,7 @@ module _ (kind : StoreKind) (standing : List IndexEntry) (views : List Entry) (s
   })
   pair_more x y (inr c) = inr c
 
-  sound_more : (x : IndexEntry) → IsSound kind standing now x → IsSound kind standing new x
+  sound_more : (x : IndexEntry) → IsSoundEntry kind standing now x → IsSoundEntry kind standing new x
   sound_more x s = record { rules = s.rules; taken = keeps_all now new x.blocks grows s.taken; own = s.own }
 
   pub planned_put : IsPlanned kind standing views start new (insert_item named_by e (without_item named_by e.name es))
@@ -239,18 +240,18 @@ module _ (kind : StoreKind) (standing : List IndexEntry) (views : List Entry) (s
         (pair_names kind standing views (jobs ++ job ∷ [])) f.name es fs
         (zip_map (Pair kind standing views jobs) (Pair kind standing views (jobs ++ job ∷ [])) es fs pair_more
         p.entries)));
-    sound = each_insert named_by (IsSound kind standing new) e (without_item named_by e.name es)
+    sound = each_insert named_by (IsSoundEntry kind standing new) e (without_item named_by e.name es)
         (record { rules = new_rules; taken = subst (HasAll new) (sym is_blocks) added.added; own = new_own })
-        (each_without named_by (IsSound kind standing new) e.name es
-        (each_map (IsSound kind standing now) (IsSound kind standing new) es sound_more p.sound));
+        (each_without named_by (IsSoundEntry kind standing new) e.name es
+        (each_map (IsSoundEntry kind standing now) (IsSoundEntry kind standing new) es sound_more p.sound));
     ascend = ascends_put named_by e es p.ascend;
     laid = laid_insert e (without_item named_by e.name es) (subst AreDistinct (sym is_blocks) distinct)
-        (each_both (IsSound kind standing now) (λ (h : IndexEntry). bytes_eq h.name e.name ≡ false)
+        (each_both (IsSoundEntry kind standing now) (λ (h : IndexEntry). bytes_eq h.name e.name ≡ false)
         (λ (h : IndexEntry). AreDisjoint h.blocks e.blocks) (without_item named_by e.name es)
         (λ h s other. subst (λ (bs : List ℕ). AreDisjoint h.blocks bs) (sym is_blocks)
         (apart_from h s.taken s.own (λ same. not_both (bytes_eq h.name e.name)
         (eq_names h.name e.name (same ∙ sym made.name)) other)))
-        (each_without named_by (IsSound kind standing now) e.name es p.sound) (apart_without named_by e.name es))
+        (each_without named_by (IsSoundEntry kind standing now) e.name es p.sound) (apart_without named_by e.name es))
         (laid_without e.name es p.laid);
     taken = p.taken;
     placed = placed_more;
@@ -262,7 +263,7 @@ module _ (kind : StoreKind) (standing : List IndexEntry) (views : List Entry) (s
       not_both : (b : Bool) → b ≡ true → b ≡ false → ⊥
       not_both b is isnt = cc
 
-      placed_more : ArePlaced start new (jobs ++ job ∷ [])
+      placed_more : ArePlacedJobs start new (jobs ++ job ∷ [])
       placed_more = placed_push start now new jobs job p.keeps added
           (record { room = (let c = count in omega (arith, c)); distinct = distinct })
           (λ i lt is. (shared.fresh i lt is).1)

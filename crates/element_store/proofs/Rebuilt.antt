@@ -1,4 +1,4 @@
--- A storage that is made anew beside the text at which it opened, or beside the one that is its salvage.
+-- A storage that is rebuilt beside the text at which it opened, or beside the one that is its salvage.
 use Rattle.std.proofs.Common.{◌≡◌, ◌⊎◌, ℕ, ◌+◌, ◌<◌, List, [], ◌∷◌, Bool, true, false, Option, Some, None, refl, sym}
 use Rattle.std.proofs.Common.{ap, ◌∙◌, subst, arith, ⊎_elim, inl}
 use Rattle.std.specs.Prelude.{map, find}
@@ -29,8 +29,9 @@ use Rattle.element_state.specs.States.{State, store_at, fresh_entry, fresh_map, 
 use Rattle.element_state.specs.Views.{entry_view, qualifies}
 use Rattle.element_laws.specs.Phases.{IsOfPlace, UntouchedLaw, OpensAt, OpenedLaw, IsCorruptAt, CorruptLaw, IsSalvageAt}
 use Rattle.element_laws.specs.Phases.{IsAdopted, IsGivenUp, AdoptLaw, KeepLaw, ContentsLaw, ContentsDoneLaw, IndexLaw}
-use Rattle.element_laws.specs.Phases.{GivenUpLaw, TakesNamed, TakenLaw, AnewContentsLaw, AnewDoneLaw, AnewIndexLaw}
-use Rattle.element_laws.specs.Phases.{IsHeaded, IsWritten, IsCarried}
+use Rattle.element_laws.specs.Phases.{GivenUpLaw, TakesNamed, TakenBlocksLaw, AnewContentsLaw, AnewDoneLaw}
+use Rattle.element_laws.specs.Phases.{AnewIndexLaw}
+use Rattle.element_laws.specs.Phases.{IsHeaded, IsContentWritten, IsCarried}
 use Rattle.element_laws.specs.lemmas.Lists.{In, zip_with, some_is, not_false, not_none}
 use Rattle.element_laws.specs.lemmas.Fits.{fit_at, fit-In, fit-spelled}
 use Rattle.element_store.specs.Plans.{HasAll}
@@ -94,7 +95,8 @@ module _ (shape : Shape) (start now : Image) (set : List Bool) (is : IsShape sha
         law shape start now then g text index (contains set) next new_index view others c is.some adopted rules takes
         keeps
         fit generation_is
-        (zip_with (IsWritten shape then) (λ e f. IsWritten shape then e f ⊎ IsCarried shape start index e f)
+        (zip_with (IsContentWritten shape then) (λ e f. IsContentWritten shape then e f
+        ⊎ IsCarried shape start index e f)
         new_index.entries view.entries (λ e f i j w. inl w) written) stops;
   }
 
@@ -116,7 +118,7 @@ module _ (shape : Shape) (start now : Image) (set : List Bool) (is : IsShape sha
   }
 
   -- beside its salvage
-  pub ready_salvaged : GivenUpLaw → TakenLaw → AnewContentsLaw → AnewDoneLaw → AnewIndexLaw → (text : FitText)
+  pub ready_salvaged : GivenUpLaw → TakenBlocksLaw → AnewContentsLaw → AnewDoneLaw → AnewIndexLaw → (text : FitText)
       → IsClean shape start → IsSalvageAt shape start text
       → fit_index shape text.0.text ≡ Some text.1 → IsIndex text.1
       → AllByRecursion (λ (e : IndexEntry). HasAll set e.blocks) text.1.entries
@@ -192,7 +194,7 @@ unfold_view image place m e = refl
 -- contents that are shown are written
 written_fresh : (shape : Shape) (then : Image) (g : ℕ) (contents : List Fresh) (entries : List IndexEntry)
     → ShowsFresh then shape.place shape.m g contents entries
-    → AllZip (IsWritten shape then) entries (map (fresh_entry g) (fresh_map contents))
+    → AllZip (IsContentWritten shape then) entries (map (fresh_entry g) (fresh_map contents))
 written_fresh shape then g [] [] zip = tt
 written_fresh shape then g [] (e ∷ es) zip = absurd zip
 written_fresh shape then g (f ∷ fs) [] zip = absurd zip

@@ -1,4 +1,4 @@
--- A storage that is made anew, at its end and at every moment.
+-- A storage that is rebuilt, at its end and at every moment.
 use Rattle.std.proofs.Common.{◌≡◌, ℕ, List, Bool, true, ap, ◌∙◌, subst}
 use Rattle.per_base.specs.declared.elements.Fresh.{Fresh}
 use Rattle.disk_model.specs.declared.place.Place.{Place}

@@ -18,7 +18,7 @@ use Rattle.block_files.specs.Parts.{blocks_for}
 use Rattle.element_state.specs.declared.shapes.Shape.{Shape}
 use Rattle.element_state.specs.declared.shapes.View.{View}
 use Rattle.element_state.specs.Changes.{insert_item, without_item, entry_name, touched, after_change, after_changes}
-use Rattle.element_state.specs.Conditions.{AreChanges, size_of}
+use Rattle.element_state.specs.Conditions.{AreCommittable, size_of}
 use Rattle.element_state.specs.States.{fresh_entry, fresh_element}
 use Rattle.element_store.specs.Changing.{change_blocks, blocks_of_changes}
 use Rattle.element_store.proofs.InOrder.{eq_names}
@@ -181,7 +181,7 @@ none_left [] = tt
 none_left (c ∷ changes) = (refl, none_left changes)
 
 -- what changes put takes no more blocks than a storage of the allowed size
-pub changes_fit : (shape : Shape) (v : View) (changes : List Change) → AreChanges shape v changes
+pub changes_fit : (shape : Shape) (v : View) (changes : List Change) → AreCommittable shape v changes
     → blocks_of_changes changes ≤ shape.allowed / 256 + 1024
 changes_fit shape v changes are =
     let after = after_changes (v.generation + 1) v.entries changes in

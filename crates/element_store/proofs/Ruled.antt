@@ -18,11 +18,11 @@ use Rattle.block_files.specs.BlockSets.{contains, AreDistinct}
 use Rattle.index_text.specs.declared.entries.IndexEntry.{IndexEntry}
 use Rattle.index_text.specs.Rules.{IsEntry, IsIndex, blocks_of, names_of, max_len, has_info}
 use Rattle.index_text.specs.Sizes.{size_of, area_blocks, fits}
-use Rattle.index_text.specs.Spelling.{kind_code}
+use Rattle.index_text.specs.Spelling.{store_kind_code}
 use Rattle.element_state.specs.declared.shapes.Shape.{Shape}
-use Rattle.index_text.specs.Contents.{AreContents, IsFresh}
+use Rattle.index_text.specs.Contents.{AreContents, SuitsKind}
 use Rattle.element_store.specs.declared.jobs.Job.{Job}
-use Rattle.element_store.specs.Plans.{HasAll, AreDisjoint, AreLaidApart, IsMade, IsPlanOf, blocks_of_all}
+use Rattle.element_store.specs.Plans.{HasAll, AreDisjoint, AreLaidApart, IsWrittenEntry, IsPlanOf, blocks_of_all}
 use Rattle.element_store.specs.Spelled.{index_with}
 use Rattle.element_store.proofs.PlanSteps.{both_ways}
 
@@ -112,14 +112,14 @@ kind_small : (kind : StoreKind) (n : ℕ) → n ≤ max_len kind → n ≤ 10485
 kind_small Keys n le = omega (arith, le)
 kind_small Files n le = omega (arith, le)
 
-pub all_small : (kind : StoreKind) (contents : List Fresh) → AllByRecursion (IsFresh kind) contents
+pub all_small : (kind : StoreKind) (contents : List Fresh) → AllByRecursion (SuitsKind kind) contents
     → All (λ (f : Fresh). length f.bytes ≤ 1048576) contents
 all_small kind [] all k d lt = absurd (omega (arith, lt))
 all_small kind (f ∷ fs) all zero d lt = kind_small kind (length f.bytes) all.0.small
 all_small kind (f ∷ fs) all (suc k) d lt = all_small kind fs all.1 k d (omega (arith, lt))
 
 module _ (generation : ℕ) (kind : StoreKind) where
-  made_rules : (f : Fresh) (e : IndexEntry) → IsFresh kind f → IsMade generation f e → (length e.hash ≡ 32)
+  made_rules : (f : Fresh) (e : IndexEntry) → SuitsKind kind f → IsWrittenEntry generation f e → (length e.hash ≡ 32)
       → IsEntry 2 kind e
   made_rules f e fresh made hash = record {
     name = made.named;
@@ -130,15 +130,15 @@ module _ (generation : ℕ) (kind : StoreKind) where
     blocks = made.count ∙ ap blocks_for (sym made.len);
   }
 
-  pub each_rules : (fs : List Fresh) (es : List IndexEntry) → AllByRecursion (IsFresh kind) fs
-      → AllZip (IsMade generation) fs es → AllByRecursion (IsEntry 2 kind) es
+  pub each_rules : (fs : List Fresh) (es : List IndexEntry) → AllByRecursion (SuitsKind kind) fs
+      → AllZip (IsWrittenEntry generation) fs es → AllByRecursion (IsEntry 2 kind) es
   each_rules [] [] fresh made = tt
   each_rules [] (e ∷ es) fresh made = absurd made
   each_rules (f ∷ fs) [] fresh made = absurd made
   each_rules (f ∷ fs) (e ∷ es) fresh made =
       (made_rules f e fresh.0 made.0 (ap length made.0.hash ∙ length-sha256 f.bytes), each_rules fs es fresh.1 made.1)
 
-  pub made_names : (fs : List Fresh) (es : List IndexEntry) → AllZip (IsMade generation) fs es
+  pub made_names : (fs : List Fresh) (es : List IndexEntry) → AllZip (IsWrittenEntry generation) fs es
       → names_of es ≡ map (λ (f : Fresh). f.name) fs
   made_names [] [] made = refl
   made_names [] (e ∷ es) made = absurd made
@@ -146,13 +146,14 @@ module _ (generation : ℕ) (kind : StoreKind) where
   made_names (f ∷ fs) (e ∷ es) made = ap (λ (n : List ℕ). n ∷ names_of es) made.0.name
       ∙ ap (λ (ns : List (List ℕ)). f.name ∷ ns) (made_names fs es made.1)
 
-  pub made_length : (fs : List Fresh) (es : List IndexEntry) → AllZip (IsMade generation) fs es → length es ≡ length fs
+  pub made_length : (fs : List Fresh) (es : List IndexEntry) → AllZip (IsWrittenEntry generation) fs es → length es
+      ≡ length fs
   made_length [] [] made = refl
   made_length [] (e ∷ es) made = absurd made
   made_length (f ∷ fs) [] made = absurd made
   made_length (f ∷ fs) (e ∷ es) made = ap suc (made_length fs es made.1)
 
-  pub made_size : (fs : List Fresh) (es : List IndexEntry) → AllZip (IsMade generation) fs es
+  pub made_size : (fs : List Fresh) (es : List IndexEntry) → AllZip (IsWrittenEntry generation) fs es
       → size_of es ≡ sum_by (λ (f : Fresh). length f.name + length f.bytes) fs
   made_size [] [] made = refl
   made_size [] (e ∷ es) made = absurd made
@@ -185,10 +186,12 @@ module _ (shape : Shape) (generation : ℕ) (contents : List Fresh) (start now :
     plan_fits long =
         let size = made_size generation shape.kind contents entries plan.made in
         let small = are.small in
-        and_from (eqb (kind_code shape.kind) (kind_code shape.kind) && nat_le (size_of entries) shape.allowed)
+        and_from (eqb (store_kind_code shape.kind) (store_kind_code shape.kind)
+        && nat_le (size_of entries) shape.allowed)
         (list_all (λ b. nat_lt b (area_blocks shape.allowed)) (blocks_of entries))
-        (and_from (eqb (kind_code shape.kind) (kind_code shape.kind)) (nat_le (size_of entries) shape.allowed)
-        (eq-eqb (kind_code shape.kind) (kind_code shape.kind) refl)
+        (and_from (eqb (store_kind_code shape.kind) (store_kind_code shape.kind))
+        (nat_le (size_of entries) shape.allowed)
+        (eq-eqb (store_kind_code shape.kind) (store_kind_code shape.kind) refl)
         (le-leb (size_of entries) shape.allowed (omega (arith, size, small))))
         (blocks_below now (area_blocks shape.allowed) entries (plan.capacity ∙ long) plan.taken)
 

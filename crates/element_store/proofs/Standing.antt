@@ -18,12 +18,12 @@ use Rattle.index_text.specs.declared.entries.IndexEntry.{IndexEntry}
 use Rattle.index_text.specs.Reading.{index_of}
 use Rattle.index_text.specs.Rules.{IsEntry, IsIndex, blocks_of}
 use Rattle.index_text.specs.Sizes.{Fits, fits, size_of, area_blocks}
-use Rattle.index_text.specs.Spelling.{kind_code, index_text}
+use Rattle.index_text.specs.Spelling.{store_kind_code, index_text}
 use Rattle.element_state.specs.declared.shapes.Shape.{Shape}
 use Rattle.element_state.specs.declared.shapes.View.{View}
 use Rattle.element_state.specs.Changes.{after_changes}
 use Rattle.element_state.specs.Chosen.{IsReadBy}
-use Rattle.element_state.specs.Conditions.{AreChanges, IsChange}
+use Rattle.element_state.specs.Conditions.{AreCommittable, IsChange}
 use Rattle.element_state.specs.Conditions as conditions
 use Rattle.element_state.specs.Written.{commit_cost, change_cost}
 use Rattle.element_store.specs.declared.jobs.Job.{Job}
@@ -33,7 +33,8 @@ use Rattle.element_store.specs.Plans.{HasAll, AreDisjoint, AreLaidApart}
 use Rattle.element_store.specs.Spelled.{IsTextOf, index_with}
 use Rattle.element_store.specs.Stores.{IsStore, AreTaken, view_in}
 use Rattle.element_store.specs.Commits.{IsHeadedBy, IsCommitPlan}
-use Rattle.element_store.specs.Changing.{blocks_of_changes, IsSeenAs, IsStanding, IsSound, IsPlanned, IsTraced}
+use Rattle.element_store.specs.Changing.{blocks_of_changes, IsSeenAs, AreStandingEntries, IsSoundEntry, IsPlanned}
+use Rattle.element_store.specs.Changing.{IsTraced}
 use Rattle.element_store.proofs.Places.{zip_length, zip_map}
 use Rattle.element_store.proofs.PlanSteps.{each_map}
 use Rattle.element_store.proofs.Made.{fit_of}
@@ -103,7 +104,7 @@ laid_of (e ∷ es) d = (
 
 -- ---- what stands
 
-same_kind : (a b : StoreKind) → eqb (kind_code a) (kind_code b) ≡ true → a ≡ b
+same_kind : (a b : StoreKind) → eqb (store_kind_code a) (store_kind_code b) ≡ true → a ≡ b
 same_kind Keys Keys e = refl
 same_kind Keys Files e = absurd cc
 same_kind Files Keys e = absurd cc
@@ -111,9 +112,10 @@ same_kind Files Files e = refl
 
 pub kind_is : (kind : StoreKind) (allowed : ℕ) (index : Index) → Fits kind allowed index → index.kind ≡ kind
 kind_is kind allowed index fit =
-    let small = and_parts (eqb (kind_code index.kind) (kind_code kind) && nat_le (size_of index.entries) allowed)
+    let small = and_parts (eqb (store_kind_code index.kind) (store_kind_code kind)
+    && nat_le (size_of index.entries) allowed)
     (list_all (λ b. nat_lt b (area_blocks allowed)) (blocks_of index.entries)) fit in
-    same_kind index.kind kind (and_parts (eqb (kind_code index.kind) (kind_code kind))
+    same_kind index.kind kind (and_parts (eqb (store_kind_code index.kind) (store_kind_code kind))
     (nat_le (size_of index.entries) allowed) small.0).0
 
 in_format : (format : ℕ) (kind : StoreKind) (e : IndexEntry) → IsEntry format kind e → IsEntry 2 kind e
@@ -138,7 +140,7 @@ seen_as copies e f r = record {
 
 pub standing_of : (store : Store) (set : List Bool) → IsStore store
     → AreTaken (area_blocks store.shape.allowed) store.index.entries set
-    → IsStanding store.shape.kind set store.index.entries store.entries.items
+    → AreStandingEntries store.shape.kind set store.index.entries store.entries.items
 standing_of store set is taken = record {
   rules = subst (λ (k : StoreKind). AllByRecursion (IsEntry 2 k) store.index.entries)
       (kind_is store.shape.kind store.shape.allowed store.index is.index.fits)
@@ -175,7 +177,7 @@ sizes kind standing views jobs (e ∷ es) (f ∷ fs) zip =
 
 module _ (shape : Shape) (index : Index) (v : View) (changes : List Change) (start now : List Bool)
     (es : List IndexEntry) (jobs : List Job)
-    (are : AreChanges shape v changes) (long : length start ≡ area_blocks shape.allowed)
+    (are : AreCommittable shape v changes) (long : length start ≡ area_blocks shape.allowed)
     (p : IsPlanned shape.kind index.entries v.entries start now es (after_changes (v.generation + 1) v.entries changes)
     jobs) where
   pub next_rules : IsIndex (index_with shape.kind es)
@@ -183,7 +185,7 @@ module _ (shape : Shape) (index : Index) (v : View) (changes : List Change) (sta
     known_format = refl;
     few = (let a = zip_length (Pair shape.kind index.entries v.entries jobs) es
         (after_changes (v.generation + 1) v.entries changes) p.entries in let b = are.few in omega (arith, a, b));
-    each = each_map (IsSound shape.kind index.entries now) (IsEntry 2 shape.kind) es (λ e s. s.rules) p.sound;
+    each = each_map (IsSoundEntry shape.kind index.entries now) (IsEntry 2 shape.kind) es (λ e s. s.rules) p.sound;
     names_ascend = p.ascend;
     blocks_apart = laid_distinct es p.laid;
   }
@@ -193,13 +195,13 @@ module _ (shape : Shape) (index : Index) (v : View) (changes : List Change) (sta
       let size = sizes shape.kind index.entries v.entries jobs es (after_changes (v.generation + 1) v.entries changes)
       p.entries in
       let small = are.small in
-      and_from (eqb (kind_code shape.kind) (kind_code shape.kind) && nat_le (size_of es) shape.allowed)
+      and_from (eqb (store_kind_code shape.kind) (store_kind_code shape.kind) && nat_le (size_of es) shape.allowed)
       (list_all (λ b. nat_lt b (area_blocks shape.allowed)) (blocks_of es))
-      (and_from (eqb (kind_code shape.kind) (kind_code shape.kind)) (nat_le (size_of es) shape.allowed)
-      (eq-eqb (kind_code shape.kind) (kind_code shape.kind) refl)
+      (and_from (eqb (store_kind_code shape.kind) (store_kind_code shape.kind)) (nat_le (size_of es) shape.allowed)
+      (eq-eqb (store_kind_code shape.kind) (store_kind_code shape.kind) refl)
       (le-leb (size_of es) shape.allowed (omega (arith, size, small))))
       (blocks_below now (area_blocks shape.allowed) es (p.capacity ∙ long)
-      (each_map (IsSound shape.kind index.entries now) (λ (e : IndexEntry). HasAll now e.blocks) es
+      (each_map (IsSoundEntry shape.kind index.entries now) (λ (e : IndexEntry). HasAll now e.blocks) es
       (λ e s. s.taken) p.sound))
 
   pub next_text : (next : Index) (text : List ℕ) → next ≡ index_with shape.kind es → text ≡ index_text next
@@ -236,14 +238,14 @@ module _ (shape : Shape) (index : Index) (v : View) (changes : List Change) (sta
 module _ (store : Store) (changes : List Change) (i : List IndexEntry) (vs : List Entry) (g : ℕ) (set : List Bool)
     (is_i : i ≡ store.index.entries) (is_vs : vs ≡ store.entries.items) (is_g : g ≡ generation_of store.cell)
     (is_set : set ≡ store.used)
-    (is : IsStore store) (are : AreChanges store.shape (view_in store) changes) where
+    (is : IsStore store) (are : AreCommittable store.shape (view_in store) changes) where
   taken_here : AreTaken (area_blocks store.shape.allowed) store.index.entries set
   taken_here = subst (λ (s : List Bool). AreTaken (area_blocks store.shape.allowed) store.index.entries s) (sym is_set)
       is.taken
 
-  pub store_stands : IsStanding store.shape.kind set i vs
-  store_stands = subst (λ (es : List IndexEntry). IsStanding store.shape.kind set es vs) (sym is_i)
-      (subst (λ (fs : List Entry). IsStanding store.shape.kind set store.index.entries fs) (sym is_vs)
+  pub store_stands : AreStandingEntries store.shape.kind set i vs
+  store_stands = subst (λ (es : List IndexEntry). AreStandingEntries store.shape.kind set es vs) (sym is_i)
+      (subst (λ (fs : List Entry). AreStandingEntries store.shape.kind set store.index.entries fs) (sym is_vs)
       (standing_of store set is taken_here))
 
   pub store_may : AllByRecursion (IsChange store.shape.kind vs) changes

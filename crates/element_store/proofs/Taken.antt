@@ -12,18 +12,18 @@ use Rattle.std.proofs.lemmas.List.Sums.{sum_by-cons, AllPass-from_list_all}
 use Rattle.std.proofs.lemmas.List.Folds.{list_any_at, length-flat_map-take}
 use Rattle.per_base.specs.declared.elements.StoreKind.{StoreKind}
 use Rattle.disk_model.specs.Orders.{named_in}
-use Rattle.block_files.specs.BlockSets.{contains, free_of, IsApart, IsAdded}
+use Rattle.block_files.specs.BlockSets.{contains, free_of, IsNotAmong, IsAdded}
 use Rattle.index_text.specs.declared.entries.IndexEntry.{IndexEntry}
 use Rattle.index_text.specs.declared.entries.Index.{Index}
 use Rattle.index_text.specs.Rules.{blocks_of}
 use Rattle.index_text.specs.Sizes.{size_of, area_blocks, Fits}
-use Rattle.index_text.specs.Spelling.{kind_code}
+use Rattle.index_text.specs.Spelling.{store_kind_code}
 use Rattle.element_state.specs.declared.shapes.Shape.{Shape}
 use Rattle.element_store.specs.Spelled.{IsTextOf}
 use Rattle.element_store.specs.Stores.{AreTaken}
 
 -- a block is one of a list, or none
-pub cases_apart : (xs : List ℕ) (b : ℕ) → ((i : ℕ) × (i < length xs) × (get_or xs i 0 ≡ b)) ⊎ IsApart xs b
+pub cases_apart : (xs : List ℕ) (b : ℕ) → ((i : ℕ) × (i < length xs) × (get_or xs i 0 ≡ b)) ⊎ IsNotAmong xs b
 cases_apart [] b = inr (λ i lt. absurd (omega (arith, lt)))
 cases_apart (x ∷ xs) b = ⊎_elim
     (λ same. inl (0, omega arith, sym same))
@@ -33,14 +33,14 @@ cases_apart (x ∷ xs) b = ⊎_elim
     (cases_apart xs b))
     (cases_eq b x)
   where
-    none : b ≢ x → IsApart xs b → IsApart (x ∷ xs) b
+    none : b ≢ x → IsNotAmong xs b → IsNotAmong (x ∷ xs) b
     none other apart zero lt = other
     none other apart (suc i) lt = apart i (omega (arith, lt))
 
 pub named_at : (xs : List ℕ) (b i : ℕ) → i < length xs → get_or xs i 0 ≡ b → named_in xs b ≡ true
 named_at xs b i lt is = list_any_at (λ n. n == b) xs i 0 lt (eq-eqb (get_or xs i 0) b is)
 
-pub unnamed : (xs : List ℕ) (b : ℕ) → IsApart xs b → named_in xs b ≡ false
+pub unnamed : (xs : List ℕ) (b : ℕ) → IsNotAmong xs b → named_in xs b ≡ false
 unnamed [] b apart = refl
 unnamed (x ∷ xs) b apart =
     let here = ne_eqb x b (λ same. apart 0 (omega arith) (sym same)) in
@@ -134,7 +134,7 @@ pub fits_below : (kind : StoreKind) (allowed : ℕ) (index : Index) → Fits kin
     → All (λ b. b < area_blocks allowed) (blocks_of index.entries)
 fits_below kind allowed index fit k d lt =
     let three = list_all (λ b. nat_lt b (area_blocks allowed)) (blocks_of index.entries) in
-    let all : three ≡ true = second (eqb (kind_code index.kind) (kind_code kind)
+    let all : three ≡ true = second (eqb (store_kind_code index.kind) (store_kind_code kind)
     && nat_le (size_of index.entries) allowed) three fit in
     ltb-true (get_or (blocks_of index.entries) k d) (area_blocks allowed)
     (AllPass-from_list_all (λ b. nat_lt b (area_blocks allowed)) (blocks_of index.entries) all k d lt)

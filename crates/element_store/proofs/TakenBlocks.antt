@@ -11,7 +11,7 @@ use Rattle.index_text.specs.declared.entries.Index.{Index}
 use Rattle.index_text.specs.declared.entries.IndexEntry.{IndexEntry}
 use Rattle.index_text.specs.Rules.{IsEntry, IsIndex, blocks_of}
 use Rattle.index_text.specs.Sizes.{Fits, size_of, area_blocks}
-use Rattle.index_text.specs.Spelling.{kind_code}
+use Rattle.index_text.specs.Spelling.{store_kind_code}
 use Rattle.per_base.specs.declared.elements.StoreKind.{StoreKind}
 use Rattle.element_laws.specs.lemmas.Copies.{Contains_named}
 use Rattle.element_store.specs.Plans.{HasAll}
@@ -60,9 +60,10 @@ few_blocks format kind (e ∷ es) each =
 
 fits_size : (kind : StoreKind) (allowed : ℕ) (index : Index) → Fits kind allowed index → size_of index.entries ≤ allowed
 fits_size kind allowed index fit =
-    let small = and_parts (eqb (kind_code index.kind) (kind_code kind) && nat_le (size_of index.entries) allowed)
+    let small = and_parts (eqb (store_kind_code index.kind) (store_kind_code kind)
+    && nat_le (size_of index.entries) allowed)
     (list_all (λ b. nat_lt b (area_blocks allowed)) (blocks_of index.entries)) fit in
-    leb-true (size_of index.entries) allowed (and_parts (eqb (kind_code index.kind) (kind_code kind))
+    leb-true (size_of index.entries) allowed (and_parts (eqb (store_kind_code index.kind) (store_kind_code kind))
     (nat_le (size_of index.entries) allowed) small.0).1
 
 pub taken_room : (kind : StoreKind) (allowed : ℕ) (index : Index) (set : List Bool)

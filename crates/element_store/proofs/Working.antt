@@ -16,7 +16,7 @@ use Rattle.block_files.specs.Writes.{Wrote, Tore}
 use Rattle.block_files.specs.lemmas.Stretches.{wrote_none, wrote_on, wrote_tore, wrote_less, tore_less}
 use Rattle.block_files.specs.lemmas.AsideLaws.{joined_kept, within_grown}
 use Rattle.element_store.specs.declared.jobs.Job.{Job}
-use Rattle.element_store.specs.Jobs.{IsLeftBy, IsLeftByAll, AreApart, HasShared, IsDone, job_cost, jobs_cost}
+use Rattle.element_store.specs.Jobs.{IsSparedByJob, IsLeftByAll, AreApart, HasShared, IsJobWritten, job_cost, jobs_cost}
 
 -- ---- contents in blocks that whole writes leave alone
 
@@ -42,7 +42,7 @@ shared_kept spared apart old new f blocks bytes was keeps is shared i lt same j 
 
 pub record AreDone (told : Bool) (place : Place) (jobs : List Job) (i : ℕ) (old now : Medium) : Type 0 where
   pub wrote : Wrote told (IsNoArea place) (IsLeftByAll jobs) (place.copies * jobs_cost (take i jobs)) old now
-  pub full : IsTrue told → (x : ℕ) (d : Job) → x < i → x < length jobs → IsDone now.image place (get_or jobs x d)
+  pub full : IsTrue told → (x : ℕ) (d : Job) → x < i → x < length jobs → IsJobWritten now.image place (get_or jobs x d)
   pub shared : IsTrue told → (x : ℕ) (d : Job) → i ≤ x → x < length jobs
       → HasShared now.image place (get_or jobs x d)
 
@@ -60,23 +60,23 @@ module _ (told : Bool) (place : Place) (jobs : List Job) where
 
   -- the next job, which leaves the blocks of the others alone
   module _ (i : ℕ) (job : Job) (old mid new : Medium) (lt : i < length jobs) (is : job ≡ get_or jobs i job)
-      (wrote : Wrote told (IsNoArea place) (IsLeftBy job) (place.copies * job_cost job) mid new) where
+      (wrote : Wrote told (IsNoArea place) (IsSparedByJob job) (place.copies * job_cost job) mid new) where
     left_by : (x : ℕ) (d : Job) → x ≢ i → x < length jobs → AreApart jobs → (m : ℕ)
-        → m < length (get_or jobs x d).blocks → IsLeftBy job (get_or (get_or jobs x d).blocks m 0)
+        → m < length (get_or jobs x d).blocks → IsSparedByJob job (get_or (get_or jobs x d).blocks m 0)
     left_by x d other inside apart m less =
-        let P : Job → Type 0 = λ j. IsLeftBy j (get_or (get_or jobs x job).blocks m 0) in
+        let P : Job → Type 0 = λ j. IsSparedByJob j (get_or (get_or jobs x job).blocks m 0) in
         let same : get_or jobs x d ≡ get_or jobs x job = get_or_default jobs x d job inside in
-        let Q : Job → Type 0 = λ j. IsLeftBy job (get_or j.blocks m 0) in
+        let Q : Job → Type 0 = λ j. IsSparedByJob job (get_or j.blocks m 0) in
         let short : m < length (get_or jobs x job).blocks = subst (λ (j : Job). m < length j.blocks) same less in
         subst Q (sym same) (subst P (sym is) (apart x i job other inside lt m short))
 
-    pub done_more : AreApart jobs → (IsTrue told → IsDone new.image place job)
+    pub done_more : AreApart jobs → (IsTrue told → IsJobWritten new.image place job)
         → AreDone told place jobs i old mid → AreDone told place jobs (i + 1) old new
     done_more apart now was = record {
       wrote = (
-          let next = wrote_less told (IsNoArea place) (IsLeftBy job) (IsNoArea place) (IsLeftByAll jobs)
+          let next = wrote_less told (IsNoArea place) (IsSparedByJob job) (IsNoArea place) (IsLeftByAll jobs)
           (λ f none. none)
-          (λ k all. subst (λ (j : Job). IsLeftBy j k) (sym is) (all i job lt)) (place.copies * job_cost job)
+          (λ k all. subst (λ (j : Job). IsSparedByJob j k) (sym is) (all i job lt)) (place.copies * job_cost job)
           (place.copies * job_cost job) (omega arith) mid new wrote in
           let both = wrote_on told (IsNoArea place) (IsLeftByAll jobs) (place.copies * jobs_cost (take i jobs))
           (place.copies * job_cost job) old mid new was.wrote next in
@@ -92,28 +92,28 @@ module _ (told : Bool) (place : Place) (jobs : List Job) where
           (λ here. (
           let at : get_or jobs x d ≡ job = get_or_default jobs x d job inside ∙ ap (λ (n : ℕ). get_or jobs n job) here
           ∙ sym is in
-          let P : Job → Type 0 = λ j. IsDone new.image place j in
+          let P : Job → Type 0 = λ j. IsJobWritten new.image place j in
           subst P (sym at) (now tells)))
-          (λ other. λ c few. full_kept (IsNoArea place) (IsLeftBy job) mid.image new.image (area place c)
+          (λ other. λ c few. full_kept (IsNoArea place) (IsSparedByJob job) mid.image new.image (area place c)
           (get_or jobs x d).blocks (get_or jobs x d).bytes.now
           (wrote.keeps tells) (left_by x d other inside apart)
           (was.full tells x d (let ne : x ≢ i = other in omega arith) inside c few))
           (cases_eq x i);
       shared = λ tells x d le inside. λ c few. (
           let other : x ≢ i = omega arith in
-          shared_kept (IsNoArea place) (IsLeftBy job) mid.image new.image (area place c) (get_or jobs x d).blocks
+          shared_kept (IsNoArea place) (IsSparedByJob job) mid.image new.image (area place c) (get_or jobs x d).blocks
           (get_or jobs x d).bytes.now (get_or jobs x d).was.now
           (wrote.keeps tells) (left_by x d other inside apart) (was.shared tells x d (omega arith) inside c few));
     }
 
   pub done_failed : (i : ℕ) (job : Job) (old mid new : Medium) → i < length jobs → job ≡ get_or jobs i job
-      → Tore told (IsNoArea place) (IsLeftBy job) (place.copies * job_cost job) mid new
+      → Tore told (IsNoArea place) (IsSparedByJob job) (place.copies * job_cost job) mid new
       → AreDone told place jobs i old mid
       → Tore told (IsNoArea place) (IsLeftByAll jobs) (place.copies * jobs_cost jobs) old new
   done_failed i job old mid new lt is tore was =
-      let next = tore_less told (IsNoArea place) (IsLeftBy job) (IsNoArea place) (IsLeftByAll jobs)
+      let next = tore_less told (IsNoArea place) (IsSparedByJob job) (IsNoArea place) (IsLeftByAll jobs)
       (λ f none. none)
-      (λ k all. subst (λ (j : Job). IsLeftBy j k) (sym is) (all i job lt)) (place.copies * job_cost job)
+      (λ k all. subst (λ (j : Job). IsSparedByJob j k) (sym is) (all i job lt)) (place.copies * job_cost job)
       (place.copies * job_cost job) (omega arith) mid new tore in
       let both = wrote_tore told (IsNoArea place) (IsLeftByAll jobs) (place.copies * jobs_cost (take i jobs))
       (place.copies * job_cost job) old mid new was.wrote next in
@@ -136,5 +136,5 @@ module _ (told : Bool) (place : Place) (jobs : List Job) where
       subst P (take_all i jobs (le_of_eq (sym all))) was.wrote
 
   pub done_full : (i : ℕ) (old now : Medium) → i ≡ length jobs → AreDone told place jobs i old now
-      → IsTrue told → All (IsDone now.image place) jobs
+      → IsTrue told → All (IsJobWritten now.image place) jobs
   done_full i old now all was tells x d inside = was.full tells x d (omega arith) inside

@@ -10,15 +10,15 @@ use Rattle.per_base.specs.declared.elements.Change.{Change}
 use Rattle.per_base.specs.declared.elements.Change.TheVariants.{Put, Remove, Touch}
 use Rattle.per_base.specs.Changes.{changed_name}
 use Rattle.disk_model.specs.Orders.{named_in}
-use Rattle.block_files.specs.Parts.{blocks_for, changed}
+use Rattle.block_files.specs.Parts.{blocks_for, changed_blocks}
 use Rattle.block_files.specs.BlockSets.{contains}
 use Rattle.index_text.specs.declared.entries.IndexEntry.{IndexEntry}
 use Rattle.index_text.specs.Rules.{IsEntry, blocks_of}
 use Rattle.element_state.specs.Changes.{item_at}
 use Rattle.element_state.specs.Chosen.{HasLength}
-use Rattle.element_state.specs.Written.{cost_beside, content_at}
+use Rattle.element_state.specs.Written.{cost_beside, content_named}
 use Rattle.element_store.specs.declared.jobs.Job.{Job}
-use Rattle.element_store.specs.Plans.{HasAll, KeepsBlocks, AreDisjoint, AreLaidApart, ArePlaced}
+use Rattle.element_store.specs.Plans.{HasAll, KeepsTaken, AreDisjoint, AreLaidApart, ArePlacedJobs}
 use Rattle.element_store.specs.Named.{NamesAscend}
 use Rattle.element_store.specs.Commits.{AreBeside, IsHeadedBy, IsCarriedFrom, IsWrittenBy, SharesWith}
 
@@ -40,7 +40,8 @@ pub record IsSeenAs (e : IndexEntry) (f : Entry) : Type 0 where
   pub value : HasLength e.len f.content
 
 -- Entries that keep the rules, each with its element, whose blocks a set has.
-pub record IsStanding (kind : StoreKind) (set : List Bool) (standing : List IndexEntry) (views : List Entry) : Type 0
+pub record AreStandingEntries (kind : StoreKind) (set : List Bool) (standing : List IndexEntry)
+    (views : List Entry) : Type 0
   where
     pub rules : AllByRecursion (IsEntry 2 kind) standing
     pub ascend : NamesAscend named_by standing
@@ -49,19 +50,20 @@ pub record IsStanding (kind : StoreKind) (set : List Bool) (standing : List Inde
     pub read : AllZip IsSeenAs standing views
 
 -- the content of a name beside which a new one is written, with its blocks; or nothing
-pub record IsEarlier (kind : StoreKind) (standing : List IndexEntry) (views : List Entry)
+pub record IsEarlierContent (kind : StoreKind) (standing : List IndexEntry) (views : List Entry)
     (name bytes blocks : List ℕ) : Type 0 where
   pub is : ((bytes ≡ []) × (blocks ≡ []))
       ⊎ ((was : IndexEntry) × (seen : Entry) × AreBeside standing views was seen × (was.name ≡ name)
       × (seen.content ≡ Good bytes) × (blocks ≡ was.blocks))
-  pub cost : (new : List ℕ) → 256 * changed new bytes ≤ cost_beside kind (content_at name views) new
+  pub cost : (new : List ℕ) → 256 * changed_blocks new bytes ≤ cost_beside kind (content_named name views) new
 
 -- no block is one of a standing entry of another name
 abbrev pub IsOwn : List IndexEntry → IndexEntry → Type 0
 IsOwn standing e = All (λ (was : IndexEntry). was.name ≢ e.name → AreDisjoint was.blocks e.blocks) standing
 
 -- an entry that keeps the rules, with blocks of its own in the set
-pub record IsSound (kind : StoreKind) (standing : List IndexEntry) (now : List Bool) (e : IndexEntry) : Type 0 where
+pub record IsSoundEntry (kind : StoreKind) (standing : List IndexEntry) (now : List Bool)
+    (e : IndexEntry) : Type 0 where
   pub rules : IsEntry 2 kind e
   pub taken : HasAll now e.blocks
   pub own : IsOwn standing e
@@ -70,13 +72,13 @@ pub record IsSound (kind : StoreKind) (standing : List IndexEntry) (now : List B
 pub record IsPlanned (kind : StoreKind) (standing : List IndexEntry) (views : List Entry) (start now : List Bool)
     (next : List IndexEntry) (elements : List Entry) (jobs : List Job) : Type 0 where
   pub entries : AllZip (λ e f. IsWrittenBy jobs e f ⊎ IsCarriedFrom standing views e f) next elements
-  pub sound : AllByRecursion (IsSound kind standing now) next
+  pub sound : AllByRecursion (IsSoundEntry kind standing now) next
   pub ascend : NamesAscend named_by next
   pub laid : AreLaidApart next
   pub taken : AllByRecursion (λ (e : IndexEntry). HasAll start e.blocks) standing
-  pub placed : ArePlaced start now jobs
+  pub placed : ArePlacedJobs start now jobs
   pub shares : All (SharesWith standing views) jobs
-  pub keeps : KeepsBlocks start now
+  pub keeps : KeepsTaken start now
   pub capacity : length now ≡ length start
 
 -- the entry of a name

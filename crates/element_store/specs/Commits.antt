@@ -19,7 +19,7 @@ use Rattle.element_state.specs.Kept.{heading}
 use Rattle.element_state.specs.Written.{commit_cost}
 use Rattle.element_store.specs.declared.jobs.Job.{Job}
 use Rattle.element_store.specs.Jobs.{jobs_cost}
-use Rattle.element_store.specs.Plans.{ArePlaced}
+use Rattle.element_store.specs.Plans.{ArePlacedJobs}
 use Rattle.element_store.specs.Spelled.{IsTextOf}
 
 -- the two stand at one place of their lists
@@ -85,7 +85,7 @@ pub record IsCommitPlan (shape : Shape) (index : Index) (v : View) (changes : Li
     (next : Index) (jobs : List Job) : Type 0 where
   pub entries : AllZip (λ e f. IsWrittenBy jobs e f ⊎ IsCarriedOver index v e f) next.entries
       (after_changes (v.generation + 1) v.entries changes)
-  pub placed : ArePlaced set used jobs
+  pub placed : ArePlacedJobs set used jobs
   pub text : IsTextOf shape (index_text next) next
   pub shares : All (SharesOld index v) jobs
   pub cost : jobs_cost jobs ≤ commit_cost shape.kind v.entries changes

@@ -13,7 +13,7 @@ use Rattle.index_text.specs.Sizes.{area_blocks, info_length}
 use Rattle.index_text.specs.Spelling.{index_text}
 use Rattle.element_store.specs.declared.jobs.Job.{Job}
 use Rattle.element_store.specs.declared.store.Store.{Store}
-use Rattle.element_store.specs.Jobs.{IsDone, IsLeftByAll, IsJobsCase, jobs_cost}
+use Rattle.element_store.specs.Jobs.{IsJobWritten, IsLeftByAll, IsJobsCase, jobs_cost}
 use Rattle.element_store.specs.Commits.{IsCommitPlan}
 use Rattle.element_store.specs.Changing.{IsTraced}
 use Rattle.element_store.specs.Stores.{view_in}
@@ -41,11 +41,11 @@ pub record IsPrepared (store : Store) (changes : List Change) (next : Index) (te
   pub capacity : length used ≡ area_blocks store.shape.allowed
 
 -- The same, once the contents were made durable.
-pub record IsReady (told : Bool) (store : Store) (changes : List Change) (old mid : Medium) (next : Index)
+pub record IsReadyToPut (told : Bool) (store : Store) (changes : List Change) (old mid : Medium) (next : Index)
     (text : List ℕ) (used : List Bool) : Type 0 where
   pub jobs : List Job
   pub prepared : IsPrepared store changes next text used jobs
-  pub done : IsTrue told → All (IsDone mid.image store.shape.place) jobs
+  pub done : IsTrue told → All (IsJobWritten mid.image store.shape.place) jobs
   pub keeps : IsTrue told → Keeps (IsNoArea store.shape.place) (IsLeftByAll jobs)
       old.image mid.image
   pub each : EachCase (IsJobsCase store.shape.place jobs old mid (Unit {0})) old mid

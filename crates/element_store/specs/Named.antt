@@ -10,8 +10,8 @@ abbrev pub NamesAscend : {X : Type 0} → (X → List ℕ) → List X → Type 0
 NamesAscend name_of xs = IsStrictlySortedBy name_cmp (map name_of xs)
 
 -- where the name stands, or else where it belongs
-abbrev pub IsPlaceOf : {X : Type 0} → (X → List ℕ) → List ℕ → List X → Result ℕ ℕ → Type 0
-IsPlaceOf name_of name xs place = MatchResult place
+abbrev pub IsSearchResult : {X : Type 0} → (X → List ℕ) → List ℕ → List X → Result ℕ ℕ → Type 0
+IsSearchResult name_of name xs place = MatchResult place
     (λ i. (i < length xs) × HoldsAt (λ x. name_of x ≡ name) xs i)
     (λ i. (i ≤ length xs) × IsPartitionPoint (λ x. name_cmp (name_of x) name ≡ Less)
     (λ x. name_cmp (name_of x) name ≡ Greater) xs i)

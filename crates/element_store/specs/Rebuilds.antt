@@ -1,4 +1,4 @@
--- What a storage is made ready for before its contents are written anew.
+-- What a storage is made ready for before its contents are written again.
 use Rattle.std.specs.Prelude.{◌≡◌, ◌<◌, ℕ, List, Bool, true, false, Option, Some, None, ⊤}
 use Rattle.std.specs.List.{AllZip}
 use Rattle.disk_model.specs.Image.{Image}
@@ -16,7 +16,7 @@ use Rattle.element_state.specs.Conditions.{IsInUse}
 use Rattle.element_state.specs.Fit.{fit_index}
 use Rattle.element_state.specs.States.{State, Opens, store_at, greatest_generation}
 use Rattle.element_state.specs.Kept.{IsKeptCase}
-use Rattle.element_laws.specs.Phases.{IsWritten}
+use Rattle.element_laws.specs.Phases.{IsContentWritten}
 
 -- From here contents may be written outside the blocks of the set, and then an index under this generation: at every
 -- moment of it the storage is kept from its state at the start.
@@ -33,7 +33,7 @@ pub record IsGround (shape : Shape) (start now : Image) (set : List Bool) (gener
   pub index : (then : Image) (next : List ℕ) (new_index : Index) (view : View) (others : List View) (c : Case)
       → Keeps (IsNoArea shape.place) (λ k. contains set k ≡ true) now then
       → fit_index shape next ≡ Some new_index → view.generation ≡ generation
-      → AllZip (IsWritten shape then) new_index.entries view.entries
+      → AllZip (IsContentWritten shape then) new_index.entries view.entries
       → PutStops shape.place generation next then c
       → IsKeptCase shape start (Opens view others) c
 

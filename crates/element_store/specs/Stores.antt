@@ -27,8 +27,8 @@ abbrev pub entries_of : Store → List Entry
 entries_of store = store.entries.items
 
 -- the generation of its index
-abbrev pub generation_in : Store → ℕ
-generation_in store = generation_of store.cell
+abbrev pub store_generation : Store → ℕ
+store_generation store = generation_of store.cell
 
 -- the view that it shows
 abbrev pub view_in : Store → View
@@ -50,7 +50,7 @@ pub record IsStore (store : Store) : Type 0 where
   pub entries : AllZip (IsReadBy store.shape.place.copies) store.index.entries store.entries.items
   pub taken : AreTaken (area_blocks store.shape.allowed) store.index.entries store.used
 
--- the storage is in use on a disk: where the disk tells its bytes, these are its own
+-- the storage is in use on a disk: where the disk's bytes are modelled, these are its own
 pub record IsUsed (told : Bool) (image : Image) (store : Store) : Type 0 where
   pub memory : IsStore store
   pub disk : IsTrue told → IsInUse store.shape image store.index (view_in store)

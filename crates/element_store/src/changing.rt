@@ -9,13 +9,15 @@ ghost use Rattle.per_base.specs.declared.elements.Entry.{Entry};
 ghost use Rattle.per_base.specs.declared.elements.Change.TheVariants.{Put};
 ghost use Rattle.per_base.specs.Changes.{changed_name};
 ghost use Rattle.element_state.specs.Changes.{after_change, after_changes};
-ghost use Rattle.index_text.specs.Contents.{IsFresh};
+ghost use Rattle.index_text.specs.Contents.{SuitsKind};
 ghost use Rattle.element_state.specs.Conditions.{IsChange};
 ghost use Rattle.element_state.specs.Written.{change_cost};
 ghost use Rattle.element_store.specs.Jobs.{jobs_cost};
 ghost use Rattle.element_store.specs.Named.{NamesAscend};
-ghost use Rattle.element_store.specs.Changing.{named_by, IsSeenAs, change_blocks, blocks_of_changes, IsStanding};
-ghost use Rattle.element_store.specs.Changing.{IsEarlier, IsPlanned, KeepsOthers, IsGrownBy, IsTraced, touched_entry};
+ghost use Rattle.element_store.specs.Changing.{named_by, IsSeenAs, change_blocks, blocks_of_changes};
+ghost use Rattle.element_store.specs.Changing.{AreStandingEntries};
+ghost use Rattle.element_store.specs.Changing.{IsEarlierContent, IsPlanned, KeepsOthers, IsGrownBy, IsTraced};
+ghost use Rattle.element_store.specs.Changing.{touched_entry};
 
 use crate::jobs::Job;
 use crate::named::{place_of, put_in, take_out};
@@ -48,7 +50,7 @@ pub(crate) fn plan_changes<'a>(
     changes: &'a [Change],
     used: &mut BlockSet,
 ) -> Result<Plan<'a>, AllocError>
-    requires standing { IsStanding standing.kind used.old standing.index.now standing.entries.now }
+    requires standing { AreStandingEntries standing.kind used.old standing.index.now standing.entries.now }
     requires changes { AllByRecursion (IsChange standing.kind standing.entries.now) changes.now }
     requires apart { IsDistinct bytes_eq (map changed_name changes.now) }
     requires free { blocks_of_changes changes.now ≤ free_of used.old }
@@ -70,7 +72,7 @@ pub(crate) fn plan_changes<'a>(
     Ok(plan)
 }
 
-// Copies of the entries, with room for so many more.
+// Copies of the entries, with room for that many more.
 fn with_room(
     alloc: Global,
     entries: &[IndexEntry],
@@ -95,7 +97,7 @@ fn plan_change<'a>(
     used: &mut BlockSet,
     plan: &mut Plan<'a>,
 ) -> Result<(), AllocError>
-    requires standing { IsStanding standing.kind used.old standing.index.now standing.entries.now }
+    requires standing { AreStandingEntries standing.kind used.old standing.index.now standing.entries.now }
     requires change { IsChange standing.kind standing.entries.now change.now }
     requires ascend { NamesAscend named_by plan.old.entries.items }
     requires room { vec_len plan.old.entries < vec_capacity plan.old.entries }
@@ -108,7 +110,7 @@ fn plan_change<'a>(
         (after_change standing.entry.generation elements change.now) plan.new.jobs.items) }
     ensures others { OnOk result (KeepsOthers (change.now ∷ []) plan.old.entries.items plan.new.entries.items) }
     ensures grown { OnOk result (IsGrownBy plan.new.entries.items used.old used.new) }
-    ensures standing { OnOk result (IsStanding standing.entry.kind used.new standing.entry.index.now
+    ensures standing { OnOk result (AreStandingEntries standing.entry.kind used.new standing.entry.index.now
         standing.entry.entries.now) }
     ensures free { OnOk result (free_of used.old ≤ free_of used.new + change_blocks change.now) }
     ensures cost { OnOk result (jobs_cost plan.new.jobs.items
@@ -134,8 +136,8 @@ fn plan_put<'a>(
     used: &mut BlockSet,
     plan: &mut Plan<'a>,
 ) -> Result<(), AllocError>
-    requires standing { IsStanding standing.kind used.old standing.index.now standing.entries.now }
-    requires fresh { IsFresh standing.kind fresh.now }
+    requires standing { AreStandingEntries standing.kind used.old standing.index.now standing.entries.now }
+    requires fresh { SuitsKind standing.kind fresh.now }
     requires ascend { NamesAscend named_by plan.old.entries.items }
     requires room { vec_len plan.old.entries < vec_capacity plan.old.entries }
     requires free { change_blocks (Put fresh.now) ≤ free_of used.old }
@@ -147,7 +149,7 @@ fn plan_put<'a>(
         (after_change standing.entry.generation elements (Put fresh.now)) plan.new.jobs.items) }
     ensures others { OnOk result (KeepsOthers (Put fresh.now ∷ []) plan.old.entries.items plan.new.entries.items) }
     ensures grown { OnOk result (IsGrownBy plan.new.entries.items used.old used.new) }
-    ensures standing { OnOk result (IsStanding standing.entry.kind used.new standing.entry.index.now
+    ensures standing { OnOk result (AreStandingEntries standing.entry.kind used.new standing.entry.index.now
         standing.entry.entries.now) }
     ensures free { OnOk result (free_of used.old ≤ free_of used.new + change_blocks (Put fresh.now)) }
     ensures cost { OnOk result (jobs_cost plan.new.jobs.items
@@ -174,7 +176,7 @@ fn plan_put<'a>(
 fn earlier_content<'a>(standing: Standing<'a>, name: &Name) -> Earlier<'a>
     requires ascend { NamesAscend named_by standing.index.now }
     requires seen { AllZip IsSeenAs standing.index.now standing.entries.now }
-    ensures { IsEarlier standing.entry.kind standing.entry.index.now standing.entry.entries.now name.now
+    ensures { IsEarlierContent standing.entry.kind standing.entry.index.now standing.entry.entries.now name.now
         result.bytes.now result.blocks.now }
 {
     match standing.kind {

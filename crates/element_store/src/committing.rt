@@ -9,12 +9,12 @@ ghost use Rattle.disk_model.specs.Frame.{Spares, IsSettledOn};
 ghost use Rattle.disk_model.specs.Medium.{Quiet, EachCase, Elapses};
 ghost use Rattle.disk_model.specs.Place.{IsOutside};
 ghost use Rattle.element_state.specs.Changes.{after_changes, committed_by, entry_name, touched};
-ghost use Rattle.element_state.specs.Conditions.{AreChanges};
+ghost use Rattle.element_state.specs.Conditions.{AreCommittable};
 ghost use Rattle.element_state.specs.States.{Opens};
 ghost use Rattle.element_state.specs.Kept.{KeptThroughout};
 ghost use Rattle.element_store.specs.Named.{NamesAscend};
 ghost use Rattle.element_store.specs.Changing.{IsSmallChange, KeepsOthers};
-ghost use Rattle.element_store.specs.Committing.{IsPrepared, IsReady};
+ghost use Rattle.element_store.specs.Committing.{IsPrepared, IsReadyToPut};
 ghost use Rattle.element_store.specs.Stores.{IsStore, IsUsed, shape_of, view_in};
 
 use crate::changing::{Standing, plan_changes};
@@ -61,7 +61,7 @@ impl Store {
     ghost use Rattle.guarded_cell.specs.Differing.{texts_cost};
     ghost use Rattle.guarded_cell.specs.Register.{own};
     ghost use Rattle.hash_guard.specs.SealedText.{sealed};
-    ghost use Rattle.element_store.specs.Stores.{generation_in};
+    ghost use Rattle.element_store.specs.Stores.{store_generation};
     ghost use Rattle.per_base.specs.Faults.{HandsBack, IsDeviceFault};
 
     /// Makes the changes all at once: a stop at any moment leaves the storage of before or that of after. Only what
@@ -73,7 +73,7 @@ impl Store {
     #[tactic(none)]
     pub fn commit<D: Disk>(self, disk: &mut D, changes: Vec<Change>) -> Result<Store, Fault<Store>>
         requires used { IsUsed D.told (D.medium disk.old).image self }
-        requires changes { AreChanges (shape_of self) (view_in self) changes.items }
+        requires changes { AreCommittable (shape_of self) (view_in self) changes.items }
 
         ensures used { IfOk result (IsUsed D.told (D.medium disk.new).image) }
         ensures shape { IfOk result (λ store. shape_of store ≡ shape_of self) }
@@ -109,12 +109,12 @@ impl Store {
         ensures written { IfOk result (λ store. IsWithin (shape_of self).place.copies
             (commit_cost (shape_of self).kind (entries_of self) changes.items) (length (index_text (index_in store)))
             (D.medium disk.old).written (D.medium disk.new).written) }
-        // Where the slots' fronts are blank, only the runs of the index that differ from what stands there.
+        // Where the slots' starts are blank, only the runs of the index that differ from what stands there.
         ensures differing { IsTrue D.told → IfOk result (λ store. (D.medium disk.new).written
             ≤ (D.medium disk.old).written + (shape_of self).place.copies
             * (commit_cost (shape_of self).kind (entries_of self) changes.items + 44)
-            + texts_cost (shape_of self).place (own (generation_in self + 1))
-            (sealed (generation_in self + 1) (index_text (index_in store))) (D.medium disk.old).image
+            + texts_cost (shape_of self).place (own (store_generation self + 1))
+            (sealed (store_generation self + 1) (index_text (index_in store))) (D.medium disk.old).image
             (shape_of self).place.copies) }
         ensures text { IfOk result (λ store. length (index_text (index_in store))
             ≡ index_length (shape_of self).kind (entries_of store)) }
@@ -163,9 +163,9 @@ impl Store {
     // Takes all memory, and then makes the contents durable in blocks outside those of the index.
     fn write_contents<D: Disk>(&self, disk: &mut D, changes: &[Change]) -> Result<Ready, StoreError>
         requires used { IsUsed D.told (D.medium disk.old).image self.now }
-        requires changes { AreChanges (shape_of self.now) (view_in self.now) changes.now }
+        requires changes { AreCommittable (shape_of self.now) (view_in self.now) changes.now }
 
-        ensures ready { IfOk result (λ ready. IsReady D.told self.now changes.now (D.medium disk.old)
+        ensures ready { IfOk result (λ ready. IsReadyToPut D.told self.now changes.now (D.medium disk.old)
             (D.medium disk.new)
             ready.index ready.text ready.used) }
         ensures room { IfOk result (λ ready. length ready.room.items ≡ header + length ready.text) }
@@ -207,7 +207,7 @@ impl Store {
     // Takes all the memory of a commit.
     fn prepare<'a>(&'a self, changes: &'a [Change]) -> Result<Prepared<'a>, AllocError>
         requires store { IsStore self.now }
-        requires changes { AreChanges (shape_of self.now) (view_in self.now) changes.now }
+        requires changes { AreCommittable (shape_of self.now) (view_in self.now) changes.now }
         ensures plan { IfOk result (λ p. IsPrepared self.now changes.now p.ready.index p.ready.text p.ready.used
             p.jobs.items) }
         ensures room { IfOk result (λ p. length p.ready.room.items ≡ header + length p.ready.text) }

@@ -1,4 +1,4 @@
-//! A storage made anew.
+//! A new storage.
 
 ghost use Rattle.std.specs.Prelude.{◌≡◌, ◌≤◌, ◌+◌, ◌*◌, IsTrue, IfOk, OnOk, IsErrOf, map, length};
 ghost use Rattle.std.specs.List.{All};
@@ -29,7 +29,7 @@ use guarded_cell::{format_cell, keep_only};
 use per_base::{Content, Entry, Fresh, Numbers};
 use std::alloc::{AllocError, Global};
 
-/// Makes a storage anew with these contents, and gives up what its place held. The texts of the place are taken away
+/// Rebuilds a storage with these contents, and gives up what its place held. The texts of the place are taken away
 /// first, and only then are contents written: an index of before would name blocks that are being written.
 ///
 /// # Errors

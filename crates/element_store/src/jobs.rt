@@ -7,7 +7,8 @@ ghost use Rattle.disk_model.specs.Frame.{Keeps, Tears, Spares};
 ghost use Rattle.disk_model.specs.Place.{IsNoArea};
 ghost use Rattle.disk_model.specs.Medium.{Quiet, EachCase, Elapses};
 ghost use Rattle.block_files.specs.Writes.{Wrote, Tore};
-ghost use Rattle.element_store.specs.Jobs.{IsRoomy, AreApart, IsLeftByAll, HasShared, IsDone, IsJobsCase, jobs_cost};
+ghost use Rattle.element_store.specs.Jobs.{IsRoomy, AreApart, IsLeftByAll, HasShared, IsJobWritten, IsJobsCase};
+ghost use Rattle.element_store.specs.Jobs.{jobs_cost};
 
 use block_files::write_shared;
 use disk_model::{Disk, DiskFailed, Place};
@@ -30,7 +31,7 @@ pub(crate) fn write_durably<D: Disk>(
     requires roomy { All IsRoomy jobs.now }
     requires apart { AreApart jobs.now }
     requires shared { IsTrue D.told → All (HasShared (D.medium disk.old).image place) jobs.now }
-    ensures written { IsTrue D.told → OnOk result (All (IsDone (D.medium disk.new).image place)
+    ensures written { IsTrue D.told → OnOk result (All (IsJobWritten (D.medium disk.new).image place)
         jobs.now) }
     ensures keeps { IsTrue D.told → OnOk result
         (Keeps (IsNoArea place) (IsLeftByAll jobs.now) (D.medium disk.old).image
@@ -59,7 +60,7 @@ fn write_jobs<D: Disk>(disk: &mut D, place: Place, jobs: &[Job]) -> Result<(), D
     requires roomy { All IsRoomy jobs.now }
     requires apart { AreApart jobs.now }
     requires shared { IsTrue D.told → All (HasShared (D.medium disk.old).image place) jobs.now }
-    ensures written { IsTrue D.told → OnOk result (All (IsDone (D.medium disk.new).image place)
+    ensures written { IsTrue D.told → OnOk result (All (IsJobWritten (D.medium disk.new).image place)
         jobs.now) }
     ensures done { OnOk result (Wrote D.told (IsNoArea place) (IsLeftByAll jobs.now)
         (place.copies * jobs_cost jobs.now) (D.medium disk.old) (D.medium disk.new)) }

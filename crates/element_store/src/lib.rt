@@ -3,15 +3,15 @@
 //! A [`Store`] is a storage in use: every copy holds its index and no other text, its entries are what the copies hold,
 //! only elements that cannot be read lack copies, and the storage opens at just this view.
 //!
-//! [`create`] makes one anew, under generation 1. [`open_store`] opens one: it brings every copy to the text at which
+//! [`create`] creates one, under generation 1. [`open_store`] opens one: it brings every copy to the text at which
 //! the storage opens, writes each element again in the copies that lack it, and reports what was lacking or could not
 //! be read. [`Store::commit`] makes changes all at once, with what differs in blocks that were free, and [`rebuild`]
-//! makes a storage anew beside what its place holds, under the next generation. In each of these the contents are
+//! rebuilds a storage beside what its place holds, under the next generation. In each of these the contents are
 //! durable before the index that names them takes its place. [`inspect`] and [`salvage`] look at a storage and write
 //! nothing; [`reports_of`] gives what an opening reports of a view, and [`failed_report`] what it reports of a corrupt
 //! storage.
 //!
-//! The promise, on every image: the exact view, a quiet disk, a place that is clean where it was so or is made anew,
+//! The promise, on every image: the exact view, a quiet disk, a place that is clean where it was so or is rebuilt,
 //! and no file elsewhere changed at any moment. A stop at any moment of an opening, a commit or a rebuild leaves the
 //! storage of before or that of after. A failure of the disk comes only where its count of faults rose. What is read is
 //! a view on every disk, told or not: names ascend, and lengths are right.

@@ -20,7 +20,7 @@ use index_text::Index;
 use per_base::{Content, Entry, Numbers};
 use std::alloc::{AllocError, Global};
 
-// Writes each good element in place into the copies that lack it, and makes that durable. Takes no memory.
+// Writes each good element in place into the copies that lack it, and makes that durable. Does not allocate.
 pub(crate) fn mend_durably<D: Disk>(
     disk: &mut D,
     shape: &Shape,

@@ -3,7 +3,7 @@
 ghost use Rattle.std.specs.Prelude.{◌≡◌, ◌<◌, ◌≤◌, ◌+◌, ℕ, List};
 ghost use Rattle.std.specs.Vec.{vec_len, vec_capacity};
 ghost use Rattle.element_state.specs.Changes.{insert_item, without_item};
-ghost use Rattle.element_store.specs.Named.{IsPlaceOf, NamesAscend};
+ghost use Rattle.element_store.specs.Named.{IsSearchResult, NamesAscend};
 
 use index_text::IndexEntry;
 use per_base::{Entry, Name};
@@ -35,7 +35,7 @@ impl Named for IndexEntry {
 // Where the name stands, or else where it belongs.
 pub(crate) fn place_of<N: Named>(items: &[N], name: &Name) -> Result<usize, usize>
     requires { NamesAscend N.name_of items.now }
-    ensures { IsPlaceOf N.name_of name.now items.now result }
+    ensures { IsSearchResult N.name_of name.now items.now result }
 {
     items.binary_search_by(|item| item.name().cmp(name))
 }

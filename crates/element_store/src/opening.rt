@@ -8,7 +8,7 @@ ghost use Rattle.disk_model.specs.Place.{IsOutside};
 ghost use Rattle.element_state.specs.Chosen.{opened_of};
 ghost use Rattle.element_state.specs.Clean.{IsClean};
 ghost use Rattle.element_state.specs.Conditions.{IsShape};
-ghost use Rattle.element_state.specs.Kept.{KeptThroughout};
+ghost use Rattle.element_state.specs.Kept.{KeptWhileMending};
 ghost use Rattle.element_state.specs.Read.{IsView};
 ghost use Rattle.element_state.specs.Reports.{reports};
 ghost use Rattle.element_state.specs.States.{State, store_at, mended_view};
@@ -102,7 +102,7 @@ pub fn open_store<D: Disk>(
 
     // A stop at any moment keeps the storage, whatever its next state is to be.
     ensures any_moment { IsTrue D.told → (after : State)
-        → KeptThroughout shape after (D.medium disk.old) (D.medium disk.new) }
+        → KeptWhileMending shape after (D.medium disk.old) (D.medium disk.new) }
     ensures time { Elapses (D.medium disk.old) (D.medium disk.new) }
 {
     use_is_adopted();

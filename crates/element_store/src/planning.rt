@@ -5,7 +5,7 @@ ghost use Rattle.std.specs.List.{All};
 ghost use Rattle.sha2.specs.Sha256.{sha256};
 ghost use Rattle.block_files.specs.Parts.{blocks_for};
 ghost use Rattle.block_files.specs.BlockSets.{free_of};
-ghost use Rattle.element_store.specs.Plans.{IsMade, IsPlanOf, blocks_of_all};
+ghost use Rattle.element_store.specs.Plans.{IsPlanOf, IsWrittenEntry, blocks_of_all};
 
 use crate::jobs::Job;
 use block_files::{BlockSet, PutBlob, reserve_blob};
@@ -59,7 +59,7 @@ pub(crate) fn entry_of(
     requires small { length fresh.now.bytes ≤ 1048576 }
     requires hash { blob.hash ≡ sha256 fresh.now.bytes }
     requires count { length blob.blocks ≡ blocks_for (length fresh.now.bytes) }
-    ensures made { IfOk result (IsMade generation fresh.now) }
+    ensures made { IfOk result (IsWrittenEntry generation fresh.now) }
     ensures in_place { IfOk result (λ e. e.blocks ≡ blob.blocks) }
 {
     let PutBlob { blocks, hash } = blob;

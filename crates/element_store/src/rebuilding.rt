@@ -1,4 +1,4 @@
-//! A storage made anew beside what its place holds.
+//! A storage rebuilt beside what its place holds.
 
 ghost use Rattle.std.specs.Prelude.{◌≡◌, ◌≤◌, ◌<◌, ◌+◌, ◌/◌, IsTrue, IfOk, OnOk, IsErrOf, length};
 ghost use Rattle.per_base.specs.Causes.{Rose};
@@ -25,7 +25,7 @@ use guarded_cell::{adopt, keep_only};
 use per_base::Fresh;
 use std::alloc::Global;
 
-/// Makes a storage anew with these contents, under the generation after that of the text at which it opens or, where it
+/// Rebuilds a storage with these contents, under the generation after that of the text at which it opens or, where it
 /// is corrupt, of its salvage; under generation 1 where it has none. Until the new index stands, a stop leaves the
 /// storage as it was.
 ///
@@ -91,7 +91,7 @@ struct Ground {
     generation: u64,
 }
 
-// Settles the copies on the text beside which a storage is made anew.
+// Settles the copies on the text beside which a storage is rebuilt.
 fn prepare<D: Disk>(alloc: Global, disk: &mut D, shape: &Shape) -> Result<Ground, StoreError>
     requires shape { IsShape shape.now }
     requires not_worn { IsTrue D.told → HasNext (salvage_of (store_at (D.medium disk.old).image shape.now)) }

@@ -24,10 +24,10 @@ pub struct Store {
 
 impl Store {
     ghost use Rattle.std.specs.Option.{option_copied};
-    ghost use Rattle.element_state.specs.Changes.{entry_at};
+    ghost use Rattle.element_state.specs.Changes.{entry_by_name};
     ghost use Rattle.element_state.specs.Conditions.{size_of};
     ghost use Rattle.element_state.specs.Read.{IsView};
-    ghost use Rattle.element_store.specs.Stores.{IsStore, entries_of, generation_in, shape_of, view_in};
+    ghost use Rattle.element_store.specs.Stores.{IsStore, entries_of, shape_of, store_generation, view_in};
 
     // A storage of these parts.
     pub(crate) fn new(
@@ -65,17 +65,17 @@ impl Store {
         ensures { IsView (shape_of self.now) (view_in self.now) }
     {}
 
-    /// The elements, ascending by name. Takes no memory.
+    /// The elements, ascending by name. Does not allocate.
     pub fn entries(&self) -> &[Entry]
         ensures { result.now ≡ entries_of self.now }
     {
         self.entries.as_slice()
     }
 
-    /// The element of this name. Takes no memory.
+    /// The element of this name. Does not allocate.
     pub fn entry(&self, name: &Name) -> Option<&Entry>
         requires { IsStore self.now }
-        ensures { option_copied result ≡ entry_at name.now (entries_of self.now) }
+        ensures { option_copied result ≡ entry_by_name name.now (entries_of self.now) }
     {
         let entries = self.entries.as_slice();
         match place_of(entries, name) {
@@ -84,7 +84,7 @@ impl Store {
         }
     }
 
-    /// The size in bytes: names and contents, readable or not. Takes no memory.
+    /// The size in bytes: names and contents, readable or not. Does not allocate.
     pub fn size(&self) -> u64
         requires { IsStore self.now }
         ensures { result ≡ size_of (entries_of self.now) }
@@ -92,9 +92,9 @@ impl Store {
         storage_size(&self.entries)
     }
 
-    /// The generation of the index. Takes no memory.
+    /// The generation of the index. Does not allocate.
     pub fn generation(&self) -> u64
-        ensures { result ≡ generation_in self.now }
+        ensures { result ≡ store_generation self.now }
     {
         self.cell.generation()
     }

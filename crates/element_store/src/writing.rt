@@ -11,7 +11,7 @@ ghost use Rattle.index_text.specs.Sizes.{area_blocks};
 ghost use Rattle.index_text.specs.Spelling.{index_text};
 ghost use Rattle.index_text.specs.Contents.{AreContents};
 ghost use Rattle.element_state.specs.Conditions.{IsShape};
-ghost use Rattle.element_store.specs.Plans.{IsMade, blocks_of_all};
+ghost use Rattle.element_store.specs.Plans.{IsWrittenEntry, blocks_of_all};
 ghost use Rattle.element_store.specs.Spelled.{ShowsFresh, IsContentsCase, IsTextOf};
 
 use crate::jobs::write_durably;
@@ -47,7 +47,7 @@ pub(crate) fn put_contents<D: Disk>(
 
     ensures fit { IfOk result (λ s. IsTextOf shape.now s.text s.index) }
     ensures format { IfOk result (λ s. s.index.format ≡ 2) }
-    ensures made { IfOk result (λ s. AllZip (IsMade generation) contents.now s.index.entries) }
+    ensures made { IfOk result (λ s. AllZip (IsWrittenEntry generation) contents.now s.index.entries) }
     ensures shown { IsTrue D.told → IfOk result (λ s.
         ShowsFresh (D.medium disk.new).image shape.now.place shape.now.m generation contents.now s.index.entries) }
     ensures keeps { IsTrue D.told → OnOk result (Keeps (IsNoArea shape.now.place)

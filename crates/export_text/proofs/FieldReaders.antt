@@ -15,7 +15,7 @@ use Rattle.per_base.specs.declared.elements.StoreKind.TheVariants.{Keys, Files}
 use Rattle.per_base.specs.declared.elements.FileInfo.{FileInfo}
 use Rattle.per_base.specs.Names.{IsName, in_name, is_name}
 use Rattle.index_text.specs.Rules.{InfoInRange, InfoIsInRange, has_info, max_len}
-use Rattle.index_text.specs.Spelling.{cause_code, file_info_text, info_text, kind_code, name_text}
+use Rattle.index_text.specs.Spelling.{cause_code, file_info_text, info_text, name_text, store_kind_code}
 use Rattle.per_base.specs.Fields.{byte_at, bytes_at, number_at, only_if}
 use Rattle.index_text.specs.Reading.{cause_at, coded_cause, file_info_at, info_at, coded_kind, len_at, name_at}
 use Rattle.per_base.specs.FieldLaws.{IsBytes, IsReader, Takes, Takes-then, bind_some, byte_reader, bytes_reader}
@@ -63,11 +63,11 @@ no_text_no_name bytes no_text = cond-false (is_name bytes) (Some bytes) None
 
 -- ---- codes
 
-pub kind_back : (code : ℕ) (kind : StoreKind) → coded_kind code ≡ Some kind → code ≡ kind_code kind
-kind_back code kind e = code_step kind_code code 1 Keys kind _ refl e
-    (λ e2. code_step kind_code code 2 Files kind None refl e2 (λ none. absurd cc))
+pub kind_back : (code : ℕ) (kind : StoreKind) → coded_kind code ≡ Some kind → code ≡ store_kind_code kind
+kind_back code kind e = code_step store_kind_code code 1 Keys kind _ refl e
+    (λ e2. code_step store_kind_code code 2 Files kind None refl e2 (λ none. absurd cc))
 
-pub coded_kind_again : (kind : StoreKind) → coded_kind (kind_code kind) ≡ Some kind
+pub coded_kind_again : (kind : StoreKind) → coded_kind (store_kind_code kind) ≡ Some kind
 coded_kind_again Keys = refl
 coded_kind_again Files = refl
 

@@ -18,12 +18,12 @@ use Rattle.per_base.specs.FieldLaws.{bytes_reader, many_reader, moved, number_re
 use Rattle.per_base.specs.FieldLaws.{wide_16}
 use Rattle.index_text.specs.Reading.{ascends, coded_kind, info_at, len_at, name_at}
 use Rattle.index_text.specs.Rules.{max_len}
-use Rattle.index_text.specs.Spelling.{info_text, kind_code, name_text}
+use Rattle.index_text.specs.Spelling.{info_text, name_text, store_kind_code}
 use Rattle.export_text.specs.declared.errors.ExportError.{ExportError}
 use Rattle.export_text.specs.declared.errors.ExportError.TheVariants as errors
 use Rattle.export_text.specs.declared.exports.Export.{Export}
 use Rattle.export_text.specs.declared.reading.Header.{Header}
-use Rattle.export_text.specs.Exports.{IsElement, IsExport, IsExportable, body_hashed, body_read, content_at}
+use Rattle.export_text.specs.Exports.{IsExport, IsExportable, IsExportedElement, body_hashed, body_read, content_at}
 use Rattle.export_text.specs.Exports.{export_body, export_of, export_text, fresh_at, fresh_text, header_at, header_text}
 use Rattle.export_text.specs.Exports.{is_content, mark, marked_at, names_of}
 use Rattle.export_text.specs.Views.{Gives}
@@ -49,7 +49,7 @@ content_again kind n x rest fits = rw ((bytes_reader n).again x rest fits.0)
     (only_true (is_content kind x) (x, rest) fits.1)
 
 abbrev IsGood : StoreKind → Fresh → Type 0
-IsGood kind f = IsExportable kind f × IsElement f
+IsGood kind f = IsExportable kind f × IsExportedElement f
 
 fresh_takes : (kind : StoreKind) (bytes : List ℕ) (x : Fresh) (rest : List ℕ) → IsBytes bytes
     → fresh_at kind bytes ≡ Some (x, rest) → Takes bytes (fresh_text x) rest × IsGood kind x
@@ -107,11 +107,12 @@ contents_reader kind n = many_reader (fresh_at kind) fresh_text (IsGood kind) (f
 
 -- each can be exported, and each is an element
 parts_of : (kind : StoreKind) (fs : List Fresh) → AllByRecursion (IsGood kind) fs
-    → AllByRecursion (IsExportable kind) fs × AllByRecursion IsElement fs
+    → AllByRecursion (IsExportable kind) fs × AllByRecursion IsExportedElement fs
 parts_of kind [] good = (tt, tt)
 parts_of kind (f ∷ fs) good = let rest = parts_of kind fs good.1 in ((good.0.0, rest.0), (good.0.1, rest.1))
 
-from_parts : (kind : StoreKind) (fs : List Fresh) → AllByRecursion (IsExportable kind) fs → AllByRecursion IsElement fs
+from_parts : (kind : StoreKind) (fs : List Fresh) → AllByRecursion (IsExportable kind) fs
+    → AllByRecursion IsExportedElement fs
     → AllByRecursion (IsGood kind) fs
 from_parts kind [] each elements = tt
 from_parts kind (f ∷ fs) each elements = ((each.0, elements.0), from_parts kind fs each.1 elements.1)
@@ -145,7 +146,7 @@ header_takes bytes h rest fits e =
     let t0 = marked_takes bytes marked.0 fits marked.1 in
     let t1 = byte_reader.takes marked.0 code.0.0 code.0.1 t0.rest_fits code.1 in
     let t2 = (number_reader w16 (2 ^ 16) wide_16).takes code.0.1 count.0.0 count.0.1 t1.0.rest_fits count.1 in
-    let kind_is : Takes marked.0 (kind_code kind.0 ∷ []) code.0.1 =
+    let kind_is : Takes marked.0 (store_kind_code kind.0 ∷ []) code.0.1 =
     subst (λ (n : ℕ). Takes marked.0 (n ∷ []) code.0.1) (kind_back code.0.0 kind.0 kind.1) t1.0 in
     let whole = Takes-then t0 (Takes-then kind_is t2.0) in
     subst (λ (p : Header × List ℕ). Takes bytes (header_text p.0.kind p.0.count) p.1 × (p.0.count ≤ 1024)) {x = made}
@@ -157,7 +158,7 @@ unfolding header_at
 header_again h rest few =
     let small : h.count < 2 ^ 16 = omega arith in
     rw (
-      marked_again (kind_code h.kind ∷ to_le_bytes w16 h.count ++ rest),
+      marked_again (store_kind_code h.kind ∷ to_le_bytes w16 h.count ++ rest),
       coded_kind_again h.kind,
       (number_reader w16 (2 ^ 16) wide_16).again h.count rest small,
     )
@@ -208,7 +209,7 @@ body_again x is =
 
 -- ---- the whole text
 
--- bytes in front of others are bytes
+-- bytes before others are bytes
 front_fits : (text front rest : List ℕ) → IsBytes text → text ≡ front ++ rest → IsBytes front
 front_fits text front rest fits parts =
     subst IsBytes (take_at front rest (length front) refl)

@@ -13,7 +13,7 @@ use Rattle.per_base.specs.Fields.{◌>>=◌, byte_at, bytes_at, many, number_at,
 use Rattle.per_base.specs.Names.{IsName, name_cmp}
 use Rattle.index_text.specs.Reading.{ascends, coded_kind, info_at, len_at, name_at}
 use Rattle.index_text.specs.Rules.{InfoIsInRange, has_info, max_len}
-use Rattle.index_text.specs.Spelling.{info_text, kind_code, name_text}
+use Rattle.index_text.specs.Spelling.{info_text, name_text, store_kind_code}
 use Rattle.value_code.specs.Reading.{decoded}
 use Rattle.export_text.specs.declared.exports.Export.{Export}
 use Rattle.export_text.specs.declared.reading.Header.{Header}
@@ -42,13 +42,13 @@ pub record AreExportable (kind : StoreKind) (contents : List Fresh) : Type 0 whe
   pub ascend : IsStrictlySortedBy name_cmp (names_of contents)
 
 -- a name in the grammar and moments within their type, as every element of the program has them
-pub record IsElement (f : Fresh) : Type 0 where
+pub record IsExportedElement (f : Fresh) : Type 0 where
   pub name : IsName f.name
   pub info : InfoIsInRange f.info
 
 pub record IsExport (x : Export) : Type 0 where
   pub rules : AreExportable x.kind x.contents
-  pub elements : AllByRecursion IsElement x.contents
+  pub elements : AllByRecursion IsExportedElement x.contents
 
 -- ---- the text
 
@@ -62,7 +62,7 @@ mark = codes "PERB" ++ 1 ∷ []
 
 -- the mark, the kind and the number of elements
 abbrev pub header_text : StoreKind → ℕ → List ℕ
-header_text kind count = mark ++ kind_code kind ∷ to_le_bytes w16 count
+header_text kind count = mark ++ store_kind_code kind ∷ to_le_bytes w16 count
 
 -- all that the hash is taken of
 abbrev pub export_body : Export → List ℕ

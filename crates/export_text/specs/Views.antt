@@ -4,11 +4,11 @@ use Rattle.export_text.specs.declared.errors.ExportError.{ExportError}
 use Rattle.export_text.specs.declared.errors.ExportError.TheVariants.{NotAnExport, OutOfMemory}
 
 -- memory that ran out says nothing
-abbrev pub Refuses : {Y : Type 0} → ExportError → Option Y → Type 0
-Refuses NotAnExport read = read ≡ None
-Refuses OutOfMemory read = ⊤
+abbrev pub FailsToRead : {Y : Type 0} → ExportError → Option Y → Type 0
+FailsToRead NotAnExport read = read ≡ None
+FailsToRead OutOfMemory read = ⊤
 
 -- what a function returned, seen by view, is what reading gives, unless memory ran out
 abbrev pub Gives : {X Y : Type 0} → (X → Y) → Result X ExportError → Option Y → Type 0
 Gives view (Ok x) read = read ≡ Some (view x)
-Gives view (Err e) read = Refuses e read
+Gives view (Err e) read = FailsToRead e read

@@ -4,9 +4,10 @@ ghost use Rattle.std.specs.Prelude.{◌≡◌, ◌≤◌, ◌<◌, ◌^◌, ◌+
 ghost use Rattle.std.specs.List.{AllByRecursion, flat_map};
 ghost use Rattle.per_base.specs.declared.elements.Fresh.{Fresh};
 ghost use Rattle.index_text.specs.Rules.{InfoInRange, InfoIsInRange};
-ghost use Rattle.index_text.specs.Spelling.{cause_code, file_info_text, info_text, kind_code, name_text};
+ghost use Rattle.index_text.specs.Spelling.{cause_code, file_info_text, info_text, name_text, store_kind_code};
 ghost use Rattle.export_text.specs.declared.exports.Export.{Export};
-ghost use Rattle.export_text.specs.Exports.{AreExportable, IsElement, IsExport, export_body, export_of, export_text};
+ghost use Rattle.export_text.specs.Exports.{AreExportable, IsExport, IsExportedElement, export_body, export_of};
+ghost use Rattle.export_text.specs.Exports.{export_text};
 ghost use Rattle.export_text.specs.Exports.{fresh_text, header_text};
 
 use crate::exports::MARK;
@@ -39,7 +40,7 @@ pub fn write_export(
 fn body_of(alloc: Global, kind: StoreKind, contents: &[Fresh]) -> Result<Vec<u8>, AllocError>
     requires { AreExportable kind contents.now }
     ensures body { IfOk result (λ body. body.items ≡ export_body (record { kind = kind; contents = contents.now })) }
-    ensures elements { OnOk result (AllByRecursion IsElement contents.now) }
+    ensures elements { OnOk result (AllByRecursion IsExportedElement contents.now) }
 {
     let mut body = Vec::new(alloc);
     put_header(&mut body, kind, contents.len() as u16)?;
@@ -59,7 +60,7 @@ fn put_header(text: &mut Vec<u8>, kind: StoreKind, count: u16) -> Result<(), All
 }
 
 fn kind_byte(kind: StoreKind) -> u8
-    ensures { result ≡ kind_code kind }
+    ensures { result ≡ store_kind_code kind }
 {
     match kind {
         StoreKind::Keys => 1,
@@ -83,7 +84,7 @@ fn cause_byte(cause: Cause) -> u8
 fn put_element(text: &mut Vec<u8>, element: &Fresh) -> Result<(), AllocError>
     requires { length element.now.bytes < 2 ^ 32 }
     ensures text { OnOk result (text.new.items ≡ text.old.items ++ fresh_text element.now) }
-    ensures element { OnOk result (IsElement element.now) }
+    ensures element { OnOk result (IsExportedElement element.now) }
 {
     put_name(text, element.name.as_str())?;
     put_info(text, &element.info)?;

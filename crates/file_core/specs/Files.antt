@@ -13,7 +13,7 @@ use Rattle.per_base.specs.declared.errors.PerError.TheVariants.{IllegalWriteAcce
 use Rattle.per_base.specs.declared.errors.PerError.TheVariants.{OutOfStorageSpace}
 use Rattle.file_core.specs.declared.cursor.Cursor.{Cursor}
 use Rattle.file_core.specs.declared.room.Room.{Room}
-use Rattle.file_core.specs.Infos.{changed, opened}
+use Rattle.file_core.specs.Infos.{info_changed, opened_info}
 use Rattle.file_core.specs.Places.{writes, moved, write_place, overwritten, within}
 use Rattle.file_core.specs.Refusals.{refuse, refused_by}
 
@@ -50,10 +50,10 @@ file_of info bytes = record { info = info; len = length bytes; content = Good by
 
 -- the file with other bytes, changed now for this cause
 abbrev pub changed_to : List ℕ → ℕ → Cause → Element → Element
-changed_to bytes now cause file = file_of (option_map (changed now cause) file.info) bytes
+changed_to bytes now cause file = file_of (option_map (info_changed now cause) file.info) bytes
 
 abbrev pub opened_at : ℕ → Element → Element
-opened_at now file = record file { info = option_map (opened now) file.info }
+opened_at now file = record file { info = option_map (opened_info now) file.info }
 
 -- the refusal of a content of this length: the limit of a file, then the room of the storage
 abbrev pub too_long : Room → ℕ → Option PerError

@@ -8,9 +8,9 @@ abbrev pub made : ℕ → Cause → FileInfo
 made now cause = record { created = now; modified = now; accessed = now; creation = cause; modification = cause }
 
 -- its content changed now
-abbrev pub changed : ℕ → Cause → FileInfo → FileInfo
-changed now cause info = record info { modified = now; modification = cause }
+abbrev pub info_changed : ℕ → Cause → FileInfo → FileInfo
+info_changed now cause info = record info { modified = now; modification = cause }
 
 -- opened now
-abbrev pub opened : ℕ → FileInfo → FileInfo
-opened now info = record info { accessed = now }
+abbrev pub opened_info : ℕ → FileInfo → FileInfo
+opened_info now info = record info { accessed = now }

@@ -28,8 +28,8 @@ abbrev pub is_bad_mode : OpenKind → OpenMode → Bool
 is_bad_mode kind mode = (at_beginning mode && at_end mode) || (not (writes kind) && (truncates mode || appends mode))
 
 -- a new place: at the end where the flags say so, else at the beginning
-abbrev pub placed : OpenKind → OpenMode → ℕ → Cursor
-placed kind mode size = record { kind = kind; append = appends mode; position = cond (at_end mode) size 0 }
+abbrev pub opening_place : OpenKind → OpenMode → ℕ → Cursor
+opening_place kind mode size = record { kind = kind; append = appends mode; position = cond (at_end mode) size 0 }
 
 abbrev pub moved : Cursor → ℕ → Cursor
 moved cursor at = record cursor { position = at }
@@ -93,14 +93,14 @@ within cursor size = moved cursor (min cursor.position size)
 abbrev pub set_position : Cursor → ℕ → ℕ → Result Cursor PerError
 set_position cursor size at = refuse (nat_lt size at) InvalidPosition (Ok (moved cursor at))
 
-abbrev pub start_of : Origin → Cursor → ℕ → ℕ
-start_of Beginning cursor size = 0
-start_of Current cursor size = cursor.position
-start_of End cursor size = size
+abbrev pub origin_place : Origin → Cursor → ℕ → ℕ
+origin_place Beginning cursor size = 0
+origin_place Current cursor size = cursor.position
+origin_place End cursor size = size
 
 -- the position so far from its start, where it is from 0 to the size
 abbrev pub move_position : Cursor → ℕ → Origin → ℤ → Result (ℕ × Cursor) PerError
 move_position cursor size origin offset =
-    let target : ℤ = pos (start_of origin cursor size) +ℤ offset in
+    let target : ℤ = pos (origin_place origin cursor size) +ℤ offset in
     refuse (not (int_le (pos 0) target && int_le target (pos size))) InvalidPosition
     (Ok (unsigned_abs target, moved cursor (unsigned_abs target)))

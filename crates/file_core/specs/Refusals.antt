@@ -39,7 +39,7 @@ CarriesText (DataTypeMismatch stored asked) = Unit {0}
 CarriesText (ResourceBusy holder) = IsNamedHolder holder
 CarriesText other = ⊥
 
--- an answer is due, or a refusal that carries names or texts: memory may be wanting for it
+-- an answer is due, or a refusal that carries names or texts: memory may run out for it
 abbrev pub NeedsMemory : {A : Type 0} → Result A PerError → Type 0
 NeedsMemory (Ok answer) = Unit {0}
 NeedsMemory (Err error) = CarriesText error

@@ -42,7 +42,7 @@ pub struct Cursor {
 impl Cursor {
     /// The place of a new opening of a content of this size.
     pub fn new(kind: OpenKind, mode: OpenMode, size: u64) -> Cursor
-        ensures placed { result ≡ places.placed kind mode size }
+        ensures placed { result ≡ places.opening_place kind mode size }
         ensures inside { result.position ≤ size }
     {
         let position = if mode.is_at_the_end() { size } else { 0 };
@@ -53,7 +53,7 @@ impl Cursor {
         }
     }
 
-    /// Whether nothing is left to read. Takes no memory.
+    /// Whether nothing is left to read. Does not allocate.
     pub fn is_eof(&self, bytes: &[u8]) -> bool
         ensures { result ≡ places.is_eof self.now bytes.now }
     {
@@ -79,7 +79,7 @@ impl Cursor {
         Ok(&bytes[self.position as usize..])
     }
 
-    /// The next byte; the position stays. Takes no memory.
+    /// The next byte; the position stays. Does not allocate.
     ///
     /// # Errors
     ///
@@ -92,7 +92,7 @@ impl Cursor {
         Ok(rest[0])
     }
 
-    /// The next byte, which the position passes. Takes no memory.
+    /// The next byte, which the position passes. Does not allocate.
     ///
     /// # Errors
     ///
@@ -177,7 +177,7 @@ impl Cursor {
         Ok(piece)
     }
 
-    /// Moves to this position in a content of this size. Takes no memory.
+    /// Moves to this position in a content of this size. Does not allocate.
     ///
     /// # Errors
     ///
@@ -196,7 +196,7 @@ impl Cursor {
         Ok(())
     }
 
-    /// Moves by an offset from the origin in a content of this size, and gives the new position. Takes no memory.
+    /// Moves by an offset from the origin in a content of this size, and gives the new position. Does not allocate.
     ///
     /// # Errors
     ///
@@ -232,7 +232,7 @@ impl Cursor {
 
     /// From where a move counts.
     fn start_of(&self, size: u64, origin: Origin) -> u64
-        ensures { result ≡ places.start_of origin self.now size }
+        ensures { result ≡ places.origin_place origin self.now size }
     {
         match origin {
             Origin::Beginning => 0,

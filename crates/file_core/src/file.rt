@@ -40,7 +40,7 @@ impl Model for File {
 }
 
 impl File {
-    /// A file with these bytes. Takes no memory.
+    /// A file with these bytes. Does not allocate.
     pub fn new(info: FileInfo, bytes: Bytes) -> File
         requires { length bytes ≤ 1048576 }
         ensures { result ≡ file_of (Some info) bytes }
@@ -52,7 +52,7 @@ impl File {
         }
     }
 
-    /// A file as it was stored: its info, its length and its content, which may be unreadable. Takes no memory.
+    /// A file as it was stored: its info, its length and its content, which may be unreadable. Does not allocate.
     pub fn stored(info: FileInfo, len: u32, content: Content) -> File
         requires { IsFile (record { info = Some info; len = len; content = content }) }
         ensures { result ≡ record { info = Some info; len = len; content = content } }
@@ -108,7 +108,7 @@ impl File {
         self.info = opened(now, self.info);
     }
 
-    /// Gives the file other bytes, for this cause. Takes no memory.
+    /// Gives the file other bytes, for this cause. Does not allocate.
     pub fn replace(&mut self, bytes: Bytes, now: u64, cause: Cause)
         requires { length bytes ≤ 1048576 }
         ensures { self.new ≡ changed_to bytes now cause self.old }
@@ -118,7 +118,7 @@ impl File {
         self.content = Content::Good(bytes);
     }
 
-    /// Makes the salvage of an unreadable file its content, where there is a salvage. Takes no memory.
+    /// Makes the salvage of an unreadable file its content, where there is a salvage. Does not allocate.
     pub fn recover(&mut self, now: u64) -> bool
         ensures recovered { OnTrue result ((salvage : List ℕ) × (self.old.content ≡ Content.Bad (Some salvage))
             × (self.new ≡ changed_to salvage now Cause.Recovery self.old)) }
@@ -180,7 +180,7 @@ impl File {
         Ok(())
     }
 
-    /// Cuts the content to this size, and the position with it. Takes no memory.
+    /// Cuts the content to this size, and the position with it. Does not allocate.
     ///
     /// # Errors
     ///

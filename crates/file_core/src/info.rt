@@ -20,7 +20,7 @@ pub fn made(now: u64, cause: Cause) -> FileInfo
 
 /// The info of a file whose content changes now for this cause.
 pub fn changed(now: u64, cause: Cause, info: FileInfo) -> FileInfo
-    ensures { result ≡ infos.changed now cause info }
+    ensures { result ≡ infos.info_changed now cause info }
 {
     FileInfo {
         created: info.created,
@@ -33,7 +33,7 @@ pub fn changed(now: u64, cause: Cause, info: FileInfo) -> FileInfo
 
 /// The info of a file that is opened now.
 pub fn opened(now: u64, info: FileInfo) -> FileInfo
-    ensures { result ≡ infos.opened now info }
+    ensures { result ≡ infos.opened_info now info }
 {
     FileInfo {
         created: info.created,

@@ -14,8 +14,8 @@ pub struct Room {
 }
 
 impl Room {
-    /// What refuses a content of this length: `LimitReached` with `FileBytes`, then `OutOfStorageSpace`. Takes no
-    /// memory.
+    /// What refuses a content of this length: `LimitReached` with `FileBytes`, then `OutOfStorageSpace`. Does not
+    /// allocate.
     pub fn too_long(self, len: u64) -> Option<PerError>
         requires { self.others ≤ 2 ^ 32 }
         ensures { result ≡ files.too_long self len }

@@ -21,8 +21,8 @@ use Rattle.per_base.specs.Names.{name_cmp}
 use Rattle.file_core.specs.declared.cursor.Cursor.{Cursor}
 use Rattle.file_core.specs.declared.room.Room.{Room}
 use Rattle.file_core.specs.Files.{changed_to, file_of, too_long, written}
-use Rattle.file_core.specs.Infos.{changed, made, opened}
-use Rattle.file_core.specs.Places.{moved, overwritten, placed, write_place}
+use Rattle.file_core.specs.Infos.{info_changed, made, opened_info}
+use Rattle.file_core.specs.Places.{moved, opening_place, overwritten, write_place}
 use Rattle.file_handles.specs.declared.handle.Handle.{Handle}
 use Rattle.file_handles.specs.declared.storage.Storage.{Storage}
 use Rattle.file_handles.specs.Handling.{write}
@@ -30,30 +30,31 @@ use Rattle.file_handles.specs.Opening.{busy, can_open, file_opened, no_room_to_c
 use Rattle.file_handles.specs.Opening.{would_fit}
 use Rattle.file_handles.specs.Sessions.{Handles, Session, blocking, free_number, handle_at, open_at, room_for}
 use Rattle.file_handles.specs.Sessions.{with_handle, without_handle}
-use Rattle.file_handles.specs.Whole.{and_then, put, released, truncating}
+use Rattle.file_handles.specs.Whole.{and_then, put_whole, released, truncating}
 use Rattle.file_handles.specs.lemmas.Asked.{handle_there, no_place, put_is, refused_ok, same_others, writer_allowed}
 use Rattle.file_handles.specs.lemmas.Opens.{allowed, put_removed, put_there}
 
 -- ---- the file as the opening leaves it
 
-changed_twice : (now : ℕ) (info : Option FileInfo) → option_map (changed now Application)
-    (option_map (changed now Application) info) ≡ option_map (changed now Application) info
+changed_twice : (now : ℕ) (info : Option FileInfo) → option_map (info_changed now Application)
+    (option_map (info_changed now Application) info) ≡ option_map (info_changed now Application) info
 changed_twice now None = refl
 changed_twice now (Some info) = refl
 
 -- empty, and a change at this moment leaves its info
 emptied : (found : Option Element) (now : ℕ) → (info : Option FileInfo)
-    × (file_opened false truncating now found ≡ file_of info []) × (option_map (changed now Application) info ≡ info)
+    × (file_opened false truncating now found ≡ file_of info [])
+    × (option_map (info_changed now Application) info ≡ info)
 emptied None now = (Some (made now Application), refl, refl)
 emptied (Some file) now = (
-  option_map (changed now Application) (option_map (opened now) file.info),
+  option_map (info_changed now Application) (option_map (opened_info now) file.info),
   refl,
-  changed_twice now (option_map (opened now) file.info),
+  changed_twice now (option_map (opened_info now) file.info),
 )
 
 pub record IsEmptied (s mid : Session) (name : List ℕ) (now number : ℕ) : Type 0 where
   pub info : Option FileInfo
-  pub kept : option_map (changed now Application) info ≡ info
+  pub kept : option_map (info_changed now Application) info ≡ info
   pub answer : with_opened s name Write truncating (file_of info []) ≡ (number, mid)
 
 pub is_emptied : (storage : Storage) (s mid : Session) (name : List ℕ) (now number : ℕ)
@@ -108,7 +109,7 @@ over_nothing : (from : ℕ) (piece : List ℕ) → from ≡ 0 → overwritten fr
 over_nothing from piece is = rw (is, drop-nil (0 + length piece)) (append-nil piece)
 
 written_is : (cursor : Cursor) (info : Option FileInfo) (piece : List ℕ) (now : ℕ) (room : Room) → cursor.kind ≡ Write
-    → option_map (changed now Application) info ≡ info → too_long room (length piece) ≡ None
+    → option_map (info_changed now Application) info ≡ info → too_long room (length piece) ≡ None
     → (after : Cursor) × (written cursor (file_of info []) piece now room
     ≡ Ok (after, changed_to piece now Application (file_of info [])))
 written_is cursor info [] now room kind kept fits = (cursor, rw (kind, kept) refl)
@@ -146,7 +147,7 @@ same_handles handles number one other free =
     ∙ put_removed nat_cmp_total number other handles free ∙ sym (put_removed nat_cmp_total number one handles free)
 
 filled_is : (storage : Storage) (s : Session) (name bytes : List ℕ) (now : ℕ) (info : Option FileInfo)
-    → handle_at s.handles (free_number s.handles) ≡ None → option_map (changed now Application) info ≡ info
+    → handle_at s.handles (free_number s.handles) ≡ None → option_map (info_changed now Application) info ≡ info
     → too_long (room_for (with_element s.files name (file_of info [])) name storage.maximum) (length bytes) ≡ None
     → (let o : ℕ × Session = with_opened s name Write truncating (file_of info []) in
     and_then (write storage o.1 now o.0 bytes) (λ after. Ok (released after o.0))
@@ -157,7 +158,7 @@ filled_is : (storage : Storage) (s : Session) (name bytes : List ℕ) (now : ℕ
 filled_is storage s name bytes now info free kept fits =
     let file : Element = file_of info [] in
     let o : ℕ × Session = with_opened s name Write truncating file in
-    let handle : Handle = record { name = name; cursor = placed Write truncating 0 } in
+    let handle : Handle = record { name = name; cursor = opening_place Write truncating 0 } in
     let is_open : open_at o.1 o.0 ≡ Some (handle, file) =
     rw (handle_there s.handles (free_number s.handles) handle) (rw (put_there s.files name file) refl) in
     let room : Room = room_for o.1.files name storage.maximum in
@@ -177,7 +178,7 @@ pub put_filled : (storage : Storage) (s mid later : Session) (name bytes : List 
       files = with_element mid.files name
           (changed_to bytes now Application old);
     })
-    → put storage s name bytes now ≡ Ok later
+    → put_whole storage s name bytes now ≡ Ok later
 put_filled storage s mid later name bytes now number sorted free none fits is given =
     let e = is_emptied storage s mid name now number none is in
     let filled : Session → ℕ → Session = λ m n. record (released m n) {

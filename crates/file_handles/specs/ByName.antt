@@ -54,14 +54,14 @@ HasSalvage (Bad None) = ⊥
 HasSalvage (Bad (Some salvage)) = Unit {0}
 
 -- what there is to save of a content
-abbrev pub salvage_of : Content → List ℕ
-salvage_of (Good bytes) = bytes
-salvage_of (Bad None) = []
-salvage_of (Bad (Some salvage)) = salvage
+abbrev pub saved_bytes : Content → List ℕ
+saved_bytes (Good bytes) = bytes
+saved_bytes (Bad None) = []
+saved_bytes (Bad (Some salvage)) = salvage
 
 -- the file with its salvage as its content
 abbrev pub salvaged : ℕ → Element → Element
-salvaged now file = changed_to (salvage_of file.content) now Recovery file
+salvaged now file = changed_to (saved_bytes file.content) now Recovery file
 
 -- a recovery takes the initial content, which has to be copied
 abbrev pub TakesInitial : Option (List ℕ) → Content → Type 0
@@ -83,7 +83,7 @@ abbrev pub recover_file : Storage → Session → List ℕ → ℕ → Option (L
 recover_file storage s name now initial = unless_held storage s name
     (λ file. recovered storage s name now initial file file.content)
 
--- the file with its initial content: made anew, or changed
+-- the file with its initial content: created, or changed
 abbrev pub reset : ℕ → List ℕ → Option Element → Element
 reset now bytes None = file_of (Some (made now Reset)) bytes
 reset now bytes (Some file) = changed_to bytes now Reset file

@@ -16,7 +16,7 @@ use Rattle.per_base.specs.Maps.{Map, element_at, has, with_element, size_of}
 use Rattle.per_base.specs.Modes.{truncates}
 use Rattle.file_core.specs.Files.{is_good, file_of, opened_at, changed_to, too_long}
 use Rattle.file_core.specs.Infos.{made}
-use Rattle.file_core.specs.Places.{writes, is_bad_mode, placed}
+use Rattle.file_core.specs.Places.{writes, is_bad_mode, opening_place}
 use Rattle.file_core.specs.Refusals.{refused_by}
 use Rattle.file_handles.specs.declared.storage.Storage.{Storage}
 use Rattle.file_handles.specs.Sessions.{Session, with_handle, free_number, blocking, room_for}
@@ -43,7 +43,7 @@ busy (Some number) = Some (ResourceBusy (holder.Handle number))
 abbrev pub too_many : Map → List ℕ → Option PerError
 too_many files name = when (not (has files name) && nat_le 1024 (length files)) (LimitReached limit.Elements)
 
--- what refuses an opening, but want of space
+-- what refuses an opening, but the lack of space
 abbrev pub can_open : Storage → Session → List ℕ → OpenKind → OpenMode → Option PerError
 can_open storage s name kind mode =
     first (when (is_bad_mode kind mode) InvalidOpenMode)
@@ -69,7 +69,7 @@ with_opened s name kind mode file = (
   record {
     files = with_element s.files name file;
     handles = with_handle s.handles (free_number s.handles)
-        (record { name = name; cursor = placed kind mode file.len });
+        (record { name = name; cursor = opening_place kind mode file.len });
   },
 )
 

@@ -35,13 +35,13 @@ abbrev pub without_handle : Handles → ℕ → Handles
 without_handle handles number = remove_entry (is_at (nat_cmp number)) handles
 
 -- the lowest number from here on that no handle has
-abbrev pub free_from : ℕ → Handles → ℕ
-free_from number [] = number
-free_from number (e ∷ es) = cond (number == e.0) (free_from (number + 1) es) number
+abbrev pub lowest_free_from : ℕ → Handles → ℕ
+lowest_free_from number [] = number
+lowest_free_from number (e ∷ es) = cond (number == e.0) (lowest_free_from (number + 1) es) number
 
 -- numbers are counted from 1
 abbrev pub free_number : Handles → ℕ
-free_number handles = free_from 1 handles
+free_number handles = lowest_free_from 1 handles
 
 -- the lowest handle of all
 abbrev pub lowest : Handles → Option ℕ

@@ -32,18 +32,18 @@ abbrev pub released : Session → ℕ → Session
 released s number = record s { handles = without_handle s.handles number }
 
 -- the bytes of a file that is there
-abbrev pub bytes_at : Option Element → List ℕ
-bytes_at None = []
-bytes_at (Some file) = bytes_of file.content
+abbrev pub bytes_of_file : Option Element → List ℕ
+bytes_of_file None = []
+bytes_of_file (Some file) = bytes_of file.content
 
 -- the whole content of a file
 abbrev pub cat : Storage → Session → List ℕ → ℕ → Result (List ℕ × Session) PerError
 cat storage s name now = and_then (open_file storage s name Read plain now)
-    (λ o. Ok (bytes_at (element_at o.1.files name), released o.1 o.0))
+    (λ o. Ok (bytes_of_file (element_at o.1.files name), released o.1 o.0))
 
 -- the content of a file is then these bytes; whether it may be opened and whether they fit is asked first
-abbrev pub put : Storage → Session → List ℕ → List ℕ → ℕ → Result Session PerError
-put storage s name bytes now =
+abbrev pub put_whole : Storage → Session → List ℕ → List ℕ → ℕ → Result Session PerError
+put_whole storage s name bytes now =
     refused_by (can_open storage s name Write truncating)
     (refused_by (would_fit storage s.files name (length bytes))
     (and_then (open_file storage s name Write truncating now)
@@ -59,10 +59,10 @@ abbrev pub PutLaw : Type 0
 PutLaw = (storage : Storage) (s : Session) (name bytes : List ℕ) (now : ℕ)
     → IsStrictlySortedBy name_cmp (keys_of s.files)
     → can_open storage s name Write truncating ≡ None → would_fit storage s.files name (length bytes) ≡ None
-    → IsDue (put storage s name bytes now)
+    → IsDue (put_whole storage s name bytes now)
 
 -- the content of a file is that of before its opening
 abbrev pub SameContentLaw : Type 0
 SameContentLaw = (storage : Storage) (s : Session) (name : List ℕ) (now : ℕ) (opened : ℕ × Session)
     → open_file storage s name Read plain now ≡ Ok opened
-    → bytes_at (element_at opened.1.files name) ≡ bytes_at (element_at s.files name)
+    → bytes_of_file (element_at opened.1.files name) ≡ bytes_of_file (element_at s.files name)

@@ -11,7 +11,7 @@ use std::alloc::Global;
 use std::collections::BTreeMap;
 
 impl FileTable {
-    /// The length of the file of this name in bytes, also of an unreadable one. Takes no memory.
+    /// The length of the file of this name in bytes, also of an unreadable one. Does not allocate.
     ///
     /// # Errors
     ///
@@ -26,7 +26,7 @@ impl FileTable {
         }
     }
 
-    /// The info of the file of this name, also of an unreadable one. Takes no memory.
+    /// The info of the file of this name, also of an unreadable one. Does not allocate.
     ///
     /// # Errors
     ///

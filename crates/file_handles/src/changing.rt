@@ -57,7 +57,7 @@ impl FileTable {
         Ok(())
     }
 
-    /// Cuts the file to this size; a position beyond becomes the size. Takes no memory.
+    /// Cuts the file to this size; a position beyond becomes the size. Does not allocate.
     ///
     /// # Errors
     ///
@@ -91,7 +91,7 @@ impl FileTable {
         Ok(())
     }
 
-    /// Releases the handle; the content of its file stays. Takes no memory.
+    /// Releases the handle; the content of its file stays. Does not allocate.
     ///
     /// # Errors
     ///

@@ -4,7 +4,7 @@ ghost use Rattle.std.specs.Prelude.{◌≡◌, IfErr, IfOk, OnErr, OnOk, Ok, Err
 ghost use Rattle.per_base.specs.Maps.{element_at};
 ghost use Rattle.file_core.specs.Refusals.{IsRefusal, NeedsMemory};
 ghost use Rattle.file_handles.specs.Whole as whole;
-ghost use Rattle.file_handles.specs.Whole.{bytes_at, cat, put, released};
+ghost use Rattle.file_handles.specs.Whole.{bytes_of_file, cat, put_whole, released};
 
 use crate::laws::whole_contents_are_given;
 use crate::table::FileTable;
@@ -45,11 +45,12 @@ impl FileTable {
     ///
     /// Those of an opening for writing with the flag that truncates; those of `would_fit`; `OutOfMemory`.
     pub fn replace(&mut self, name: &Name, bytes: &[u8], now: u64) -> Result<(), PerError>
-        ensures ok { OnOk result (put self.old.storage self.old.session name.now bytes.now now ≡ Ok self.new.session) }
+        ensures ok { OnOk result (put_whole self.old.storage self.old.session name.now bytes.now now
+            ≡ Ok self.new.session) }
         ensures refused { IfErr result (λ error. IsRefusal
-            (put self.old.storage self.old.session name.now bytes.now now) error) }
+            (put_whole self.old.storage self.old.session name.now bytes.now now) error) }
         ensures memory { IfErr result (λ error. error ≡ PerError.OutOfMemory
-            → NeedsMemory (put self.old.storage self.old.session name.now bytes.now now)) }
+            → NeedsMemory (put_whole self.old.storage self.old.session name.now bytes.now now)) }
         ensures unchanged { OnErr result (self.new ≡ self.old) }
         ensures storage { self.new.storage ≡ self.old.storage }
         ensures moment { OnOk result (self.new.moment ≡ now) }
@@ -71,7 +72,8 @@ impl FileTable {
 
     /// A copy of the bytes of a file that is there.
     fn content_of(&self, name: &Name) -> Result<Vec<u8>, PerError>
-        ensures ok { IfOk result (λ content. content.items ≡ bytes_at (element_at self.now.session.files name.now)) }
+        ensures ok { IfOk result (λ content. content.items ≡ bytes_of_file
+            (element_at self.now.session.files name.now)) }
         ensures memory { IfErr result (λ error. error ≡ PerError.OutOfMemory) }
     {
         match self.files.get(name) {

@@ -8,7 +8,7 @@ use crate::table::FileTable;
 use per_base::{Origin, PerError};
 
 impl FileTable {
-    /// The next byte of the handle's file; the position stays. Takes no memory.
+    /// The next byte of the handle's file; the position stays. Does not allocate.
     ///
     /// # Errors
     ///
@@ -23,7 +23,7 @@ impl FileTable {
         handle.cursor.peek_byte(file.bytes())
     }
 
-    /// The next byte, which the position passes. Takes no memory.
+    /// The next byte, which the position passes. Does not allocate.
     ///
     /// # Errors
     ///
@@ -119,7 +119,7 @@ impl FileTable {
         Ok(piece)
     }
 
-    /// The size of the handle's file in bytes. Takes no memory.
+    /// The size of the handle's file in bytes. Does not allocate.
     ///
     /// # Errors
     ///
@@ -134,7 +134,7 @@ impl FileTable {
         }
     }
 
-    /// The position of the handle. Takes no memory.
+    /// The position of the handle. Does not allocate.
     ///
     /// # Errors
     ///
@@ -149,7 +149,7 @@ impl FileTable {
         }
     }
 
-    /// Whether the position is the size. Takes no memory.
+    /// Whether the position is the size. Does not allocate.
     ///
     /// # Errors
     ///
@@ -164,7 +164,7 @@ impl FileTable {
         }
     }
 
-    /// Moves the handle to this position. Takes no memory.
+    /// Moves the handle to this position. Does not allocate.
     ///
     /// # Errors
     ///
@@ -185,7 +185,7 @@ impl FileTable {
         Ok(())
     }
 
-    /// Moves the handle by an offset from the origin, and gives the new position. Takes no memory.
+    /// Moves the handle by an offset from the origin, and gives the new position. Does not allocate.
     ///
     /// # Errors
     ///

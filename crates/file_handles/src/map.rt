@@ -209,7 +209,7 @@ pub fn opened_len(before: u64, read_only: bool, mode: OpenMode) -> u64
     before
 }
 
-/// Adds a file under a name that is missing, and a handle on it: both, or neither where memory is wanting.
+/// Adds a file under a name that is missing, and a handle on it: both, or neither where memory runs out.
 #[tactic(auto, using(crate::specs::lemmas::Opens::file_put_removed))]
 pub fn add_file_and_handle(
     files: &mut BTreeMap<Name, File>,

@@ -15,7 +15,7 @@ use file_core::{Cursor, Room, is_bad_mode, writes};
 use per_base::{Holder, Limit, Name, OpenKind, OpenMode, PerError, Unit};
 
 impl FileTable {
-    /// Whether a file may be opened so: what refuses it, but want of space. Changes nothing.
+    /// Whether a file may be opened so: what refuses it, but the lack of space. Changes nothing.
     ///
     /// Errors, in this order: `InvalidOpenMode` where the flags contradict one another or ask a reader to change the
     /// file; `IllegalWriteAccess` where the kind writes and the storage is read-only; `FileNotFound` where the kind is
@@ -216,7 +216,7 @@ impl FileTable {
         }
     }
 
-    /// Whether there is a file of this name. Takes no memory.
+    /// Whether there is a file of this name. Does not allocate.
     pub fn file_exists(&self, name: &Name) -> bool
         ensures { result ≡ has self.now.session.files name.now }
     {

@@ -92,28 +92,28 @@ impl FileTable {
         let _size = self.size;
     }
 
-    /// The size of the working files: names and contents. Takes no memory.
+    /// The size of the working files: names and contents. Does not allocate.
     pub fn current_size(&self) -> u64
         ensures { result ≡ size_of self.now.session.files }
     {
         self.size
     }
 
-    /// Sets the moment. Takes no memory.
+    /// Sets the moment. Does not allocate.
     pub fn set_now(&mut self, now: u64)
         ensures { self.new ≡ record self.old { moment = now } }
     {
         self.moment = now;
     }
 
-    /// The working files, in the order of their names. Takes no memory.
+    /// The working files, in the order of their names. Does not allocate.
     pub fn files(&self) -> &BTreeMap<Name, File>
         ensures { result.now.entries ≡ self.now.session.files }
     {
         &self.files
     }
 
-    /// The lowest open handle of all. Takes no memory.
+    /// The lowest open handle of all. Does not allocate.
     #[tactic(auto, using(crate::specs::lemmas::Numbers::lowest_first, crate::specs::lemmas::Numbers::lowest_none))]
     pub fn lowest_handle(&self) -> Option<u32>
         ensures { result ≡ lowest self.now.session.handles }

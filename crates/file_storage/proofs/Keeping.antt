@@ -22,7 +22,7 @@ use Rattle.per_base.specs.Names.{name_cmp}
 use Rattle.file_core.specs.declared.cursor.Cursor.{Cursor}
 use Rattle.file_core.specs.declared.room.Room.{Room}
 use Rattle.file_core.specs.Files.{is_good, written, cut, changed_to, opened_at, too_long, bytes_of}
-use Rattle.file_core.specs.Places.{writes, write_place, overwritten, moved, within, is_bad_mode, placed}
+use Rattle.file_core.specs.Places.{writes, write_place, overwritten, moved, within, is_bad_mode, opening_place}
 use Rattle.file_core.specs.Refusals.{refuse, refused_by}
 use Rattle.file_handles.specs.declared.handle.Handle.{Handle}
 use Rattle.file_handles.specs.declared.storage.Storage.{Storage}
@@ -37,8 +37,8 @@ use Rattle.file_handles.specs.lemmas.Opens.{first_none, when_none}
 use Rattle.deployment_model.specs.Data.{StorageData}
 use Rattle.element_store.specs.declared.store.Store.{Store}
 use Rattle.file_storage.proofs.Others.{others_moved, others_opened, gone_none}
-use Rattle.file_storage.specs.FileSessions.{FileSession, IsOpen}
-use Rattle.file_storage.specs.Scopes.{closed}
+use Rattle.file_storage.specs.FileSessions.{FilesInUse, IsOpen}
+use Rattle.file_storage.specs.Scopes.{without_open_handle}
 
 pub record Keeps (files later : Map) : Type 0 where
   pub unreadable : (name : List ℕ) (file : Element) → element_at later name ≡ Some file → is_good file.content ≡ false
@@ -327,13 +327,13 @@ open_opens storage s later name kind mode now number is =
       lowest_free = sym n;
       handle = record {
         name = name;
-        cursor = placed kind mode
+        cursor = opening_place kind mode
             (opening.file_opened storage.read_only mode now (element_at s.files name)).len;
       };
       handles = subst (λ m. later.handles ≡ with_handle s.handles m
           (record {
             name = name;
-            cursor = placed kind mode
+            cursor = opening_place kind mode
                 (opening.file_opened storage.read_only mode now (element_at s.files name)).len;
           })) n
           (sym (ap (λ o. o.1.handles) same));
@@ -442,7 +442,7 @@ stays_open {A = A} old new r config store is same unchanged keeps = by r refl un
 
 -- ---- the other handles
 
-pub same_others : {A : Type 0} (s later : FileSession) (number : ℕ) (r : Result A PerError)
+pub same_others : {A : Type 0} (s later : FilesInUse) (number : ℕ) (r : Result A PerError)
     → IsStrictlySortedBy nat_cmp (keys_of s.session.handles) → OnErr r (later ≡ s)
     → ((a : A) → r ≡ Ok a → IsStrictlySortedBy nat_cmp (keys_of s.session.handles)
     → without_handle later.session.handles number ≡ without_handle s.session.handles number)
@@ -452,7 +452,7 @@ same_others {A = A} s later number r sorted unchanged others = by r refl unchang
     by : (result : Result A PerError) → r ≡ result → OnErr result (later ≡ s)
         → without_handle later.session.handles number ≡ without_handle s.session.handles number
     by (Ok a) e u = others a e sorted
-    by (Err error) e u = ap (λ (t : FileSession). without_handle t.session.handles number) u
+    by (Err error) e u = ap (λ (t : FilesInUse). without_handle t.session.handles number) u
 
 pub opened_others : (storage : Storage) (s later : Session) (name : List ℕ) (kind : OpenKind) (mode : OpenMode)
     (now number : ℕ)
@@ -475,14 +475,15 @@ not_open s number error is = by (open_at s number) is
     by (Some o) e = absurd (cc)
 
 -- a handle that is released, open or not
-pub released : {A : Type 0} (s later : FileSession) (number : ℕ) (r : Result A PerError)
+pub released : {A : Type 0} (s later : FilesInUse) (number : ℕ) (r : Result A PerError)
     → OnOk r (calls.close s.session number ≡ Ok later.session)
     → IfErr r (λ error. calls.close s.session number ≡ Err error)
     → later ≡ record s { session = later.session } → OnErr r (later ≡ s)
-    → (open_at s.session number ≡ None → handle_at s.session.handles number ≡ None) → later ≡ closed s number
+    → (open_at s.session number ≡ None → handle_at s.session.handles number ≡ None) → later
+    ≡ without_open_handle s number
 released s later number (Ok a) ok refused beside unchanged none =
-    beside ∙ ap (λ t. let f : FileSession = record s { session = t } in f)
+    beside ∙ ap (λ t. let f : FilesInUse = record s { session = t } in f)
     (close_closes s.session later.session number ok)
 released s later number (Err error) ok refused beside unchanged none =
-    unchanged ∙ ap (λ hs. let f : FileSession = record s { session = record s.session { handles = hs } } in f)
+    unchanged ∙ ap (λ hs. let f : FilesInUse = record s { session = record s.session { handles = hs } } in f)
     (sym (gone_none s.session.handles number (none (not_open s.session number error refused))))

@@ -21,7 +21,7 @@ use Rattle.per_base.specs.Changes.{changed_name, change_at}
 use Rattle.element_state.specs.Changes.{same_element}
 use Rattle.element_maps.specs.Differences.{MakeInto, arrival, difference, put, replacement, same_bytes}
 use Rattle.element_maps.specs.Differences.{touch}
-use Rattle.element_maps.specs.lemmas.InOrder.{Above, NamesAscend, first, rest}
+use Rattle.element_maps.specs.lemmas.InOrder.{ComesBeforeAll, NamesAscend, first, rest}
 use Rattle.element_maps.specs.lemmas.Names.{eq_back, greater_less, less_apart, less_less, same_names}
 use Rattle.file_storage.specs.Walks.{passing, removed, walked}
 
@@ -89,7 +89,7 @@ module _ (P : List ℕ → Type 0) where
 
 -- ---- the order
 
-ascends : (change : Change) (changes : List Change) → Above (changed_name change) (map changed_name changes)
+ascends : (change : Change) (changes : List Change) → ComesBeforeAll (changed_name change) (map changed_name changes)
     → NamesAscend changed_name changes → NamesAscend changed_name (change ∷ changes)
 unfolding IsStrictlySortedBy
 ascends change changes above sorted = (above, sorted)
@@ -98,7 +98,8 @@ none_ascend : NamesAscend changed_name []
 unfolding IsStrictlySortedBy
 none_ascend = tt
 
-above_all : (a b : List ℕ) (names : List (List ℕ)) → name_cmp a b ≡ Less → Above b names → Above a names
+above_all : (a b : List ℕ) (names : List (List ℕ)) → name_cmp a b ≡ Less → ComesBeforeAll b names
+    → ComesBeforeAll a names
 above_all a b [] less above = tt
 above_all a b (n ∷ ns) less above = (less_less a b n less above.0, above_all a b ns less above.1)
 
@@ -108,7 +109,7 @@ ascends_removed (e ∷ stored) sorted = ascends (removed e) (map removed stored)
     (each_removed (λ n. name_cmp e.0 n ≡ Less) stored (first pair_name e stored sorted))
     (ascends_removed stored (rest pair_name e stored sorted))
 
-ascends_passing : (file : List ℕ × Element) (files stored : Map) → Above file.0 (names_of files)
+ascends_passing : (file : List ℕ × Element) (files stored : Map) → ComesBeforeAll file.0 (names_of files)
     → ((other : Map) → NamesAscend pair_name other → NamesAscend changed_name (walked files other))
     → NamesAscend pair_name stored → NamesAscend changed_name (passing file (walked files) stored)
 ascends_passing file files [] above later sorted = ascends (put file.0 file.1) (walked files [])
@@ -116,18 +117,18 @@ ascends_passing file files [] above later sorted = ascends (put file.0 file.1) (
 ascends_passing file files (e ∷ stored) above later sorted =
     by (ascends_passing file files stored above later (rest pair_name e stored sorted)) (name_cmp e.0 file.0) refl
   where
-    beyond : Above e.0 (names_of stored)
+    beyond : ComesBeforeAll e.0 (names_of stored)
     beyond = first pair_name e stored sorted
 
     tail : NamesAscend pair_name stored
     tail = rest pair_name e stored sorted
 
     at_once : (o : Option Change) → ((change : Change) → o ≡ Some change → changed_name change ≡ file.0)
-        → Above file.0 (map changed_name (walked files stored))
+        → ComesBeforeAll file.0 (map changed_name (walked files stored))
         → NamesAscend changed_name (cons_option o (walked files stored))
     at_once None named all = later stored tail
     at_once (Some change) named all = ascends change (walked files stored)
-        (subst (λ n. Above n (map changed_name (walked files stored))) (sym (named change refl)) all)
+        (subst (λ n. ComesBeforeAll n (map changed_name (walked files stored))) (sym (named change refl)) all)
         (later stored tail)
 
     by : NamesAscend changed_name (passing file (walked files) stored) → (r : Ordering) → name_cmp e.0 file.0 ≡ r
@@ -142,7 +143,7 @@ ascends_passing file files (e ∷ stored) above later sorted =
     by behind Equal p = at_once (arrival file.0 (Some e.1) file.1)
         (λ change is. arrival_name file.0 e.1 file.1 change is)
         (each_walked (λ n. name_cmp file.0 n ≡ Less) files stored above
-        (subst (λ n. Above n (names_of stored)) (exact_bytes e.0 file.0 p) beyond))
+        (subst (λ n. ComesBeforeAll n (names_of stored)) (exact_bytes e.0 file.0 p) beyond))
     by behind Greater p =
         let less : name_cmp file.0 e.0 ≡ Less = greater_less e.0 file.0 p in
         ascends (put file.0 file.1) (walked files (e ∷ stored))
@@ -163,7 +164,7 @@ ascends_walked (file ∷ files) stored of_files of_stored =
 at_name : (name other : List ℕ) → is_at (name_cmp name) other ≡ bytes_eq other name
 at_name name other = is_eq-slice_cmp name other ∙ eq_back name other
 
-element_above : (name : List ℕ) (m : Map) → Above name (names_of m) → element_at m name ≡ None
+element_above : (name : List ℕ) (m : Map) → ComesBeforeAll name (names_of m) → element_at m name ≡ None
 element_above name [] above = refl
 element_above name (e ∷ m) above = rw (at_name name e.0, eq_back e.0 name, less_apart name e.0 above.0)
     (element_above name m above.1)
@@ -202,7 +203,7 @@ abbrev ExactAt : (name : List ℕ) (stored files : Map) → (changes : List Chan
 ExactAt name stored files changes = change_at name changes
     ≡ difference name (element_at stored name) (element_at files name)
 
-exact_passing : (file : List ℕ × Element) (files stored : Map) → Above file.0 (names_of files)
+exact_passing : (file : List ℕ × Element) (files stored : Map) → ComesBeforeAll file.0 (names_of files)
     → ((other : Map) → NamesAscend pair_name other → Exact (walked files other) other files)
     → NamesAscend pair_name stored → Exact (passing file (walked files) stored) stored (file ∷ files)
 exact_passing file files [] above later sorted name = by (bytes_eq file.0 name) refl (later [] sorted name)
@@ -219,7 +220,7 @@ exact_passing file files [] above later sorted name = by (bytes_eq file.0 name) 
 exact_passing file files (e ∷ stored) above later sorted name =
     by (exact_passing file files stored above later (rest pair_name e stored sorted) name) (name_cmp e.0 file.0) refl
   where
-    beyond : Above e.0 (names_of stored)
+    beyond : ComesBeforeAll e.0 (names_of stored)
     beyond = first pair_name e stored sorted
 
     tail : NamesAscend pair_name stored
@@ -232,7 +233,7 @@ exact_passing file files (e ∷ stored) above later sorted name =
     removes behind less true t =
         let named : e.0 ≡ name = same_names e.0 name t in
         let gone : element_at (file ∷ files) name ≡ None =
-        element_above name (file ∷ files) (subst (λ n. Above n (names_of (file ∷ files))) named
+        element_above name (file ∷ files) (subst (λ n. ComesBeforeAll n (names_of (file ∷ files))) named
         (less, above_all e.0 file.0 (names_of files) less above)) in
         change_is name (removed e) (passing file (walked files) stored) true t
         ∙ ap (λ n. let change : Change = Remove n in Some change) named
@@ -263,9 +264,9 @@ exact_passing file files (e ∷ stored) above later sorted name =
         let one : e.0 ≡ file.0 = exact_bytes e.0 file.0 tied in
         let named : file.0 ≡ name = same_names file.0 name t in
         let none_stored : element_at stored name ≡ None = element_above name stored
-        (subst (λ n. Above n (names_of stored)) (one ∙ named) beyond) in
+        (subst (λ n. ComesBeforeAll n (names_of stored)) (one ∙ named) beyond) in
         let none_working : element_at files name ≡ None = element_above name files
-        (subst (λ n. Above n (names_of files)) named above) in
+        (subst (λ n. ComesBeforeAll n (names_of files)) named above) in
         let none_later : change_at name (walked files stored) ≡ None =
         later stored tail name ∙ ap (λ o. difference name o (element_at files name)) none_stored
         ∙ ap (difference name None) none_working in
@@ -289,7 +290,7 @@ exact_passing file files (e ∷ stored) above later sorted name =
         let named : file.0 ≡ name = same_names file.0 name t in
         let less : name_cmp file.0 e.0 ≡ Less = greater_less e.0 file.0 above_it in
         let none : element_at (e ∷ stored) name ≡ None =
-        element_above name (e ∷ stored) (subst (λ n. Above n (names_of (e ∷ stored))) named
+        element_above name (e ∷ stored) (subst (λ n. ComesBeforeAll n (names_of (e ∷ stored))) named
         (less, above_all file.0 e.0 (names_of stored) less beyond)) in
         change_is name (put file.0 file.1) (walked files (e ∷ stored)) true t ∙ ap (λ n. Some (put n file.1)) named
         ∙ sym (ap (λ o. difference name o (element_at (file ∷ files) name)) none

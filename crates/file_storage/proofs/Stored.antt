@@ -42,7 +42,7 @@ use Rattle.element_store.specs.Stores.{entries_of, shape_of, view_in}
 use Rattle.element_maps.specs.Laws.{UntestedLaw}
 use Rattle.element_maps.specs.Storages.{IsConfigured, IsOpened}
 use Rattle.file_storage.specs.FileSessions.{stored_in}
-use Rattle.element_maps.specs.lemmas.InOrder.{Above}
+use Rattle.element_maps.specs.lemmas.InOrder.{ComesBeforeAll}
 use Rattle.file_storage.specs.StoredFiles.{IsStoredFile}
 
 -- ---- entries are files
@@ -105,7 +105,8 @@ mended_map (e ∷ es) = ap (λ p. p ∷ map element_of (map mended_entry es)) (s
 
 -- ---- a file with the last name of all
 
-above_at : (name : List ℕ) (m : Map) (e : List ℕ × Element) (more : Map) → Above name (names_of (m ++ e ∷ more))
+above_at : (name : List ℕ) (m : Map) (e : List ℕ × Element) (more : Map)
+    → ComesBeforeAll name (names_of (m ++ e ∷ more))
     → name_cmp name e.0 ≡ Less
 above_at name [] e more above = above.0
 above_at name (x ∷ m) e more above = above_at name m e more above.1

@@ -32,7 +32,7 @@ use Rattle.element_state.specs.declared.shapes.Shape.{Shape}
 use Rattle.element_state.specs.declared.shapes.View.{View}
 use Rattle.element_state.specs.Changes.{committed, committed_by}
 use Rattle.element_state.specs.Clean.{IsClean}
-use Rattle.element_state.specs.Kept.{KeptThroughout}
+use Rattle.element_state.specs.Kept.{KeptThroughout, KeptWhileMending}
 use Rattle.element_state.specs.Conditions.{IsShape}
 use Rattle.element_state.specs.Read.{IsView}
 use Rattle.element_state.specs.States.{Opens, State, greatest_generation, is_worn}
@@ -40,8 +40,8 @@ use Rattle.element_state.specs.Views.{map_of}
 use Rattle.element_state.specs.Written.{IsWithin, commit_cost, map_cost}
 use Rattle.element_laws.specs.Phases.{UntouchedLaw}
 use Rattle.element_maps.specs.Differences.{MakeInto}
-use Rattle.element_maps.specs.Laws.{CommittedLaw, CostLaw, DecidesLaw, HeldLaw, OthersLaw, UntestedLaw}
-use Rattle.element_maps.specs.Sessions.{IsHeld, IsSync, Passes}
+use Rattle.element_maps.specs.Laws.{CommittedLaw, CostLaw, DecidesLaw, HeldLaw, UnchangedNamesLaw, UntestedLaw}
+use Rattle.element_maps.specs.Sessions.{IsHeldElement, IsSync, PassesTest}
 use Rattle.element_maps.specs.Storages.{IsConfigured, IsDurable, IsStoring, KeepsEqual}
 use Rattle.element_maps.specs.lemmas.Names.{same_names}
 use Rattle.element_maps.specs.lemmas.Same.{both, same_is}
@@ -49,8 +49,8 @@ use Rattle.element_store.specs.declared.store.Store.{Store}
 use Rattle.element_store.specs.Changing.{KeepsOthers}
 use Rattle.element_store.specs.Committing.{index_in, index_length}
 use Rattle.element_store.specs.Stores.{IsUsed, entries_of, shape_of, view_in}
-use Rattle.element_laws.specs.lemmas.Untouched.{none_around, none_kept}
-use Rattle.file_storage.specs.FileSessions.{AreAsStored, FileSession, IsOpen, storage_of, stored_in}
+use Rattle.element_laws.specs.lemmas.Untouched.{kept_mending, none_around, none_kept}
+use Rattle.file_storage.specs.FileSessions.{AreAsStored, FilesInUse, IsOpen, storage_of, stored_in}
 use Rattle.file_storage.specs.Syncs.{IsSynced, WritesAtMost, is_synced, synced_view, worn}
 use Rattle.file_storage.specs.Walks.{walked}
 use Rattle.file_storage.proofs.Making.{walk_makes}
@@ -58,10 +58,10 @@ use Rattle.file_storage.proofs.Stored.{keys_are}
 
 -- ---- where nothing differs
 
-pub same_view : (s : FileSession) → is_synced s ≡ true → synced_view s ≡ view_in s.store
+pub same_view : (s : FilesInUse) → is_synced s ≡ true → synced_view s ≡ view_in s.store
 same_view s is = rw is refl
 
-pub differ_view : (s : FileSession) → is_synced s ≡ false
+pub differ_view : (s : FilesInUse) → is_synced s ≡ false
     → synced_view s ≡ committed (shape_of s.store) (view_in s.store) (stored_in s.store) s.session.files
 differ_view s is = rw is refl
 
@@ -70,7 +70,7 @@ pub none_storing : UntouchedLaw → (told : Bool) (shape : Shape) (after : State
 none_storing untouched told shape after m is law = record {
   elsewhere = λ tells file spared. refl;
   outside = λ tells quiet. none_around told shape.place m law quiet;
-  any_moment = λ tells. none_kept untouched told shape after m is law;
+  any_moment = λ tells. kept_mending shape after m m (none_kept untouched told shape after m is law);
   time = elapses_none law;
 }
 
@@ -79,7 +79,7 @@ pub opened_storing : (told : Bool) (shape : Shape) (old new : Medium)
     → (IsTrue told → Spares (IsOutside shape.place) old.image new.image)
     → (IsTrue told → Quiet old → EachCase (IsSettledOn (IsOutside shape.place) old.image) old
     new)
-    → (IsTrue told → (after : State) → KeptThroughout shape after old new) → Elapses old new → (after : State)
+    → (IsTrue told → (after : State) → KeptWhileMending shape after old new) → Elapses old new → (after : State)
     → IsStoring told shape after old new
 opened_storing told shape old new elsewhere outside any_moment time after = record {
   elsewhere = elsewhere;
@@ -91,12 +91,12 @@ opened_storing told shape old new elsewhere outside any_moment time after = reco
 within_none : (copies contents index written : ℕ) → IsWithin copies contents index written written
 within_none copies contents index written = omega arith
 
-pub none_written : (s : FileSession) (m : Medium) → WritesAtMost s m m
+pub none_written : (s : FilesInUse) (m : Medium) → WritesAtMost s m m
 none_written s m = within_none (shape_of s.store).place.copies
     (map_cost (shape_of s.store).kind (stored_in s.store) s.session.files)
     (index_length (shape_of s.store).kind (synced_view s).entries) m.written
 
-pub none_synced : DecidesLaw → (told : Bool) (s : FileSession) (m : Medium) → IsUsed told m.image s.store
+pub none_synced : DecidesLaw → (told : Bool) (s : FilesInUse) (m : Medium) → IsUsed told m.image s.store
     → is_synced s ≡ true → IsSynced told s s m m
 none_synced decides told s m used is = record {
   stored = (decides (stored_in s.store) s.session.files).0 is;
@@ -122,7 +122,7 @@ none_synced decides told s m used is = record {
 
 held : (kind : StoreKind) (stored : Option Element) (file : Element) (content : Content) → kind ≡ kinds.Files
     → file.content ≡ content → IsFile file → (is_good content ≡ false → stored ≡ Some file)
-    → IsHeld kind stored file content
+    → IsHeldElement kind stored file content
 held kind stored file (Good bytes) of_files is whole unreadable = record {
   info = subst (λ k. IsTrue (has_info k file.info)) (sym of_files) whole.informed;
   length = subst (λ c. core.HasLength c file.len) is whole.measured;
@@ -162,14 +162,14 @@ left_over true last e is = absurd (cc)
 below : (g : ℕ) → nat_le greatest_generation g ≡ false → g < greatest_generation
 below g e = grind (arith, nat_tests, e)
 
-pub generation_left : (s : FileSession) → worn s ≡ None → is_synced s ≡ false
+pub generation_left : (s : FilesInUse) → worn s ≡ None → is_synced s ≡ false
     → (view_in s.store).generation < greatest_generation
 generation_left s none differ = below (view_in s.store).generation
     (left_over (is_synced s) (is_worn (view_in s.store)) (not_worn_is _ _ none) differ)
 
 -- ---- what a commit makes
 
-passes : (files : Map) → Passes (λ bytes. true) files
+passes : (files : Map) → PassesTest (λ bytes. true) files
 passes files name file bytes at is = refl
 
 pub within_more : (copies contents more index before after : ℕ) → contents ≤ more
@@ -197,7 +197,7 @@ open_later config store later storage files is shape stored = record {
   unreadable = λ name file at bad. subst (λ (m : Map). element_at m name ≡ Some file) (sym stored) at;
 }
 
-view_then : CommittedLaw → (s : FileSession) (changes : List Change)
+view_then : CommittedLaw → (s : FilesInUse) (changes : List Change)
     → IsSync (shape_of s.store) (λ bytes. true) (view_in s.store) (stored_in s.store) s.session.files changes
     → is_synced s ≡ false
     → committed_by (shape_of s.store) (view_in s.store) changes ≡ synced_view s
@@ -205,7 +205,7 @@ view_then made s changes sync differ =
     made (shape_of s.store) (λ bytes. true) (view_in s.store) (stored_in s.store) s.session.files changes sync
     ∙ sym (differ_view s differ)
 
-module _ (s : FileSession) (changes : List Change) (sync : IsSync (shape_of s.store) (λ bytes. true) (view_in s.store)
+module _ (s : FilesInUse) (changes : List Change) (sync : IsSync (shape_of s.store) (λ bytes. true) (view_in s.store)
     (stored_in s.store) s.session.files changes)
     (differ : is_synced s ≡ false) (made : CommittedLaw) where
   abbrev pub cost_then : ℕ
@@ -231,7 +231,8 @@ module _ (s : FileSession) (changes : List Change) (sync : IsSync (shape_of s.st
       (index_length (shape_of s.store).kind (committed_by (shape_of s.store) (view_in s.store) changes).entries)
       old.written new.written (costs cost) within)
 
-  pub commit_synced : HeldLaw → UntestedLaw → CostLaw → OthersLaw → (told : Bool) (later : Store) (old new : Medium)
+  pub commit_synced : HeldLaw → UntestedLaw → CostLaw → UnchangedNamesLaw
+      → (told : Bool) (later : Store) (old new : Medium)
       → view_in later ≡ committed_by (shape_of s.store) (view_in s.store) changes → shape_of later ≡ shape_of s.store
       → IsUsed told new.image later
       → (IsTrue told → IsClean (shape_of s.store) old.image → IsClean (shape_of s.store) new.image) → Quiet new
@@ -271,7 +272,8 @@ module _ (s : FileSession) (changes : List Change) (sync : IsSync (shape_of s.st
   commit_storing told old new elsewhere outside any_moment time = record {
     elsewhere = elsewhere;
     outside = outside;
-    any_moment = λ tells. subst (λ (v : View). KeptThroughout (shape_of s.store) (Opens v []) old new)
-        (view_then made s changes sync differ) (any_moment tells);
+    any_moment = λ tells. kept_mending (shape_of s.store) (Opens (synced_view s) []) old new
+        (subst (λ (v : View). KeptThroughout (shape_of s.store) (Opens v []) old new)
+        (view_then made s changes sync differ) (any_moment tells));
     time = time;
   }

@@ -8,7 +8,7 @@ use Rattle.file_handles.specs.declared.storage.Storage.{Storage}
 use Rattle.file_handles.specs.Handling.{write}
 use Rattle.file_handles.specs.Opening.{can_open, open_file, would_fit}
 use Rattle.file_handles.specs.Sessions.{Session}
-use Rattle.file_handles.specs.Whole.{and_then, bytes_at, cat, plain, put, released, truncating}
+use Rattle.file_handles.specs.Whole.{and_then, bytes_of_file, cat, plain, put_whole, released, truncating}
 use Rattle.file_handles.specs.lemmas.Asked.{refused_ok}
 use Rattle.file_storage.proofs.Keeping.{Keeps, keeps_same, open_opens, write_changes}
 
@@ -35,14 +35,14 @@ cat_keeps storage s later name content now is =
     let o = made_of (open_file storage s name Read plain now) _ (content, later) is in
     let opens : Keeps s.files o.made.1.files = (open_opens storage s o.made.1 name Read plain now o.made.0
     o.first_is).files in
-    let given : List ℕ × Session = (bytes_at (element_at o.made.1.files name), released o.made.1 o.made.0) in
+    let given : List ℕ × Session = (bytes_of_file (element_at o.made.1.files name), released o.made.1 o.made.0) in
     let done : Ok given ≡ Ok (content, later) = o.next_is in
     let same : given ≡ (content, later) = cc in
     let files : later.files ≡ o.made.1.files = sym (ap (λ (r : List ℕ × Session). r.1.files) same) in
     keeps_both s.files o.made.1.files later.files opens (keeps_same o.made.1.files later.files files)
 
 pub put_keeps : (storage : Storage) (s later : Session) (name bytes : List ℕ) (now : ℕ)
-    → put storage s name bytes now ≡ Ok later → Keeps s.files later.files
+    → put_whole storage s name bytes now ≡ Ok later → Keeps s.files later.files
 put_keeps storage s later name bytes now is =
     let fits = refused_ok (can_open storage s name Write truncating) _ later is in
     let o = made_of (open_file storage s name Write truncating now) _ later

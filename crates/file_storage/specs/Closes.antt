@@ -3,10 +3,10 @@ use Rattle.std.specs.Prelude.{◌≡◌, ⊤}
 use Rattle.per_base.specs.declared.errors.PerError.{PerError}
 use Rattle.file_storage.specs.declared.syncing.Closed.{Closed}
 use Rattle.file_storage.specs.declared.syncing.Closed.TheVariants.{Done, Refused}
-use Rattle.file_storage.specs.FileSessions.{FileSession}
+use Rattle.file_storage.specs.FileSessions.{FilesInUse}
 
 -- this holds where the storage was closed, and that of the session and the error where it was refused
-abbrev pub MatchClosed : Closed → Type 0 → (FileSession → PerError → Type 0) → Type 0
+abbrev pub MatchClosed : Closed → Type 0 → (FilesInUse → PerError → Type 0) → Type 0
 MatchClosed Done P Q = P
 MatchClosed (Refused files error) P Q = Q files error
 

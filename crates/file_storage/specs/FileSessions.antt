@@ -15,7 +15,7 @@ use Rattle.element_store.specs.Stores.{shape_of, view_in}
 
 -- how it is configured, the storage in use below it, the working files with the handles on them, and the moment last
 -- given
-pub record FileSession : Type 0 where
+pub record FilesInUse : Type 0 where
   pub config : StorageData
   pub store : Store
   pub session : Session

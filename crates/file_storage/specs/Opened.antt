@@ -4,8 +4,8 @@ use Rattle.element_maps.specs.Storages.{Opened}
 use Rattle.file_storage.specs.declared.opening.OpenedFiles.{OpenedFiles}
 use Rattle.file_storage.specs.FileSessions.{stored_in}
 
-abbrev pub given : OpenedFiles → Opened
-given o = record {
+abbrev pub opened_as : OpenedFiles → Opened
+opened_as o = record {
   shape = shape_of o.files.store;
   view = view_in o.files.store;
   synced =

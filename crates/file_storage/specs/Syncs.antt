@@ -17,14 +17,14 @@ use Rattle.element_store.specs.Committing.{index_in, index_length}
 use Rattle.element_store.specs.Stores.{IsUsed, shape_of, view_in}
 use Rattle.element_maps.specs.Sessions as maps
 use Rattle.element_maps.specs.Storages.{IsDurable, KeepsEqual}
-use Rattle.file_storage.specs.FileSessions.{FileSession, stored_in}
+use Rattle.file_storage.specs.FileSessions.{FilesInUse, stored_in}
 
 -- the working files are those that are synchronised
-abbrev pub is_synced : FileSession → Bool
+abbrev pub is_synced : FilesInUse → Bool
 is_synced s = maps.same_map (stored_in s.store) s.session.files
 
 -- no generation is left for files that differ
-abbrev pub worn : FileSession → Option PerError
+abbrev pub worn : FilesInUse → Option PerError
 worn s = when (not (is_synced s) && is_worn (view_in s.store)) (LimitReached limit.Generations)
 
 -- a handle that only reads makes nothing durable
@@ -33,25 +33,25 @@ no_writer None = Some NotOpen
 no_writer (Some o) = when (not (writes o.0.cursor.kind)) IllegalWriteAccess
 
 -- what refuses a sync by the handle of this number
-abbrev pub sync_refused : FileSession → ℕ → Option PerError
+abbrev pub sync_refused : FilesInUse → ℕ → Option PerError
 sync_refused s number = first (no_writer (open_at s.session number)) (worn s)
 
 -- what refuses to close the storage
-abbrev pub close_refused : FileSession → Option PerError
+abbrev pub close_refused : FilesInUse → Option PerError
 close_refused s = first (busy (lowest s.session.handles)) (worn s)
 
 -- the view once the working files are durable: that of before where nothing differs
-abbrev pub synced_view : FileSession → View
-synced_view s = maps.synced_view (shape_of s.store) (view_in s.store) (stored_in s.store) s.session.files
+abbrev pub synced_view : FilesInUse → View
+synced_view s = maps.view_once_synced (shape_of s.store) (view_in s.store) (stored_in s.store) s.session.files
 
 -- in each copy at most the contents that differ, and the next index
-abbrev pub WritesAtMost : FileSession → (old new : Medium) → Type 0
+abbrev pub WritesAtMost : FilesInUse → (old new : Medium) → Type 0
 WritesAtMost s old new = IsWithin (shape_of s.store).place.copies
     (map_cost (shape_of s.store).kind (stored_in s.store) s.session.files)
     (index_length (shape_of s.store).kind (synced_view s).entries) old.written new.written
 
 -- the working files of a session are durable in a later one, and all else of it stays
-pub record IsSynced (told : Bool) (s later : FileSession) (old new : Medium) : Type 0 where
+pub record IsSynced (told : Bool) (s later : FilesInUse) (old new : Medium) : Type 0 where
   pub stored : stored_in later.store ≡ s.session.files
   pub view : view_in later.store ≡ synced_view s
   pub beside : later ≡ record s { store = later.store }

@@ -17,7 +17,7 @@ use deployment_model::StorageConfig;
 use per_base::{FileInfo, Name, PerError};
 
 impl Files {
-    /// Whether there is a file of this name. Takes no memory.
+    /// Whether there is a file of this name. Does not allocate.
     pub fn file_exists(&self, name: &Name) -> bool
         ensures { result ≡ has self.now.session.files name.now }
     {
@@ -36,7 +36,7 @@ impl Files {
         self.table.all_file_names()
     }
 
-    /// The length of the file of this name in bytes, also of an unreadable one. Takes no memory.
+    /// The length of the file of this name in bytes, also of an unreadable one. Does not allocate.
     ///
     /// # Errors
     ///
@@ -48,7 +48,7 @@ impl Files {
         self.table.current_file_size(name)
     }
 
-    /// The info of the file of this name, also of an unreadable one. Takes no memory.
+    /// The info of the file of this name, also of an unreadable one. Does not allocate.
     ///
     /// # Errors
     ///
@@ -60,14 +60,14 @@ impl Files {
         self.table.file_info(name)
     }
 
-    /// The size of the working files: names and contents. Takes no memory.
+    /// The size of the working files: names and contents. Does not allocate.
     pub fn current_size(&self) -> u64
         ensures { result ≡ size_of self.now.session.files }
     {
         self.table.current_size()
     }
 
-    /// Sets the moment, which writes and cuts of files take. Takes no memory.
+    /// Sets the moment, which writes and cuts of files take. Does not allocate.
     pub fn set_now(&mut self, now: u64)
         ensures { self.new ≡ record self.old { moment = now } }
     {

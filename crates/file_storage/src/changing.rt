@@ -33,7 +33,7 @@ impl Files {
         self.table.write(handle, bytes)
     }
 
-    /// Cuts the file to this size; a position beyond becomes the new size. Takes no memory.
+    /// Cuts the file to this size; a position beyond becomes the new size. Does not allocate.
     ///
     /// # Errors
     ///
@@ -48,7 +48,7 @@ impl Files {
         self.table.set_size(handle, size)
     }
 
-    /// Releases the handle; the working file stays. Takes no memory.
+    /// Releases the handle; the working file stays. Does not allocate.
     ///
     /// # Errors
     ///

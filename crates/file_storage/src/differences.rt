@@ -18,7 +18,7 @@ use std::alloc::{AllocError, Global};
 use std::cmp::Ordering;
 use std::collections::BTreeMap;
 
-/// Whether the working files are the stored ones. Takes no memory.
+/// Whether the working files are the stored ones. Does not allocate.
 pub fn are_same(entries: &[Entry], files: &BTreeMap<Name, File>) -> bool
     ensures { result ≡ same_map (map element_of entries.now) files.now.entries }
 {

@@ -13,7 +13,7 @@ use file_handles::FileTable;
 use std::alloc::Global;
 use std::marker::Model;
 
-/// An open file storage. Contracts see it as a `FileSession`.
+/// An open file storage. Contracts see it as a `FilesInUse`.
 #[derive(Drop)]
 pub struct Files {
     pub(crate) alloc: Global,
@@ -27,9 +27,9 @@ pub struct Files {
 impl Model for Files {
     ghost use Rattle.std.specs.Coded.{codes};
     ghost use Rattle.value_model.specs.Codes.{kind_code};
-    ghost use Rattle.file_storage.specs.FileSessions.{FileSession};
+    ghost use Rattle.file_storage.specs.FileSessions.{FilesInUse};
 
-    ghost Value = { FileSession };
+    ghost Value = { FilesInUse };
 
     ghost coded = { Prim.hlevel (codes, kind_code) };
 

@@ -9,7 +9,7 @@ use crate::files::Files;
 use per_base::{Origin, PerError};
 
 impl Files {
-    /// The next byte of the handle's file; the position stays. Takes no memory.
+    /// The next byte of the handle's file; the position stays. Does not allocate.
     ///
     /// # Errors
     ///
@@ -21,7 +21,7 @@ impl Files {
         self.table.peek_byte(handle)
     }
 
-    /// The next byte, which the position passes. Takes no memory.
+    /// The next byte, which the position passes. Does not allocate.
     ///
     /// # Errors
     ///
@@ -86,7 +86,7 @@ impl Files {
         self.table.read_line(handle, delimiter)
     }
 
-    /// The size of the handle's file in bytes. Takes no memory.
+    /// The size of the handle's file in bytes. Does not allocate.
     ///
     /// # Errors
     ///
@@ -98,7 +98,7 @@ impl Files {
         self.table.size(handle)
     }
 
-    /// The position of the handle. Takes no memory.
+    /// The position of the handle. Does not allocate.
     ///
     /// # Errors
     ///
@@ -110,7 +110,7 @@ impl Files {
         self.table.position(handle)
     }
 
-    /// Whether the position is the size. Takes no memory.
+    /// Whether the position is the size. Does not allocate.
     ///
     /// # Errors
     ///
@@ -122,7 +122,7 @@ impl Files {
         self.table.is_eof(handle)
     }
 
-    /// Moves the handle to this position. Takes no memory.
+    /// Moves the handle to this position. Does not allocate.
     ///
     /// # Errors
     ///
@@ -136,7 +136,7 @@ impl Files {
         self.table.set_position(handle, position)
     }
 
-    /// Moves the handle by an offset from the origin, and gives the new position. Takes no memory.
+    /// Moves the handle by an offset from the origin, and gives the new position. Does not allocate.
     ///
     /// # Errors
     ///

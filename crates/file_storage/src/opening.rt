@@ -20,7 +20,7 @@ ghost use Rattle.element_store.specs.Opened.{LacksNothing, OpensBy};
 ghost use Rattle.element_store.specs.Stores.{IsUsed};
 ghost use Rattle.element_maps.specs.Storages.{IsConfigured, IsOpened, IsStoring};
 ghost use Rattle.file_storage.specs.FileSessions.{stored_in};
-ghost use Rattle.file_storage.specs.Opened.{given};
+ghost use Rattle.file_storage.specs.Opened.{opened_as};
 ghost use Rattle.file_storage.specs.StoredFiles.{IsStoredFile};
 
 use crate::files::Files;
@@ -61,7 +61,7 @@ pub fn open_files<D: Disk>(
     requires configured { IsConfigured kinds.Files (storage_data config.now) shape }
 
     // The storage in use, by the index that was found; the working files are those that it shows.
-    ensures opened { IfOk result (λ o. IsOpened D.told (D.medium disk.old).image shape (λ bytes. true) (given o)) }
+    ensures opened { IfOk result (λ o. IsOpened D.told (D.medium disk.old).image shape (λ bytes. true) (opened_as o)) }
     ensures adopted { IsTrue D.told → IfOk result (λ o. OpensBy (D.medium disk.old).image shape
         (index_in o.files.store)) }
     ensures session { IfOk result (λ o. o.files.session ≡ record { files = stored_in o.files.store; handles = [] }) }

@@ -8,7 +8,7 @@ ghost use Rattle.file_handles.specs.Opening as opening;
 ghost use Rattle.file_handles.specs.Sessions.{open_at, without_handle};
 ghost use Rattle.file_storage.specs.contracts.files.Files.{the_row};
 ghost use Rattle.file_storage.specs.FileSessions.{storage_of};
-ghost use Rattle.file_storage.specs.Scopes.{closed};
+ghost use Rattle.file_storage.specs.Scopes.{without_open_handle};
 
 use crate::files::Files;
 use per_base::{Name, OpenKind, OpenMode, PerError};
@@ -60,7 +60,7 @@ impl Files {
 impl Files {
     /// Releases the handle of this number, where it is open; nothing else changes.
     fn release(&mut self, handle: u32)
-        ensures { self.new ≡ closed self.old handle }
+        ensures { self.new ≡ without_open_handle self.old handle }
     {
         self.table.invariants();
         let _closed = self.close(handle);
@@ -121,9 +121,9 @@ impl<'a> Scoped<'a> {
 }
 
 impl Drop for Scoped<'_> {
-    /// Closes the handle; nothing else changes. Takes no memory.
+    /// Closes the handle; nothing else changes. Does not allocate.
     fn drop(self)
-        ensures { self.exit.0.now ≡ closed self.entry.files.now self.entry.handle }
+        ensures { self.exit.0.now ≡ without_open_handle self.entry.files.now self.entry.handle }
     {
         let Scoped { files, handle } = self;
         files.release(handle);

@@ -246,7 +246,7 @@ impl Files {
         Ok(list)
     }
 
-    /// Whether the working files are the stored ones. Takes no memory.
+    /// Whether the working files are the stored ones. Does not allocate.
     fn is_synced(&self) -> bool
         ensures { result ≡ is_synced self.now }
     {

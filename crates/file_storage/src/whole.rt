@@ -2,7 +2,7 @@
 
 ghost use Rattle.std.specs.Prelude.{◌≡◌, IfErr, IfOk, OnErr, OnOk, Ok};
 ghost use Rattle.file_core.specs.Refusals.{IsRefusal, NeedsMemory};
-ghost use Rattle.file_handles.specs.Whole.{cat, put};
+ghost use Rattle.file_handles.specs.Whole.{cat, put_whole};
 ghost use Rattle.file_storage.specs.FileSessions.{storage_of};
 
 use crate::files::Files;
@@ -36,12 +36,12 @@ impl Files {
     ///
     /// Those of an opening for writing with the flag that truncates; those of `would_fit`; `OutOfMemory`.
     pub fn replace(&mut self, name: &Name, bytes: &[u8], now: u64) -> Result<(), PerError>
-        ensures ok { OnOk result (put (storage_of self.old.config) self.old.session name.now bytes.now now
+        ensures ok { OnOk result (put_whole (storage_of self.old.config) self.old.session name.now bytes.now now
             ≡ Ok self.new.session) }
         ensures refused { IfErr result (λ error. IsRefusal
-            (put (storage_of self.old.config) self.old.session name.now bytes.now now) error) }
+            (put_whole (storage_of self.old.config) self.old.session name.now bytes.now now) error) }
         ensures memory { IfErr result (λ error. error ≡ PerError.OutOfMemory
-            → NeedsMemory (put (storage_of self.old.config) self.old.session name.now bytes.now now)) }
+            → NeedsMemory (put_whole (storage_of self.old.config) self.old.session name.now bytes.now now)) }
         ensures moment { OnOk result (self.new.moment ≡ now) }
         ensures beside { self.new ≡ record self.old { session = self.new.session; moment = self.new.moment } }
         ensures unchanged { OnErr result (self.new ≡ self.old) }

@@ -11,12 +11,13 @@ use Rattle.flash_disk.specs.declared.layer.LayerState.{LayerState}
 use Rattle.flash_disk.specs.Newest.{record_at, places}
 use Rattle.flash_disk.specs.Known.{page_of}
 use Rattle.flash_disk.specs.Entries.{Occupies}
-use Rattle.flash_disk.specs.Learnt.{number, Adds}
+use Rattle.flash_disk.specs.Learnt.{number, AddsRecord}
 use Rattle.flash_disk.specs.FlashFiles.{flash_files}
 use Rattle.flash_disk.specs.Does.{Does}
 use Rattle.flash_disk.specs.PutPart.{PutPart, PutOrNot}
-use Rattle.flash_disk.specs.Standing.{StandsFor}
-use Rattle.flash_disk.specs.Sound.{files_of, Sound, IsSound, IsFresh, FitsIn, Enters, Pends, IsDescribedBy, LeavesPut}
+use Rattle.flash_disk.specs.Standing.{DenotesFiles}
+use Rattle.flash_disk.specs.Sound.{files_on, Sound, IsSoundLayer, HasFreshPage, FitsIn, Enters, Pends, IsDescribedBy}
+use Rattle.flash_disk.specs.Sound.{LeavesPut}
 use Rattle.flash_disk.specs.Sound.{ShowsSame, ShowsPage}
 use Rattle.flash_disk.proofs.Standing.{HasSameRecords, records_agreed}
 use Rattle.flash_disk.proofs.Growing.{adds_byte, adds_put, adds_agreed, grown_put}
@@ -26,7 +27,7 @@ use Rattle.flash_disk.proofs.Stretches.{does_nothing, does_then, does_weaken, pr
 use Rattle.flash_disk.proofs.Entering.{sound_usable, records_usable, adds_usable}
 
 -- nothing was put yet
-pub nothing_put : (m : FlashMedium) (s : LayerState) → IsSound m s → (file at len : ℕ) (bytes : List ℕ)
+pub nothing_put : (m : FlashMedium) (s : LayerState) → IsSoundLayer m s → (file at len : ℕ) (bytes : List ℕ)
     → LeavesPut file at bytes len m m.state.pages
 nothing_put m s sound file at len bytes = record {
   put = inl refl;
@@ -36,7 +37,7 @@ nothing_put m s sound file at len bytes = record {
 }
 
 -- no call was made
-pub puts_nothing : (told : Bool) (m : FlashMedium) → IsLawfulFlash told m → (s : LayerState) → IsSound m s
+pub puts_nothing : (told : Bool) (m : FlashMedium) → IsLawfulFlash told m → (s : LayerState) → IsSoundLayer m s
     → (file at len : ℕ) (bytes : List ℕ)
     → Does (LeavesPut file at bytes len m) m m
 puts_nothing told m lawful s sound file at len bytes = does_nothing m m (LeavesPut file at bytes len m) refl
@@ -49,7 +50,7 @@ shown_after a b d file page bytes same shown = λ f i. shown f i
     ∙ ap (λ z. cond (nat_eq f file && nat_eq (i / 256) page) (get_or bytes (i % 256) 0) z) (same f i)
 
 module _ (m now : FlashMedium) (s u : LayerState) (place : Place) (r : PageRecord) (whole : List ℕ)
-    (sound : IsSound m s) (room : s.fill < 64) (fits : FitsIn m s r.file r.page r.len r.bytes)
+    (sound : IsSoundLayer m s) (room : s.fill < 64) (fits : FitsIn m s r.file r.page r.len r.bytes)
     (full : length r.bytes ≡ 256)
     (at : place ≡ (let p : Place = record { block = s.current; page = s.fill } in p))
     (sequence : r.sequence ≡ s.sequence + 1)
@@ -60,7 +61,7 @@ module _ (m now : FlashMedium) (s u : LayerState) (place : Place) (r : PageRecor
   abbrev n : ℕ
   n = places m.blocks
 
-  abbrev fresh : IsFresh pages m.blocks s
+  abbrev fresh : HasFreshPage pages m.blocks s
   fresh = sound.fresh room
 
   abbrev block_is : place.block ≡ s.current
@@ -93,7 +94,7 @@ module _ (m now : FlashMedium) (s u : LayerState) (place : Place) (r : PageRecor
   abbrev written : Pages
   written = program_page pages place.block place.page whole
 
-  adds : Adds pages written n place r
+  adds : AddsRecord pages written n place r
   adds = whole_add pages n place whole r small within blank is newer
 
   -- the state while the record is added
@@ -119,7 +120,8 @@ module _ (m now : FlashMedium) (s u : LayerState) (place : Place) (r : PageRecor
     fresh = λ more. absurd (omega (arith, more));
   }
 
-  entering : (w : Option Place) (left : Pages) → TornPage place.block place.page pages left → Adds pages left n place r
+  entering : (w : Option Place) (left : Pages) → TornPage place.block place.page pages left
+      → AddsRecord pages left n place r
       → Enters pages left m.blocks (adding w) place r
   entering w left torn added = record {
     adds = added;
@@ -135,7 +137,7 @@ module _ (m now : FlashMedium) (s u : LayerState) (place : Place) (r : PageRecor
   pub added_sound : now.state ≡ programmed m.state place.block place.page whole → now.blocks ≡ m.blocks
       → (after : LayerState)
       → ((old new : Pages) (b : ℕ) → Sound old b u → IsFalse u.disputed → Enters old new b u place r
-      → Sound new b after) → IsSound now after
+      → Sound new b after) → IsSoundLayer now after
   added_sound done blocks after enters =
       let state : adding s.unsure ≡ u = sym on in
       subst (λ b. Sound now.state.pages b after) (sym blocks)
@@ -161,10 +163,10 @@ module _ (m now : FlashMedium) (s u : LayerState) (place : Place) (r : PageRecor
       (entering s.unsure written (whole_torn pages place.block place.page whole) adds)))
 
   pub added_put : now.state ≡ programmed m.state place.block place.page whole → now.blocks ≡ m.blocks
-      → PutPart r.file (256 * r.page) r.bytes r.len (files_of m) (files_of now)
-  added_put done blocks = subst (λ b. PutPart r.file (256 * r.page) r.bytes r.len (files_of m)
+      → PutPart r.file (256 * r.page) r.bytes r.len (files_on m) (files_on now)
+  added_put done blocks = subst (λ b. PutPart r.file (256 * r.page) r.bytes r.len (files_on m)
       (flash_files now.state.pages b)) (sym blocks)
-      (subst (λ (z : FlashState). PutPart r.file (256 * r.page) r.bytes r.len (files_of m)
+      (subst (λ (z : FlashState). PutPart r.file (256 * r.page) r.bytes r.len (files_on m)
       (flash_files z.pages m.blocks)) (sym done)
       (adds_put pages written m.blocks place r adds fits.no_shorter fits.grows full))
 
@@ -198,7 +200,8 @@ module _ (m now : FlashMedium) (s u : LayerState) (place : Place) (r : PageRecor
           may_enter = λ q there. (let same : q ≡ r = torn_is pages left (number place) r q torn there in
               subst (Enters pages left m.blocks (adding (Some place)) place) (sym same)
               (entering (Some place) left failed.torn
-              (subst (Adds pages left n place) same (torn_adds_there pages left n place r small within nothing newer
+              (subst (AddsRecord pages left n place) same (torn_adds_there pages left n place r small within nothing
+              newer
               torn q there))));
         });
       })
@@ -206,7 +209,7 @@ module _ (m now : FlashMedium) (s u : LayerState) (place : Place) (r : PageRecor
   abbrev pub Puts : Pages → Type 0
   Puts = LeavesPut r.file (256 * r.page) r.bytes r.len m
 
-  leaves : (left : Pages) → HasSameRecords pages left ⊎ Adds pages left n place r → Puts left
+  leaves : (left : Pages) → HasSameRecords pages left ⊎ AddsRecord pages left n place r → Puts left
   leaves left grows = record {
     put = grown_put pages left m.blocks place r grows fits.no_shorter fits.grows full;
     usable = ⊎_elim
@@ -230,9 +233,9 @@ module _ (m now : FlashMedium) (s u : LayerState) (place : Place) (r : PageRecor
       (leaves written (inr adds))
       (λ left torn plain. leaves left (torn_add pages n place whole r small within blank is newer left torn plain))
 
-module _ (a b c : FlashMedium) (first : FlashElapses a b) (early : Does (StandsFor a) a b) (file at len : ℕ)
+module _ (a b c : FlashMedium) (first : FlashElapses a b) (early : Does (DenotesFiles a) a b) (file at len : ℕ)
     (bytes : List ℕ) where
-  same_files : files_of b ≡ files_of a
+  same_files : files_on b ≡ files_on a
   same_files = ap (λ k. flash_files b.state.pages k) first.blocks ∙ early.now.files_are
 
   -- what is left of the part that is put after it
@@ -246,12 +249,12 @@ module _ (a b c : FlashMedium) (first : FlashElapses a b) (early : Does (StandsF
       }
 
   -- nothing is put in it
-  not_put : (left : Pages) → StandsFor a left → LeavesPut file at bytes len a left
+  not_put : (left : Pages) → DenotesFiles a left → LeavesPut file at bytes len a left
   not_put left stands = record { put = inl stands.files_are; usable = stands.usable; agreed = stands.agreed }
 
   -- such a stretch alone
   pub puts_not : Does (LeavesPut file at bytes len a) a b
-  puts_not = does_weaken a b (StandsFor a) (LeavesPut file at bytes len a) not_put early
+  puts_not = does_weaken a b (DenotesFiles a) (LeavesPut file at bytes len a) not_put early
 
   -- a part is put after a stretch that changes no file
   pub puts_then : FlashElapses b c → Does (LeavesPut file at bytes len b) b c → Does (LeavesPut file at bytes len a) a c

@@ -12,8 +12,8 @@ use Rattle.std.proofs.lemmas.List.Sums.{sum_by-le}
 use Rattle.flash_disk.specs.declared.table.FilePage.{FilePage}
 use Rattle.flash_disk.specs.declared.table.Newest.{Newest}
 use Rattle.flash_disk.specs.declared.table.Table.{Table}
-use Rattle.flash_disk.specs.Known.{same_page, known, page_len, limit_of, load_known, Puts, SameRecords}
-use Rattle.flash_disk.specs.Counted.{leads_into, had_in, entries_in, IsInside, IsCounted}
+use Rattle.flash_disk.specs.Known.{same_page, known, page_len, limit_of, load_known, SetsEntry, SameRecords}
+use Rattle.flash_disk.specs.Counted.{leads_into, had_in, entries_in, IsInside, IsCountedTable}
 
 module _ {S : Type 0} (block : ℕ) (m n : HashMap FilePage Newest S) (key : FilePage) (w : Newest) where
   abbrev Counts : Type 0
@@ -58,10 +58,10 @@ entries_le table block =
     omega (arith, sum, length-values_of table.newest.entries)
 
 -- nothing of the counts changed
-pub same_counted : (blocks : ℕ) (old new : Table) → IsCounted blocks old → SameRecords old new
+pub same_counted : (blocks : ℕ) (old new : Table) → IsCountedTable blocks old → SameRecords old new
     → limit_of new ≡ limit_of old
     → ((block : ℕ) → entries_in new block ≡ entries_in old block) → new.load ≡ old.load → new.blocks ≡ old.blocks
-    → IsCounted blocks new
+    → IsCountedTable blocks new
 same_counted blocks old new counted same limit entries load blocks_are = record {
   some = counted.some;
   few = counted.few;
@@ -84,9 +84,9 @@ pub record Recounts (old new : Table) : Type 0 where
 pub recounts_refl : (table : Table) → Recounts table table
 recounts_refl table = record { newest = refl; blocks = refl; loads = refl; limit = refl }
 
-module _ (blocks : ℕ) (old mid less new : Table) (key : FilePage) (e : Newest) (counted : IsCounted blocks old)
+module _ (blocks : ℕ) (old mid less new : Table) (key : FilePage) (e : Newest) (counted : IsCountedTable blocks old)
     (inside : IsInside blocks e)
-    (puts : Puts old mid key e) (limit : limit_of mid ≡ limit_of old)
+    (puts : SetsEntry old mid key e) (limit : limit_of mid ≡ limit_of old)
     (sums : (block : ℕ) → entries_in mid block + had_in block (known old key)
     ≡ entries_in old block + leads_into block e)
     (load : mid.load ≡ old.load) (blocks_are : mid.blocks ≡ old.blocks) where
@@ -99,7 +99,7 @@ module _ (blocks : ℕ) (old mid less new : Table) (key : FilePage) (e : Newest)
       → Recounts less new
       → (load_known less e.place.block < 4294967295 → e.place.block < length less.load.items → (block : ℕ)
       → load_known new block ≡ load_known less block + leads_into block e)
-      → IsCounted blocks new
+      → IsCountedTable blocks new
   put_counted first fewer second more =
       let newest : new.newest ≡ mid.newest = second.newest ∙ first.newest in
       let loads_mid : length mid.load.items ≡ blocks = ap (λ v. length v.items) load ∙ counted.loads in
@@ -136,7 +136,7 @@ module _ (blocks : ℕ) (old mid less new : Table) (key : FilePage) (e : Newest)
 pub fewer_by : (blocks : ℕ) (old mid less : Table) (key : FilePage) (v : Newest) → known old key ≡ Some v
     → (v.place.block < length mid.load.items → (block : ℕ)
     → load_known less block ≡ load_known mid block - leads_into block v)
-    → IsCounted blocks old → mid.load ≡ old.load → (block : ℕ)
+    → IsCountedTable blocks old → mid.load ≡ old.load → (block : ℕ)
     → load_known less block ≡ load_known mid block - had_in block (known old key)
 fewer_by blocks old mid less key v is fewer counted load block =
     let loads : length mid.load.items ≡ blocks = ap (λ q. length q.items) load ∙ counted.loads in

@@ -15,12 +15,12 @@ use Rattle.flash_disk.specs.declared.table.Table.{Table}
 use Rattle.flash_disk.specs.declared.layer.LayerState.{LayerState}
 use Rattle.flash_disk.specs.Newest.{Placed, record_at, newest, places, page_count, IsUsable}
 use Rattle.flash_disk.specs.Known.{same_page, page_of, known, page_len, limit_of, len_in, len_known, HasLenIn, HasLen}
-use Rattle.flash_disk.specs.Known.{Puts, Lengthens}
-use Rattle.flash_disk.specs.Counted.{IsCounted}
-use Rattle.flash_disk.specs.Learnt.{number, Led, LedOf, IsLed, Adds, HasPlace, Tops}
+use Rattle.flash_disk.specs.Known.{SetsEntry, Lengthens}
+use Rattle.flash_disk.specs.Counted.{IsCountedTable}
+use Rattle.flash_disk.specs.Learnt.{number, Led, LedOf, IsLed, AddsRecord, HasPlace, Tops}
 use Rattle.flash_disk.specs.FlashFiles.{file_len, IsFileLen}
 use Rattle.flash_disk.proofs.FlashFilesLaws.{file_len_is, one_len}
-use Rattle.flash_disk.specs.Sound.{Sound, IsSound, Enters, Pends, PendsAt, IsDescribedBy}
+use Rattle.flash_disk.specs.Sound.{Sound, IsSoundLayer, Enters, Pends, PendsAt, IsDescribedBy}
 use Rattle.flash_disk.proofs.Standing.{HasSameRecords, records_known, records_tops, records_alike, records_spare}
 use Rattle.flash_disk.proofs.Standing.{records_count, records_agreed, same_said_strayless}
 use Rattle.flash_disk.proofs.Tearing.{torn_same, torn_page}
@@ -81,7 +81,7 @@ one_more_fits len limit (Some e) fits place = let e : len + 0 ≤ limit = omega 
 
 -- and where a record came for which there was a place
 pub adds_usable : (old new : Pages) (blocks : ℕ) (s : LayerState) (place : Place) (r : PageRecord) → Sound old blocks s
-    → Adds old new (places blocks) place r
+    → AddsRecord old new (places blocks) place r
     → HasPlace s.table (page_of r) → place.block ≢ s.spare → IsUsable new blocks
 adds_usable old new blocks s place r sound adds has apart =
     let n = places blocks in
@@ -167,7 +167,7 @@ same_sound old new blocks s sound calm same blank = record {
   };
 }
 
--- a torn page in front of the blank ones leaves them so
+-- a torn page before the blank ones leaves them so
 pub still_blank : (old new : Pages) (block page current fill : ℕ) → TornPage block page old new
     → (block ≡ current → page < fill)
     → (p : ℕ) → fill ≤ p → p < 64 → new current p ≡ old current p
@@ -177,7 +177,7 @@ still_blank old new block page current fill torn behind p past small = torn curr
     (cases_eq current block))
 
 -- what fits the pages is what was kept
-pub sound_holds : (m : FlashMedium) (s : LayerState) → IsSound m s → s.unsure ≡ None → IsDescribedBy m s
+pub sound_holds : (m : FlashMedium) (s : LayerState) → IsSoundLayer m s → s.unsure ≡ None → IsDescribedBy m s
 sound_holds m s sound sure = record {
   sure = m.state.pages;
   sound = sound;
@@ -185,7 +185,7 @@ sound_holds m s sound sure = record {
 }
 
 -- nothing that is kept is in doubt
-pub holds_sound : (m : FlashMedium) (s : LayerState) → IsDescribedBy m s → s.unsure ≡ None → IsSound m s
+pub holds_sound : (m : FlashMedium) (s : LayerState) → IsDescribedBy m s → s.unsure ≡ None → IsSoundLayer m s
 holds_sound m s holds sure =
     let same : m.state.pages ≡ holds.sure = subst (PendsAt holds.sure m.state.pages m.blocks s) sure holds.pends in
     subst (λ p. Sound p m.blocks s) (sym same) holds.sound
@@ -251,14 +251,14 @@ module _ (m now : FlashMedium) (s t : LayerState) (place : Place) (holds : IsDes
 module _ (old new : Pages) (blocks : ℕ) (s : LayerState) (place : Place) (r : PageRecord)
     (sound : Sound old blocks s) (agreed : IsFalse s.disputed) (enters : Enters old new blocks s place r)
     (e : Newest) (is : IsItsEntry old new (places blocks) place r enters.adds e)
-    (mid after : Table) (puts : Puts s.table mid (page_of r) e) (mid_lens : mid.lens ≡ s.table.lens)
+    (mid after : Table) (puts : SetsEntry s.table mid (page_of r) e) (mid_lens : mid.lens ≡ s.table.lens)
     (mid_limit : limit_of mid ≡ limit_of s.table)
     (done : Bool) (lengthened : IsTrue done → Lengthens mid after r.file r.len)
     (has : IsTrue done → (f : ℕ) → HasLen mid f ⊎ (f ≡ r.file) → HasLen after f)
     (succeeds : (0 < spare mid.lens) ⊎ HasLen mid r.file → IsTrue done)
     (takes : spare mid.lens ≤ spare after.lens + 1) (in_place : HasLen mid r.file → spare mid.lens ≤ spare after.lens)
     (records : after.newest ≡ mid.newest) (limit : limit_of after ≡ limit_of mid)
-    (counted : IsCounted blocks s.table → e.place.block < blocks → IsCounted blocks after) where
+    (counted : IsCountedTable blocks s.table → e.place.block < blocks → IsCountedTable blocks after) where
   abbrev n : ℕ
   n = places blocks
 

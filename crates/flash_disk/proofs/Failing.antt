@@ -8,7 +8,7 @@ use Rattle.flash_model.specs.FlashMedium.{FlashMedium}
 use Rattle.flash_disk.specs.declared.layer.LayerState.{LayerState}
 use Rattle.flash_disk.specs.Newest.{places, page_count, page_limit}
 use Rattle.flash_disk.specs.Standing.{IsAgreed, HasRivals}
-use Rattle.flash_disk.specs.Sound.{IsSound}
+use Rattle.flash_disk.specs.Sound.{IsSoundLayer}
 use Rattle.flash_disk.specs.Known.{page_len, limit_of}
 use Rattle.flash_disk.specs.Counted.{missing}
 use Rattle.flash_disk.specs.OwnFaults.{unrecorded, EndsTooLate, WantsTooMany, IsAllowed, TakesPages, StopsAdding}
@@ -18,7 +18,7 @@ use Rattle.flash_disk.proofs.PageCount.{missing_is}
 use Rattle.flash_disk.proofs.Affording.{same_missing}
 
 -- the write wants more pages than there is room for
-pub wants_too_many : (m : FlashMedium) (s : LayerState) (file at n end : ℕ) → IsSound m s → end ≡ at + n
+pub wants_too_many : (m : FlashMedium) (s : LayerState) (file at n end : ℕ) → IsSoundLayer m s → end ≡ at + n
     → (missing s.table file (at / 256) (div_ceil end 256 - at / 256) ≤ limit_of s.table - page_len s.table → ⊥)
     → WantsTooMany m file at n
 wants_too_many m s file at n end sound is full =
@@ -32,7 +32,7 @@ wants_too_many m s file at n end sound is full =
     (omega (arith, limit, known_pages, misses, many))
 
 -- there is room for the write
-pub has_room_for : (m : FlashMedium) (s : LayerState) (file at n end : ℕ) → IsSound m s → end ≡ at + n
+pub has_room_for : (m : FlashMedium) (s : LayerState) (file at n end : ℕ) → IsSoundLayer m s → end ≡ at + n
     → missing s.table file (at / 256) (div_ceil end 256 - at / 256) ≤ limit_of s.table - page_len s.table
     → page_count m.state.pages (places m.blocks) + unrecorded m.state.pages (places m.blocks) file (at / 256)
     (div_ceil (at + n) 256 - at / 256) ≤ page_limit m.blocks
@@ -48,7 +48,7 @@ has_room_for m s file at n end sound is room =
     (omega (arith, limit, few, known_pages, misses, room))
 
 -- a write that is too long or too much was not begun
-pub not_begun : (m : FlashMedium) (s : LayerState) (file at n end : ℕ) → IsSound m s → end ≡ at + n
+pub not_begun : (m : FlashMedium) (s : LayerState) (file at n end : ℕ) → IsSoundLayer m s → end ≡ at + n
     → end ≤ 1099511627776
     → missing s.table file (at / 256) (div_ceil end 256 - at / 256) ≤ limit_of s.table - page_len s.table
     → EndsTooLate at n ⊎ WantsTooMany m file at n → ⊥
@@ -57,7 +57,8 @@ not_begun m s file at n end sound is late room why =
     ⊎_elim (λ ends. omega (arith, ends, late, is)) (λ many. omega (arith, many, fits)) why
 
 -- a write for which there was room, into pages that agree
-pub allowed : (m : FlashMedium) (s : LayerState) (file at n end : ℕ) → IsSound m s → end ≡ at + n → end ≤ 1099511627776
+pub allowed : (m : FlashMedium) (s : LayerState) (file at n end : ℕ) → IsSoundLayer m s → end ≡ at + n → end
+    ≤ 1099511627776
     → missing s.table file (at / 256) (div_ceil end 256 - at / 256) ≤ limit_of s.table - page_len s.table
     → IsFalse s.disputed → IsAllowed m file at n
 allowed m s file at n end sound is late room calm = record {
@@ -68,7 +69,7 @@ allowed m s file at n end sound is late room calm = record {
 
 -- the pages that it takes are those that it lacked: a has the table s, whose entries are those of u when its pages are
 -- written
-pub takes_pages : (a d : FlashMedium) (s u t : LayerState) (file at n : ℕ) → IsSound a s → IsSound d t
+pub takes_pages : (a d : FlashMedium) (s u t : LayerState) (file at n : ℕ) → IsSoundLayer a s → IsSoundLayer d t
     → SameEntries s.table u.table
     → page_len t.table ≤ page_len u.table + missing u.table file (at / 256) (div_ceil (at + n) 256 - at / 256)
     → TakesPages a d file at n
@@ -91,7 +92,7 @@ Fails pages blocks t file at n = EndsTooLate at n
 
 -- what a write says after calls that only look, said of the flash before them
 pub fails_alone : (a b : FlashMedium) (s t : LayerState) (file at n : ℕ) → b.state ≡ a.state → b.blocks ≡ a.blocks
-    → IsSound b s → t.disputed ≡ s.disputed
+    → IsSoundLayer b s → t.disputed ≡ s.disputed
     → EndsTooLate at n ⊎ (WantsTooMany b file at n ⊎ StopsAdding t) → FailsAlone a t.sequence file at n
 fails_alone a b s t file at n state blocks sound disputed why =
     let here : Fails b.state.pages b.blocks t file at n = ⊎_elim

@@ -9,7 +9,8 @@ use Rattle.flash_model.specs.Pages.{Pages}
 use Rattle.flash_record.specs.PageRecord.{PageRecord}
 use Rattle.flash_disk.specs.Newest.{Placed, record_at, newest, places, IsNewest, IsNewestOf}
 use Rattle.flash_disk.proofs.NewestLaws.{newest_is}
-use Rattle.flash_disk.specs.FlashFiles.{file_byte, lies_at, len_at, longest_below, file_len, flash_files, IsFileLen}
+use Rattle.flash_disk.specs.FlashFiles.{file_byte, lies_at, len_in_place, longest_below, file_len, flash_files}
+use Rattle.flash_disk.specs.FlashFiles.{IsFileLen}
 
 both_parts : (a b : Bool) → (a && b) ≡ true → (a ≡ true) × (b ≡ true)
 both_parts true true e = (refl, refl)
@@ -19,7 +20,7 @@ both_parts false b e = absurd (true≢false (sym e))
 module _ (pages : Pages) (n file : ℕ) where
   -- the newest record of a page of the file counts in its place
   counts : (page : ℕ) (x : Placed) → newest pages file page n ≡ Some x
-      → (x.place < n) × (len_at pages n file x.place (record_at pages x.place) ≡ x.says.len)
+      → (x.place < n) × (len_in_place pages n file x.place (record_at pages x.place) ≡ x.says.len)
   counts page x is =
       let is_newest : IsNewest pages file page n x = subst (IsNewestOf pages file page n) is
       (newest_is pages file page n) in
@@ -33,12 +34,12 @@ module _ (pages : Pages) (n file : ℕ) where
         rw is_newest.there (rw (own, eq-eqb x.says.file file f, eq-eqb x.place x.place refl) refl),
       )
 
-  reaches : (k j : ℕ) → j < k → len_at pages n file j (record_at pages j) ≤ longest_below pages n file k
+  reaches : (k j : ℕ) → j < k → len_in_place pages n file j (record_at pages j) ≤ longest_below pages n file k
   reaches zero j within = absurd (omega arith)
   reaches (suc k) j within = ⊎_elim
       (λ below. let le = reaches k j below in omega arith)
-      (λ past. let e : k ≡ j = omega arith in subst (λ q. len_at pages n file q (record_at pages q)
-      ≤ max (longest_below pages n file k) (len_at pages n file k (record_at pages k))) e (omega arith))
+      (λ past. let e : k ≡ j = omega arith in subst (λ q. len_in_place pages n file q (record_at pages q)
+      ≤ max (longest_below pages n file k) (len_in_place pages n file k (record_at pages k))) e (omega arith))
       (cases_lt j k)
 
   -- a newest record of a page of the file says so
@@ -66,7 +67,7 @@ module _ (pages : Pages) (n file : ℕ) where
       by_lies i r here (eqb-true r.file file parts.0) (newest pages r.file r.page n) refl
       (newest_is pages r.file r.page n) parts.1
 
-  at_place : (i : ℕ) (o : Option PageRecord) → record_at pages i ≡ o → Says (len_at pages n file i o)
+  at_place : (i : ℕ) (o : Option PageRecord) → record_at pages i ≡ o → Says (len_in_place pages n file i o)
   at_place i None here = inl refl
   at_place i (Some r) here = by_test i r here (nat_eq r.file file && lies_at i (newest pages r.file r.page n)) refl
 
@@ -78,7 +79,8 @@ module _ (pages : Pages) (n file : ℕ) where
 
   says_one : (k : ℕ) → Says (longest_below pages n file k)
   says_one zero = inl refl
-  says_one (suc k) = greater (longest_below pages n file k) (len_at pages n file k (record_at pages k)) (says_one k)
+  says_one (suc k) = greater (longest_below pages n file k) (len_in_place pages n file k (record_at pages k))
+      (says_one k)
       (at_place k (record_at pages k) refl)
 
   pub file_len_is : IsFileLen pages n file (file_len pages n file)

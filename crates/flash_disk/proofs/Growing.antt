@@ -14,7 +14,7 @@ use Rattle.flash_disk.specs.declared.table.Place.{Place}
 use Rattle.flash_disk.specs.Newest.{is_of, newest, places, IsSpare}
 use Rattle.flash_disk.specs.FlashFiles.{byte_in, file_byte, file_len, flash_files}
 use Rattle.flash_disk.proofs.FlashFilesLaws.{file_len_is, one_len, length-flash_files, byte-flash_files}
-use Rattle.flash_disk.specs.Learnt.{number, Adds}
+use Rattle.flash_disk.specs.Learnt.{number, AddsRecord}
 use Rattle.flash_disk.specs.Standing.{IsAgreed, IsStrayless, MayGrow}
 use Rattle.flash_disk.specs.PutPart.{in_range, PutPart, PutOrNot}
 use Rattle.flash_disk.proofs.Programming.{placed, still, either, newest_here, newest_elsewhere}
@@ -33,7 +33,7 @@ other_page file page r other = ⊎_elim
     (λ is. is)
     (cases_Bool (is_of file page r))
 
-module _ (old new : Pages) (n : ℕ) (place : Place) (r : PageRecord) (adds : Adds old new n place r) where
+module _ (old new : Pages) (n : ℕ) (place : Place) (r : PageRecord) (adds : AddsRecord old new n place r) where
   -- the newest record of a page is the one that was added, or the one that it was
   by_page : (file page : ℕ) → ((file ≡ r.file) × (page ≡ r.page)
       × (newest new file page n ≡ Some (placed old new n place r adds)))
@@ -187,7 +187,8 @@ out_of_page page i apart = ⊎_elim
     (cases_lt i (256 * page + 256)))))
     (cases_lt i (256 * page))
 
-module _ (old new : Pages) (blocks : ℕ) (place : Place) (r : PageRecord) (adds : Adds old new (places blocks) place r)
+module _ (old new : Pages) (blocks : ℕ) (place : Place) (r : PageRecord)
+    (adds : AddsRecord old new (places blocks) place r)
     (no_shorter : file_len old (places blocks) r.file ≤ r.len) where
   long_is : length (flash_files new blocks r.file) ≡ r.len
   long_is = length-flash_files new blocks r.file ∙ adds_len old new (places blocks) place r adds no_shorter
@@ -241,7 +242,7 @@ module _ (old new : Pages) (blocks : ℕ) (place : Place) (r : PageRecord) (adds
 
 -- the record was added, or no record changed: its bytes were put into its file, or no file changed
 pub grown_put : (old left : Pages) (blocks : ℕ) (place : Place) (r : PageRecord)
-    → HasSameRecords old left ⊎ Adds old left (places blocks) place r
+    → HasSameRecords old left ⊎ AddsRecord old left (places blocks) place r
     → file_len old (places blocks) r.file ≤ r.len → MayGrow old (places blocks) r.file r.page r.len
     → length r.bytes ≡ 256
     → PutOrNot r.file (256 * r.page) r.bytes r.len (flash_files old blocks) (flash_files left blocks)

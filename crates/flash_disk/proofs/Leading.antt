@@ -9,7 +9,7 @@ use Rattle.flash_disk.specs.Newest.{Placed, newest}
 use Rattle.flash_disk.specs.FlashFiles.{IsFileLen}
 use Rattle.std.specs.HashMap.{get, hash_map_len, spare}
 use Rattle.flash_disk.specs.Known.{same_page, known, limit_of, len_known, IsLongest}
-use Rattle.flash_disk.specs.Learnt.{LedOf, IsLed, Knows}
+use Rattle.flash_disk.specs.Learnt.{LedOf, IsLed, KnowsLengths}
 
 module _ (pages : Pages) (n : ℕ) where
   module _ (file : ℕ) where
@@ -55,7 +55,7 @@ module _ (pages : Pages) (n : ℕ) where
 
   -- the lengths were taken from the entries
   pub measured : (old new : Table) → IsLed pages n old → new.newest ≡ old.newest → limit_of new ≡ limit_of old
-      → ((file : ℕ) → IsLongest old.newest file (len_known new file)) → Knows pages n new
+      → ((file : ℕ) → IsLongest old.newest file (len_known new file)) → KnowsLengths pages n new
   measured old new led same limit longest = record {
     led = same_newest old new led same limit;
     lens = λ file. len_is file old (len_known new file) led (longest file);

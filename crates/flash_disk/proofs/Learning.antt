@@ -16,7 +16,7 @@ use Rattle.flash_disk.specs.declared.table.Table.{Table}
 use Rattle.flash_disk.specs.Newest.{Placed, record_at, is_of, newer, with_record, newest, opens_page, page_count}
 use Rattle.flash_disk.specs.Newest.{IsNewest, IsNewestOf}
 use Rattle.flash_disk.proofs.NewestLaws.{newest_is}
-use Rattle.flash_disk.specs.Known.{same_page, page_of, known, page_len, limit_of, Puts, HasRoom}
+use Rattle.flash_disk.specs.Known.{same_page, page_of, known, page_len, limit_of, SetsEntry, HasCapacity}
 use Rattle.flash_disk.specs.Learnt.{number, TwinSays, Unrivalled, Learns, LearnsOf, HasLearnt, LearnsNext, SaysTheSame}
 use Rattle.flash_disk.specs.Learnt.{TwinAt, RivalledAt}
 use Rattle.flash_disk.specs.Standing.{IsRivalled}
@@ -201,7 +201,7 @@ module _ (pages : Pages) (n : ℕ) where
     by_key old entry learnt says key false is = elsewhere old learnt key is
 
     -- the table after an entry was put in
-    pub entered : (old new : Table) (entry : Newest) → HasLearnt pages n old → Puts old new (page_of r) entry
+    pub entered : (old new : Table) (entry : Newest) → HasLearnt pages n old → SetsEntry old new (page_of r) entry
         → LearnsOf pages (suc n) (Some entry) (newer (newest pages r.file r.page n) placed)
         → HasLearnt pages (suc n) new
     entered old new entry learnt puts says = record {
@@ -334,13 +334,13 @@ module _ (pages : Pages) (n : ℕ) where
     pub put_learns : (old mid new : Table) (key : FilePage) (entry : Newest) (done : Bool) → mid ≡ old → key ≡ page_of r
         → HasLearnt pages n old
         → LearnsOf pages (suc n) (Some entry) (newer (newest pages r.file r.page n) placed)
-        → (HasRoom mid → IsFalse done ↔ ((known mid key ≡ None) × (limit_of mid ≤ page_len mid)))
-        → (IsTrue done → Puts mid new key entry) → LearnsNext pages (n + 1) old new done
+        → (HasCapacity mid → IsFalse done ↔ ((known mid key ≡ None) × (limit_of mid ≤ page_len mid)))
+        → (IsTrue done → SetsEntry mid new key entry) → LearnsNext pages (n + 1) old new done
     put_learns old mid new key entry true same key_is learnt says full puts = rw (add-one n)
-        (entered old new entry learnt (subst (λ t. Puts t new (page_of r) entry) same
-        (subst (λ k. Puts mid new k entry) key_is (puts refl))) says)
+        (entered old new entry learnt (subst (λ t. SetsEntry t new (page_of r) entry) same
+        (subst (λ k. SetsEntry mid new k entry) key_is (puts refl))) says)
     put_learns old mid new key entry false same key_is learnt says full puts = rw (add-one n)
-        (let none = (full (subst HasRoom (sym same) learnt.room)).0 refl in
+        (let none = (full (subst HasCapacity (sym same) learnt.room)).0 refl in
         no_room old learnt (subst (λ t. known t (page_of r) ≡ None) same
         (subst (λ k. known mid k ≡ None) key_is none.0)) (subst (λ t. limit_of t ≤ page_len t) same none.1))
 

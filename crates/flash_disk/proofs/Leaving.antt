@@ -12,8 +12,9 @@ use Rattle.flash_disk.specs.declared.table.Newest.{Newest}
 use Rattle.flash_disk.specs.declared.table.Table.{Table}
 use Rattle.flash_disk.specs.Newest.{Placed, record_at, is_of, newest, IsCopyOf, IsNewest, IsNewestOf, IsSpare, places}
 use Rattle.flash_disk.proofs.NewestLaws.{newest_is}
-use Rattle.flash_disk.specs.Known.{same_page, page_of, known, page_len, limit_of, HasRoom, Puts}
-use Rattle.flash_disk.specs.Learnt.{number, TwinSays, Unrivalled, LearnsOf, HasLearnt, LedOf, IsLed, Leaves, LeavesOf}
+use Rattle.flash_disk.specs.Known.{same_page, page_of, known, page_len, limit_of, HasCapacity, SetsEntry}
+use Rattle.flash_disk.specs.Learnt.{number, TwinSays, Unrivalled, LearnsOf, HasLearnt, LedOf, IsLed, IsLeavingBlock}
+use Rattle.flash_disk.specs.Learnt.{LeavesOf}
 use Rattle.flash_disk.specs.Learnt.{IsLeaving, LeavesBlock}
 use Rattle.flash_disk.specs.Sound.{LeavesOut}
 use Rattle.flash_disk.specs.Standing.{IsAgreed, HasRivals, IsStrayless}
@@ -63,7 +64,7 @@ module _ (pages : Pages) (n block : ℕ) where
 
   -- the newest record of an entry's page
   abbrev pub Found : FilePage → Newest → Type 0
-  Found key e = (x : Placed) × (newest pages key.file key.page n ≡ Some x) × Leaves pages n block e x
+  Found key e = (x : Placed) × (newest pages key.file key.page n ≡ Some x) × IsLeavingBlock pages n block e x
       × IsNewest pages key.file key.page n x
 
   found_by : (key : FilePage) (e : Newest) (b : Option Placed) → newest pages key.file key.page n ≡ b
@@ -137,7 +138,7 @@ module _ (pages : Pages) (n block : ℕ) where
           apart same = copy.1.apart ((let s = copy.0 in let q : number twin / 64 ≡ twin.block = omega (arith, s) in q)
               ∙ (same ∙ sym (own_block key e here)))
 
-          moved_leaves : Leaves pages n block moved_to x
+          moved_leaves : IsLeavingBlock pages n block moved_to x
           moved_leaves = let was = (found key e here.0).2 in record {
             led = record {
               within = copy.1.within;
@@ -176,7 +177,7 @@ module _ (pages : Pages) (n block : ℕ) where
               (cases_eq w.place.page p)
 
           -- the entry leads to its twin now, and no other one led there
-          pub moved_out : (new : Table) → Puts table new key moved_to
+          pub moved_out : (new : Table) → SetsEntry table new key moved_to
               → ((k : FilePage) (w : Newest) → LeadsHere k w → k ≡ key) → IsLeaving pages n block (p + 1) new
           moved_out new puts one = record {
             says = λ k. subst (λ q. LeavesOf pages n block q (newest pages k.file k.page n)) (sym (puts.known_is k))
@@ -217,8 +218,8 @@ module _ (pages : Pages) (n block : ℕ) where
 
         pub twin_found : known table key ≡ Some e → e.place.block ≡ block → e.place.page ≡ p → (twin : Place)
             → e.twin ≡ Some twin → (new : Table) (done : Bool)
-            → (HasRoom table → IsFalse done ↔ ((known table key ≡ None) × (limit_of table ≤ page_len table)))
-            → (IsTrue done → Puts table new key (record e { place = twin })) → IsLeaving pages n block (p + 1) new
+            → (HasCapacity table → IsFalse done ↔ ((known table key ≡ None) × (limit_of table ≤ page_len table)))
+            → (IsTrue done → SetsEntry table new key (record e { place = twin })) → IsLeaving pages n block (p + 1) new
         twin_found known_is at at_page twin twin_is new true full puts =
             moved_out spare small key e (known_is, at, at_page) twin twin_is new (puts refl)
             (λ k w here. ap (λ (q : FilePage × Newest). q.0) (sym (only k w here)))

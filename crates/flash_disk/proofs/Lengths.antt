@@ -9,7 +9,7 @@ use Rattle.std.proofs.lemmas.Option.{same_Some, none-some}
 use Rattle.flash_disk.specs.declared.table.FilePage.{FilePage}
 use Rattle.flash_disk.specs.declared.table.Newest.{Newest}
 use Rattle.std.specs.HashMap.{HashMap}
-use Rattle.flash_disk.specs.Known.{same_page, len_in, EndsBy}
+use Rattle.flash_disk.specs.Known.{same_page, len_in, IsFilledUpTo}
 use Rattle.flash_disk.specs.Apart.{copy_of}
 use Rattle.flash_disk.proofs.Learning.{same_page_is, same_page_refl}
 
@@ -155,11 +155,12 @@ pub ends_more : {S : Type 0} (lens : HashMap ℕ ℕ S) (key k : FilePage) (entr
     (stray next end : ℕ) → all ≡ (k, e) ∷ es
     → (k.page < 4294967296 → 0 < e.filled → end ≡ 256 * k.page + e.filled) → stray ≤ next
     → (end ≤ len_in lens k.file) ⊎ (end ≤ next)
-    → (lookup (same_page key) all ≡ Some entry) ⊎ EndsBy lens key entry stray
-    → (lookup (same_page key) es ≡ Some entry) ⊎ EndsBy lens key entry next
+    → (lookup (same_page key) all ≡ Some entry) ⊎ IsFilledUpTo lens key entry stray
+    → (lookup (same_page key) es ≡ Some entry) ⊎ IsFilledUpTo lens key entry next
 ends_more lens key k entry e es all stray next end is end_is more within before = ⊎_elim
     (λ left. ⊎_elim
-    (λ here. inr (subst (λ q. EndsBy lens q entry next) (sym here.0) (subst (λ w. EndsBy lens k w next) here.1
+    (λ here. inr (subst (λ q. IsFilledUpTo lens q entry next) (sym here.0)
+    (subst (λ w. IsFilledUpTo lens k w next) here.1
     (λ page filled. (let same = end_is page filled in ⊎_elim (λ a. inl (omega (arith, a, same)))
     (λ b. inr (omega (arith, b, same))) within)))))
     (λ there. inl there)

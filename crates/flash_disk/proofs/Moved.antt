@@ -15,8 +15,8 @@ use Rattle.flash_disk.specs.declared.table.Table.{Table}
 use Rattle.flash_disk.specs.declared.layer.LayerState.{LayerState}
 use Rattle.flash_disk.specs.Newest.{Placed, record_at, newest, places}
 use Rattle.flash_disk.specs.FlashFiles.{IsFileLen}
-use Rattle.flash_disk.specs.Known.{same_page, known, page_len, limit_of, len_in, HasLenIn, HasRoom, PutsAll}
-use Rattle.flash_disk.specs.Counted.{IsInside, IsCounted}
+use Rattle.flash_disk.specs.Known.{same_page, known, page_len, limit_of, len_in, HasLenIn, HasCapacity, PutsAll}
+use Rattle.flash_disk.specs.Counted.{IsInside, IsCountedTable}
 use Rattle.flash_disk.specs.Entries.{SameEntries}
 use Rattle.flash_disk.specs.Learnt.{number, LedOf, IsLed, HasPlace}
 use Rattle.flash_disk.specs.Sound.{Sound, LeavesOut}
@@ -56,7 +56,7 @@ module _ (m : FlashMedium) (s : LayerState) (from to : ℕ) (moving : IsMoving m
   all_known = λ k d inside. subst IsSome (sym (moving.moved k d inside).known_is) refl
 
   module _ (table : Table) (puts : PutsAll s.table table s.moved.items) (len : page_len table ≡ page_len s.table)
-      (room : HasRoom table)
+      (room : HasCapacity table)
       (limit : limit_of table ≡ limit_of s.table) (lens : table.lens ≡ s.table.lens)
       (stays : (key : FilePage) → IsSome (known s.table key) → IsSome (known table key)) where
     abbrev pages : Pages
@@ -173,7 +173,7 @@ module _ (m : FlashMedium) (s : LayerState) (from to : ℕ) (moving : IsMoving m
       fits = (let fits = moving.sound.knows.led.fits in omega (arith, fits, len, limit));
     }
 
-    inside : IsCounted m.blocks s.table → All (λ (new : Entry). IsInside m.blocks new.1) s.moved.items
+    inside : IsCountedTable m.blocks s.table → All (λ (new : Entry). IsInside m.blocks new.1) s.moved.items
     inside counted = λ k d within.
         let moved = moving.moved k d within in
         let was = counted.inside _ moved.old moved.known_is in record {
@@ -184,8 +184,8 @@ module _ (m : FlashMedium) (s : LayerState) (from to : ℕ) (moving : IsMoving m
         }
 
     pub finished : (fill : ℕ) → fill ≡ min (length s.moved.items) 64
-        → (IsCounted m.blocks s.table → All (λ (new : Entry). IsInside m.blocks new.1) s.moved.items
-        → IsCounted m.blocks table)
+        → (IsCountedTable m.blocks s.table → All (λ (new : Entry). IsInside m.blocks new.1) s.moved.items
+        → IsCountedTable m.blocks table)
         → Sound pages m.blocks (record s { table = table; fill = fill; current = to; spare = from })
     finished fill fill_is counted = record {
       knows = record {

@@ -1,4 +1,4 @@
--- Records are copied to the front of the spare block one by one, and nothing that counts changes.
+-- Records are copied to the start of the spare block one by one, and nothing that counts changes.
 use Rattle.std.proofs.Common.{◌≡◌, ◌≢◌, ◌⊎◌, ℕ, ◌+◌, ◌*◌, ◌<◌, ◌≤◌, Bool, true, false, cond, slice_index_or, List, []}
 use Rattle.std.proofs.Common.{◌∷◌, ◌++◌, length, Result, Ok, Err, OnOk, OnErr, refl, sym, ap, subst, ◌∙◌, inl, inr}
 use Rattle.std.proofs.Common.{⊎_elim, arith, eq-eqb, length-append}
@@ -21,8 +21,8 @@ use Rattle.flash_disk.specs.FlashFiles.{file_byte}
 use Rattle.flash_disk.specs.Known.{same_page, page_of, known}
 use Rattle.flash_disk.specs.Learnt.{number, Led, LedOf, IsLed, HasPlace}
 use Rattle.flash_disk.specs.Does.{Does}
-use Rattle.flash_disk.specs.Standing.{KeepsRecords, StandsFor}
-use Rattle.flash_disk.specs.Sound.{Sound, IsSound, FitsIn, Fits, ShowsSame}
+use Rattle.flash_disk.specs.Standing.{DenotesFiles, KeepsRecords}
+use Rattle.flash_disk.specs.Sound.{Sound, IsSoundLayer, FitsIn, MayBeAdded, ShowsSame}
 use Rattle.flash_disk.specs.Moving.{IsMoved, HasKey, IsMoving}
 use Rattle.flash_disk.proofs.Learning.{record_at_place, same_page_refl}
 use Rattle.flash_disk.proofs.Standing.{is_newest_of, keeps_agreed, keeps_strayless, keeps_tops, keeps_known}
@@ -84,16 +84,16 @@ kept_sound old new blocks s sound agreed full keeps there =
     }
 
 -- the pages denote the files that they denoted
-pub kept_stands : (m : FlashMedium) (new : Pages) (s : LayerState) → IsSound m s → IsFalse s.disputed
+pub kept_stands : (m : FlashMedium) (new : Pages) (s : LayerState) → IsSoundLayer m s → IsFalse s.disputed
     → KeepsRecords m.state.pages new (places m.blocks) → Sound new m.blocks s
-    → StandsFor m new
+    → DenotesFiles m new
 kept_stands m new s sound agreed keeps now = record {
   files_are = keeps_files m.state.pages new m.blocks (sound.agreed agreed) keeps;
   usable = sound_usable new m.blocks s now;
   agreed = λ all. keeps_agreed m.state.pages new (places m.blocks) all keeps;
 }
 
-pub stands_now : (m : FlashMedium) (s : LayerState) → IsSound m s → StandsFor m m.state.pages
+pub stands_now : (m : FlashMedium) (s : LayerState) → IsSoundLayer m s → DenotesFiles m m.state.pages
 stands_now m s sound = record {
   files_are = refl;
   usable = sound_usable m.state.pages m.blocks s sound;
@@ -102,25 +102,26 @@ stands_now m s sound = record {
 }
 
 -- what the pages denote since a flash they denote since the one before it
-stands_since : (a b : FlashMedium) → b.blocks ≡ a.blocks → StandsFor a b.state.pages → (pages : Pages)
-    → StandsFor b pages → StandsFor a pages
+stands_since : (a b : FlashMedium) → b.blocks ≡ a.blocks → DenotesFiles a b.state.pages → (pages : Pages)
+    → DenotesFiles b pages → DenotesFiles a pages
 stands_since a b blocks mid pages stands =
-    let over = subst (λ k. StandsFor (record b { blocks = k }) pages) blocks stands in record {
+    let over = subst (λ k. DenotesFiles (record b { blocks = k }) pages) blocks stands in record {
       files_are = over.files_are ∙ mid.files_are;
       usable = over.usable;
       agreed = λ all. over.agreed (mid.agreed all);
     }
 
 -- one stretch after the other
-pub stands_then : (a b c : FlashMedium) → FlashElapses a b → FlashElapses b c → Does (StandsFor a) a b
-    → Does (StandsFor b) b c → Does (StandsFor a) a c
+pub stands_then : (a b c : FlashMedium) → FlashElapses a b → FlashElapses b c → Does (DenotesFiles a) a b
+    → Does (DenotesFiles b) b c → Does (DenotesFiles a) a c
 stands_then a b c first second early late =
-    does_then a b c (StandsFor a) first second early (does_weaken b c (StandsFor b) (StandsFor a)
+    does_then a b c (DenotesFiles a) first second early (does_weaken b c (DenotesFiles b) (DenotesFiles a)
     (stands_since a b first.blocks early.now) late)
 
 -- ---- the spare block is erased
 
-module _ (m now : FlashMedium) (s : LayerState) (sound : IsSound m s) (agreed : IsFalse s.disputed) (full : 64 ≤ s.fill)
+module _ (m now : FlashMedium) (s : LayerState) (sound : IsSoundLayer m s) (agreed : IsFalse s.disputed) (full : 64
+    ≤ s.fill)
   where
     abbrev pages : Pages
     pages = m.state.pages
@@ -138,20 +139,20 @@ module _ (m now : FlashMedium) (s : LayerState) (sound : IsSound m s) (agreed : 
         loses.apart (number e.place) (λ same. sound.apart agreed key e is
         (let b : e.place.block ≡ s.spare = omega (arith, same, small) in b))))
 
-    loses_stands : (left : Pages) → LosesIn s.spare pages left → StandsFor m left
+    loses_stands : (left : Pages) → LosesIn s.spare pages left → DenotesFiles m left
     loses_stands left loses = kept_stands m left s sound agreed (loses_keeps left loses) (loses_sound left loses)
 
     pub erase_stands : {T E : Type 0} → (result : Result T E)
         → OnOk result (now.state ≡ erased m.state s.spare)
         → OnErr result (FailsToErase s.spare m.state now.state)
         → EachFlashCase (λ c. IsStill m.state c ⊎ (IsStill now.state c ⊎ EraseCase s.spare m.state c)) m now
-        → Does (StandsFor m) m now
-    erase_stands result done failed cases = erase_does m now (StandsFor m) s.spare result done failed cases
+        → Does (DenotesFiles m) m now
+    erase_stands result done failed cases = erase_does m now (DenotesFiles m) s.spare result done failed cases
         (stands_now m s sound)
         (loses_stands (erase_block pages s.spare) (whole_erase pages s.spare))
         (λ left torn plain. loses_stands left (torn_erase pages s.spare left torn plain))
 
-    pub erase_failed : FailsToErase s.spare m.state now.state → now.blocks ≡ m.blocks → IsSound now s
+    pub erase_failed : FailsToErase s.spare m.state now.state → now.blocks ≡ m.blocks → IsSoundLayer now s
     erase_failed failed blocks = subst (λ b. Sound now.state.pages b s) (sym blocks)
         (loses_sound now.state.pages (torn_erase pages s.spare now.state.pages failed.torn failed.plain))
 
@@ -314,7 +315,7 @@ module _ (m : FlashMedium) (s : LayerState) (from to done : ℕ) (moving : IsMov
     copy_failed_keeps now failed = left_keeps now.state.pages failed.torn failed.plain
 
     pub copy_failed_sound : (now : FlashMedium) → FailsToProgram to count bytes m.state now.state
-        → now.blocks ≡ m.blocks → IsSound now s
+        → now.blocks ≡ m.blocks → IsSoundLayer now s
     copy_failed_sound now failed blocks = subst (λ b. Sound now.state.pages b s) (sym blocks)
         (left_sound now.state.pages failed.torn (copy_failed_keeps now failed))
 
@@ -324,7 +325,7 @@ module _ (m : FlashMedium) (s : LayerState) (from to done : ℕ) (moving : IsMov
         (sym done_now) written_keeps
 
     pub copy_sound : (now : FlashMedium) → now.state ≡ programmed m.state to count bytes → now.blocks ≡ m.blocks
-        → IsSound now s
+        → IsSoundLayer now s
     copy_sound now done_now blocks = subst (λ b. Sound now.state.pages b s) (sym blocks)
         (subst (λ (z : FlashState). Sound z.pages m.blocks s) (sym done_now)
         (left_sound written written_torn written_keeps))
@@ -333,8 +334,8 @@ module _ (m : FlashMedium) (s : LayerState) (from to done : ℕ) (moving : IsMov
         → OnOk result (now.state ≡ programmed m.state to count bytes)
         → OnErr result (FailsToProgram to count bytes m.state now.state)
         → EachFlashCase (λ c. IsStill m.state c ⊎ (IsStill now.state c ⊎ ProgramCase to count bytes m.state c)) m now
-        → Does (StandsFor m) m now
-    copy_does now result ok failed cases = program_does m now (StandsFor m) to count bytes result ok failed cases
+        → Does (DenotesFiles m) m now
+    copy_does now result ok failed cases = program_does m now (DenotesFiles m) to count bytes result ok failed cases
         (stands_now m s moving.sound)
         (kept_stands m written s moving.sound moving.agreed written_keeps
         (left_sound written written_torn written_keeps))
@@ -443,11 +444,12 @@ module _ (m look : FlashMedium) (same : look.state ≡ m.state) (blocks : look.b
   keeps_since after keeps = subst (λ (z : FlashState). KeepsRecords z.pages after (places m.blocks)) same
       (subst (λ b. KeepsRecords look.state.pages after (places b)) blocks keeps)
 
-  pub look_stands : EachFlashCase (IsStill m.state) m look → (s : LayerState) → IsSound m s → Does (StandsFor m) m look
-  look_stands still s sound = does_nothing m look (StandsFor m) same still (stands_now m s sound)
+  pub look_stands : EachFlashCase (IsStill m.state) m look → (s : LayerState) → IsSoundLayer m s
+      → Does (DenotesFiles m) m look
+  look_stands still s sound = does_nothing m look (DenotesFiles m) same still (stands_now m s sound)
 
 -- what was kept in one stretch after the other
-pub keeps_on : (m mid : FlashMedium) (s : LayerState) → IsSound m s → IsFalse s.disputed → mid.blocks ≡ m.blocks
+pub keeps_on : (m mid : FlashMedium) (s : LayerState) → IsSoundLayer m s → IsFalse s.disputed → mid.blocks ≡ m.blocks
     → KeepsRecords m.state.pages mid.state.pages (places m.blocks)
     → (after : Pages) → KeepsRecords mid.state.pages after (places mid.blocks)
     → KeepsRecords m.state.pages after (places m.blocks)
@@ -456,7 +458,7 @@ keeps_on m mid s sound agreed blocks keeps after then =
     (subst (λ b. KeepsRecords mid.state.pages after (places b)) blocks then)
 
 -- no byte changed
-pub shows_same : (m now : FlashMedium) (s : LayerState) → IsSound m s → IsFalse s.disputed
+pub shows_same : (m now : FlashMedium) (s : LayerState) → IsSoundLayer m s → IsFalse s.disputed
     → KeepsRecords m.state.pages now.state.pages (places m.blocks) → now.blocks ≡ m.blocks
     → ShowsSame m now
 shows_same m now s sound agreed keeps blocks f i =
@@ -464,7 +466,7 @@ shows_same m now s sound agreed keeps blocks f i =
     (keeps_byte m.state.pages now.state.pages (places m.blocks) (sound.agreed agreed) keeps f i)
 
 -- a record that might be added still may
-pub fits_kept : (m now : FlashMedium) (s t : LayerState) → IsSound m s → IsFalse s.disputed
+pub fits_kept : (m now : FlashMedium) (s t : LayerState) → IsSoundLayer m s → IsFalse s.disputed
     → KeepsRecords m.state.pages now.state.pages (places m.blocks) → now.blocks ≡ m.blocks
     → ((key : FilePage) → HasPlace s.table key → HasPlace t.table key) → (file page len : ℕ) (bytes : List ℕ)
     → FitsIn m s file page len bytes → FitsIn now t file page len bytes
@@ -472,7 +474,7 @@ fits_kept m now s t sound agreed keeps blocks has file page len bytes fits =
     let all_agree = sound.agreed agreed in
     let same = keeps_len m.state.pages now.state.pages (places m.blocks) all_agree keeps file in
     let less = fits.no_shorter in
-    subst (λ b. Fits now.state.pages b t file page len bytes) (sym blocks) (record {
+    subst (λ b. MayBeAdded now.state.pages b t file page len bytes) (sym blocks) (record {
       place = has (record { file = file; page = page }) fits.place;
       no_shorter = omega (arith, same, less);
       zeros = fits.zeros;

@@ -8,19 +8,19 @@ use Rattle.flash_disk.specs.declared.table.Newest.{Newest}
 use Rattle.flash_disk.specs.declared.table.Table.{Table}
 use Rattle.flash_disk.specs.declared.layer.LayerState.{LayerState}
 use Rattle.flash_disk.specs.Newest.{places, page_count, page_limit, IsSpare, IsUsable}
-use Rattle.flash_disk.specs.Known.{same_page, known, page_len, limit_of, len_known, HasLen, EndsBy, IsLongest}
-use Rattle.flash_disk.specs.Counted.{IsCounted}
-use Rattle.flash_disk.specs.Learnt.{IsLed, IsLeaving, Knows, Tops}
+use Rattle.flash_disk.specs.Known.{same_page, known, page_len, limit_of, len_known, HasLen, IsFilledUpTo, IsLongest}
+use Rattle.flash_disk.specs.Counted.{IsCountedTable}
+use Rattle.flash_disk.specs.Learnt.{IsLed, IsLeaving, KnowsLengths, Tops}
 use Rattle.flash_disk.specs.Sound.{Sound, PendsAt, IsDescribedBy}
 use Rattle.flash_disk.specs.Standing.{IsAgreed}
 use Rattle.flash_disk.specs.Throughout.{KeepsUsable, KeepsAgreed}
-use Rattle.flash_disk.specs.Looks.{Opens}
+use Rattle.flash_disk.specs.Looks.{OpensFlash}
 use Rattle.flash_disk.proofs.FlashFilesLaws.{one_len}
 use Rattle.disk_model.specs.Medium.{Quiet}
 use Rattle.flash_model.specs.State.{FlashState, FlashCase, settle_pages}
 use Rattle.flash_model.specs.FlashMedium.{FlashMedium, IsLawfulFlash}
 use Rattle.flash_disk.specs.FlashFiles.{flash_files}
-use Rattle.flash_disk.specs.FlashDiskMedium.{put_announced, files_told, flash_disk_medium, Begins}
+use Rattle.flash_disk.specs.FlashDiskMedium.{put_announced, files_told, flash_disk_medium, IsJustOpened}
 use Rattle.flash_disk.specs.FlashDiskLaws.{opens_now, agrees_now}
 use Rattle.flash_disk.proofs.DiskCases.{told_files}
 use Rattle.flash_disk.proofs.Leading.{measured}
@@ -35,7 +35,7 @@ pub record Measures (left : Table) (s : LayerState) : Type 0 where
   pub measured : page_len left ≤ spare left.lens → (key : FilePage) (e : Newest) → known left key ≡ Some e
       → HasLen s.table key.file
   pub spare : spare left.lens ≤ spare s.table.lens + page_len left
-  pub ends : (key : FilePage) (e : Newest) → known s.table key ≡ Some e → EndsBy s.table.lens key e s.stray_end
+  pub ends : (key : FilePage) (e : Newest) → known s.table key ≡ Some e → IsFilledUpTo s.table.lens key e s.stray_end
   pub calm : IsFalse s.disputed → (key : FilePage) (e : Newest) → known s.table key ≡ Some e → IsFalse e.rivalled
   pub rivals : IsTrue s.disputed → (key : FilePage) × (e : Newest) × (known s.table key ≡ Some e) × IsTrue e.rivalled
   pub full : s.fill ≡ 64
@@ -47,7 +47,7 @@ module _ (pages : Pages) (blocks : ℕ) (s : LayerState) (left : Table)
   led : IsLed pages (places blocks) left
   led = leads_at_last pages (places blocks) s.spare left leaving
 
-  knows : Knows pages (places blocks) s.table
+  knows : KnowsLengths pages (places blocks) s.table
   knows = measured pages (places blocks) left s.table led measures.records measures.limit
       (measures.lens (let fits = led.fits in omega (arith, fits, room)) empty)
 
@@ -60,7 +60,7 @@ module _ (pages : Pages) (blocks : ℕ) (s : LayerState) (left : Table)
   before key e is = ap (λ m. get same_page m key) (sym measures.records) ∙ is
 
   pub opened : s.spare < blocks → IsSpare pages (places blocks) s.spare → Tops pages (places blocks) s.sequence
-      → IsCounted blocks s.table → 64 ≤ vec_capacity s.moved
+      → IsCountedTable blocks s.table → 64 ≤ vec_capacity s.moved
       → page_len left ≡ page_count pages (places blocks) → Sound pages blocks s
   opened within is_spare tops counted memory count = record {
     knows = knows;
@@ -97,7 +97,7 @@ holds_all m s pages sound same sure = record {
 
 -- the opening changes no page, and leaves what there was at every moment of it
 module _ (told : Bool) (old new : FlashMedium) (t : IsTrue told) (pages : new.state.pages ≡ old.state.pages)
-    (opens : Opens told old new) where
+    (opens : OpensFlash told old new) where
   left_same : (c : FlashCase) → new.since old.moment c → c.left ≡ old.state.pages
   left_same c past = ⊎_elim (λ still. still.left) (λ settled. settled.left) (opens.during t c past)
 
@@ -126,7 +126,7 @@ module _ (told : Bool) (old new : FlashMedium) (lawful : IsLawfulFlash told new)
       (subst (λ p. P p old.blocks) (sym (pages t)) (holds t))
 
   pub begins : (own : ℕ) → 4 ≤ old.blocks → old.blocks ≤ 4096 → (IsTrue told → IsUsable old.state.pages old.blocks)
-      → Begins told old (flash_disk_medium told new own 0)
+      → IsJustOpened told old (flash_disk_medium told new own 0)
   begins own many few usable = record {
     opens = opens_now told new own 0 lawful (subst (λ (n : ℕ). 4 ≤ n) (sym blocks) many)
         (subst (λ (n : ℕ). n ≤ 4096) (sym blocks) few) (still_so IsUsable usable);

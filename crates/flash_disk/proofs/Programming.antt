@@ -12,8 +12,8 @@ use Rattle.flash_disk.specs.declared.table.FilePage.{FilePage}
 use Rattle.flash_disk.specs.declared.table.Place.{Place}
 use Rattle.flash_disk.specs.declared.table.Newest.{Newest}
 use Rattle.flash_disk.specs.declared.table.Table.{Table}
-use Rattle.flash_disk.specs.Known.{same_page, page_of, known, limit_of, Puts}
-use Rattle.flash_disk.specs.Learnt.{number, Led, LedOf, IsLed, Adds}
+use Rattle.flash_disk.specs.Known.{same_page, page_of, known, limit_of, SetsEntry}
+use Rattle.flash_disk.specs.Learnt.{number, Led, LedOf, IsLed, AddsRecord}
 use Rattle.flash_disk.proofs.Learning.{same_page_is}
 use Rattle.flash_disk.proofs.Leading.{same_newest}
 
@@ -42,7 +42,7 @@ module _ (pages : Pages) (file page n : ℕ) where
   one_newest (Some x) None is_a is_b = absurd (is_b x.place x.says is_a.within is_a.there is_a.of_page)
   one_newest (Some x) (Some y) is_a is_b = ap Some (same_placed x y is_a is_b)
 
-module _ (old new : Pages) (n : ℕ) (place : Place) (r : PageRecord) (adds : Adds old new n place r) where
+module _ (old new : Pages) (n : ℕ) (place : Place) (r : PageRecord) (adds : AddsRecord old new n place r) where
   abbrev pub placed : Placed
   placed = record { place = number place; says = r }
 
@@ -150,7 +150,8 @@ module _ (old new : Pages) (n : ℕ) (place : Place) (r : PageRecord) (adds : Ad
       (led.says key))
 
   -- the table leads to it once its entry is put in
-  pub added : (table after : Table) (e : Newest) → IsItsEntry e → IsLed old n table → Puts table after (page_of r) e
+  pub added : (table after : Table) (e : Newest) → IsItsEntry e → IsLed old n table
+      → SetsEntry table after (page_of r) e
       → IsLed new n after
   added table after e is led puts = record {
     says = λ key. subst (λ k. LedOf new n k (newest new key.file key.page n)) (sym (puts.known_is key))

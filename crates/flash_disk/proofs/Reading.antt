@@ -14,7 +14,7 @@ use Rattle.flash_disk.specs.Newest.{Placed, record_at, newest, places}
 use Rattle.flash_disk.specs.FlashFiles.{record_byte, byte_in, file_byte, file_len, flash_files}
 use Rattle.flash_disk.proofs.FlashFilesLaws.{one_len, length-flash_files, byte-flash_files}
 use Rattle.flash_disk.specs.Known.{known, len_known}
-use Rattle.flash_disk.specs.Learnt.{number, LedOf, Knows, IsContent}
+use Rattle.flash_disk.specs.Learnt.{number, LedOf, KnowsLengths, IsContent}
 use Rattle.flash_disk.proofs.Learning.{record_at_place}
 
 -- the same test, before and after both sides grow
@@ -28,7 +28,7 @@ same_zeros : (b : Bool) → cond {A = ℕ} b 0 0 ≡ 0
 same_zeros true = refl
 same_zeros false = refl
 
-module _ (pages : Pages) (n : ℕ) (table : Table) (knows : Knows pages n table) where
+module _ (pages : Pages) (n : ℕ) (table : Table) (knows : KnowsLengths pages n table) where
   pub len_is : (file : ℕ) → len_known table file ≡ file_len pages n file
   len_is file = one_len pages n file (len_known table file) (knows.lens file)
 
@@ -138,9 +138,10 @@ cut_is content old bytes within count zero_is count_is inside after j small = �
 
 -- what a call that saw the same flash and table says
 module _ (pages seen : Pages) (same : seen ≡ pages) (b b' : ℕ) (blocks_same : b' ≡ b) where
-  pub knows_there : (t t' : Table) → t' ≡ t → Knows pages (places b) t → Knows seen (places b') t'
-  knows_there t t' table_same knows = subst (λ q. Knows q (places b') t') (sym same)
-      (subst (λ k. Knows pages (places k) t') (sym blocks_same) (subst (Knows pages (places b)) (sym table_same) knows))
+  pub knows_there : (t t' : Table) → t' ≡ t → KnowsLengths pages (places b) t → KnowsLengths seen (places b') t'
+  knows_there t t' table_same knows = subst (λ q. KnowsLengths q (places b') t') (sym same)
+      (subst (λ k. KnowsLengths pages (places k) t') (sym blocks_same)
+      (subst (KnowsLengths pages (places b)) (sym table_same) knows))
 
   pub content_here : (key : FilePage) (bytes : List ℕ) → IsContent seen (places b') key bytes
       → IsContent pages (places b) key bytes

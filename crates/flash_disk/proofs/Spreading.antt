@@ -13,7 +13,7 @@ use Rattle.flash_disk.specs.declared.table.Newest.{Newest}
 use Rattle.flash_disk.specs.declared.table.Table.{Table}
 use Rattle.flash_disk.specs.declared.layer.LayerState.{LayerState}
 use Rattle.flash_disk.specs.Known.{same_page, known, load_known}
-use Rattle.flash_disk.specs.Counted.{leads_into, entries_in, lies_below, copied_below, IsCounted}
+use Rattle.flash_disk.specs.Counted.{leads_into, entries_in, lies_below, copied_below, IsCountedTable}
 
 -- ---- sums over blocks
 
@@ -68,7 +68,7 @@ others_heavy f spare (suc n) heavy = ⊎_elim
     (cases_eq n spare)
 
 -- a block has fewer entries than a block has pages if it is the lightest but for the spare one, or has been seen to
-pub light_enough : (blocks : ℕ) (table : Table) (spare lightest : ℕ) → IsCounted blocks table
+pub light_enough : (blocks : ℕ) (table : Table) (spare lightest : ℕ) → IsCountedTable blocks table
     → (lightest ≢ spare → lightest < table.blocks)
     → ((b : ℕ) → b < table.blocks → b ≢ spare → (lightest ≢ spare)
     × ((load_known table lightest < 64) ⊎ (load_known table lightest ≤ load_known table b)))

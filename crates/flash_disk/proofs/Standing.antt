@@ -17,7 +17,7 @@ use Rattle.flash_disk.specs.declared.table.FilePage.{FilePage}
 use Rattle.flash_disk.specs.declared.table.Newest.{Newest}
 use Rattle.flash_disk.specs.declared.table.Table.{Table}
 use Rattle.flash_disk.specs.Known.{known, len_known}
-use Rattle.flash_disk.specs.Learnt.{number, LedOf, IsLed, Knows, Tops}
+use Rattle.flash_disk.specs.Learnt.{number, LedOf, IsLed, KnowsLengths, Tops}
 use Rattle.flash_disk.specs.Standing.{said, IsAgreed, KeepsRecords, IsStrayless, MayGrow}
 
 -- a page of which something is said has a newest record, which says it
@@ -236,7 +236,7 @@ module _ (old new : Pages) (n : ℕ) where
       }
 
       -- and knows how long each file is
-      pub keeps_known : Knows old n table → Knows new n table
+      pub keeps_known : KnowsLengths old n table → KnowsLengths new n table
       keeps_known knows = record {
         led = keeps_led knows.led;
         lens =
@@ -354,7 +354,7 @@ module _ (old new : Pages) (same : HasSameRecords old new) where
     }
 
     -- and knows how long each file is
-    pub records_known : (table : Table) → Knows old n table → Knows new n table
+    pub records_known : (table : Table) → KnowsLengths old n table → KnowsLengths new n table
     records_known table knows = record {
       led = records_led table knows.led;
       lens = λ file. same_file_len old new n (records_alike n) file (len_known table file) (knows.lens file);

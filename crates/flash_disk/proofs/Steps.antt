@@ -6,8 +6,8 @@ use Rattle.per_base.specs.Causes.{CountsFaults}
 use Rattle.flash_model.specs.FlashMedium.{FlashMedium, IsLawfulFlash}
 use Rattle.flash_disk.specs.declared.layer.Layer.{Layer}
 use Rattle.flash_disk.specs.declared.layer.LayerState.{LayerState}
-use Rattle.flash_disk.specs.Counted.{IsCounted}
-use Rattle.flash_disk.specs.Looks.{Looks}
+use Rattle.flash_disk.specs.Counted.{IsCountedTable}
+use Rattle.flash_disk.specs.Looks.{LeavesFlashAlone}
 use Rattle.flash_disk.specs.Accounts.{Accounts}
 use Rattle.flash_disk.specs.Steps.{OnlyLooks, LearnsNothing, IsOpeningStep, IsSure, StaysSound, AddsRecords}
 use Rattle.flash_disk.proofs.Entering.{sound_holds}
@@ -61,7 +61,7 @@ module _ {F : Type 0} {told : Bool} {medium : F → FlashMedium} where
   pub only_here : {T E : Type 0} {a b now : Layer F} {r : Result T E} → now.flash ≡ b.flash → now.own ≡ b.own
       → OnlyLooks told medium a b r → OnlyLooks told medium a now r
   only_here {T} {E} {a} {b} {now} {r} flash own is = record {
-    looks = subst (λ f. Looks told (medium a.flash) (medium f)) (sym flash) is.looks;
+    looks = subst (λ f. LeavesFlashAlone told (medium a.flash) (medium f)) (sym flash) is.looks;
     pages = λ t. ap (λ f. (medium f).state.pages) flash ∙ is.pages t;
     blocks = ap (λ f. (medium f).blocks) flash ∙ is.blocks;
     flash = subst (λ f. CountsFaults (medium a.flash).faults (medium f).faults r) (sym flash) is.flash;
@@ -146,7 +146,7 @@ module _ {F : Type 0} {told : Bool} {medium : F → FlashMedium} where
           moved ∙ ap (λ (s : LayerState). s.moved) is.state,
         );
         bounds = bounds_same same;
-        counted = subst (IsCounted (medium a.flash).blocks) (sym same);
+        counted = subst (IsCountedTable (medium a.flash).blocks) (sym same);
       }
 
   pub step_none : {T E : Type 0} (x : T) (l : Layer F) → IsLawfulFlash told (medium l.flash)
@@ -175,8 +175,8 @@ module _ {F : Type 0} {told : Bool} {medium : F → FlashMedium} where
           second.fill.2 ∙ first.fill.2,
         );
         bounds = bounds_then first.bounds second.bounds;
-        counted = λ start. subst (λ k. IsCounted k c.state.table) blocks
-            (second.counted (subst (λ k. IsCounted k b.state.table) (sym blocks) (first.counted start)));
+        counted = λ start. subst (λ k. IsCountedTable k c.state.table) blocks
+            (second.counted (subst (λ k. IsCountedTable k b.state.table) (sym blocks) (first.counted start)));
       }
 
   pub step_fails : {T U D E : Type 0} {x : E} {a b : Layer F} (r : Result U D) (Q : D → Type 0)

@@ -8,7 +8,7 @@ use Rattle.flash_model.specs.State.{FailsToErase, programmed, erased}
 use Rattle.flash_model.specs.FlashMedium.{FlashMedium, IsLawfulFlash, FlashElapses, EachFlashCase}
 use Rattle.flash_disk.specs.Does.{LeavesPages, Does}
 
--- no call at all: what a flash that tells its pages has at this moment counts
+-- no call at all: what a flash whose pages are modelled has at this moment counts
 pub elapses_refl : (told : Bool) (m : FlashMedium) → IsLawfulFlash told m → IsTrue told → FlashElapses m m
 elapses_refl told m lawful tells = record {
   later = le_refl _;

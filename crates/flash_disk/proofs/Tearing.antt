@@ -11,7 +11,7 @@ use Rattle.flash_record.specs.Blank.{blank_is_none}
 use Rattle.flash_record.specs.lemmas.Bodies.{record_in-plain}
 use Rattle.flash_disk.specs.declared.table.Place.{Place}
 use Rattle.flash_disk.specs.Newest.{record_at}
-use Rattle.flash_disk.specs.Learnt.{number, Adds}
+use Rattle.flash_disk.specs.Learnt.{number, AddsRecord}
 use Rattle.flash_disk.specs.Standing.{KeepsRecords}
 use Rattle.flash_disk.proofs.Learning.{record_at_place}
 use Rattle.flash_disk.proofs.Standing.{is_newest_of, HasSameRecords}
@@ -116,7 +116,7 @@ module _ (old left : Pages) (n : ℕ) (place : Place) (r : PageRecord) (small : 
     (nothing : record_at old (number place) ≡ None)
     (newer : (j : ℕ) (q : PageRecord) → j < n → record_at old j ≡ Some q → q.sequence < r.sequence) where
   -- a newer record was added, or no record changed
-  pub torn_adds : IsTorn old left (number place) (Some r) → HasSameRecords old left ⊎ Adds old left n place r
+  pub torn_adds : IsTorn old left (number place) (Some r) → HasSameRecords old left ⊎ AddsRecord old left n place r
   torn_adds torn = ⊎_elim
       (λ none. inl (torn_same old left (number place) (Some r) nothing torn none))
       (λ here. inr (record {
@@ -132,7 +132,7 @@ module _ (old left : Pages) (n : ℕ) (place : Place) (r : PageRecord) (small : 
 
   -- a record that is there was added
   pub torn_adds_there : IsTorn old left (number place) (Some r) → (q : PageRecord)
-      → record_at left (number place) ≡ Some q → Adds old left n place q
+      → record_at left (number place) ≡ Some q → AddsRecord old left n place q
   torn_adds_there torn q there = record {
     small = small;
     within = within;
@@ -150,14 +150,14 @@ module _ (old : Pages) (n : ℕ) (place : Place) (bytes : List ℕ) (r : PageRec
   -- a newer record was to be added, which was cut short: it was, or no record changed
   pub torn_add : (left : Pages) → TornPage place.block place.page old left
       → IsPlain old (program_page old place.block place.page bytes) left
-      → HasSameRecords old left ⊎ Adds old left n place r
+      → HasSameRecords old left ⊎ AddsRecord old left n place r
   torn_add left torn plain = torn_adds old left n place r small within
       (nothing_there old place.block place.page small blank) newer
       (subst (IsTorn old left (number place)) is (torn_program old place.block place.page small blank left bytes torn
       plain))
 
   -- a newer record was added
-  pub whole_add : Adds old (program_page old place.block place.page bytes) n place r
+  pub whole_add : AddsRecord old (program_page old place.block place.page bytes) n place r
   whole_add = record {
     small = small;
     within = within;

@@ -19,8 +19,8 @@ use Rattle.flash_disk.proofs.FlashFilesLaws.{length-flash_files, byte-flash_file
 use Rattle.flash_disk.specs.Learnt.{LedOf, IsContent, HasPlace}
 use Rattle.flash_disk.specs.Does.{Does}
 use Rattle.flash_disk.specs.PutPart.{PutPart, PutOrNot}
-use Rattle.flash_disk.specs.Standing.{IsAgreed, IsStrayless, StaysAgreed, StandsFor}
-use Rattle.flash_disk.specs.Sound.{files_of, IsSound, Sound, Fits, IsDescribedBy, PendsAt, FitsIn, LeavesPut}
+use Rattle.flash_disk.specs.Standing.{IsAgreed, IsStrayless, StaysAgreed, DenotesFiles}
+use Rattle.flash_disk.specs.Sound.{files_on, IsSoundLayer, Sound, MayBeAdded, IsDescribedBy, PendsAt, FitsIn, LeavesPut}
 use Rattle.flash_disk.specs.Sound.{ShowsZeros}
 use Rattle.flash_disk.specs.Sound.{ShowsPage, WipesPage}
 use Rattle.flash_disk.specs.Writes.{LeavesTorn, with_write, WritesInto}
@@ -40,7 +40,7 @@ no_error (Err e) none p = absurd (true≢false none)
 
 -- ---- what a sound layer has
 
-module _ (m : FlashMedium) (s : LayerState) (sound : IsSound m s) where
+module _ (m : FlashMedium) (s : LayerState) (sound : IsSoundLayer m s) where
   pub usable_now : IsUsable m.state.pages m.blocks
   usable_now = sound_usable m.state.pages m.blocks s sound
 
@@ -71,12 +71,12 @@ module _ (a b : FlashMedium) (blocks : b.blocks ≡ a.blocks) (agreed : StaysAgr
   agreed_before stays here = subst (λ k. IsAgreed pages (places k)) blocks
       (stays (subst (λ k. IsAgreed b.state.pages (places k)) (sym blocks) (agreed here)))
 
-  module _ (files : files_of b ≡ files_of a) where
+  module _ (files : files_on b ≡ files_on a) where
     put_before : (file at : ℕ) (bytes : List ℕ) (len : ℕ) → LeavesPut file at bytes len b pages
         → LeavesPut file at bytes len a pages
     put_before file at bytes len leaves = record {
       put = subst (λ f. PutOrNot file at bytes len f (flash_files pages a.blocks)) files
-          (subst (λ k. PutOrNot file at bytes len (files_of b) (flash_files pages k)) blocks leaves.put);
+          (subst (λ k. PutOrNot file at bytes len (files_on b) (flash_files pages k)) blocks leaves.put);
       usable = usable_before leaves.usable;
       agreed = agreed_before leaves.agreed;
     }
@@ -84,14 +84,14 @@ module _ (a b : FlashMedium) (blocks : b.blocks ≡ a.blocks) (agreed : StaysAgr
     torn_before : (file at n : ℕ) → LeavesTorn file at n b pages → LeavesTorn file at n a pages
     torn_before file at n leaves = record {
       torn = subst (λ f. TornImage file at n f (flash_files pages a.blocks)) files
-          (subst (λ k. TornImage file at n (files_of b) (flash_files pages k)) blocks leaves.torn);
+          (subst (λ k. TornImage file at n (files_on b) (flash_files pages k)) blocks leaves.torn);
       usable = usable_before leaves.usable;
       agreed = agreed_before leaves.agreed;
     }
 
-    stands_before : StandsFor b pages → StandsFor a pages
+    stands_before : DenotesFiles b pages → DenotesFiles a pages
     stands_before stands = record {
-      files_are = subst (λ k. flash_files pages k ≡ files_of b) blocks stands.files_are ∙ files;
+      files_are = subst (λ k. flash_files pages k ≡ files_on b) blocks stands.files_are ∙ files;
       usable = usable_before stands.usable;
       agreed = agreed_before stands.agreed;
     }
@@ -102,16 +102,17 @@ module _ (a b : FlashMedium) (state : b.state ≡ a.state) (blocks : b.blocks �
   pub pages_seen : b.state.pages ≡ a.state.pages
   pages_seen = ap (λ (t : FlashState). t.pages) state
 
-  pub files_seen : files_of b ≡ files_of a
+  pub files_seen : files_on b ≡ files_on a
   files_seen = ap (λ (t : FlashState). flash_files t.pages b.blocks) state
       ∙ ap (λ k. flash_files a.state.pages k) blocks
 
   pub fits_seen : (s t : LayerState) → t ≡ s → (file page len : ℕ) (bytes : List ℕ) → FitsIn a s file page len bytes
       → FitsIn b t file page len bytes
-  fits_seen s t known file page len bytes fits = subst (λ (q : FlashState). Fits q.pages b.blocks t file page len bytes)
+  fits_seen s t known file page len bytes fits = subst (λ (q : FlashState). MayBeAdded q.pages b.blocks t file page len
+      bytes)
       (sym state)
-      (subst (λ k. Fits a.state.pages k t file page len bytes) (sym blocks)
-      (subst (λ u. Fits a.state.pages a.blocks u file page len bytes) (sym known) fits))
+      (subst (λ k. MayBeAdded a.state.pages k t file page len bytes) (sym blocks)
+      (subst (λ u. MayBeAdded a.state.pages a.blocks u file page len bytes) (sym known) fits))
 
   byte_seen : (file i : ℕ) → file_byte b.state.pages (places b.blocks) file i
       ≡ file_byte a.state.pages (places a.blocks) file i
@@ -141,7 +142,7 @@ module _ (a b : FlashMedium) (state : b.state ≡ a.state) (blocks : b.blocks �
 -- a page of the file as it is
 module _ (a : FlashMedium) (file page : ℕ) (was : List ℕ)
     (is : IsContent a.state.pages (places a.blocks) (record { file = file; page = page }) was) where
-  pub content_byte : (j : ℕ) → j < 256 → get_or was j 0 ≡ get_or (files_of a file) (256 * page + j) 0
+  pub content_byte : (j : ℕ) → j < 256 → get_or was j 0 ≡ get_or (files_on a file) (256 * page + j) 0
   content_byte j small = ⊎_elim
       (λ within. is j small
       ∙ (ap (λ b. cond b (file_byte a.state.pages (places a.blocks) file (256 * page + j)) 0)
@@ -150,7 +151,7 @@ module _ (a : FlashMedium) (file page : ℕ) (was : List ℕ)
       (λ past. is j small
       ∙ (ap (λ b. cond b (file_byte a.state.pages (places a.blocks) file (256 * page + j)) 0)
       (le-ltb (256 * page + j) (file_len a.state.pages (places a.blocks) file) past)
-      ∙ sym (get_or_past (files_of a file) (256 * page + j) 0
+      ∙ sym (get_or_past (files_on a file) (256 * page + j) 0
       (let long = length-flash_files a.state.pages a.blocks file in omega (arith, long, past)))))
       (cases_lt (256 * page + j) (file_len a.state.pages (places a.blocks) file))
 
@@ -162,20 +163,20 @@ module _ (a : FlashMedium) (file page : ℕ) (was : List ℕ)
     -- it may be added
     pub page_fits : (s : LayerState) → HasPlace s.table (record { file = file; page = page })
         → 256 * page + from + length bytes ≤ len
-        → length (files_of a file) ≤ len → ShowsZeros a file len → FitsIn a s file page len content
+        → length (files_on a file) ≤ len → ShowsZeros a file len → FitsIn a s file page len content
     page_fits s place end no_shorter grows = let long = length-flash_files a.state.pages a.blocks file in record {
       place = place;
       no_shorter = omega (arith, long, no_shorter);
       zeros = λ j small past. after j (omega (arith, end, past))
-          ∙ (content_byte j small ∙ get_or_past (files_of a file) (256 * page + j) 0 (omega (arith, no_shorter, past)));
+          ∙ (content_byte j small ∙ get_or_past (files_on a file) (256 * page + j) 0 (omega (arith, no_shorter, past)));
       grows = λ i past inside apart. grows i past inside;
     }
 
     -- what adding it makes of the files is what the bytes alone make of them
     pub page_narrower : (next : Image) → length content ≡ 256 → from + length bytes ≤ 256
-        → PutPart file (256 * page) content len (files_of a) next
-        → PutPart file (256 * page + from) bytes len (files_of a) next
-    page_narrower next full within = narrower file page from content bytes len (files_of a) next full within
+        → PutPart file (256 * page) content len (files_on a) next
+        → PutPart file (256 * page + from) bytes len (files_on a) next
+    page_narrower next full within = narrower file page from content bytes len (files_on a) next full within
         (λ j inside. here j inside ∙ ap (λ k. get_or bytes k 0) (let e : 0 + j ≡ j = omega arith in e))
         (λ j small out. ⊎_elim (before j) (after j) out ∙ content_byte j small)
 
@@ -210,10 +211,10 @@ unfilled page filled len i end past here = ⊎_elim
     (cases_lt 0 filled)
 
 -- the files stand as they are
-pub stands : (m : FlashMedium) (s : LayerState) → IsSound m s → StandsFor m m.state.pages
+pub stands : (m : FlashMedium) (s : LayerState) → IsSoundLayer m s → DenotesFiles m m.state.pages
 stands m s sound = record { files_are = refl; usable = usable_now m s sound; agreed = λ agreed. agreed }
 
-module _ (a : FlashMedium) (s : LayerState) (sound : IsSound a s) (file page len : ℕ)
+module _ (a : FlashMedium) (s : LayerState) (sound : IsSoundLayer a s) (file page len : ℕ)
     (len_known_is : len ≡ len_known s.table file) where
   pub long_as : file_len a.state.pages (places a.blocks) file ≡ len
   long_as = sym (len_known_is ∙ len_is a.state.pages (places a.blocks) s.table sound.knows file)
@@ -251,7 +252,7 @@ module _ (a : FlashMedium) (s : LayerState) (sound : IsSound a s) (file page len
     where
       zero_past : (j : ℕ) → j < 256 → len ≤ 256 * page + j → get_or was j 0 ≡ 0
       zero_past j small past = content_byte a file page was is j small
-          ∙ get_or_past (files_of a file) (256 * page + j) 0
+          ∙ get_or_past (files_on a file) (256 * page + j) 0
           (let long = length-flash_files a.state.pages a.blocks file in let own =
           long_as in omega (arith, long, own, past))
 
@@ -265,14 +266,14 @@ module _ (a : FlashMedium) (s : LayerState) (sound : IsSound a s) (file page len
       }
 
       -- which leaves the files as they are
-      same_files : (next : Image) → length was ≡ 256 → PutPart file (256 * page) was len (files_of a) next
-          → next ≡ files_of a
-      same_files next full part = same_part file (256 * page) was len (files_of a) next part
+      same_files : (next : Image) → length was ≡ 256 → PutPart file (256 * page) was len (files_on a) next
+          → next ≡ files_on a
+      same_files next full part = same_part file (256 * page) was len (files_on a) next part
           (let long = length-flash_files a.state.pages a.blocks file in let own = long_as in omega (arith, long, own))
           (λ j inside below. content_byte a file page was is j (omega (arith, inside, full)))
 
       pub stands_still : length was ≡ 256 → (pages : Pages) → LeavesPut file (256 * page) was len a pages
-          → StandsFor a pages
+          → DenotesFiles a pages
       stands_still full pages leaves = record {
         files_are = ⊎_elim (λ same. same) (λ done. same_files (flash_files pages a.blocks) full done) leaves.put;
         usable = leaves.usable;
@@ -280,11 +281,11 @@ module _ (a : FlashMedium) (s : LayerState) (sound : IsSound a s) (file page len
       }
 
       -- and wipes what is past the end
-      pub wiped_by : (d : FlashMedium) → length was ≡ 256 → PutPart file (256 * page) was len (files_of a) (files_of d)
+      pub wiped_by : (d : FlashMedium) → length was ≡ 256 → PutPart file (256 * page) was len (files_on a) (files_on d)
           → ShowsPage a d file page was
           → WipesPage a d file page
       wiped_by d full part shown =
-          let same : files_of d ≡ files_of a = same_files (files_of d) full part in record {
+          let same : files_on d ≡ files_on a = same_files (files_on d) full part in record {
             len = λ f. sym (length-flash_files d.state.pages d.blocks f)
                 ∙ (ap (λ (i : Image). length (i f)) same ∙ length-flash_files a.state.pages a.blocks f);
             wiped = λ i here past. shown file i
@@ -304,13 +305,13 @@ module _ (a : FlashMedium) (s : LayerState) (sound : IsSound a s) (file page len
 
 -- the files stand as they stood
 module _ (a b : FlashMedium) (time : FlashElapses a b) where
-  pub files_stand : StandsFor a b.state.pages → files_of b ≡ files_of a
+  pub files_stand : DenotesFiles a b.state.pages → files_on b ≡ files_on a
   files_stand stands = ap (λ k. flash_files b.state.pages k) time.blocks ∙ stands.files_are
 
-  pub stands_then : (d : FlashMedium) → FlashElapses b d → Does (StandsFor a) a b → Does (StandsFor b) b d
-      → Does (StandsFor a) a d
-  stands_then d second early late = does_then a b d (StandsFor a) time second early
-      (does_weaken b d (StandsFor b) (StandsFor a) (λ pages.
+  pub stands_then : (d : FlashMedium) → FlashElapses b d → Does (DenotesFiles a) a b → Does (DenotesFiles b) b d
+      → Does (DenotesFiles a) a d
+  stands_then d second early late = does_then a b d (DenotesFiles a) time second early
+      (does_weaken b d (DenotesFiles b) (DenotesFiles a) (λ pages.
       stands_before a b time.blocks early.now.agreed pages (files_stand early.now)) late)
 
 -- up to this page no byte past the end of the file shows, and none of any file from a byte on
@@ -320,7 +321,7 @@ pub record Wiped (a b : FlashMedium) (file page from : ℕ) : Type 0 where
   pub zeros : (i : ℕ) → file_len a.state.pages (places a.blocks) file ≤ i → i < 256 * page
       → file_byte b.state.pages (places b.blocks) file i ≡ 0
 
-pub wiped_start : (a : FlashMedium) (s : LayerState) → IsSound a s → (file page : ℕ)
+pub wiped_start : (a : FlashMedium) (s : LayerState) → IsSoundLayer a s → (file page : ℕ)
     → 256 * page ≤ len_known s.table file → Wiped a a file page s.stray_end
 wiped_start a s sound file page early = record {
   len = λ f. refl;
@@ -349,14 +350,14 @@ module _ (a b : FlashMedium) (file page from : ℕ) (before : Wiped a b file pag
   }
 
 -- nothing to wipe: the bytes that may show end within the file
-pub wiped_nowhere : (a : FlashMedium) (s : LayerState) → IsSound a s → (file until : ℕ)
+pub wiped_nowhere : (a : FlashMedium) (s : LayerState) → IsSoundLayer a s → (file until : ℕ)
     → min s.stray_end until ≤ len_known s.table file → ShowsZeros a file until
 wiped_nowhere a s sound file until within = λ i past inside.
     sound.strays file i past (let long = len_is a.state.pages (places a.blocks) s.table sound.knows file in
     omega (arith, long, past, inside, within))
 
 -- the table says how long the file is, after this as before
-pub len_still : (a b : FlashMedium) (s t : LayerState) → IsSound a s → IsSound b t → (file : ℕ)
+pub len_still : (a b : FlashMedium) (s t : LayerState) → IsSoundLayer a s → IsSoundLayer b t → (file : ℕ)
     → file_len b.state.pages (places b.blocks) file ≡ file_len a.state.pages (places a.blocks) file
     → len_known s.table file ≡ len_known t.table file
 len_still a b s t sound_a sound_b file same =
@@ -368,16 +369,16 @@ len_still a b s t sound_a sound_b file same =
 -- The first bytes of a write are done: the files have them, and the file is as long as it will be once the first was
 -- written. From there to the end that it will have nothing shows.
 pub record WroteSoFar (a b : FlashMedium) (file at : ℕ) (bytes : List ℕ) (len done : ℕ) : Type 0 where
-  pub part : PartSoFar file at bytes len done (files_of a) (files_of b)
-  pub no_shorter : length (files_of b file) ≤ len
+  pub part : PartSoFar file at bytes len done (files_on a) (files_on b)
+  pub no_shorter : length (files_on b file) ≤ len
   pub grows : ShowsZeros b file len
 
-pub wrote_nothing : (a : FlashMedium) (file at : ℕ) (bytes : List ℕ) (len : ℕ) → length (files_of a file) ≤ len
+pub wrote_nothing : (a : FlashMedium) (file at : ℕ) (bytes : List ℕ) (len : ℕ) → length (files_on a file) ≤ len
     → ShowsZeros a file len
     → WroteSoFar a a file at bytes len 0
 wrote_nothing a file at bytes len no_shorter grows = record {
   part =
-      part_from_nothing file at bytes len (files_of a);
+      part_from_nothing file at bytes len (files_on a);
   no_shorter = no_shorter;
   grows = grows;
 }
@@ -386,10 +387,10 @@ module _ (a b : FlashMedium) (file at : ℕ) (bytes : List ℕ) (len done : ℕ)
     (before : WroteSoFar a b file at bytes len done) where
   -- the next bytes are written
   pub wrote_more : (count : ℕ) (d : FlashMedium) → done ≤ length bytes
-      → PutPart file (at + done) (take count (drop done bytes)) len (files_of b) (files_of d)
+      → PutPart file (at + done) (take count (drop done bytes)) len (files_on b) (files_on d)
       → WroteSoFar a d file at bytes len (done + count)
   wrote_more count d within put = let long = put.long in record {
-    part = inr (part_more file at bytes len (files_of a) done count (files_of b) (files_of d) within before.part put);
+    part = inr (part_more file at bytes len (files_on a) done count (files_on b) (files_on d) within before.part put);
     no_shorter = omega (arith, long);
     grows = λ i past inside. absurd (let as_long = length-flash_files d.state.pages d.blocks file in
         omega (arith, long, as_long, past, inside));
@@ -397,28 +398,28 @@ module _ (a b : FlashMedium) (file at : ℕ) (bytes : List ℕ) (len done : ℕ)
 
   -- in their midst the write is one that was cut short
   pub leaves_torn : (count : ℕ) → done + count ≤ length bytes → 0 < length bytes
-      → len ≤ max (length (files_of a file)) (at + length bytes) → b.blocks ≡ a.blocks
+      → len ≤ max (length (files_on a file)) (at + length bytes) → b.blocks ≡ a.blocks
       → StaysAgreed a b.state.pages → (pages : Pages) → LeavesPut file (at + done) (take count (drop done bytes)) len b
       pages
       → LeavesTorn file at (length bytes) a pages
   leaves_torn count within some reach blocks agreed pages leaves = record {
-    torn = subst (λ k. TornImage file at (length bytes) (files_of a) (flash_files pages k)) blocks
-        (torn_in_more file at bytes len (files_of a) done count (files_of b) (flash_files pages b.blocks) within some
+    torn = subst (λ k. TornImage file at (length bytes) (files_on a) (flash_files pages k)) blocks
+        (torn_in_more file at bytes len (files_on a) done count (files_on b) (flash_files pages b.blocks) within some
         reach before.part leaves.put);
     usable = usable_before a b blocks agreed pages leaves.usable;
     agreed = agreed_before a b blocks agreed pages leaves.agreed;
   }
 
   -- all bytes were written
-  pub wrote_all : length bytes ≡ done → 0 < length bytes → len ≡ max (length (files_of a file)) (at + length bytes)
-      → files_of b ≡ put_image (files_of a) file at bytes
-  wrote_all all some reach = whole_part file at bytes len (files_of a) (files_of b) some reach
-      (part_all file at bytes len (files_of a) (files_of b) some
-      (subst (λ k. PartSoFar file at bytes len k (files_of a) (files_of b)) (sym all) before.part))
+  pub wrote_all : length bytes ≡ done → 0 < length bytes → len ≡ max (length (files_on a file)) (at + length bytes)
+      → files_on b ≡ put_image (files_on a) file at bytes
+  wrote_all all some reach = whole_part file at bytes len (files_on a) (files_on b) some reach
+      (part_all file at bytes len (files_on a) (files_on b) some
+      (subst (λ k. PartSoFar file at bytes len k (files_on a) (files_on b)) (sym all) before.part))
 
   -- until they are written
   pub torn_then : (count : ℕ) (d : FlashMedium) → done + count ≤ length bytes → 0 < length bytes
-      → len ≡ max (length (files_of a file)) (at + length bytes)
+      → len ≡ max (length (files_on a file)) (at + length bytes)
       → FlashElapses a b → FlashElapses b d → Does (LeavesTorn file at (length bytes) a) a b
       → Does (LeavesPut file (at + done) (take count (drop done bytes)) len b) b d
       → Does (LeavesTorn file at (length bytes) a) a d
@@ -437,10 +438,10 @@ moved_there P start done count holds =
     subst (λ k. P start k) many (subst (λ k. P k (done + count - done)) place holds)
 
 -- no byte was written yet
-pub torn_nothing : (m : FlashMedium) (s : LayerState) → IsSound m s → (file at n : ℕ)
+pub torn_nothing : (m : FlashMedium) (s : LayerState) → IsSoundLayer m s → (file at n : ℕ)
     → LeavesTorn file at n m m.state.pages
 torn_nothing m s sound file at n = record {
-  torn = torn_refl file at n (files_of m);
+  torn = torn_refl file at n (files_on m);
   usable =
       usable_now m s sound;
   agreed = λ agreed. agreed;
@@ -449,18 +450,18 @@ torn_nothing m s sound file at n = record {
 -- ---- a write as a whole
 
 module _ (file at : ℕ) (bytes : List ℕ) where
-  module _ (b c : FlashMedium) (time : FlashElapses b c) (wipes : Does (StandsFor b) b c) where
-    stands_torn : (pages : Pages) → StandsFor b pages → LeavesTorn file at (length bytes) b pages
+  module _ (b c : FlashMedium) (time : FlashElapses b c) (wipes : Does (DenotesFiles b) b c) where
+    stands_torn : (pages : Pages) → DenotesFiles b pages → LeavesTorn file at (length bytes) b pages
     stands_torn pages stands = record {
-      torn = subst (TornImage file at (length bytes) (files_of b)) (sym stands.files_are)
-          (torn_refl file at (length bytes) (files_of b));
+      torn = subst (TornImage file at (length bytes) (files_on b)) (sym stands.files_are)
+          (torn_refl file at (length bytes) (files_on b));
       usable = stands.usable;
       agreed = stands.agreed;
     }
 
     -- bytes past the end of the file were wiped
     pub wipes_torn : Does (LeavesTorn file at (length bytes) b) b c
-    wipes_torn = does_weaken b c (StandsFor b) (LeavesTorn file at (length bytes) b) stands_torn wipes
+    wipes_torn = does_weaken b c (DenotesFiles b) (LeavesTorn file at (length bytes) b) stands_torn wipes
 
     -- and then the bytes were written
     pub wipes_then : (d : FlashMedium) → FlashElapses c d → Does (LeavesTorn file at (length bytes) c) c d
@@ -471,13 +472,13 @@ module _ (file at : ℕ) (bytes : List ℕ) where
         (length bytes)) writes)
 
     -- the file is as long as the table said
-    pub len_wiped : (s : LayerState) → IsSound b s → length (files_of c file) ≡ len_known s.table file
+    pub len_wiped : (s : LayerState) → IsSoundLayer b s → length (files_on c file) ≡ len_known s.table file
     len_wiped s sound = ap (λ (f : Image). length (f file)) (files_stand b c time wipes.now)
         ∙ (length-flash_files b.state.pages b.blocks file ∙ sym
         (len_is b.state.pages (places b.blocks) s.table sound.knows file))
 
     -- nothing shows up to the end that it will have
-    pub grows_wiped : (s : LayerState) → IsSound b s → (end len : ℕ) → len ≡ max (len_known s.table file) end
+    pub grows_wiped : (s : LayerState) → IsSoundLayer b s → (end len : ℕ) → len ≡ max (len_known s.table file) end
         → ShowsZeros c file end → ShowsZeros c file len
     grows_wiped s sound end len is zeros = λ i past inside. zeros i past
         (let known_is = len_wiped s sound in let long = length-flash_files c.state.pages c.blocks file in
@@ -488,11 +489,11 @@ module _ (file at : ℕ) (bytes : List ℕ) where
     pages_announced = ap (λ (t : FlashState). t.pages) state
 
     -- the announcement changes no page
-    pub sound_announced : (s : LayerState) → IsSound a s → IsSound b s
+    pub sound_announced : (s : LayerState) → IsSoundLayer a s → IsSoundLayer b s
     sound_announced s sound = subst (λ p. Sound p b.blocks s) (sym pages_announced)
         (subst (λ k. Sound a.state.pages k s) (sym time.blocks) sound)
 
-    pub files_announced : files_of b ≡ files_of a
+    pub files_announced : files_on b ≡ files_on a
     files_announced = ap (λ p. flash_files p b.blocks) pages_announced
         ∙ ap (λ k. flash_files a.state.pages k) time.blocks
 
@@ -509,7 +510,8 @@ module _ (file at : ℕ) (bytes : List ℕ) where
     with_announced = ap (λ (t : FlashState). t.announced) state
 
     -- and what comes after it is the write
-    pub writes_into : (s : LayerState) → IsSound a s → EachFlashCase (λ x. IsStill a.state x ⊎ IsStill b.state x) a b
+    pub writes_into : (s : LayerState) → IsSoundLayer a s → EachFlashCase (λ x. IsStill a.state x
+        ⊎ IsStill b.state x) a b
         → (d : FlashMedium) → FlashElapses b d → Does (LeavesTorn file at (length bytes) b) b d
         → WritesInto file at bytes a d
     writes_into s sound cases d second does = record {

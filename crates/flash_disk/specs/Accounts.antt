@@ -8,7 +8,7 @@ use Rattle.flash_disk.specs.declared.layer.Layer.{Layer}
 abbrev pub faults_of : {F : Type 0} → (F → FlashMedium) → Layer F → ℕ
 faults_of medium layer = (medium layer.flash).faults + layer.own
 
--- In a call time goes on; it counts one fault of its own at most, and only where it fails; it uses at most so many
+-- In a call time goes on; it counts one fault of its own at most, and only where it fails; it uses at most that many
 -- numbers; and whether there are rivals it leaves as it is.
 pub record Accounts {F T E : Type 0} (told : Bool) (medium : F → FlashMedium) (numbers : ℕ) (old new : Layer F)
     (result : Result T E) : Type 0 where

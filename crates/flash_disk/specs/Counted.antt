@@ -37,7 +37,7 @@ pub record IsInside (blocks : ℕ) (entry : Newest) : Type 0 where
   pub twin : IfSome entry.twin (λ twin. twin.block < blocks)
 
 -- all entries do, and each block has as many as the table counts
-pub record IsCounted (blocks : ℕ) (table : Table) : Type 0 where
+pub record IsCountedTable (blocks : ℕ) (table : Table) : Type 0 where
   pub some : 4 ≤ blocks
   pub few : blocks ≤ 4096
   pub blocks_are : table.blocks ≡ blocks

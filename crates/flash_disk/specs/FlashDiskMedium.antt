@@ -70,7 +70,7 @@ disk_seen told medium v = flash_disk_medium told (medium v.flash) v.own v.writte
 
 -- A disk that was just opened over this flash: from now on what a stop leaves at any moment can be opened again, and if
 -- the flash had no rivals it goes on taking writes.
-pub record Begins (told : Bool) (m : FlashMedium) (disk : Medium) : Type 0 where
+pub record IsJustOpened (told : Bool) (m : FlashMedium) (disk : Medium) : Type 0 where
   pub opens : disk.opens disk.moment
   pub agrees : (IsTrue told → IsAgreed m.state.pages (places m.blocks)) → disk.agrees disk.moment
 

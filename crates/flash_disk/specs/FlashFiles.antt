@@ -27,14 +27,15 @@ lies_at i None = false
 lies_at i (Some x) = x.place == i
 
 -- the length that the record in place i says, if it is the newest of a page of the file
-abbrev pub len_at : Pages → (n file i : ℕ) → Option PageRecord → ℕ
-len_at pages n file i None = 0
-len_at pages n file i (Some r) = if (r.file == file && lies_at i (newest pages r.file r.page n)) then r.len else 0
+abbrev pub len_in_place : Pages → (n file i : ℕ) → Option PageRecord → ℕ
+len_in_place pages n file i None = 0
+len_in_place pages n file i (Some r) = if (r.file == file && lies_at i (newest pages r.file r.page n)) then r.len else 0
 
 -- the greatest of these lengths in the first k places
 abbrev pub longest_below : Pages → (n file k : ℕ) → ℕ
 longest_below pages n file zero = 0
-longest_below pages n file (suc k) = max (longest_below pages n file k) (len_at pages n file k (record_at pages k))
+longest_below pages n file (suc k) = max (longest_below pages n file k)
+    (len_in_place pages n file k (record_at pages k))
 
 -- how long a file is
 unfoldable pub file_len : Pages → (n file : ℕ) → ℕ

@@ -22,6 +22,6 @@ view_code {F} code =
     (λ p. record { flash = p.0; sequence = p.1.0; own = p.1.1.0; written = p.1.1.1 }) (λ _. refl)
 
 -- what is known of the flash fits it, and no more bytes were written than records with these numbers hold
-pub record IsKept (told : Bool) (m : FlashMedium) (s : LayerState) (written : ℕ) : Type 0 where
+pub record FitsFlash (told : Bool) (m : FlashMedium) (s : LayerState) (written : ℕ) : Type 0 where
   pub holds : IsTrue told → IsDescribedBy m s
   pub counted : written ≤ 256 * s.sequence

@@ -28,8 +28,8 @@ abbrev pub limit_of : Table → ℕ
 limit_of table = table.limit
 
 -- it has memory for as many
-abbrev pub HasRoom : Table → Type 0
-HasRoom table = table.limit ≤ hash_map_len table.newest + spare table.newest
+abbrev pub HasCapacity : Table → Type 0
+HasCapacity table = table.limit ≤ hash_map_len table.newest + spare table.newest
 
 -- how long a file is by a table of lengths, and by the table
 abbrev pub len_in : {S : Type 0} → HashMap ℕ ℕ S → ℕ → ℕ
@@ -50,17 +50,17 @@ abbrev pub load_known : Table → ℕ → ℕ
 load_known table block = slice_index table.load.items block
 
 -- a page now has this entry, and all others have what they had
-pub record Puts (old new : Table) (key : FilePage) (entry : Newest) : Type 0 where
+pub record SetsEntry (old new : Table) (key : FilePage) (entry : Newest) : Type 0 where
   pub known_is : (k : FilePage) → known new k ≡ (if same_page key k then Some entry else known old k)
   pub len : page_len new ≡ page_len old + (if is_some (known old key) then 0 else 1)
-  pub room : HasRoom old → HasRoom new
+  pub room : HasCapacity old → HasCapacity new
   pub fits : page_len old ≤ limit_of old → page_len new ≤ limit_of new
 
 -- all pages have what they had
 pub record SameRecords (old new : Table) : Type 0 where
   pub known_is : (k : FilePage) → known new k ≡ known old k
   pub len : page_len new ≡ page_len old
-  pub room : HasRoom old → HasRoom new
+  pub room : HasCapacity old → HasCapacity new
   pub fits : page_len old ≤ limit_of old → page_len new ≤ limit_of new
 
 -- both have room for as many pages, the same lengths of files, and as many blocks
@@ -92,11 +92,11 @@ pub record IsLongest {S : Type 0} (entries : HashMap FilePage Newest S) (file le
 pub record IsEmptyTable (table : Table) : Type 0 where
   pub nothing : (key : FilePage) → known table key ≡ None
   pub len : page_len table ≡ 0
-  pub room : HasRoom table
+  pub room : HasCapacity table
   pub lens : (file : ℕ) → len_known table file ≡ 0
   pub len_room : table.limit ≤ spare table.lens
 
 -- the bytes of a record that an entry says, other than zeros, end within its file or by this byte
-abbrev pub EndsBy : {S : Type 0} → HashMap ℕ ℕ S → FilePage → Newest → ℕ → Type 0
-EndsBy lens key entry end = key.page < 4294967296 → 0 < entry.filled
+abbrev pub IsFilledUpTo : {S : Type 0} → HashMap ℕ ℕ S → FilePage → Newest → ℕ → Type 0
+IsFilledUpTo lens key entry end = key.page < 4294967296 → 0 < entry.filled
     → (256 * key.page + entry.filled ≤ len_in lens key.file) ⊎ (256 * key.page + entry.filled ≤ end)

@@ -8,7 +8,7 @@ use Rattle.flash_disk.specs.declared.table.Newest.{Newest}
 use Rattle.flash_disk.specs.declared.table.Table.{Table}
 use Rattle.flash_disk.specs.Newest.{Placed, record_at, is_of, newest, page_count, IsCopyOf, IsSpare}
 use Rattle.flash_record.specs.PageRecord.{PageRecord}
-use Rattle.flash_disk.specs.Known.{known, page_len, limit_of, len_known, HasRoom}
+use Rattle.flash_disk.specs.Known.{known, page_len, limit_of, len_known, HasCapacity}
 use Rattle.flash_disk.specs.Standing.{IsRivalled}
 use Rattle.flash_disk.specs.FlashFiles.{file_byte, file_len, IsFileLen}
 
@@ -16,7 +16,7 @@ abbrev pub number : Place → ℕ
 number place = 64 * place.block + place.page
 
 -- an entry leads to this record, and says its number, its length and where its last byte other than zero ends
-pub record LeadsTo (pages : Pages) (entry : Newest) (x : Placed) : Type 0 where
+pub record EntryLeadsTo (pages : Pages) (entry : Newest) (x : Placed) : Type 0 where
   pub small : entry.place.page < 64
   pub there : record_at pages (number entry.place) ≡ Some x.says
   pub sequence : entry.sequence ≡ x.says.sequence
@@ -36,7 +36,7 @@ Unrivalled pages n x = (j : ℕ) (q : PageRecord) → j < n → record_at pages 
 
 -- while the flash is learnt an entry is that of the newest record itself
 pub record Learns (pages : Pages) (n : ℕ) (entry : Newest) (x : Placed) : Type 0 where
-  pub leads : LeadsTo pages entry x
+  pub leads : EntryLeadsTo pages entry x
   pub place : number entry.place ≡ x.place
   pub twin : TwinSays pages n x entry.twin
   pub agreed : IsFalse entry.rivalled → Unrivalled pages n x
@@ -53,7 +53,7 @@ LearnsOf pages n (Some entry) (Some x) = Learns pages n entry x
 pub record HasLearnt (pages : Pages) (n : ℕ) (table : Table) : Type 0 where
   pub says : (key : FilePage) → LearnsOf pages n (known table key) (newest pages key.file key.page n)
   pub count : page_len table ≡ page_count pages n
-  pub room : HasRoom table
+  pub room : HasCapacity table
   pub fits : page_len table ≤ limit_of table
 
 -- one place more is learnt, or there are more pages than there is room for
@@ -86,7 +86,7 @@ LearnsAll pages n limit table false = limit < page_count pages n
 -- an entry leads to a record that is equal to the newest one
 pub record Led (pages : Pages) (n : ℕ) (entry : Newest) (x : Placed) : Type 0 where
   pub within : number entry.place < n
-  pub leads : LeadsTo pages entry x
+  pub leads : EntryLeadsTo pages entry x
 
 abbrev pub LedOf : Pages → ℕ → Option Newest → Option Placed → Type 0
 LedOf pages n None None = Unit {0}
@@ -96,7 +96,7 @@ LedOf pages n (Some entry) (Some x) = Led pages n entry x
 
 -- an entry while its block is left: it is still that of the newest record itself, or leads to an equal one outside of
 -- the block
-pub record Leaves (pages : Pages) (n block : ℕ) (entry : Newest) (x : Placed) : Type 0 where
+pub record IsLeavingBlock (pages : Pages) (n block : ℕ) (entry : Newest) (x : Placed) : Type 0 where
   pub led : Led pages n entry x
   pub twin : TwinSays pages n x entry.twin
   pub agreed : IsFalse entry.rivalled → Unrivalled pages n x
@@ -108,7 +108,7 @@ abbrev pub LeavesOf : Pages → (n block : ℕ) → Option Newest → Option Pla
 LeavesOf pages n block None None = Unit {0}
 LeavesOf pages n block None (Some x) = ⊥
 LeavesOf pages n block (Some entry) None = ⊥
-LeavesOf pages n block (Some entry) (Some x) = Leaves pages n block entry x
+LeavesOf pages n block (Some entry) (Some x) = IsLeavingBlock pages n block entry x
 
 -- a table that leads to the newest records while a block is left, to the first few pages of which no entry leads any
 -- more
@@ -116,7 +116,7 @@ pub record IsLeaving (pages : Pages) (n block done : ℕ) (table : Table) : Type
   pub says : (key : FilePage) → LeavesOf pages n block (known table key) (newest pages key.file key.page n)
   pub out : (key : FilePage) (entry : Newest) → known table key ≡ Some entry → entry.place.block ≡ block
       → done ≤ entry.place.page
-  pub room : HasRoom table
+  pub room : HasCapacity table
   pub fits : page_len table ≤ limit_of table
 
 -- pages more of a spare block are left
@@ -127,11 +127,11 @@ LeavesBlock pages n block done next old new = IsSpare pages n block → IsLeavin
 -- the table leads from each page of a file to its newest record, or an equal one
 pub record IsLed (pages : Pages) (n : ℕ) (table : Table) : Type 0 where
   pub says : (key : FilePage) → LedOf pages n (known table key) (newest pages key.file key.page n)
-  pub room : HasRoom table
+  pub room : HasCapacity table
   pub fits : page_len table ≤ limit_of table
 
 -- it also knows how long each file is
-pub record Knows (pages : Pages) (n : ℕ) (table : Table) : Type 0 where
+pub record KnowsLengths (pages : Pages) (n : ℕ) (table : Table) : Type 0 where
   pub led : IsLed pages n table
   pub lens : (file : ℕ) → IsFileLen pages n file (len_known table file)
 
@@ -142,7 +142,7 @@ IsContent pages n key bytes = (j : ℕ) → j < 256
     (256 * key.page + j) else 0)
 
 -- a record came to be where none was, newer than all others
-pub record Adds (old new : Pages) (n : ℕ) (place : Place) (r : PageRecord) : Type 0 where
+pub record AddsRecord (old new : Pages) (n : ℕ) (place : Place) (r : PageRecord) : Type 0 where
   pub small : place.page < 64
   pub within : number place < n
   pub nothing : record_at old (number place) ≡ None

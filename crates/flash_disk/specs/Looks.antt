@@ -4,12 +4,12 @@ use Rattle.flash_model.specs.State.{IsStill, settle_pages}
 use Rattle.flash_model.specs.FlashMedium.{FlashMedium, FlashElapses, EachFlashCase}
 
 -- the flash is as it was, and so is what a crash meanwhile leaves
-pub record Looks (told : Bool) (old new : FlashMedium) : Type 0 where
+pub record LeavesFlashAlone (told : Bool) (old new : FlashMedium) : Type 0 where
   pub state : IsTrue told → new.state ≡ old.state
   pub time : IsTrue told → FlashElapses old new
   pub during : IsTrue told → EachFlashCase (IsStill old.state) old new
 
 -- a crash meanwhile leaves what there was, as it was settled last or settled again
-pub record Opens (told : Bool) (old new : FlashMedium) : Type 0 where
+pub record OpensFlash (told : Bool) (old new : FlashMedium) : Type 0 where
   pub time : IsTrue told → FlashElapses old new
   pub during : IsTrue told → EachFlashCase (λ c. IsStill old.state c ⊎ IsStill (settle_pages old.state) c) old new

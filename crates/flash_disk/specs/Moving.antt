@@ -25,7 +25,7 @@ abbrev pub HasKey : FilePage → List (FilePage × Newest) → Type 0
 HasKey key [] = ⊥
 HasKey key (e ∷ es) = (same_page e.0 key ≡ true) ⊎ HasKey key es
 
--- of the first few pages of a block the newest records are copied to the front of the spare one
+-- of the first few pages of a block the newest records are copied to the start of the spare one
 pub record IsMoving (pages : Pages) (blocks : ℕ) (s : LayerState) (from to done : ℕ) : Type 0 where
   pub sound : Sound pages blocks s
   pub agreed : IsFalse s.disputed

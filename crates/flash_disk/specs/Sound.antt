@@ -13,14 +13,14 @@ use Rattle.flash_disk.specs.declared.table.Table.{Table}
 use Rattle.flash_disk.specs.declared.layer.LayerState.{LayerState}
 use Rattle.flash_disk.specs.Newest.{record_at, places, page_count, page_limit, IsSpare, IsUsable}
 use Rattle.flash_disk.specs.Known.{known, page_len, limit_of, HasLen}
-use Rattle.flash_disk.specs.Counted.{IsCounted}
-use Rattle.flash_disk.specs.Learnt.{number, Knows, Adds, HasPlace, Tops}
+use Rattle.flash_disk.specs.Counted.{IsCountedTable}
+use Rattle.flash_disk.specs.Learnt.{number, KnowsLengths, AddsRecord, HasPlace, Tops}
 use Rattle.flash_disk.specs.FlashFiles.{file_byte, file_len, flash_files}
 use Rattle.flash_disk.specs.Standing.{IsAgreed, HasRivals, IsStrayless, MayGrow, StaysAgreed}
 use Rattle.flash_disk.specs.PutPart.{PutOrNot}
 
-abbrev pub files_of : FlashMedium → Image
-files_of m = flash_files m.state.pages m.blocks
+abbrev pub files_on : FlashMedium → Image
+files_on m = flash_files m.state.pages m.blocks
 
 -- no entry leads into this block
 abbrev pub LeavesOut : Table → ℕ → Type 0
@@ -31,7 +31,7 @@ abbrev pub SameFill : LayerState → LayerState → Type 0
 SameFill old new = (new.fill ≡ old.fill) × (new.unsure ≡ old.unsure) × (new.moved ≡ old.moved)
 
 -- the page that is to be filled next is blank, and is not in the spare block
-pub record IsFresh (pages : Pages) (blocks : ℕ) (s : LayerState) : Type 0 where
+pub record HasFreshPage (pages : Pages) (blocks : ℕ) (s : LayerState) : Type 0 where
   pub agreed : IsFalse s.disputed
   pub within : s.current < blocks
   pub apart : s.current ≢ s.spare
@@ -39,14 +39,14 @@ pub record IsFresh (pages : Pages) (blocks : ℕ) (s : LayerState) : Type 0 wher
 
 -- what is kept fits these pages
 pub record Sound (pages : Pages) (blocks : ℕ) (s : LayerState) : Type 0 where
-  pub knows : Knows pages (places blocks) s.table
+  pub knows : KnowsLengths pages (places blocks) s.table
   pub tops : Tops pages (places blocks) s.sequence
   pub strays : IsStrayless pages (places blocks) s.stray_end
   pub limit : limit_of s.table ≡ page_limit blocks
   -- there is memory for the length of a file more for each page more
   pub files : limit_of s.table ≤ page_len s.table + spare s.table.lens
   pub measured : (key : FilePage) (entry : Newest) → known s.table key ≡ Some entry → HasLen s.table key.file
-  pub counted : IsCounted blocks s.table
+  pub counted : IsCountedTable blocks s.table
   pub count : page_len s.table ≡ page_count pages (places blocks)
   -- there is memory for what is moved out of a block
   pub memory : 64 ≤ vec_capacity s.moved
@@ -56,25 +56,25 @@ pub record Sound (pages : Pages) (blocks : ℕ) (s : LayerState) : Type 0 where
   pub agreed : IsFalse s.disputed → IsAgreed pages (places blocks)
   pub rivals : IsTrue s.disputed → HasRivals pages (places blocks)
   pub apart : IsFalse s.disputed → LeavesOut s.table s.spare
-  pub fresh : s.fill < 64 → IsFresh pages blocks s
+  pub fresh : s.fill < 64 → HasFreshPage pages blocks s
 
-abbrev pub IsSound : FlashMedium → LayerState → Type 0
-IsSound m s = Sound m.state.pages m.blocks s
+abbrev pub IsSoundLayer : FlashMedium → LayerState → Type 0
+IsSoundLayer m s = Sound m.state.pages m.blocks s
 
 -- a record that may be added: there is room for it, and it shows nothing but what it says
-pub record Fits (pages : Pages) (blocks : ℕ) (s : LayerState) (file page len : ℕ) (bytes : List ℕ) : Type 0 where
+pub record MayBeAdded (pages : Pages) (blocks : ℕ) (s : LayerState) (file page len : ℕ) (bytes : List ℕ) : Type 0 where
   pub place : HasPlace s.table (record { file = file; page = page })
   pub no_shorter : file_len pages (places blocks) file ≤ len
   pub zeros : (j : ℕ) → j < 256 → len ≤ 256 * page + j → slice_index bytes j ≡ 0
   pub grows : MayGrow pages (places blocks) file page len
 
 abbrev pub FitsIn : FlashMedium → LayerState → (file page len : ℕ) → List ℕ → Type 0
-FitsIn m s file page len bytes = Fits m.state.pages m.blocks s file page len bytes
+FitsIn m s file page len bytes = MayBeAdded m.state.pages m.blocks s file page len bytes
 
 -- the record came to be in this place of the block that is being filled
 pub record Enters (old new : Pages) (blocks : ℕ) (s : LayerState) (place : Place) (r : PageRecord) : Type 0 where
-  pub adds : Adds old new (places blocks) place r
-  pub fits : Fits old blocks s r.file r.page r.len r.bytes
+  pub adds : AddsRecord old new (places blocks) place r
+  pub fits : MayBeAdded old blocks s r.file r.page r.len r.bytes
   pub full : length r.bytes ≡ 256
   pub numbered : r.sequence ≤ s.sequence
   pub elsewhere : TornPage place.block place.page old new
@@ -104,7 +104,7 @@ pub record IsDescribedBy (m : FlashMedium) (s : LayerState) : Type 0 where
 
 -- the write of a part was done, or nothing was, the pages can be opened, and no rivals came
 pub record LeavesPut (file at : ℕ) (bytes : List ℕ) (len : ℕ) (old : FlashMedium) (pages : Pages) : Type 0 where
-  pub put : PutOrNot file at bytes len (files_of old) (flash_files pages old.blocks)
+  pub put : PutOrNot file at bytes len (files_on old) (flash_files pages old.blocks)
   pub usable : IsUsable pages old.blocks
   pub agreed : StaysAgreed old pages
 

@@ -43,7 +43,7 @@ abbrev pub StaysAgreed : FlashMedium → Pages → Type 0
 StaysAgreed old pages = IsAgreed old.state.pages (places old.blocks) → IsAgreed pages (places old.blocks)
 
 -- the pages denote the files that a flash denoted, they can be opened, and no rivals came
-pub record StandsFor (old : FlashMedium) (pages : Pages) : Type 0 where
+pub record DenotesFiles (old : FlashMedium) (pages : Pages) : Type 0 where
   pub files_are : flash_files pages old.blocks ≡ flash_files old.state.pages old.blocks
   pub usable : IsUsable pages old.blocks
   pub agreed : StaysAgreed old pages

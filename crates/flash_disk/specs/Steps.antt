@@ -4,16 +4,16 @@ use Rattle.per_base.specs.Causes.{CountsFaults}
 use Rattle.flash_model.specs.FlashMedium.{FlashMedium}
 use Rattle.flash_disk.specs.declared.layer.Layer.{Layer}
 use Rattle.flash_disk.specs.Known.{SameBounds}
-use Rattle.flash_disk.specs.Counted.{IsCounted}
-use Rattle.flash_disk.specs.Sound.{IsSound, IsDescribedBy, SameFill}
-use Rattle.flash_disk.specs.Looks.{Looks}
+use Rattle.flash_disk.specs.Counted.{IsCountedTable}
+use Rattle.flash_disk.specs.Sound.{IsSoundLayer, IsDescribedBy, SameFill}
+use Rattle.flash_disk.specs.Looks.{LeavesFlashAlone}
 use Rattle.flash_disk.specs.Accounts.{Accounts}
 use Rattle.flash_disk.specs.OwnFaults.{StopsAdding}
 
 -- a step that only looks at the flash: it counts a fault of the flash where it fails, and none of its own
 pub record OnlyLooks {F T E : Type 0} (told : Bool) (medium : F → FlashMedium) (old new : Layer F)
     (result : Result T E) : Type 0 where
-  pub looks : Looks told (medium old.flash) (medium new.flash)
+  pub looks : LeavesFlashAlone told (medium old.flash) (medium new.flash)
   pub pages : IsTrue told → (medium new.flash).state.pages ≡ (medium old.flash).state.pages
   pub blocks : (medium new.flash).blocks ≡ (medium old.flash).blocks
   pub flash : CountsFaults (medium old.flash).faults (medium new.flash).faults result
@@ -33,22 +33,22 @@ pub record IsOpeningStep {F T E : Type 0} (told : Bool) (medium : F → FlashMed
   pub only : OnlyLooks told medium old new result
   pub fill : SameFill old.state new.state
   pub bounds : SameBounds old.state.table new.state.table
-  pub counted : IsCounted (medium old.flash).blocks old.state.table
-      → IsCounted (medium old.flash).blocks new.state.table
+  pub counted : IsCountedTable (medium old.flash).blocks old.state.table
+      → IsCountedTable (medium old.flash).blocks new.state.table
 
 -- nothing is unsure, and all that is known fits the pages
 pub record IsSure {F : Type 0} (told : Bool) (medium : F → FlashMedium) (layer : Layer F) : Type 0 where
   pub sure : layer.state.unsure ≡ None
-  pub sound : IsTrue told → IsSound (medium layer.flash) layer.state
+  pub sound : IsTrue told → IsSoundLayer (medium layer.flash) layer.state
 
 -- after a step nothing is unsure and all that is known fits the pages, or where it failed all but for one page
 pub record StaysSound {F T E : Type 0} (told : Bool) (medium : F → FlashMedium) (layer : Layer F)
     (result : Result T E) : Type 0 where
   pub sure : OnOk result (layer.state.unsure ≡ None)
-  pub sound : IsTrue told → OnOk result (IsSound (medium layer.flash) layer.state)
+  pub sound : IsTrue told → OnOk result (IsSoundLayer (medium layer.flash) layer.state)
   pub failed : IsTrue told → OnErr result (IsDescribedBy (medium layer.flash) layer.state)
 
--- a step that adds at most so many records: it has a fault of its own only where no record can be added
+-- a step that adds at most that many records: it has a fault of its own only where no record can be added
 pub record AddsRecords {F T E : Type 0} (told : Bool) (medium : F → FlashMedium) (numbers : ℕ) (old new : Layer F)
     (result : Result T E) : Type 0 where
   pub stays : StaysSound told medium new result

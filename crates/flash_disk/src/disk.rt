@@ -37,7 +37,7 @@ pub struct FlashDisk<F: Flash> {
 }
 
 impl<F: Flash> Model for FlashDisk<F> {
-    ghost use Rattle.flash_disk.specs.FlashView.{FlashView, view_code, IsKept};
+    ghost use Rattle.flash_disk.specs.FlashView.{FlashView, view_code, FitsFlash};
 
     ghost Value = { FlashView F };
 
@@ -50,7 +50,7 @@ impl<F: Flash> Model for FlashDisk<F> {
       written = disk.written;
     } };
 
-    ghost invariant = { λ disk. IsKept F.told (F.medium disk.layer.flash) disk.layer.state disk.written };
+    ghost invariant = { λ disk. FitsFlash F.told (F.medium disk.layer.flash) disk.layer.state disk.written };
 }
 
 impl<F: Flash> FlashDisk<F> {

@@ -13,7 +13,7 @@ ghost use Rattle.flash_disk.specs.Entries.{SameEntries, Occupies};
 ghost use Rattle.flash_disk.specs.Does.{Does};
 ghost use Rattle.flash_disk.specs.PutPart.{PutPart};
 ghost use Rattle.flash_disk.specs.Newest.{places};
-ghost use Rattle.flash_disk.specs.Standing.{KeepsRecords, StandsFor};
+ghost use Rattle.flash_disk.specs.Standing.{DenotesFiles, KeepsRecords};
 ghost use Rattle.flash_disk.specs.Accounts.{Accounts};
 
 use crate::layer::Layer;
@@ -24,7 +24,8 @@ use flash_model::{BLANK_PAGE, BLOCK_PAGES, Flash, PAGE_BYTES};
 use flash_record::{RECORD_BYTES, Record, read_record, record_page};
 
 impl<F: Flash> Layer<F> {
-    ghost use Rattle.flash_disk.specs.Sound.{files_of, Sound, IsSound, IsDescribedBy, IsFresh, FitsIn, Enters};
+    ghost use Rattle.flash_disk.specs.Sound.{files_on, Sound, IsSoundLayer, IsDescribedBy, HasFreshPage, FitsIn};
+    ghost use Rattle.flash_disk.specs.Sound.{Enters};
     ghost use Rattle.flash_disk.specs.Sound.{LeavesPut};
     ghost use Rattle.flash_disk.specs.Sound.{ShowsPage, ShowsSame};
     ghost use Rattle.flash_disk.specs.Moving.{IsMoving};
@@ -83,7 +84,7 @@ impl<F: Flash> Layer<F> {
         requires fits { IsTrue F.told → FitsIn (F.medium self.old.flash) self.old.state file page len bytes.now }
         ensures adds { AddsRecords F.told F.medium 1 self.old self.new result }
         ensures put { IsTrue F.told → OnOk result (PutPart file (256 * page) bytes.now len
-            (files_of (F.medium self.old.flash)) (files_of (F.medium self.new.flash))) }
+            (files_on (F.medium self.old.flash)) (files_on (F.medium self.new.flash))) }
         ensures shown { IsTrue F.told → OnOk result (ShowsPage (F.medium self.old.flash) (F.medium self.new.flash) file
             page bytes.now) }
         ensures does { IsTrue F.told → Does (LeavesPut file (256 * page) bytes.now len (F.medium self.old.flash))
@@ -105,7 +106,7 @@ impl<F: Flash> Layer<F> {
         requires fits { IsTrue F.told → FitsIn (F.medium self.old.flash) self.old.state file page len bytes.now }
         ensures stays { StaysSound F.told F.medium self.new result }
         ensures put { IsTrue F.told → OnOk result (PutPart file (256 * page) bytes.now len
-            (files_of (F.medium self.old.flash)) (files_of (F.medium self.new.flash))) }
+            (files_on (F.medium self.old.flash)) (files_on (F.medium self.new.flash))) }
         ensures shown { IsTrue F.told → OnOk result (ShowsPage (F.medium self.old.flash) (F.medium self.new.flash) file
             page bytes.now) }
         ensures does { IsTrue F.told → Does (LeavesPut file (256 * page) bytes.now len (F.medium self.old.flash))
@@ -176,7 +177,7 @@ impl<F: Flash> Layer<F> {
         ensures fits { IsTrue F.told → (file page len : ℕ) (bytes : _)
             → FitsIn (F.medium self.old.flash) self.old.state file page len bytes
             → FitsIn (F.medium self.new.flash) self.new.state file page len bytes }
-        ensures does { IsTrue F.told → Does (StandsFor (F.medium self.old.flash))
+        ensures does { IsTrue F.told → Does (DenotesFiles (F.medium self.old.flash))
             (F.medium self.old.flash) (F.medium self.new.flash) }
         ensures shown { IsTrue F.told → OnOk result (ShowsSame (F.medium self.old.flash) (F.medium self.new.flash)) }
         ensures sequence { self.new.state.sequence ≡ self.old.state.sequence }
@@ -202,7 +203,7 @@ impl<F: Flash> Layer<F> {
         ensures fits { IsTrue F.told → (file page len : ℕ) (bytes : _)
             → FitsIn (F.medium self.old.flash) self.old.state file page len bytes
             → FitsIn (F.medium self.new.flash) self.new.state file page len bytes }
-        ensures does { IsTrue F.told → Does (StandsFor (F.medium self.old.flash))
+        ensures does { IsTrue F.told → Does (DenotesFiles (F.medium self.old.flash))
             (F.medium self.old.flash) (F.medium self.new.flash) }
         ensures shown { IsTrue F.told → OnOk result (ShowsSame (F.medium self.old.flash) (F.medium self.new.flash)) }
         ensures sequence { self.new.state.sequence ≡ self.old.state.sequence }
@@ -222,7 +223,7 @@ impl<F: Flash> Layer<F> {
     fn is_fresh(&mut self, place: Place) -> Result<bool, DiskFailed>
         ensures reads { LearnsNothing F.told F.medium self.old self.new result }
         ensures page { IfOk result (λ fresh. IsTrue fresh → place.page < 64) }
-        ensures fresh { IsTrue F.told → IfOk result (λ fresh. IsTrue fresh → IsFresh
+        ensures fresh { IsTrue F.told → IfOk result (λ fresh. IsTrue fresh → HasFreshPage
             (F.medium self.old.flash).state.pages (F.medium self.old.flash).blocks
             (record self.old.state { current = place.block; fill = place.page })) }
     {
@@ -244,7 +245,7 @@ impl<F: Flash> Layer<F> {
         ensures fits { IsTrue F.told → (file page len : ℕ) (bytes : _)
             → FitsIn (F.medium self.old.flash) self.old.state file page len bytes
             → FitsIn (F.medium self.new.flash) self.new.state file page len bytes }
-        ensures does { IsTrue F.told → Does (StandsFor (F.medium self.old.flash))
+        ensures does { IsTrue F.told → Does (DenotesFiles (F.medium self.old.flash))
             (F.medium self.old.flash) (F.medium self.new.flash) }
         ensures shown { IsTrue F.told → OnOk result (ShowsSame (F.medium self.old.flash) (F.medium self.new.flash)) }
         ensures sequence { self.new.state.sequence ≡ self.old.state.sequence }
@@ -270,7 +271,7 @@ impl<F: Flash> Layer<F> {
         Ok(())
     }
 
-    // Copies the newest records of a block to the front of another; the table still leads to where they were.
+    // Copies the newest records of a block to the start of another; the table still leads to where they were.
     fn copy_needed(&mut self, from: u32, to: u32) -> Result<(), DiskFailed>
         requires none { vec_len self.old.state.moved ≡ 0 }
         requires moving { IsTrue F.told → IsMoving (F.medium self.old.flash).state.pages
@@ -278,11 +279,11 @@ impl<F: Flash> Layer<F> {
         ensures moving { IsTrue F.told → OnOk result
             (IsMoving (F.medium self.new.flash).state.pages (F.medium self.new.flash).blocks self.new.state from to
             64) }
-        ensures failed { IsTrue F.told → OnErr result (IsSound (F.medium self.new.flash) self.new.state) }
+        ensures failed { IsTrue F.told → OnErr result (IsSoundLayer (F.medium self.new.flash) self.new.state) }
         ensures state { self.new.state ≡ record self.old.state { moved = self.new.state.moved } }
         ensures keeps { IsTrue F.told → KeepsRecords (F.medium self.old.flash).state.pages
             (F.medium self.new.flash).state.pages (places (F.medium self.old.flash).blocks) }
-        ensures does { IsTrue F.told → Does (StandsFor (F.medium self.old.flash))
+        ensures does { IsTrue F.told → Does (DenotesFiles (F.medium self.old.flash))
             (F.medium self.old.flash) (F.medium self.new.flash) }
         ensures accounts { Accounts F.told F.medium 0 self.old self.new result }
         ensures few { vec_len self.new.state.moved ≤ entries_in self.old.state.table from }
@@ -305,11 +306,11 @@ impl<F: Flash> Layer<F> {
             (IsMoving (F.medium self.new.flash).state.pages (F.medium self.new.flash).blocks self.new.state from.block
             to (from.page + 1)) }
         ensures count { vec_len self.new.state.moved ≤ vec_len self.old.state.moved + 1 }
-        ensures failed { IsTrue F.told → OnErr result (IsSound (F.medium self.new.flash) self.new.state) }
+        ensures failed { IsTrue F.told → OnErr result (IsSoundLayer (F.medium self.new.flash) self.new.state) }
         ensures state { self.new.state ≡ record self.old.state { moved = self.new.state.moved } }
         ensures keeps { IsTrue F.told → KeepsRecords (F.medium self.old.flash).state.pages
             (F.medium self.new.flash).state.pages (places (F.medium self.old.flash).blocks) }
-        ensures does { IsTrue F.told → Does (StandsFor (F.medium self.old.flash))
+        ensures does { IsTrue F.told → Does (DenotesFiles (F.medium self.old.flash))
             (F.medium self.old.flash) (F.medium self.new.flash) }
         ensures accounts { Accounts F.told F.medium 0 self.old self.new result }
         ensures few { vec_len self.old.state.moved ≤ copied_below self.old.state.table from.block from.page

@@ -24,7 +24,7 @@
 //! write of some bytes fails. Bytes that a record has past the end of its file are rewritten as zeros before the file
 //! grows over them.
 //!
-//! Where the flash tells its pages, the disk tells its bytes: they are the files that the newest records denote, and
+//! Where the flash's pages are modelled, the disk's bytes are: they are the files that the newest records denote, and
 //! every clause of the trait is proved, what a crash or a failed call leaves at any moment included, if no page passes
 //! its hash by chance. Limits: files of at most 1,099,511,627,776 bytes, as many pages as all blocks but two hold, and
 //! numbers up to 2^64 - 1; wear is not even. A write that would break one of them fails, and so does one that finds

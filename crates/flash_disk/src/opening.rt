@@ -7,7 +7,7 @@ ghost use Rattle.flash_record.specs.Stated.{stated};
 ghost use Rattle.flash_disk.specs.Newest.{record_at, places, page_limit, IsSpare, NeedsPlace, FindsSpare, IsUsable};
 ghost use Rattle.flash_disk.specs.Newest.{IsUnusable, SaysUsable};
 ghost use Rattle.flash_disk.specs.Known.{known, limit_of, page_len, page_of, IsEmptyTable};
-ghost use Rattle.flash_disk.specs.Counted.{IsCounted};
+ghost use Rattle.flash_disk.specs.Counted.{IsCountedTable};
 ghost use Rattle.flash_disk.specs.Learnt.{number, HasLearnt, LearnsNext, LearnsAll, SaysTheSame, TwinAt, RivalledAt};
 ghost use Rattle.flash_disk.specs.Learnt.{IsTop, LeavesBlock};
 ghost use Rattle.flash_model.specs.State.{settle_pages};
@@ -23,8 +23,8 @@ use flash_record::{Record, read_record};
 use std::alloc::{AllocError, Global};
 
 impl<F: Flash> FlashDisk<F> {
-    ghost use Rattle.flash_disk.specs.FlashDiskMedium.{disk_seen, Begins};
-    ghost use Rattle.flash_disk.specs.Looks.{Looks, Opens};
+    ghost use Rattle.flash_disk.specs.FlashDiskMedium.{disk_seen, IsJustOpened};
+    ghost use Rattle.flash_disk.specs.Looks.{LeavesFlashAlone, OpensFlash};
     ghost use Rattle.flash_disk.specs.Throughout.{KeepsUsable, KeepsAgreed};
     ghost use Rattle.disk_model.specs.Medium.{Quiet};
 
@@ -60,9 +60,9 @@ impl<F: Flash> FlashDisk<F> {
         ensures settled { IsTrue F.told → IfOk result (λ disk. (F.medium disk.flash).state
             ≡ settle_pages (F.medium flash).state) }
         ensures quiet { IfOk result (λ disk. Quiet (disk_seen F.told F.medium disk)) }
-        ensures begins { IfOk result (λ disk. Begins F.told (F.medium flash) (disk_seen F.told F.medium disk)) }
-        ensures opens { MatchResult result (λ disk. Opens F.told (F.medium flash) (F.medium disk.flash))
-            (λ refused. Looks F.told (F.medium flash) (F.medium refused.flash)) }
+        ensures begins { IfOk result (λ disk. IsJustOpened F.told (F.medium flash) (disk_seen F.told F.medium disk)) }
+        ensures opens { MatchResult result (λ disk. OpensFlash F.told (F.medium flash) (F.medium disk.flash))
+            (λ refused. LeavesFlashAlone F.told (F.medium flash) (F.medium refused.flash)) }
         ensures returned { IsTrue F.told → IfErr result (λ refused. (F.medium refused.flash).state
             ≡ (F.medium flash).state) }
         ensures returned_blocks { IfErr result (λ refused. (F.medium refused.flash).blocks ≡ (F.medium flash).blocks) }
@@ -115,7 +115,7 @@ fn empty_state(alloc: Global, blocks: u32) -> Result<LayerState, AllocError>
     ensures full { IfOk result (λ state. state.fill ≡ 64) }
     ensures sure { IfOk result (λ state. state.unsure ≡ None) }
     ensures sequence { IfOk result (λ state. state.sequence ≡ 0) }
-    ensures counted { 4 ≤ blocks → blocks ≤ 4096 → IfOk result (λ state. IsCounted blocks state.table) }
+    ensures counted { 4 ≤ blocks → blocks ≤ 4096 → IfOk result (λ state. IsCountedTable blocks state.table) }
     ensures moved { IfOk result (λ state. 64 ≤ vec_capacity state.moved) }
 {
     Ok(LayerState {
@@ -133,7 +133,7 @@ fn empty_state(alloc: Global, blocks: u32) -> Result<LayerState, AllocError>
 
 impl<F: Flash> Layer<F> {
     ghost use Rattle.flash_disk.specs.Sound.{Sound};
-    ghost use Rattle.flash_disk.specs.Looks.{Looks, Opens};
+    ghost use Rattle.flash_disk.specs.Looks.{LeavesFlashAlone, OpensFlash};
     ghost use Rattle.flash_disk.specs.Steps.{LearnsNothing, IsOpeningStep};
 
     // Learns what the flash holds, and says whether it is usable.
@@ -143,13 +143,13 @@ impl<F: Flash> Layer<F> {
         requires limit { limit_of self.old.state.table ≡ page_limit blocks }
         requires full { self.old.state.fill ≡ 64 }
         requires sure { self.old.state.unsure ≡ None }
-        requires counted { IsCounted blocks self.old.state.table }
+        requires counted { IsCountedTable blocks self.old.state.table }
         requires moved { 64 ≤ vec_capacity self.old.state.moved }
         requires sequence { self.old.state.sequence ≡ 0 }
         ensures flash { CountsFaults (F.medium self.old.flash).faults (F.medium self.new.flash).faults result }
         ensures pages { IsTrue F.told → (F.medium self.new.flash).state.pages ≡ (F.medium self.old.flash).state.pages }
         ensures blocks { (F.medium self.new.flash).blocks ≡ (F.medium self.old.flash).blocks }
-        ensures opens { Opens F.told (F.medium self.old.flash) (F.medium self.new.flash) }
+        ensures opens { OpensFlash F.told (F.medium self.old.flash) (F.medium self.new.flash) }
         ensures usable { IsTrue F.told → IfOk result (SaysUsable (F.medium self.old.flash).state.pages blocks) }
         ensures sound { IsTrue F.told → IfOk result (λ usable. IsTrue usable
             → Sound (F.medium self.old.flash).state.pages blocks self.new.state) }
@@ -159,8 +159,8 @@ impl<F: Flash> Layer<F> {
         ensures settled { IsTrue F.told → IfOk result (λ usable. IsTrue usable
             → (F.medium self.new.flash).state ≡ settle_pages (F.medium self.old.flash).state) }
         ensures unusable { IfOk result (λ usable. IsFalse usable
-            → Looks F.told (F.medium self.old.flash) (F.medium self.new.flash)) }
-        ensures failed { OnErr result (Looks F.told (F.medium self.old.flash) (F.medium self.new.flash)) }
+            → LeavesFlashAlone F.told (F.medium self.old.flash) (F.medium self.new.flash)) }
+        ensures failed { OnErr result (LeavesFlashAlone F.told (F.medium self.old.flash) (F.medium self.new.flash)) }
         ensures own { self.new.own ≡ self.old.own }
     {
         if !self.learn_blocks(blocks)? {

@@ -12,10 +12,10 @@ ghost use Rattle.std.specs.Int.{div_ceil};
 ghost use Rattle.flash_disk.specs.Known.{len_known, limit_of, page_len};
 ghost use Rattle.flash_disk.specs.Counted.{missing};
 ghost use Rattle.flash_disk.specs.Entries.{SameEntries, Occupies, Affords};
-ghost use Rattle.flash_disk.specs.Learnt.{IsContent, HasPlace, Knows};
+ghost use Rattle.flash_disk.specs.Learnt.{IsContent, HasPlace, KnowsLengths};
 ghost use Rattle.flash_disk.specs.Does.{Does};
 ghost use Rattle.flash_disk.specs.PutPart.{PutPart};
-ghost use Rattle.flash_disk.specs.Standing.{StandsFor};
+ghost use Rattle.flash_disk.specs.Standing.{DenotesFiles};
 ghost use Rattle.flash_disk.specs.Writes.{LeavesTorn, WritesInto, with_write};
 
 use crate::layer::Layer;
@@ -31,12 +31,12 @@ pub(crate) const MAX_END: u64 = 1_099_511_627_776;
 const PAGE: u64 = 256;
 
 impl<F: Flash> Layer<F> {
-    ghost use Rattle.flash_disk.specs.Sound.{files_of, IsDescribedBy, LeavesPut, ShowsZeros, WipesPage};
+    ghost use Rattle.flash_disk.specs.Sound.{files_on, IsDescribedBy, LeavesPut, ShowsZeros, WipesPage};
     ghost use Rattle.flash_disk.specs.OwnFaults.{StopsAdding, EndsTooLate, WantsTooMany, IsAllowed, TakesPages};
 
     // The bytes of a page of a file, with zeros past the end of the file.
     fn content(&mut self, key: FilePage) -> Result<[u8; RECORD_BYTES], DiskFailed>
-        ensures bytes { IsTrue F.told → Knows (F.medium self.old.flash).state.pages
+        ensures bytes { IsTrue F.told → KnowsLengths (F.medium self.old.flash).state.pages
             (places (F.medium self.old.flash).blocks) self.old.state.table
             → IfOk result (IsContent (F.medium self.old.flash).state.pages (places (F.medium self.old.flash).blocks)
             key) }
@@ -65,11 +65,11 @@ impl<F: Flash> Layer<F> {
         requires end { 256 * page + from + length bytes.now ≤ len }
         requires ready { IsSure F.told F.medium self.old }
         requires place { IsTrue F.told → HasPlace self.old.state.table (record { file = file; page = page }) }
-        requires no_shorter { IsTrue F.told → length (files_of (F.medium self.old.flash) file) ≤ len }
+        requires no_shorter { IsTrue F.told → length (files_on (F.medium self.old.flash) file) ≤ len }
         requires grows { IsTrue F.told → ShowsZeros (F.medium self.old.flash) file len }
         ensures adds { AddsRecords F.told F.medium 1 self.old self.new result }
         ensures put { IsTrue F.told → OnOk result (PutPart file (256 * page + from) bytes.now len
-            (files_of (F.medium self.old.flash)) (files_of (F.medium self.new.flash))) }
+            (files_on (F.medium self.old.flash)) (files_on (F.medium self.new.flash))) }
         ensures does { IsTrue F.told → Does (LeavesPut file (256 * page + from) bytes.now len (F.medium self.old.flash))
             (F.medium self.old.flash) (F.medium self.new.flash) }
         ensures rises { OnOk result (self.old.state.sequence < self.new.state.sequence) }
@@ -93,7 +93,7 @@ impl<F: Flash> Layer<F> {
         requires ready { IsSure F.told F.medium self.old }
         ensures adds { AddsRecords F.told F.medium (div_ceil until 256) self.old self.new result }
         ensures wiped { IsTrue F.told → OnOk result (ShowsZeros (F.medium self.new.flash) file until) }
-        ensures does { IsTrue F.told → Does (StandsFor (F.medium self.old.flash))
+        ensures does { IsTrue F.told → Does (DenotesFiles (F.medium self.old.flash))
             (F.medium self.old.flash) (F.medium self.new.flash) }
         ensures entries { IsTrue F.told → OnOk result (SameEntries self.old.state.table self.new.state.table) }
     {
@@ -115,7 +115,7 @@ impl<F: Flash> Layer<F> {
         ensures adds { AddsRecords F.told F.medium 1 self.old self.new result }
         ensures wiped { IsTrue F.told → OnOk result (WipesPage (F.medium self.old.flash) (F.medium self.new.flash) file
             page) }
-        ensures does { IsTrue F.told → Does (StandsFor (F.medium self.old.flash))
+        ensures does { IsTrue F.told → Does (DenotesFiles (F.medium self.old.flash))
             (F.medium self.old.flash) (F.medium self.new.flash) }
         ensures entries { IsTrue F.told → OnOk result (SameEntries self.old.state.table self.new.state.table) }
     {
@@ -156,13 +156,13 @@ impl<F: Flash> Layer<F> {
         requires within { at + length bytes.now ≤ len }
         requires ready { IsSure F.told F.medium self.old }
         requires grows { IsTrue F.told → ShowsZeros (F.medium self.old.flash) file len }
-        requires len { IsTrue F.told → len ≡ max (length (files_of (F.medium self.old.flash) file))
+        requires len { IsTrue F.told → len ≡ max (length (files_on (F.medium self.old.flash) file))
             (at + length bytes.now) }
         requires affords { IsTrue F.told → Affords self.old.state.table file (at / 256)
             (div_ceil (at + length bytes.now) 256 - at / 256) }
         ensures adds { AddsRecords F.told F.medium (length bytes.now) self.old self.new result }
         ensures put { IsTrue F.told → OnOk result (0 < length bytes.now
-            → files_of (F.medium self.new.flash) ≡ put_image (files_of (F.medium self.old.flash)) file at bytes.now) }
+            → files_on (F.medium self.new.flash) ≡ put_image (files_on (F.medium self.old.flash)) file at bytes.now) }
         ensures does { IsTrue F.told → Does (LeavesTorn file at (length bytes.now) (F.medium self.old.flash))
             (F.medium self.old.flash) (F.medium self.new.flash) }
         ensures rises { OnOk result (length bytes.now + 256 * self.old.state.sequence ≤ 256 * self.new.state.sequence) }
@@ -193,8 +193,8 @@ impl<F: Flash> Layer<F> {
         requires some { 0 < length bytes.now }
         requires ready { IsSure F.told F.medium self.old }
         ensures holds { IsTrue F.told → IsDescribedBy (F.medium self.new.flash) self.new.state }
-        ensures put { IsTrue F.told → OnOk result (files_of (F.medium self.new.flash)
-            ≡ put_image (files_of (F.medium self.old.flash)) file at bytes.now) }
+        ensures put { IsTrue F.told → OnOk result (files_on (F.medium self.new.flash)
+            ≡ put_image (files_on (F.medium self.old.flash)) file at bytes.now) }
         ensures rises { OnOk result (length bytes.now + 256 * self.old.state.sequence ≤ 256 * self.new.state.sequence) }
         ensures writes { IsTrue F.told → WritesInto file at bytes.now (F.medium self.old.flash)
             (F.medium self.new.flash) }
@@ -230,8 +230,8 @@ impl<F: Flash> Layer<F> {
         requires room { missing self.old.state.table file (at / 256) (div_ceil end 256 - at / 256)
             ≤ limit_of self.old.state.table - page_len self.old.state.table }
         ensures holds { IsTrue F.told → IsDescribedBy (F.medium self.new.flash) self.new.state }
-        ensures put { IsTrue F.told → OnOk result (files_of (F.medium self.new.flash)
-            ≡ put_image (files_of (F.medium self.old.flash)) file at bytes.now) }
+        ensures put { IsTrue F.told → OnOk result (files_on (F.medium self.new.flash)
+            ≡ put_image (files_on (F.medium self.old.flash)) file at bytes.now) }
         ensures rises { OnOk result (length bytes.now + 256 * self.old.state.sequence ≤ 256 * self.new.state.sequence) }
         ensures writes { IsTrue F.told → WritesInto file at bytes.now (F.medium self.old.flash)
             (F.medium self.new.flash) }
@@ -260,7 +260,7 @@ impl<F: Flash> Layer<F> {
         out: &mut [u8],
     ) -> Result<usize, DiskFailed>
         ensures count { IfOk result (λ n. n ≤ length out.old) }
-        ensures bytes { IsTrue F.told → Knows (F.medium self.old.flash).state.pages
+        ensures bytes { IsTrue F.told → KnowsLengths (F.medium self.old.flash).state.pages
             (places (F.medium self.old.flash).blocks) self.old.state.table
             → IfOk result (λ n. (n ≡ min (length out.old) (length
             (flash_files (F.medium self.old.flash).state.pages (F.medium self.old.flash).blocks file) - at))
@@ -273,11 +273,11 @@ impl<F: Flash> Layer<F> {
         Ok(count)
     }
 
-    // How many bytes a file has from the byte `at` on, but at most so many.
+    // How many bytes a file has from the byte `at` on, but at most that many.
     fn bytes_from(&self, file: u32, at: u64, most: usize) -> usize
         ensures few { result ≤ most }
         ensures end { at + result < 2 ^ 64 }
-        ensures is { IsTrue F.told → Knows (F.medium self.now.flash).state.pages
+        ensures is { IsTrue F.told → KnowsLengths (F.medium self.now.flash).state.pages
             (places (F.medium self.now.flash).blocks) self.now.state.table
             → result ≡ min most (length (flash_files (F.medium self.now.flash).state.pages
             (F.medium self.now.flash).blocks file) - at) }
@@ -288,7 +288,8 @@ impl<F: Flash> Layer<F> {
 
     // How many bytes a file has.
     pub(crate) fn file_size(&self, file: u32) -> u64
-        ensures { IsTrue F.told → Knows (F.medium self.now.flash).state.pages (places (F.medium self.now.flash).blocks)
+        ensures { IsTrue F.told → KnowsLengths (F.medium self.now.flash).state.pages
+            (places (F.medium self.now.flash).blocks)
             self.now.state.table
             → result ≡ length (flash_files (F.medium self.now.flash).state.pages (F.medium self.now.flash).blocks
             file) }
@@ -299,7 +300,7 @@ impl<F: Flash> Layer<F> {
     // Reads bytes page by page.
     fn read_pages(&mut self, file: u32, at: u64, out: &mut [u8]) -> Result<(), DiskFailed>
         requires { at + length out.old < 2 ^ 64 }
-        ensures bytes { IsTrue F.told → Knows (F.medium self.old.flash).state.pages
+        ensures bytes { IsTrue F.told → KnowsLengths (F.medium self.old.flash).state.pages
             (places (F.medium self.old.flash).blocks) self.old.state.table
             → OnOk result (at + length out.old ≤ file_len (F.medium self.old.flash).state.pages
             (places (F.medium self.old.flash).blocks) file

@@ -3,9 +3,9 @@
 ghost use Rattle.std.specs.Prelude.{◌≡◌, ◌≢◌, ◌⊎◌, ◌↔◌, ◌≤◌, ◌<◌, ◌+◌, ◌-◌, ◌*◌, ◌==◌, ℕ, IfOk, IsSome, IsTrue};
 ghost use Rattle.std.specs.Prelude.{IsFalse, Some, None, All, length, max, slice_index, if◌then◌else◌};
 ghost use Rattle.std.specs.HashMap.{get, hash_map_len, spare};
-ghost use Rattle.flash_disk.specs.Known.{same_page, len_in, HasLenIn, IsLongest, EndsBy};
+ghost use Rattle.flash_disk.specs.Known.{same_page, len_in, HasLenIn, IsLongest, IsFilledUpTo};
 ghost use Rattle.flash_disk.specs.Apart.{copy_of};
-ghost use Rattle.flash_disk.specs.Counted.{leads_into, had_in, entries_in, IsInside, IsCounted};
+ghost use Rattle.flash_disk.specs.Counted.{leads_into, had_in, entries_in, IsInside, IsCountedTable};
 
 use std::alloc::{AllocError, Global};
 use std::collections::HashMap;
@@ -52,14 +52,15 @@ pub struct Table {
 }
 
 impl Table {
-    ghost use Rattle.flash_disk.specs.Known.{known, page_len, limit_of, len_known, HasLen, load_known, Puts, PutsAll};
-    ghost use Rattle.flash_disk.specs.Known.{SameRecords, SameBounds, Lengthens, SameLens, IsEmptyTable, HasRoom};
+    ghost use Rattle.flash_disk.specs.Known.{known, page_len, limit_of, len_known, HasLen, load_known, SetsEntry};
+    ghost use Rattle.flash_disk.specs.Known.{PutsAll};
+    ghost use Rattle.flash_disk.specs.Known.{SameRecords, SameBounds, Lengthens, SameLens, IsEmptyTable, HasCapacity};
 
     /// An empty table for a flash of that many blocks.
     pub fn new(alloc: Global, blocks: u32) -> Result<Table, AllocError>
         ensures empty { IfOk result IsEmptyTable }
         ensures limit { IfOk result (λ table. limit_of table ≡ 64 * (blocks - 2)) }
-        ensures counted { 4 ≤ blocks → blocks ≤ 4096 → IfOk result (IsCounted blocks) }
+        ensures counted { 4 ≤ blocks → blocks ≤ 4096 → IfOk result (IsCountedTable blocks) }
     {
         let limit = 64 * (blocks.saturating_sub(2) as usize);
         Ok(Table {
@@ -101,12 +102,13 @@ impl Table {
 
     /// Sets the newest record of a page; `false`, and no change, where there is no room for it.
     pub fn put(&mut self, key: FilePage, new: Newest) -> bool
-        ensures full { HasRoom self.old → (IsFalse result ↔
+        ensures full { HasCapacity self.old → (IsFalse result ↔
             ((known self.old key ≡ None) × (limit_of self.old ≤ page_len self.old))) }
-        ensures put { IsTrue result → Puts self.old self.new key new }
+        ensures put { IsTrue result → SetsEntry self.old self.new key new }
         ensures same { IsFalse result → SameRecords self.old self.new }
         ensures bounds { SameBounds self.old self.new }
-        ensures counted { (blocks : ℕ) → IsCounted blocks self.old → IsInside blocks new → IsCounted blocks self.new }
+        ensures counted { (blocks : ℕ) → IsCountedTable blocks self.old → IsInside blocks new
+            → IsCountedTable blocks self.new }
     {
         let old = self.find(key);
         if !self.store(key, new) {
@@ -121,9 +123,9 @@ impl Table {
 
     // Sets the newest record of a page, and counts nothing.
     fn store(&mut self, key: FilePage, new: Newest) -> bool
-        ensures full { HasRoom self.old → (IsFalse result ↔
+        ensures full { HasCapacity self.old → (IsFalse result ↔
             ((known self.old key ≡ None) × (limit_of self.old ≤ page_len self.old))) }
-        ensures put { IsTrue result → Puts self.old self.new key new }
+        ensures put { IsTrue result → SetsEntry self.old self.new key new }
         ensures same { IsFalse result → SameRecords self.old self.new }
         ensures bounds { SameBounds self.old self.new }
         ensures counts { IsTrue result → (block : ℕ)
@@ -142,7 +144,7 @@ impl Table {
     // Sets the newest record of a page that has one.
     fn replace(&mut self, key: FilePage, new: Newest)
         requires { IsSome (known self.old key) }
-        ensures put { Puts self.old self.new key new }
+        ensures put { SetsEntry self.old self.new key new }
         ensures bounds { SameBounds self.old self.new }
         ensures counts { (block : ℕ)
             → entries_in self.new block + had_in block (known self.old key)
@@ -156,16 +158,17 @@ impl Table {
 
     /// Sets the newest records of pages that have one.
     pub fn put_all(&mut self, news: &[(FilePage, Newest)])
-        ensures put { All (λ new. IsSome (known self.old new.0)) news.now → HasRoom self.old
+        ensures put { All (λ new. IsSome (known self.old new.0)) news.now → HasCapacity self.old
             → PutsAll self.old self.new news.now }
-        ensures len { All (λ new. IsSome (known self.old new.0)) news.now → HasRoom self.old
+        ensures len { All (λ new. IsSome (known self.old new.0)) news.now → HasCapacity self.old
             → page_len self.new ≡ page_len self.old }
-        ensures room { All (λ new. IsSome (known self.old new.0)) news.now → HasRoom self.old → HasRoom self.new }
-        ensures stays { All (λ new. IsSome (known self.old new.0)) news.now → HasRoom self.old
+        ensures room { All (λ new. IsSome (known self.old new.0)) news.now → HasCapacity self.old
+            → HasCapacity self.new }
+        ensures stays { All (λ new. IsSome (known self.old new.0)) news.now → HasCapacity self.old
             → (key : FilePage) → IsSome (known self.old key) → IsSome (known self.new key) }
         ensures bounds { SameBounds self.old self.new }
-        ensures counted { (blocks : ℕ) → All (λ new. IsInside blocks new.1) news.now → IsCounted blocks self.old
-            → IsCounted blocks self.new }
+        ensures counted { (blocks : ℕ) → All (λ new. IsInside blocks new.1) news.now → IsCountedTable blocks self.old
+            → IsCountedTable blocks self.new }
     {
         for new in news {
             self.put(new.0, new.1);
@@ -183,7 +186,7 @@ impl Table {
         ensures in_place { HasLen self.old file → spare self.old.lens ≤ spare self.new.lens }
         ensures records { self.new.newest ≡ self.old.newest }
         ensures limit { limit_of self.new ≡ limit_of self.old }
-        ensures counted { (blocks : ℕ) → IsCounted blocks self.old → IsCounted blocks self.new }
+        ensures counted { (blocks : ℕ) → IsCountedTable blocks self.old → IsCountedTable blocks self.new }
     {
         raise(&mut self.lens, file, len)
     }
@@ -234,7 +237,7 @@ impl Table {
         ensures spare { spare self.old.lens ≤ spare self.new.lens + page_len self.old }
         ensures records { self.new.newest ≡ self.old.newest }
         ensures limit { limit_of self.new ≡ limit_of self.old }
-        ensures counted { (blocks : ℕ) → IsCounted blocks self.old → IsCounted blocks self.new }
+        ensures counted { (blocks : ℕ) → IsCountedTable blocks self.old → IsCountedTable blocks self.new }
     {
         raise_all(&mut self.lens, &self.newest);
     }
@@ -265,7 +268,7 @@ impl Table {
     /// Where the last byte other than zero ends that is past the end of its file; 0 where there is none.
     pub fn stray_end(&self) -> u64
         ensures { (key : FilePage) (entry : Newest) → known self.now key ≡ Some entry
-            → EndsBy self.now.lens key entry result }
+            → IsFilledUpTo self.now.lens key entry result }
     {
         let mut stray = 0;
         for (key, newest) in self.newest.iter() {

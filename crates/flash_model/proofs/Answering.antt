@@ -13,7 +13,8 @@ use Rattle.flash_model.specs.History.{blank_state, state_after, state_after_call
 use Rattle.flash_model.specs.History.{IsNoChange}
 use Rattle.flash_model.specs.declared.record.FlashCall.TheVariants.{Announce, Settle, Read, Program, Erase}
 use Rattle.flash_model.specs.HistoryLaws.{counts_now, only_now}
-use Rattle.flash_model.specs.Memory.{mem_flash, starved_count, IsUnchanged, Answers, Fails, Shows, SameRecord, Begins}
+use Rattle.flash_model.specs.Memory.{mem_flash, starved_count, IsUnchanged, AnswersAsPlanned, Fails, Shows, SameRecord}
+use Rattle.flash_model.specs.Memory.{Begins}
 use Rattle.flash_model.specs.Memory.{Succeeds, Wants}
 use Rattle.flash_model.proofs.Pushed.{state_after-append, during, within, pushed}
 
@@ -30,7 +31,7 @@ on_err (Err e) P p = p
 
 -- a flash that differs from another in its counts and orders alone, after a fault
 pub failed : (old new : MemFlash) → SameRecord old new → (mem_flash old).faults ≤ (mem_flash new).faults
-    → (mem_flash new).faults ≡ raised (mem_flash old).faults → Answers old new true → Fails old new
+    → (mem_flash new).faults ≡ raised (mem_flash old).faults → AnswersAsPlanned old new true → Fails old new
 failed old new same later rose answers =
     let calls = old.calls.items in
     record {

@@ -47,14 +47,14 @@ pub record IsUnchanged (old new : FlashMedium) : Type 0 where
   pub moment : new.moment ≡ old.moment
   pub since : (t : ℕ) (c : FlashCase) → new.since t c ↔ old.since t c
 
--- the counts of faults and of want stay
+-- the counts of faults and of failed allocations stay
 pub record KeepsCounts (old new : MemFlash) : Type 0 where
   pub faults : (mem_flash new).faults ≡ (mem_flash old).faults
   pub starved : starved_count new ≡ starved_count old
 
 -- How a call answers: it fails where the plan names it and where it comes after the stop, and else because memory ran
 -- out alone, which is counted beside the fault.
-pub record Answers (old new : MemFlash) (failed : Bool) : Type 0 where
+pub record AnswersAsPlanned (old new : MemFlash) (failed : Bool) : Type 0 where
   pub due : IsTrue (is_due old) → IsTrue failed × (starved_count new ≡ starved_count old)
   pub starves : IsFalse (is_due old) → IsTrue failed → starved_count new ≡ raised (starved_count old)
   pub fails : IsTrue failed → (mem_flash new).faults ≡ raised (mem_flash old).faults
@@ -69,7 +69,7 @@ pub record Fails (old new : MemFlash) : Type 0 where
   pub still : EachFlashCase (IsStill (mem_flash old).state) (mem_flash old) (mem_flash new)
   pub time : FlashElapses (mem_flash old) (mem_flash new)
   pub cause : Rose (mem_flash old).faults (mem_flash new).faults
-  pub answers : Answers old new true
+  pub answers : AnswersAsPlanned old new true
 
 -- ---- what parts of a call do
 
@@ -107,4 +107,4 @@ pub record Wants (old new : MemFlash) : Type 0 where
 -- a call that succeeds: it was not to fail, and the counts stay
 pub record Passes (old new : MemFlash) : Type 0 where
   pub counts : KeepsCounts old new
-  pub answers : Answers old new false
+  pub answers : AnswersAsPlanned old new false

@@ -24,7 +24,7 @@ TornPage block page old new = (b p : ℕ) → (b ≢ block) ⊎ (p ≢ page) →
 abbrev pub TornBlock : ℕ → Pages → Pages → Type 0
 TornBlock block old new = (b p : ℕ) → b ≢ block → new b p ≡ old b p
 
--- No page passes its hash by chance: what the front of one verifies as, it verified as before the call, or verifies as
+-- No page passes its hash by chance: what the start of one verifies as, it verified as before the call, or verifies as
 -- once the call is done whole. After the text anything may stand.
 abbrev pub IsPlain : (before whole left : Pages) → Type 0
 IsPlain before whole left = (b p generation : ℕ) (body : List ℕ) → VerifiesAs (left b p) generation body

@@ -1,9 +1,9 @@
--- A flash that tells nothing: no page and no case, so that only its count of faults says anything.
+-- A flash that models nothing: no page and no case, so that only its count of faults says anything.
 use Rattle.std.specs.Prelude.{ℕ, [], false}
 use Rattle.std.proofs.Common.{sym, true≢false}
 use Rattle.flash_model.specs.FlashMedium.{FlashMedium, IsLawfulFlash}
 
--- the flash of this many blocks that tells nothing, with this count of faults
+-- the flash of this many blocks that models nothing, with this count of faults
 abbrev pub silent_flash : (blocks faults : ℕ) → FlashMedium
 silent_flash blocks faults = record {
   blocks = blocks;

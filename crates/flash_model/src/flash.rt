@@ -22,7 +22,7 @@ pub struct FlashFailed;
 
 /// A flash: blocks of 64 pages of 512 bytes, each programmed while it is blank and erased with its block.
 ///
-/// What is said of pages holds where the flash tells them, and so does what is said of crashes: a flash that tells
+/// What is said of pages holds where the flash models them, and so does what is said of crashes: a flash that models
 /// nothing names no case. Whether a flash tells is a constant of its type, so it never changes from call to call.
 ///
 /// Limits, which a device has to keep beneath this trait:
@@ -33,7 +33,7 @@ pub struct FlashFailed;
 ///   reads every page.
 /// - No block goes bad. A device that retires blocks does so under numbers that stay.
 pub trait Flash {
-    /// Whether a flash of this type tells its pages.
+    /// Whether the pages of a flash of this type are modelled.
     ghost told: { Bool };
 
     /// How many blocks it has, what its pages hold, what it was told of, what a crash may have left, the clock, and the
@@ -56,7 +56,7 @@ pub trait Flash {
         ensures passes { OnOk result ((medium self.new).faults ≡ (medium self.old).faults) };
 
     /// Programs a page that is blank. Where the call fails, the page may hold anything, as after a crash; but what its
-    /// front then verifies as, these bytes verify as. A blank page never verifies.
+    /// start then verifies as, these bytes verify as. A blank page never verifies.
     fn program(&mut self, block: u32, page: u32, bytes: &[u8; 512]) -> Result<(), FlashFailed>
         requires block { block < (medium self.old).blocks }
         requires page { page < 64 }
@@ -74,7 +74,7 @@ pub trait Flash {
         ensures passes { OnOk result ((medium self.new).faults ≡ (medium self.old).faults) };
 
     /// Makes all pages of a block blank. Where the call fails, they may hold anything, as after a crash; but what the
-    /// front of a page then verifies as, it verified as before.
+    /// start of a page then verifies as, it verified as before.
     fn erase(&mut self, block: u32) -> Result<(), FlashFailed>
         requires { block < (medium self.old).blocks }
         ensures state { IsTrue told → OnOk result ((medium self.new).state ≡ erased (medium self.old).state block) }

@@ -9,9 +9,9 @@
 //! They have no effect on a device, but let whoever builds a disk over a flash say what every crash leaves in terms of
 //! the writes that were asked for.
 //!
-//! [`MemFlash`] meets it in memory and answers for every moment; it fails where it is told to, and stops after a number
-//! of calls. A call that it fails changes nothing. Limits: a flash is used by one caller at a time; reads are stable, a
-//! page that cannot be corrected is answered with some bytes, and no block goes bad; and no wear is modelled.
+//! [`MemFlash`] meets it in memory and answers for every moment; it fails where it is asked to, and stops after a
+//! number of calls. A call that it fails changes nothing. Limits: a flash is used by one caller at a time; reads are
+//! stable, a page that cannot be corrected is answered with some bytes, and no block goes bad; and no wear is modelled.
 #![tactic(auto)]
 
 mod flash;

@@ -1,4 +1,4 @@
-//! A flash in memory, which fails and stops as it is told.
+//! A flash in memory, which fails and stops as planned.
 
 ghost use Rattle.std.specs.Prelude.{◌≡◌, ◌⊎◌, ◌↔◌, ◌<◌, ◌*◌, ◌++◌, ◌∷◌, [], ℕ, Vec, true, false, IfOk, OnOk, OnErr};
 ghost use Rattle.std.specs.Prelude.{is_err, nat_le, vec_len};
@@ -187,7 +187,7 @@ impl MemFlash {
 
 impl Flash for MemFlash {
     ghost use Rattle.flash_model.specs.HistoryLaws.{record_is_lawful};
-    ghost use Rattle.flash_model.specs.Memory.{mem_flash, Answers, IsUnchanged};
+    ghost use Rattle.flash_model.specs.Memory.{mem_flash, AnswersAsPlanned, IsUnchanged};
 
     ghost told = { true };
 
@@ -210,7 +210,7 @@ impl Flash for MemFlash {
         ensures passes { OnOk result ((mem_flash self.new).faults ≡ (mem_flash self.old).faults) }
 
         // Which calls fail, and that they change nothing.
-        ensures answers { Answers self.old self.new (is_err result) }
+        ensures answers { AnswersAsPlanned self.old self.new (is_err result) }
         ensures unchanged { OnErr result (IsUnchanged (mem_flash self.old) (mem_flash self.new)) }
     {
         self.enter(FlashCall::Read)?;
@@ -239,7 +239,7 @@ impl Flash for MemFlash {
             → (mem_flash self.new).since (mem_flash self.old).moment c) }
 
         // Which calls fail, and that they change nothing.
-        ensures answers { Answers self.old self.new (is_err result) }
+        ensures answers { AnswersAsPlanned self.old self.new (is_err result) }
         ensures unchanged { OnErr result (IsUnchanged (mem_flash self.old) (mem_flash self.new)) }
     {
         self.begin()?;
@@ -265,7 +265,7 @@ impl Flash for MemFlash {
             → (mem_flash self.new).since (mem_flash self.old).moment c) }
 
         // Which calls fail, and that they change nothing.
-        ensures answers { Answers self.old self.new (is_err result) }
+        ensures answers { AnswersAsPlanned self.old self.new (is_err result) }
         ensures unchanged { OnErr result (IsUnchanged (mem_flash self.old) (mem_flash self.new)) }
     {
         self.begin()?;
@@ -287,7 +287,7 @@ impl Flash for MemFlash {
         ensures passes { OnOk result ((mem_flash self.new).faults ≡ (mem_flash self.old).faults) }
 
         // Which calls fail, and that they change nothing.
-        ensures answers { Answers self.old self.new (is_err result) }
+        ensures answers { AnswersAsPlanned self.old self.new (is_err result) }
         ensures unchanged { OnErr result (IsUnchanged (mem_flash self.old) (mem_flash self.new)) }
     {
         self.begin()?;
@@ -308,7 +308,7 @@ impl Flash for MemFlash {
         ensures passes { OnOk result ((mem_flash self.new).faults ≡ (mem_flash self.old).faults) }
 
         // Which calls fail, and that they change nothing.
-        ensures answers { Answers self.old self.new (is_err result) }
+        ensures answers { AnswersAsPlanned self.old self.new (is_err result) }
         ensures unchanged { OnErr result (IsUnchanged (mem_flash self.old) (mem_flash self.new)) }
     {
         self.enter(FlashCall::Settle)?;

@@ -1,6 +1,6 @@
 //! Records: how a page of raw flash keeps a page of a file.
 //!
-//! A record is a page of flash whose front is a sealed text: its generation is the record's sequence number, and its
+//! A record is a page of flash whose start is a sealed text: its generation is the record's sequence number, and its
 //! body has 272 bytes: the number of the file (4 bytes), the number of the page in the file (4), the length of the file
 //! (8), and the 256 bytes of that page. Numbers are little-endian. What follows the text does not matter.
 //!

@@ -46,7 +46,7 @@ pub(crate) struct Cut {
     pub(crate) is_last: bool,
 }
 
-/// Raw flash in memory. It tells nothing of its pages.
+/// Raw flash in memory. Its pages are not modelled.
 #[derive(Drop)]
 pub(crate) struct Device {
     blocks: u32,

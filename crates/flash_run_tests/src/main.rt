@@ -6,7 +6,7 @@
 //! | `flash BLOCKS` | begins with a fresh flash of that many blocks, and an empty disk |
 //! | `full` | each page of the flash becomes a record of another page of file 1 |
 //! | `> LINE` | a line of the next run |
-//! | `times COUNT` | the lines so far, so many times |
+//! | `times COUNT` | the lines so far, that many times |
 //! | `run WORDS` | runs the program with these words: `< REPLY` for each line of its output, and `= STATUS`; `over a disk: STATUS` and that output too, where the disk's are not the same |
 //! | `? LINE` | a line that looks at what is left, for the next row |
 //! | `syncs COUNT` | as many pairs of lines of the next run: application 0 sets the key km of the storage odo to 1, 2 and so on, and synchronises it |

@@ -57,7 +57,7 @@ impl Script {
         Ok(())
     }
 
-    /// The lines so far, so many times.
+    /// The lines so far, that many times.
     pub(crate) fn repeat(&mut self, count: u32) -> Result<(), AllocError> {
         let once = self.input()?;
         self.front = String::new(self.alloc);
@@ -220,7 +220,7 @@ impl Script {
         run_over_flash(self.alloc, words, migrations, input, flash)
     }
 
-    /// How many calls of the flash an input makes: of so many none fails, and of fewer one does.
+    /// How many calls of the flash an input makes: of that many none fails, and of fewer one does.
     fn calls(&self, migrations: &Migrations, words: &str, input: &str) -> Result<u64, AllocError> {
         let mut enough: u64 = 1 << 20;
         let mut few: u64 = 0;

@@ -161,7 +161,7 @@ impl Bench {
         swept(self.alloc, sweep, step.number(0), step.number(1))
     }
 
-    // Writes a byte so many times over: the file, the place, the byte and how often.
+    // Writes a byte that many times over: the file, the place, the byte and how often.
     fn write(&mut self, step: &Step<'_>) -> bool {
         let Some(disk) = self.disk.as_mut() else {
             return false;

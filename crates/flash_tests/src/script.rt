@@ -28,7 +28,7 @@ pub fn play(disk: &mut MemDisk) -> u32 {
     WRITES
 }
 
-/// The byte of a file after the first so many writes of the script but this one.
+/// The byte of a file after the first `count` writes of the script but this one.
 pub fn expected(file: u32, at: u32, writes: u32, but: Option<u32>) -> u8 {
     let mut byte = 0;
     for k in 0..writes.min(WRITES) {

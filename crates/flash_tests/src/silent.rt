@@ -1,4 +1,4 @@
-//! A flash that tells nothing, and a caller of any flash.
+//! A flash that models nothing, and a caller of any flash.
 
 ghost use Rattle.std.specs.Prelude.{◌≡◌, ◌<◌, false, IsTrue, OnOk};
 ghost use Rattle.flash_model.specs.Pages.{program_page, erase_block};
@@ -6,7 +6,7 @@ ghost use Rattle.flash_model.specs.Silence.{silent_flash, silent_is_lawful};
 
 use flash_model::{Flash, FlashFailed};
 
-/// A flash that tells nothing, as one over a real device: it only counts its failures. This one fails to program.
+/// A flash that models nothing, as one over a real device: it only counts its failures. This one fails to program.
 #[derive(Drop)]
 struct Silent {
     faults: u64,

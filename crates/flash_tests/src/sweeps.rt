@@ -58,7 +58,7 @@ fn tried(alloc: Global, sweep: Sweep, call: u64) -> Option<Outcome> {
     }
 }
 
-// Whether each 25th byte of a file is what it was after so many writes of the script, with or without this one.
+// Whether each 25th byte of a file is what it was after that many writes of the script, with or without this one.
 fn is_with_or_without(disk: &mut MemDisk, file: u32, writes: u32, one: Option<u32>) -> bool {
     let mut bytes = [0; 900];
     if disk.read(file, 0, &mut bytes).is_err() {
@@ -125,7 +125,7 @@ fn is_crowded_with(disk: &mut MemDisk, one: u8, other: u8) -> bool {
     (byte[0] == one || byte[0] == other) && cold_pages(disk) == 3 * COLD
 }
 
-// The byte after so many of the writes were Ok.
+// The byte after that many of the writes were Ok.
 fn last_byte(done: u32) -> u8 {
     if done == 0 {
         return 7;

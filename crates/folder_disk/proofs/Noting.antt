@@ -12,7 +12,7 @@ use Rattle.disk_model.specs.Laws.{elapses_on, cases_on}
 use Rattle.system_model.specs.SystemMedium.{SystemMedium, IsSafe, IsWhole, InRange, AnnounceCase, Looks}
 use Rattle.folder_disk.specs.declared.range.Range.{Range}
 use Rattle.folder_disk.specs.Knows.{Covered, Knows}
-use Rattle.folder_disk.specs.Writes.{Writes, PutCase, Puts}
+use Rattle.folder_disk.specs.Writes.{WritesBytes, PutCase, PutsBytes}
 use Rattle.folder_disk.proofs.Tearing.{image_none, image_within}
 use Rattle.folder_disk.proofs.Putting.{put_image_none}
 
@@ -86,7 +86,7 @@ module _ (told : Bool) (file at : ℕ) (bytes : List ℕ) (n : ℕ) (le : n ≤ 
     (now : Follows (AnnounceCase file at bytes) a.disk.now b.disk.now)
     (during : (x : Case) → b.disk.since a.disk.moment x → a.disk.now x ⊎ b.disk.now x)
     (time : Elapses a.disk b.disk)
-    (writes : Writes told file at bytes n b c) where
+    (writes : WritesBytes told file at bytes n b c) where
   put_now : (x : Case) → c.disk.now x → (e : Case) × a.disk.now e × PutCase file at bytes n e x
   put_now x new =
       let (d, mid, tear) = writes.now x new in
@@ -127,7 +127,7 @@ module _ (told : Bool) (file at : ℕ) (bytes : List ℕ) (n : ℕ) (le : n ≤ 
         }),
       )
 
-  pub puts : Puts told file at bytes n a.disk c.disk
+  pub puts : PutsBytes told file at bytes n a.disk c.disk
   puts = record {
     image = λ t. writes.image t ∙ ap (λ i. put_image i file at (take n bytes)) image;
     now = put_now;

@@ -9,8 +9,8 @@ use Rattle.disk_model.specs.Image.{put_image}
 use Rattle.disk_model.specs.Case.{Case, Follows}
 use Rattle.disk_model.specs.Medium.{Medium, Elapses, OnlyReads, IsLawful}
 use Rattle.disk_model.specs.Laws.{elapses_none, elapses_on, reads_on, follows_less, follows_on, follows_none, cases_on}
-use Rattle.system_model.specs.SystemMedium.{SystemMedium, InRange, TearCase, Shows, Looks}
-use Rattle.folder_disk.specs.Writes.{Writes, WritesAgain}
+use Rattle.system_model.specs.SystemMedium.{SystemMedium, InRange, TearCase, ShowsBytes, Looks}
+use Rattle.folder_disk.specs.Writes.{WritesAgain, WritesBytes}
 use Rattle.folder_disk.proofs.Tearing.{tear_none, tear_on, tear_within}
 use Rattle.folder_disk.proofs.Putting.{put_image_on, put_image_none}
 
@@ -40,7 +40,7 @@ module _ (told : Bool) (file at : ℕ) (bytes : List ℕ) where
       (tear_within file at (n + k) at n (le_refl _) (omega arith) x y s)
       (tear_within file at (n + k) (at + n) k (omega arith) (omega arith) y z t)) first next
 
-  pub writes_none : (m : SystemMedium) → IsLawful told m.disk → Writes told file at bytes 0 m m
+  pub writes_none : (m : SystemMedium) → IsLawful told m.disk → WritesBytes told file at bytes 0 m m
   writes_none m law = record {
     image = λ t. sym (put_image_none m.disk.image file at (take 0 bytes) refl);
     now = follows_none (TearCase file at 0) m.disk.now (λ c. tear_none file at 0 c);
@@ -53,12 +53,12 @@ module _ (told : Bool) (file at : ℕ) (bytes : List ℕ) where
   }
 
   module _ (old mid new : SystemMedium) (n : ℕ) (le : n ≤ length bytes)
-      (writes : Writes told file at bytes n old mid) where
+      (writes : WritesBytes told file at bytes n old mid) where
     looks_during : Looks mid new → Follows Tears mid.disk.now (new.disk.since mid.disk.moment)
     looks_during looks c past = (c, looks.reads.during c past, tear_none file at (length bytes) c)
 
     -- a write that fails
-    pub writes_then : Looks mid new → Writes told file at bytes n old new
+    pub writes_then : Looks mid new → WritesBytes told file at bytes n old new
     writes_then looks = record {
       image = λ t. looks.reads.image ∙ writes.image t;
       now = λ c now. writes.now c (looks.reads.now c now);
@@ -83,7 +83,7 @@ module _ (told : Bool) (file at : ℕ) (bytes : List ℕ) where
         (frees : IsTrue told → (f i : ℕ) → new.free f i ↔ (mid.free f i ⊎ ((f ≡ file) × InRange (at + n) k i)))
         (lost : (f i : ℕ) → new.lost f i → mid.lost f i)
         (found : IsTrue told → (i : ℕ) → InRange (at + n) k i → ¬ (new.lost file i)) where
-      pub writes_more : Writes told file at bytes (n + k) old new
+      pub writes_more : WritesBytes told file at bytes (n + k) old new
       writes_more = record {
         image = λ t. image t ∙ ap (λ xs. put_image mid.disk.image file (at + n) (take k xs)) same
             ∙ ap (λ x. put_image x file (at + n) (take k (drop n bytes))) (writes.image t)
@@ -118,7 +118,7 @@ module _ (told : Bool) (file at : ℕ) (bytes : List ℕ) where
             (cases_lt i (at + n));
       }
 
-  shows_rest : (xs : List ℕ) (n : ℕ) → n ≤ length bytes → Shows xs at bytes → Shows xs (at + n) (drop n bytes)
+  shows_rest : (xs : List ℕ) (n : ℕ) → n ≤ length bytes → ShowsBytes xs at bytes → ShowsBytes xs (at + n) (drop n bytes)
   shows_rest xs n le shows = record {
     within = λ j lt.
         let h = shows.within (n + j) (omega (arith, length-drop n bytes)) in omega (arith, h);
@@ -130,19 +130,19 @@ module _ (told : Bool) (file at : ℕ) (bytes : List ℕ) where
 
   -- what was there is written once more
   pub again_more : (old mid new : SystemMedium) (n : ℕ) (rest : List ℕ) → rest ≡ drop n bytes → n ≤ length bytes →
-      Writes told file at bytes n old mid
+      WritesBytes told file at bytes n old mid
       → WritesAgain told file at bytes old mid → Elapses mid.disk new.disk
       → ((IsTrue told → (i : ℕ) → InRange (at + n) (length rest) i → mid.free file i)
-      → (IsTrue told → Shows (mid.disk.image file) (at + n) rest) → OnlyReads mid.disk new.disk)
+      → (IsTrue told → ShowsBytes (mid.disk.image file) (at + n) rest) → OnlyReads mid.disk new.disk)
       → WritesAgain told file at bytes old new
   again_more old mid new n rest same le writes was time more free shows =
       let first = was free shows in
       reads_on writes.time first time
       (subst (λ xs. (IsTrue told → (i : ℕ) → InRange (at + n) (length xs) i → mid.free file i)
-      → (IsTrue told → Shows (mid.disk.image file) (at + n) xs) → OnlyReads mid.disk new.disk) same more
+      → (IsTrue told → ShowsBytes (mid.disk.image file) (at + n) xs) → OnlyReads mid.disk new.disk) same more
       (λ t i range. (writes.frees t file i).1 (inl (free t i
       (omega (arith, range.0), omega (arith, range.1, length-drop n bytes)))))
-      (λ t. subst (λ image. Shows (image file) (at + n) (drop n bytes)) (sym first.image)
+      (λ t. subst (λ image. ShowsBytes (image file) (at + n) (drop n bytes)) (sym first.image)
       (shows_rest (old.disk.image file) n le (shows t))))
 
 pub rest_is : (n : ℕ) (xs : List ℕ) → take (length xs - n) (drop n xs) ≡ drop n xs

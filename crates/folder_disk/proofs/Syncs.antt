@@ -6,13 +6,13 @@ use Rattle.std.specs.Prelude.{IsTrue, IsFalse, Contains, filter}
 use Rattle.std.proofs.lemmas.Bool.{cases_eq}
 use Rattle.std.proofs.lemmas.List.{drop_more, take_more, length-drop, take_at, get_or-take, get_or-drop}
 use Rattle.disk_model.specs.Medium.{Elapses, OnlyReads}
-use Rattle.system_model.specs.SystemMedium.{SystemMedium, IsSafe, IsWhole, IsStill, InRange, Shows}
+use Rattle.system_model.specs.SystemMedium.{SystemMedium, IsSafe, IsWhole, HasNothingFree, InRange, ShowsBytes}
 use Rattle.folder_disk.specs.declared.range.Range.{Range}
 use Rattle.folder_disk.specs.declared.held.Held.{Held}
 use Rattle.folder_disk.specs.Knows.{Covered, Knows}
-use Rattle.folder_disk.specs.Held.{IsHeld, ShowsAll, Holds}
+use Rattle.folder_disk.specs.Held.{IsHeldByte, ShowsAll, HoldsFree}
 use Rattle.folder_disk.proofs.Noting.{safe_reads, covered_app, covered_old, covered_new}
-use Rattle.folder_disk.specs.Writes.{Writes, WritesAgain}
+use Rattle.folder_disk.specs.Writes.{WritesAgain, WritesBytes}
 use Rattle.disk_model.specs.Laws.{reads_on}
 
 -- ---- lists
@@ -93,7 +93,7 @@ module _ (told : Bool) (a b : SystemMedium) (file : ℕ) (rs : List Range) (fres
     (others : IsTrue told → (f i : ℕ) → f ≢ file → (b.lost f i → a.lost f i) × (b.free f i ↔ a.free f i)) where
   -- a good sync
   pub knows_synced : (IsTrue told → IsWhole a file → a.named file → IsSafe b.disk file)
-      → (IsTrue told → IsWhole a file → IsStill b file)
+      → (IsTrue told → IsWhole a file → HasNothingFree b file)
       → (IsTrue told → (f i : ℕ) → b.lost f i → a.lost f i)
       → (IsTrue told → (f i : ℕ) → b.free f i → a.free f i)
       → Knows told b (filter (others_of file) rs) fresh grown lost
@@ -116,7 +116,7 @@ module _ (told : Bool) (a b : SystemMedium) (file : ℕ) (rs : List Range) (fres
   }
 
   -- a sync that failed, after which what it may have dropped was written again
-  module _ (c : SystemMedium) (held : List Held) (holds : IsTrue told → Holds a file held)
+  module _ (c : SystemMedium) (held : List Held) (holds : IsTrue told → HoldsFree a file held)
       (failed : IsTrue told → (i : ℕ) → (b.free file i ↔ a.free file i) × (b.lost file i → a.free file i ⊎ a.lost
       file i))
       (again : OnlyReads a.disk c.disk) (named' : (f : ℕ) → b.named f → c.named f)
@@ -133,7 +133,7 @@ module _ (told : Bool) (a b : SystemMedium) (file : ℕ) (rs : List Range) (fres
         ))
         (cases_eq f file)
 
-    pub knows_back : (IsTrue told → (i : ℕ) → IsHeld held i → ¬ (c.lost file i)) → Knows told c rs fresh grown lost
+    pub knows_back : (IsTrue told → (i : ℕ) → IsHeldByte held i → ¬ (c.lost file i)) → Knows told c rs fresh grown lost
     knows_back found = record {
       whole = λ t l f i h. ⊎_elim
           (λ same.
@@ -162,13 +162,13 @@ module _ (told : Bool) (a b : SystemMedium) (file : ℕ) (rs : List Range) (fres
 
 -- ---- what was held
 
-pub shows_app : (file : List ℕ) (hs : List Held) (h : Held) → ShowsAll file hs → Shows file h.at h.bytes.items
+pub shows_app : (file : List ℕ) (hs : List Held) (h : Held) → ShowsAll file hs → ShowsBytes file h.at h.bytes.items
     → ShowsAll file (hs ++ h ∷ [])
 shows_app file [] h all one = (one, tt)
 shows_app file (x ∷ hs) h all one = (all.0, shows_app file hs h all.1 one)
 
-pub held_app : (hs : List Held) (h : Held) (i : ℕ) → IsHeld (hs ++ h ∷ []) i
-    ↔ (IsHeld hs i ⊎ InRange h.at (length h.bytes.items) i)
+pub held_app : (hs : List Held) (h : Held) (i : ℕ) → IsHeldByte (hs ++ h ∷ []) i
+    ↔ (IsHeldByte hs i ⊎ InRange h.at (length h.bytes.items) i)
 held_app [] h i = (
   λ x. ⊎_elim (λ y. inr y) (λ y. absurd y) x,
   λ x. ⊎_elim (λ y. absurd y) (λ y. inl y) x,
@@ -180,36 +180,36 @@ held_app (g ∷ hs) h i = (
 )
 
 pub shows_at : (file : List ℕ) (hs : List Held) (k : ℕ) (d : Held) → k < length hs → ShowsAll file hs
-    → Shows file (get_or hs k d).at (get_or hs k d).bytes.items
+    → ShowsBytes file (get_or hs k d).at (get_or hs k d).bytes.items
 shows_at file [] k d lt all = absurd (omega arith)
 shows_at file (h ∷ hs) zero d lt all = all.0
 shows_at file (h ∷ hs) (suc k) d lt all = shows_at file hs k d (omega arith) all.1
 
 pub held_at : (hs : List Held) (k : ℕ) (d : Held) (i : ℕ) → k < length hs
-    → InRange (get_or hs k d).at (length (get_or hs k d).bytes.items) i → IsHeld hs i
+    → InRange (get_or hs k d).at (length (get_or hs k d).bytes.items) i → IsHeldByte hs i
 held_at [] k d i lt h = absurd (omega arith)
 held_at (x ∷ hs) zero d i lt h = inl h
 held_at (x ∷ hs) (suc k) d i lt h = inr (held_at hs k d i (omega arith) h)
 
-pub held_next : (hs : List Held) (k : ℕ) (d : Held) (i : ℕ) → k < length hs → IsHeld (take (k + 1) hs) i
-    → IsHeld (take k hs) i ⊎ InRange (get_or hs k d).at (length (get_or hs k d).bytes.items) i
+pub held_next : (hs : List Held) (k : ℕ) (d : Held) (i : ℕ) → k < length hs → IsHeldByte (take (k + 1) hs) i
+    → IsHeldByte (take k hs) i ⊎ InRange (get_or hs k d).at (length (get_or hs k d).bytes.items) i
 held_next hs k d i lt h = (held_app (take k hs) (get_or hs k d) i).0
-    (subst (λ xs. IsHeld xs i) (take_more hs k d lt) h)
+    (subst (λ xs. IsHeldByte xs i) (take_more hs k d lt) h)
 
 pub part_of : (file : List ℕ) (hs : List Held) (k : ℕ) (d : Held) (bytes : List ℕ) → k < length hs → d ≡ get_or hs k d
-    → bytes ≡ d.bytes.items → ShowsAll file hs → Shows file d.at bytes
+    → bytes ≡ d.bytes.items → ShowsAll file hs → ShowsBytes file d.at bytes
 part_of file hs k d bytes lt is same all =
-    subst (λ xs. Shows file d.at xs) (sym same)
-    (subst (λ (x : Held). Shows file x.at x.bytes.items) (sym is) (shows_at file hs k d lt all))
+    subst (λ xs. ShowsBytes file d.at xs) (sym same)
+    (subst (λ (x : Held). ShowsBytes file x.at x.bytes.items) (sym is) (shows_at file hs k d lt all))
 
 pub part_held : (hs : List Held) (k : ℕ) (d : Held) (bytes : List ℕ) → k < length hs → d ≡ get_or hs k d
-    → bytes ≡ d.bytes.items → (i : ℕ) → InRange d.at (length bytes) i → IsHeld hs i
+    → bytes ≡ d.bytes.items → (i : ℕ) → InRange d.at (length bytes) i → IsHeldByte hs i
 part_held hs k d bytes lt is same i range = held_at hs k d i lt
     (subst (λ (x : Held). InRange x.at (length x.bytes.items) i) is
     (subst (λ xs. InRange d.at (length xs) i) same range))
 
 pub part_next : (hs : List Held) (k : ℕ) (d : Held) (bytes : List ℕ) → k < length hs → d ≡ get_or hs k d
-    → bytes ≡ d.bytes.items → (i : ℕ) → IsHeld (take (k + 1) hs) i → IsHeld (take k hs) i ⊎ InRange d.at (length
+    → bytes ≡ d.bytes.items → (i : ℕ) → IsHeldByte (take (k + 1) hs) i → IsHeldByte (take k hs) i ⊎ InRange d.at (length
     bytes) i
 part_next hs k d bytes lt is same i h = ⊎_elim
     (λ old. inl old)
@@ -220,15 +220,15 @@ part_next hs k d bytes lt is same i h = ⊎_elim
 -- a part of what was held is written once more
 module _ (told : Bool) (file : ℕ) (old mid new : SystemMedium) (hs : List Held) (k : ℕ) (d : Held) (bytes : List ℕ)
     (n : ℕ) (lt : k < length hs) (is : d ≡ get_or hs k d) (same : bytes ≡ d.bytes.items) (le : n ≤ length bytes)
-    (holds : IsTrue told → Holds old file hs)
+    (holds : IsTrue told → HoldsFree old file hs)
     (reads : OnlyReads old.disk mid.disk) (time : Elapses old.disk mid.disk)
     (free : IsTrue told → (f i : ℕ) → mid.free f i ↔ old.free f i)
-    (writes : Writes told file d.at bytes n mid new) (again : WritesAgain told file d.at bytes mid new) where
+    (writes : WritesBytes told file d.at bytes n mid new) (again : WritesAgain told file d.at bytes mid new) where
   pub back_reads : OnlyReads old.disk new.disk
   back_reads = reads_on time reads writes.time
       (again
       (λ t i range. (free t file i).1 ((holds t).free i (part_held hs k d bytes lt is same i range)))
-      (λ t. subst (λ image. Shows (image file) d.at bytes) (sym reads.image)
+      (λ t. subst (λ image. ShowsBytes (image file) d.at bytes) (sym reads.image)
       (part_of (old.disk.image file) hs k d bytes lt is same (holds t).shows)))
 
   pub back_free : IsTrue told → (f i : ℕ) → new.free f i ↔ old.free f i
@@ -241,8 +241,8 @@ module _ (told : Bool) (file : ℕ) (old mid new : SystemMedium) (hs : List Held
     λ h. (writes.frees t f i).1 (inl ((free t f i).1 h)),
   )
 
-  pub back_found : (IsTrue told → (i : ℕ) → IsHeld (take k hs) i → ¬ (mid.lost file i)) → length bytes ≤ n
-      → IsTrue told → (i : ℕ) → IsHeld (take (k + 1) hs) i → ¬ (new.lost file i)
+  pub back_found : (IsTrue told → (i : ℕ) → IsHeldByte (take k hs) i → ¬ (mid.lost file i)) → length bytes ≤ n
+      → IsTrue told → (i : ℕ) → IsHeldByte (take (k + 1) hs) i → ¬ (new.lost file i)
   back_found found all t i h lost = ⊎_elim
       (λ was. found t i was (writes.lost file i lost))
       (λ here. writes.found t i (here.0, omega (arith, here.1, all)) lost)
@@ -275,7 +275,7 @@ pub written_back : (n : ℕ) (new rest : List ℕ) → n ≡ length new → take
 written_back n new rest e = subst (λ k. take k (new ++ rest) ≡ new) (sym e) (take_at new rest _ refl)
 
 pub shows_read : (file : List ℕ) (at count long : ℕ) (new : List ℕ) → length new ≡ long → long ≤ count
-    → count ≡ min long (length file - at) → take count new ≡ take count (drop at file) → Shows file at new
+    → count ≡ min long (length file - at) → take count new ≡ take count (drop at file) → ShowsBytes file at new
 shows_read file at count long new same all is bytes = record {
   within = λ j lt. omega (arith, lt, same, all, is);
   equal = λ j lt.
@@ -300,8 +300,8 @@ covered_later rs k d f i lt h = subst (λ xs. Covered xs f i) (sym (take_more rs
 
 -- a range of another file holds nothing of this one
 pub held_skip : (rs : List Range) (hs : List Held) (k : ℕ) (d : Range) (file : ℕ) → k < length rs
-    → (get_or rs k d).file ≢ file → ((i : ℕ) → IsHeld hs i ↔ Covered (take k rs) file i)
-    → (i : ℕ) → IsHeld hs i ↔ Covered (take (k + 1) rs) file i
+    → (get_or rs k d).file ≢ file → ((i : ℕ) → IsHeldByte hs i ↔ Covered (take k rs) file i)
+    → (i : ℕ) → IsHeldByte hs i ↔ Covered (take (k + 1) rs) file i
 held_skip rs hs k d file lt ne was i = (
   λ h. covered_later rs k d file i lt (inl ((was i).0 h)),
   λ h. ⊎_elim (λ old. (was i).1 old) (λ new. absurd (ne (sym new.0))) (covered_next rs k d file i lt h),
@@ -310,8 +310,8 @@ held_skip rs hs k d file lt ne was i = (
 -- and one of this file is held
 pub held_more : (rs : List Range) (hs : List Held) (k : ℕ) (d : Range) (file : ℕ) (part : Held) → k < length rs
     → (get_or rs k d).file ≡ file → part.at ≡ (get_or rs k d).at → length part.bytes.items ≡ (get_or rs k d).len
-    → ((i : ℕ) → IsHeld hs i ↔ Covered (take k rs) file i)
-    → (i : ℕ) → IsHeld (hs ++ part ∷ []) i ↔ Covered (take (k + 1) rs) file i
+    → ((i : ℕ) → IsHeldByte hs i ↔ Covered (take k rs) file i)
+    → (i : ℕ) → IsHeldByte (hs ++ part ∷ []) i ↔ Covered (take (k + 1) rs) file i
 held_more rs hs k d file part lt same at long was i = (
   λ h. covered_later rs k d file i lt (⊎_elim
       (λ old. inl ((was i).0 old))

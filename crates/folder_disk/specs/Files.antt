@@ -4,5 +4,5 @@ use Rattle.std.specs.Ordering.{nat_cmp}
 use Rattle.std.specs.BTreeMap.{BTreeMap, get}
 
 -- each handle is that of the file under whose number it stands
-abbrev pub AreOf : {F : Type 0} → (F → ℕ) → BTreeMap ℕ F → Type 0
-AreOf {F} number files = (f : ℕ) (file : F) → get nat_cmp files f ≡ Some file → number file ≡ f
+abbrev pub AreByNumber : {F : Type 0} → (F → ℕ) → BTreeMap ℕ F → Type 0
+AreByNumber {F} number files = (f : ℕ) (file : F) → get nat_cmp files f ≡ Some file → number file ≡ f

@@ -3,10 +3,10 @@ use Rattle.std.specs.Prelude.{◌≡◌, ◌⊎◌, ◌↔◌, ℕ, Bool, IsTrue
 use Rattle.disk_model.specs.Image.{put_image, TornImage}
 use Rattle.disk_model.specs.Case.{Case, Follows, WriteOrNot}
 use Rattle.disk_model.specs.Medium.{Medium, Elapses, OnlyReads}
-use Rattle.system_model.specs.SystemMedium.{SystemMedium, InRange, TearCase, Shows}
+use Rattle.system_model.specs.SystemMedium.{SystemMedium, InRange, TearCase, ShowsBytes}
 
 -- the first n of these bytes are written
-pub record Writes (told : Bool) (file at : ℕ) (bytes : List ℕ) (n : ℕ) (old new : SystemMedium) : Type 0 where
+pub record WritesBytes (told : Bool) (file at : ℕ) (bytes : List ℕ) (n : ℕ) (old new : SystemMedium) : Type 0 where
   pub image : IsTrue told → new.disk.image ≡ put_image old.disk.image file at (take n bytes)
   pub now : Follows (TearCase file at n) old.disk.now new.disk.now
   pub during : Follows (TearCase file at (length bytes)) old.disk.now (new.disk.since old.disk.moment)
@@ -20,7 +20,7 @@ pub record Writes (told : Bool) (file at : ℕ) (bytes : List ℕ) (n : ℕ) (ol
 abbrev pub WritesAgain : (told : Bool) (file at : ℕ) (bytes : List ℕ) (old new : SystemMedium) → Type 0
 WritesAgain told file at bytes old new =
     (IsTrue told → (i : ℕ) → InRange at (length bytes) i → old.free file i)
-    → (IsTrue told → Shows (old.disk.image file) at bytes) → OnlyReads old.disk new.disk
+    → (IsTrue told → ShowsBytes (old.disk.image file) at bytes) → OnlyReads old.disk new.disk
 
 -- one case of a write of the disk of which the first n bytes were written: it counts as done whole, and what was
 -- written may be torn
@@ -30,7 +30,7 @@ pub record PutCase (file at : ℕ) (bytes : List ℕ) (n : ℕ) (old new : Case)
   pub left : TornImage file at n old.left new.left
 
 -- a write of the disk of which the first n bytes were written
-pub record Puts (told : Bool) (file at : ℕ) (bytes : List ℕ) (n : ℕ) (old new : Medium) : Type 0 where
+pub record PutsBytes (told : Bool) (file at : ℕ) (bytes : List ℕ) (n : ℕ) (old new : Medium) : Type 0 where
   pub image : IsTrue told → new.image ≡ put_image old.image file at (take n bytes)
   pub now : Follows (PutCase file at bytes n) old.now new.now
   pub during : Follows (WriteOrNot file at bytes) old.now (new.since old.moment)

@@ -70,7 +70,8 @@ impl<S: System> FolderDisk<S> {
     }
 
     /// Opens the files as a disk, and syncs whatever any process wrote to them, so that nothing is pending. A file that
-    /// cannot be opened counts as one that is not there; where none can, the folder is refused.
+    /// cannot be opened counts as one that is not there; where none can, or no byte of any can be read, the folder is
+    /// refused.
     pub fn open(alloc: Global, system: S) -> Result<FolderDisk<S>, FolderRefused<S>>
         requires { IsTrue S.told → (f : ℕ) → IsWhole (S.medium system) f }
         ensures quiet { IfOk result (λ disk. Quiet (disk_seen S.medium disk)) }
@@ -83,8 +84,13 @@ impl<S: System> FolderDisk<S> {
             return Err(refused(disk.folder));
         }
         if let Some(file) = disk.folder.system.refused() {
-            let error = io::Error::from(io::ErrorKind::PermissionDenied);
+            let error = io::Error::other("neither it nor any other file can be opened");
             disk.folder.failed(Asked::Open, Part::File(file), error);
+            return Err(refused(disk.folder));
+        }
+        if let Some(file) = disk.folder.system.unreadable() {
+            let error = io::Error::other("neither it nor any other file can be read");
+            disk.folder.failed(Asked::Read, Part::File(file), error);
             return Err(refused(disk.folder));
         }
         Ok(disk)
@@ -97,7 +103,7 @@ impl<S: System> FolderDisk<S> {
         self.folder.system.into_system()
     }
 
-    /// The last call of the system that failed, for the one who is told of it.
+    /// The last call of the system that failed, for error reporting.
     pub fn failure(&self) -> Option<Failure> {
         self.folder.failure
     }

@@ -10,7 +10,7 @@ ghost use Rattle.disk_model.specs.Medium.{Quiet, Elapses, OnlyReads, WritesNothi
 ghost use Rattle.system_model.specs.SystemMedium.{IsAbsent};
 ghost use Rattle.folder_disk.specs.Knows.{Knows};
 ghost use Rattle.folder_disk.specs.FolderView.{counted};
-ghost use Rattle.folder_disk.specs.Writes.{Puts, PutCase};
+ghost use Rattle.folder_disk.specs.Writes.{PutsBytes, PutCase};
 
 use crate::notes::{is_full, note};
 use crate::opened::Opened;
@@ -200,8 +200,46 @@ impl<S: System> Folder<S> {
         if self.find(file)? {
             return Ok(());
         }
+        match self.make(file) {
+            Ok(()) => Ok(()),
+            Err(error) if lacks_descriptors(error) => self.make_in_room(file),
+            Err(error) => Err(self.failed(Asked::Make, Part::File(file), error)),
+        }
+    }
+
+    /// Makes the file, which is not there, and opens it.
+    fn make(&mut self, file: u32) -> io::Result<()>
+        requires knows { Knows S.told (S.medium self.old.system) self.old.ranges.items self.old.is_fresh
+            self.old.is_grown self.old.is_lost }
+        requires lost { IsFalse self.old.is_lost }
+        ensures lost { IsFalse self.new.is_lost }
+        ensures reads { OnlyReads (S.medium self.old.system).disk (S.medium self.new.system).disk }
+        ensures time { Elapses (S.medium self.old.system).disk (S.medium self.new.system).disk }
+        ensures knows { Knows S.told (S.medium self.new.system) self.new.ranges.items self.new.is_fresh
+            self.new.is_grown self.new.is_lost }
+        ensures faults { self.new.faults ≡ self.old.faults }
+        ensures written { self.new.written ≡ self.old.written }
+    {
         self.is_grown = true;
-        match self.system.make(file) {
+        self.system.make(file)
+    }
+
+    /// The same, once another file was closed.
+    fn make_in_room(&mut self, file: u32) -> Result<(), DiskFailed>
+        requires knows { Knows S.told (S.medium self.old.system) self.old.ranges.items self.old.is_fresh
+            self.old.is_grown self.old.is_lost }
+        requires lost { IsFalse self.old.is_lost }
+        ensures reads { OnlyReads (S.medium self.old.system).disk (S.medium self.new.system).disk }
+        ensures time { Elapses (S.medium self.old.system).disk (S.medium self.new.system).disk }
+        ensures knows { Knows S.told (S.medium self.new.system) self.new.ranges.items self.new.is_fresh
+            self.new.is_grown self.new.is_lost }
+        ensures cause { OnErr result (Rose self.old.faults self.new.faults) }
+        ensures later { self.old.faults ≤ self.new.faults }
+        ensures passes { OnOk result (self.new.faults ≡ self.old.faults) }
+        ensures written { self.new.written ≡ self.old.written }
+    {
+        self.close_one()?;
+        match self.make(file) {
             Ok(()) => Ok(()),
             Err(error) => Err(self.failed(Asked::Make, Part::File(file), error)),
         }
@@ -213,7 +251,7 @@ impl<S: System> Folder<S> {
         requires knows { Knows S.told (S.medium self.old.system) self.old.ranges.items self.old.is_fresh
             self.old.is_grown self.old.is_lost }
         ensures count { result.done ≤ length bytes.now }
-        ensures puts { Puts S.told file at bytes.now result.done (S.medium self.old.system).disk
+        ensures puts { PutsBytes S.told file at bytes.now result.done (S.medium self.old.system).disk
             (S.medium self.new.system).disk }
         ensures knows { Knows S.told (S.medium self.new.system) self.new.ranges.items self.new.is_fresh
             self.new.is_grown self.new.is_lost }

@@ -5,11 +5,13 @@ ghost use Rattle.std.specs.Prelude.{Contains};
 ghost use Rattle.disk_model.specs.Image.{put_image};
 ghost use Rattle.disk_model.specs.Case.{Case, Follows};
 ghost use Rattle.disk_model.specs.Medium.{Quiet, Elapses, OnlyReads, WritesNothing};
-ghost use Rattle.system_model.specs.SystemMedium.{IsSafe, IsWhole, IsStill, InRange, Shows, Looks, IsAbsent};
-ghost use Rattle.system_model.specs.SystemMedium.{AnnounceCase, TearCase, read_count, Gives};
+ghost use Rattle.system_model.specs.SystemMedium.{IsSafe, IsWhole, HasNothingFree, InRange, ShowsBytes, Looks};
+ghost use Rattle.system_model.specs.SystemMedium.{IsAbsent};
+ghost use Rattle.system_model.specs.SystemMedium.{AnnounceCase, TearCase, read_count, ReadGives};
 
 use crate::notes::is_noted;
 use crate::range::Range;
+use crate::reading::{Answer, answer_of};
 use std::alloc::Global;
 use std::collections::BTreeMap;
 use std::io;
@@ -32,10 +34,14 @@ pub struct Opened<S: System> {
     has_files: bool,
     /// The first file that the folder listed.
     listed: Option<u32>,
+    /// Whether a byte of a file could be read.
+    has_read: bool,
+    /// The first file of which none could be read.
+    unreadable: Option<u32>,
 }
 
 impl<S: System> Model for Opened<S> {
-    ghost use Rattle.folder_disk.specs.Files.{AreOf};
+    ghost use Rattle.folder_disk.specs.Files.{AreByNumber};
 
     ghost Value = { S };
 
@@ -43,7 +49,7 @@ impl<S: System> Model for Opened<S> {
 
     ghost view = { λ opened. opened.system };
 
-    ghost invariant = { λ opened. AreOf S.number opened.files };
+    ghost invariant = { λ opened. AreByNumber S.number opened.files };
 }
 
 impl<S: System> Opened<S> {
@@ -57,6 +63,8 @@ impl<S: System> Opened<S> {
             questions: 0,
             has_files: false,
             listed: None,
+            has_read: false,
+            unreadable: None,
         }
     }
 
@@ -74,6 +82,11 @@ impl<S: System> Opened<S> {
     /// The first file that the folder lists, where it gives none of them.
     pub(crate) fn refused(&self) -> Option<u32> {
         if self.has_files { None } else { self.listed }
+    }
+
+    /// The first file of which no byte could be read, where none could be of any other.
+    pub(crate) fn unreadable(&self) -> Option<u32> {
+        if self.has_read { None } else { self.unreadable }
     }
 
     /// Whether one file more can be open, or this one is.
@@ -116,6 +129,27 @@ impl<S: System> Opened<S> {
         }
     }
 
+    /// Looks whether the file can be read, as long as none could: a device that answers nowhere has failed.
+    pub(crate) fn look_into(&mut self, file: u32)
+        ensures { Looks (S.medium self.old) (S.medium self.new) }
+    {
+        if self.has_read {
+            return;
+        }
+        let answer = answer_of(self, file);
+        self.note_answer(file, answer);
+    }
+
+    fn note_answer(&mut self, file: u32, answer: Answer)
+        ensures { self.new ≡ self.old }
+    {
+        match answer {
+            Answer::Unknown => {}
+            Answer::Readable => self.has_read = true,
+            Answer::Unreadable => self.unreadable = self.unreadable.or(Some(file)),
+        }
+    }
+
     /// Makes the file, which is not there, and opens it.
     pub(crate) fn make(&mut self, file: u32) -> io::Result<()>
         ensures reads { OnlyReads (S.medium self.old).disk (S.medium self.new).disk }
@@ -129,7 +163,7 @@ impl<S: System> Opened<S> {
 
     /// Closes the file, if it is open.
     pub(crate) fn close(&mut self, file: u32)
-        requires { IsTrue S.told → IsStill (S.medium self.old) file }
+        requires { IsTrue S.told → HasNothingFree (S.medium self.old) file }
         ensures looks { Looks (S.medium self.old) (S.medium self.new) }
     {
         self.uses.remove(&file);
@@ -171,7 +205,7 @@ impl<S: System> Opened<S> {
     pub(crate) fn read(&mut self, file: u32, at: u64, out: &mut [u8]) -> io::Result<Reading>
         ensures count { IfOk result (λ reading. read_count reading ≤ length out.old) }
         ensures gives { IsTrue S.told → IsWhole (S.medium self.old) file → IfOk result (λ reading.
-            Gives ((S.medium self.old).disk.image file) at (length out.old) out.new reading) }
+            ReadGives ((S.medium self.old).disk.image file) at (length out.old) out.new reading) }
         ensures looks { Looks (S.medium self.old) (S.medium self.new) }
     {
         match self.files.get(&file) {
@@ -207,7 +241,7 @@ impl<S: System> Opened<S> {
         ensures found { IsTrue S.told → IfOk result (λ n. (i : ℕ) → InRange at n i
             → ¬ ((S.medium self.new).lost file i)) }
         ensures again { (IsTrue S.told → (i : ℕ) → InRange at (length bytes.now) i → (S.medium self.old).free file i)
-            → (IsTrue S.told → Shows ((S.medium self.old).disk.image file) at bytes.now)
+            → (IsTrue S.told → ShowsBytes ((S.medium self.old).disk.image file) at bytes.now)
             → OnlyReads (S.medium self.old).disk (S.medium self.new).disk }
     {
         match self.files.get(&file) {
@@ -220,7 +254,7 @@ impl<S: System> Opened<S> {
         ensures safe { IsTrue S.told → OnOk result (IsWhole (S.medium self.old) file
             → (S.medium self.old).named file → IsSafe (S.medium self.new).disk file) }
         ensures still { IsTrue S.told → OnOk result (IsWhole (S.medium self.old) file
-            → IsStill (S.medium self.new) file) }
+            → HasNothingFree (S.medium self.new) file) }
         ensures kept { IsTrue S.told → OnOk result ((f i : ℕ) → (S.medium self.new).lost f i
             → (S.medium self.old).lost f i) }
         ensures others { IsTrue S.told → (f i : ℕ) → f ≢ file

@@ -2,7 +2,7 @@
 
 ghost use Rattle.std.specs.Prelude.{◌≡◌, ℕ, ◌≤◌, ◌<◌, ◌+◌, ◌-◌, ◌^◌, IsTrue, IfOk, length, take, drop, min};
 ghost use Rattle.std.specs.Prelude.{slice_index};
-ghost use Rattle.system_model.specs.SystemMedium.{Looks, IsWhole, GivesBytes, GivesNone, Gives, read_count};
+ghost use Rattle.system_model.specs.SystemMedium.{Looks, IsWhole, GivesBytes, GivesNone, ReadGives, read_count};
 
 use crate::opened::Opened;
 use std::io;
@@ -90,7 +90,7 @@ fn read_again<S: System>(
 ) -> io::Result<Reading>
     ensures count { IfOk result (λ reading. read_count reading ≤ length out.old) }
     ensures gives { IsTrue S.told → IsWhole (S.medium system.old) file → IfOk result (λ reading.
-        Gives ((S.medium system.old).disk.image file) at (length out.old) out.new reading) }
+        ReadGives ((S.medium system.old).disk.image file) at (length out.old) out.new reading) }
     ensures looks { Looks (S.medium system.old) (S.medium system.new) }
 {
     match system.read(file, at, out) {
@@ -98,6 +98,38 @@ fn read_again<S: System>(
         Ok(Reading::Unreadable(_)) => system.read(file, at, out),
         answer => answer,
     }
+}
+
+/// How many places of a file are tried at most.
+const PLACES: u32 = 32;
+
+/// What a file answers that is to be read.
+#[derive(Clone, Copy)]
+pub(crate) enum Answer {
+    /// It has no bytes, or the system did not come so far.
+    Unknown,
+    Readable,
+    Unreadable,
+}
+
+/// Whether a byte of the file can be read: its first one or, each time twice as far, one after those that cannot.
+pub(crate) fn answer_of<S: System>(system: &mut Opened<S>, file: u32) -> Answer
+    ensures { Looks (S.medium system.old) (S.medium system.new) }
+{
+    let mut byte = [0; 1];
+    let mut answer = Answer::Unknown;
+    let mut at: u64 = 0;
+    for _ in 0..PLACES {
+        match read_again(system, file, at, &mut byte) {
+            Ok(Reading::Bytes(0)) | Err(_) => break,
+            Ok(Reading::Bytes(_)) => return Answer::Readable,
+            Ok(Reading::Unreadable(count)) => {
+                answer = Answer::Unreadable;
+                at = at.saturating_add(count as u64).saturating_mul(2);
+            }
+        }
+    }
+    answer
 }
 
 /// Whether the system was interrupted before it did anything.

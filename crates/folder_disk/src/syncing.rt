@@ -4,9 +4,9 @@ ghost use Rattle.std.specs.Prelude.{◌≡◌, ◌≢◌, ◌⊎◌, ◌↔◌, 
 ghost use Rattle.std.specs.Prelude.{length, take, drop, min, List, [], true, false, filter, not, ◌==◌};
 ghost use Rattle.per_base.specs.Causes.{Rose};
 ghost use Rattle.disk_model.specs.Medium.{Quiet, Elapses, OnlyReads, WritesNothing};
-ghost use Rattle.system_model.specs.SystemMedium.{Looks, IsSafe, IsStill, IsWhole, Shows};
+ghost use Rattle.system_model.specs.SystemMedium.{Looks, IsSafe, HasNothingFree, IsWhole, ShowsBytes};
 ghost use Rattle.folder_disk.specs.Knows.{Knows, Covered};
-ghost use Rattle.folder_disk.specs.Held.{Holds, IsHeld, ShowsAll};
+ghost use Rattle.folder_disk.specs.Held.{HoldsFree, IsHeldByte, ShowsAll};
 
 use crate::folder::Folder;
 use crate::held::Held;
@@ -22,13 +22,13 @@ use system_model::{Asked, Part, System};
 
 /// Writes once more what a failed sync may have dropped, and says whether all of it was written.
 pub(crate) fn put_back<S: System>(system: &mut Opened<S>, file: u32, held: &[Held]) -> bool
-    requires { IsTrue S.told → Holds (S.medium system.old) file held.now }
+    requires { IsTrue S.told → HoldsFree (S.medium system.old) file held.now }
     ensures reads { OnlyReads (S.medium system.old).disk (S.medium system.new).disk }
     ensures time { Elapses (S.medium system.old).disk (S.medium system.new).disk }
     ensures named { (f : ℕ) → (S.medium system.old).named f → (S.medium system.new).named f }
     ensures free { IsTrue S.told → (f i : ℕ) → (S.medium system.new).free f i ↔ (S.medium system.old).free f i }
     ensures lost { (f i : ℕ) → (S.medium system.new).lost f i → (S.medium system.old).lost f i }
-    ensures found { IsTrue S.told → IsTrue result → (i : ℕ) → IsHeld held.now i
+    ensures found { IsTrue S.told → IsTrue result → (i : ℕ) → IsHeldByte held.now i
         → ¬ ((S.medium system.new).lost file i) }
 {
     for part in held {
@@ -130,7 +130,7 @@ impl<S: System> Folder<S> {
         requires fresh { IsTrue self.old.is_fresh }
         requires lost { IsFalse self.old.is_lost }
         ensures safe { IsTrue S.told → OnOk result (IsSafe (S.medium self.new.system).disk file) }
-        ensures still { IsTrue S.told → OnOk result (IsStill (S.medium self.new.system) file) }
+        ensures still { IsTrue S.told → OnOk result (HasNothingFree (S.medium self.new.system) file) }
         ensures no_more { IsTrue S.told → OnOk result ((f i : ℕ) → (S.medium self.new.system).free f i
             → (S.medium self.old.system).free f i) }
         ensures names { (f : ℕ) → (S.medium self.new.system).named f }
@@ -151,6 +151,7 @@ impl<S: System> Folder<S> {
             Ok(false) => return Ok(()),
             Err(error) => return Err(self.failed(Asked::Open, Part::File(file), error)),
         }
+        self.system.look_into(file);
         match self.system.sync_file(file) {
             Ok(()) => {
                 self.system.close(file);
@@ -166,7 +167,7 @@ impl<S: System> Folder<S> {
             self.old.is_grown self.old.is_lost }
         requires fresh { IsFalse self.old.is_fresh }
         requires lost { IsFalse self.old.is_lost }
-        ensures holds { IsTrue S.told → IfOk result (λ held. Holds (S.medium self.new.system) file held.items) }
+        ensures holds { IsTrue S.told → IfOk result (λ held. HoldsFree (S.medium self.new.system) file held.items) }
         ensures ranges { self.new.ranges ≡ self.old.ranges }
         ensures fresh { self.new.is_fresh ≡ self.old.is_fresh }
         ensures grown { self.new.is_grown ≡ self.old.is_grown }
@@ -373,7 +374,7 @@ fn held_of<S: System>(
     ensures looks { Looks (S.medium system.old) (S.medium system.new) }
     ensures shows { IsTrue S.told → IfOk result (λ held.
         ShowsAll ((S.medium system.old).disk.image file) held.items) }
-    ensures held { IfOk result (λ held. (i : ℕ) → IsHeld held.items i ↔ Covered ranges.now file i) }
+    ensures held { IfOk result (λ held. (i : ℕ) → IsHeldByte held.items i ↔ Covered ranges.now file i) }
 {
     let mut held = Vec::new(alloc);
     for range in ranges {
@@ -393,7 +394,7 @@ fn held_in<S: System>(system: &mut Opened<S>, alloc: Global, range: Range) -> io
     requires whole { IsTrue S.told → (f : ℕ) → IsWhole (S.medium system.old) f }
     ensures looks { Looks (S.medium system.old) (S.medium system.new) }
     ensures shows { IsTrue S.told → IfOk result (λ held.
-        Shows ((S.medium system.old).disk.image range.file) held.at held.bytes.items) }
+        ShowsBytes ((S.medium system.old).disk.image range.file) held.at held.bytes.items) }
     ensures place { IfOk result (λ held. (held.at ≡ range.at) × (length held.bytes.items ≡ range.len)) }
 {
     if range.at.checked_add(range.len).is_none() {

@@ -4,8 +4,8 @@ ghost use Rattle.std.specs.Prelude.{◌≡◌, ◌⊎◌, ◌↔◌, ℕ, ◌≤
 ghost use Rattle.disk_model.specs.Image.{put_image, TornImage};
 ghost use Rattle.disk_model.specs.Case.{Case, Follows};
 ghost use Rattle.disk_model.specs.Medium.{Elapses, OnlyReads};
-ghost use Rattle.system_model.specs.SystemMedium.{InRange, TearCase, Shows, Looks};
-ghost use Rattle.folder_disk.specs.Writes.{Writes, WritesAgain};
+ghost use Rattle.system_model.specs.SystemMedium.{InRange, TearCase, ShowsBytes, Looks};
+ghost use Rattle.folder_disk.specs.Writes.{WritesAgain, WritesBytes};
 
 use crate::opened::Opened;
 use crate::reading::is_interrupted;
@@ -31,7 +31,7 @@ pub(crate) fn write_all<S: System>(
 ) -> Progress
     requires { at + length bytes.now < 2 ^ 64 }
     ensures count { result.done ≤ length bytes.now }
-    ensures writes { Writes S.told file at bytes.now result.done (S.medium system.old) (S.medium system.new) }
+    ensures writes { WritesBytes S.told file at bytes.now result.done (S.medium system.old) (S.medium system.new) }
     ensures again { WritesAgain S.told file at bytes.now (S.medium system.old) (S.medium system.new) }
 {
     let mut done = 0;

@@ -32,7 +32,7 @@ impl<S: System> FolderFlash<S> {
         }
     }
 
-    /// The last call of the system that failed, for the one who is told of it.
+    /// The last call of the system that failed, for error reporting.
     pub fn failure(&self) -> Option<Failure> {
         self.file.failure()
     }

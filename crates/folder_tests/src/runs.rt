@@ -21,7 +21,7 @@ pub(crate) struct Ran {
 }
 
 impl Ran {
-    /// Each line of the output behind a mark, and the status.
+    /// Each line of the output after a mark, and the status.
     pub(crate) fn shown(&self, alloc: Global) -> Result<String, AllocError> {
         let mut shown = String::new(alloc);
         for line in self.output.lines() {

@@ -28,7 +28,7 @@ impl Session {
         }
     }
 
-    /// Takes a row, and gives what is printed behind it.
+    /// Takes a row, and gives what is printed after it.
     pub(crate) fn take(&mut self, migrations: &Migrations, row: &str) -> Result<String, RowError> {
         let (word, rest) = parted(row);
         match word {
@@ -108,7 +108,7 @@ fn push_line(text: &mut String, line: &str) -> Result<(), AllocError> {
     text.push('\n')
 }
 
-/// What stands before a space and behind it.
+/// What stands before a space and after it.
 fn parted(row: &str) -> (&str, &str) {
     match row.split_once(' ') {
         Some(parts) => parts,

@@ -50,8 +50,8 @@ impl Failing {
 impl<'a> Sweep<'a> {
     /// What a look finds after each number of lines; then `= kept` where it finds, after a kill at each call of the
     /// system, what it does after the lines that were answered or after one more, and does so after a power loss
-    /// behind each change of the run that looked, whatever is left of what was not synced; and where power is lost
-    /// behind that run, the same as it did. Else the first call for which it does not.
+    /// after each change of the run that looked, whatever is left of what was not synced; and where power is lost
+    /// after that run, the same as it did. Else the first call for which it does not.
     pub(crate) fn kills(&self) -> Result<String, RowError> {
         let states = self.states()?;
         let mut shown = self.shown(&states)?;
@@ -74,7 +74,7 @@ impl<'a> Sweep<'a> {
     }
 
     /// What a look finds after each number of lines; then `= kept` where, after each call that fails alone and a power
-    /// loss behind the run, it finds what it does after the last line that was handled and changes that, or after a
+    /// loss after the run, it finds what it does after the last line that was handled and changes that, or after a
     /// later one. Else the first call for which it does not.
     pub(crate) fn failures(&self) -> Result<String, RowError> {
         self.failing(self.whole()?.calls(), Failing::Call)
@@ -167,7 +167,7 @@ impl<'a> Sweep<'a> {
         ran.answers(self.alloc)
     }
 
-    /// What is wrong after a kill, before which so many lines were answered.
+    /// What is wrong after a kill, before which that many lines were answered.
     fn killed(
         &self,
         states: &[String],
@@ -192,7 +192,7 @@ impl<'a> Sweep<'a> {
         self.lost_behind(&[found], &system)
     }
 
-    /// What is wrong after a power loss behind the run.
+    /// What is wrong after a power loss after the run.
     fn lost_behind(
         &self,
         wanted: &[String],
@@ -206,7 +206,7 @@ impl<'a> Sweep<'a> {
         Ok(None)
     }
 
-    /// What is wrong after a power loss behind each of the changes from the first one on.
+    /// What is wrong after a power loss after each of the changes from the first one on.
     fn lost(
         &self,
         wanted: &[String],

@@ -12,7 +12,7 @@ use Rattle.disk_model.specs.Place.{slot, IsNoSlot}
 use Rattle.disk_model.specs.declared.place.Place.{Place}
 use Rattle.guarded_cell.specs.declared.looking.Seen.{Seen}
 use Rattle.guarded_cell.specs.Register.{IsAlone, own, other}
-use Rattle.guarded_cell.specs.Held.{Text, of_parity, text_in, is_seen, holds, copies_that, lacking, with_copy}
+use Rattle.guarded_cell.specs.Held.{Text, of_parity, text_held, is_seen, holds, copies_that, lacking, with_copy}
 use Rattle.guarded_cell.specs.Held.{with_slot, held_in_first, held, standing}
 use Rattle.guarded_cell.specs.lemmas.SeenLaws.{is_alike, seen_more}
 use Rattle.guarded_cell.specs.lemmas.HeldLaws.{is_holds}
@@ -39,14 +39,14 @@ module _ (image : Image) (place : Place) (g : ℕ) (text : List ℕ) (alone : Is
   abbrev seen : ℕ → Seen
   seen n = record { generation = g; text = text; copies = copies_that (λ c. true) n }
 
-  in_own : (copy parity : ℕ) → copy < place.copies → own g ≡ parity → text_in image place copy parity ≡ Some it
+  in_own : (copy parity : ℕ) → copy < place.copies → own g ≡ parity → text_held image place copy parity ≡ Some it
   in_own copy parity lt e =
       let v : VerifiesAs (image (slot place copy parity)) g text =
       subst (λ (p : ℕ). VerifiesAs (image (slot place copy p)) g text) e (alone.held copy lt) in
       ap (of_parity parity) (verifies-verified (image (slot place copy parity)) g text v)
       ∙ cond-true (eqb (g % 2) parity) (Some it) None (eq-eqb (g % 2) parity e)
 
-  in_other : (copy parity : ℕ) → copy < place.copies → other g ≡ parity → text_in image place copy parity ≡ None
+  in_other : (copy parity : ℕ) → copy < place.copies → other g ≡ parity → text_held image place copy parity ≡ None
   in_other copy parity lt e =
       ap (of_parity parity) (verified-none (image (slot place copy parity)) (λ h t v.
       alone.blank copy lt h t (subst (λ (p : ℕ). VerifiesAs (image (slot place copy p)) h t) (sym e) v)))
@@ -57,14 +57,14 @@ module _ (image : Image) (place : Place) (g : ℕ) (text : List ℕ) (alone : Is
   one_more n lt = ⊎_elim
       (λ even.
       let odd : other g ≡ 1 = omega (arith, even) in
-      ap (λ (o : Option Text). with_slot (n + 1) o (with_slot (n + 1) (text_in image place n 0)
+      ap (λ (o : Option Text). with_slot (n + 1) o (with_slot (n + 1) (text_held image place n 0)
       (held_in_first image place n)))
       (in_other n 1 lt odd)
       ∙ ap (λ (o : Option Text). with_slot (n + 1) o (held_in_first image place n)) (in_own n 0 lt even))
       (λ odd.
       let one : own g ≡ 1 = omega (arith, odd) in
       let even : other g ≡ 0 = omega (arith, one) in
-      ap (λ (o : Option Text). with_slot (n + 1) o (with_slot (n + 1) (text_in image place n 0)
+      ap (λ (o : Option Text). with_slot (n + 1) o (with_slot (n + 1) (text_held image place n 0)
       (held_in_first image place n)))
       (in_own n 1 lt one)
       ∙ ap (λ (o : Option Text). with_copy (n + 1) it (with_slot (n + 1) o (held_in_first image place n)))
@@ -105,7 +105,7 @@ alone_shows image place g text alone = (go place.copies refl place.some, alone_l
 
 module _ (place : Place) (old new : Image) where
   same_text : (copy parity : ℕ) → new (slot place copy parity) ≡ old (slot place copy parity)
-      → text_in new place copy parity ≡ text_in old place copy parity
+      → text_held new place copy parity ≡ text_held old place copy parity
   same_text copy parity e = ap (λ (bytes : List ℕ). of_parity parity (verified bytes)) e
 
   same_in_first : (n : ℕ) → n ≤ place.copies → SameSlots place old new
@@ -113,14 +113,14 @@ module _ (place : Place) (old new : Image) where
   unfolding held_in_first
   same_in_first zero le same = refl
   same_in_first (suc copy) le same =
-      ap (λ (t : Option Text). with_slot (copy + 1) t (with_slot (copy + 1) (text_in new place copy 0)
+      ap (λ (t : Option Text). with_slot (copy + 1) t (with_slot (copy + 1) (text_held new place copy 0)
       (held_in_first new place copy)))
       (same_text copy 1 (same copy 1 (omega (arith, le)) (omega arith)))
-      ∙ ap (λ (t : Option Text). with_slot (copy + 1) (text_in old place copy 1)
+      ∙ ap (λ (t : Option Text). with_slot (copy + 1) (text_held old place copy 1)
       (with_slot (copy + 1) t (held_in_first new place copy)))
       (same_text copy 0 (same copy 0 (omega (arith, le)) (omega arith)))
-      ∙ ap (λ (seens : List Seen). with_slot (copy + 1) (text_in old place copy 1)
-      (with_slot (copy + 1) (text_in old place copy 0) seens))
+      ∙ ap (λ (seens : List Seen). with_slot (copy + 1) (text_held old place copy 1)
+      (with_slot (copy + 1) (text_held old place copy 0) seens))
       (same_in_first copy (omega (arith, le)) same)
 
   pub same_held : SameSlots place old new → held new place ≡ held old place

@@ -1,4 +1,4 @@
--- A register is made anew: what a stop leaves in each phase, and what stands at the end.
+-- A register is formatted: what a stop leaves in each phase, and what stands at the end.
 use Rattle.std.proofs.Common.{◌≡◌, ℕ, ◌<◌, ◌≤◌, List, length, Bool, sym, ◌∙◌, subst, inl, inr, ⊎_elim, arith}
 use Rattle.std.proofs.lemmas.Bool.{cases_eq}
 use Rattle.hash_guard.specs.SealedText.{VerifiesAs, sealed, max_body}

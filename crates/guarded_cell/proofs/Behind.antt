@@ -1,4 +1,4 @@
--- What follows a blanked front, and what the next text over it costs.
+-- What follows a blanked start, and what the next text over it costs.
 use Rattle.std.proofs.Common.{◌≡◌, ℕ, zero, suc, ◌+◌, ◌-◌, ◌*◌, ◌<◌, ◌≤◌, min, List, length, take, drop}
 use Rattle.std.proofs.Common.{cond, Bool, true, false, get_or, refl, sym, ap, ◌∙◌, subst, inr, ⊎_elim, arith}
 use Rattle.std.proofs.lemmas.List.{ext_get_or, length-take, length-drop, get_or-take, get_or-drop}
@@ -74,7 +74,7 @@ put_front_reads old bytes i inside =
     let e : 0 + i ≡ i = omega arith in
     subst (λ (p : ℕ). get_or (put_bytes old 0 bytes) p 0 ≡ get_or bytes i 0) e (put_inside old 0 bytes i inside)
 
--- ---- a text that was put over a front that was blanked after another text stood there
+-- ---- a text that was put at a start that was blanked after another text stood there
 
 module _ (w x bytes : List ℕ) where
   abbrev Behind : List ℕ

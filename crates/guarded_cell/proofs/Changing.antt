@@ -11,7 +11,7 @@ use Rattle.guarded_cell.specs.Register.{IsAlone, own}
 use Rattle.guarded_cell.specs.Differing.{texts_cost}
 use Rattle.guarded_cell.specs.Seens.{IsSealable}
 use Rattle.guarded_cell.specs.Stops.{PutStops, KeepStops, FormatStops}
-use Rattle.guarded_cell.specs.Changes.{Brings, Clears, Formats, Opens}
+use Rattle.guarded_cell.specs.Changes.{Brings, Clears, FormatsRegister, OpensRegister}
 use Rattle.guarded_cell.proofs.Putting.{none_alone, reads_alone, reads_then, still_stops}
 use Rattle.guarded_cell.proofs.Blanked.{keep_still}
 use Rattle.guarded_cell.proofs.Anew.{format_still}
@@ -96,10 +96,10 @@ module _ {told : Bool} {place : Place} {generation : ℕ} {text : List ℕ} wher
     time = elapses_on time clears.time;
   }
 
--- ---- a register is made anew
+-- ---- a register is formatted
 
 pub formats_none : {told : Bool} {place : Place} {text : List ℕ} {m : Medium} → IsLawful told m
-    → Formats told place text m m
+    → FormatsRegister told place text m m
 formats_none {told} {place} {text} {m} law = record {
   elsewhere = λ tells f is_not. refl;
   any_moment = λ tells quiet. none_alone (FormatStops place 1 text m.image) told m law quiet
@@ -113,7 +113,7 @@ formats_none {told} {place} {text} {m} law = record {
 module _ {told : Bool} {place : Place} {m : ℕ} where
   -- nothing stands, or it is not known yet
   pub opens_idle : {old new : Medium} → Elapses old new → new.image ≡ old.image → new.written ≡ old.written
-      → (Quiet old → IsIdle old new) → Opens told place m old new
+      → (Quiet old → IsIdle old new) → OpensRegister told place m old new
   opens_idle {old} {new} time image written idle = record {
     elsewhere = λ tells f is_not. ap (λ (im : Image). im f) image;
     right = λ tells f is_right. ap (λ (im : Image). im f) image;
@@ -126,7 +126,7 @@ module _ {told : Bool} {place : Place} {m : ℕ} where
   pub opens_later : {old mid new : Medium} {seen : Seen} → Elapses old mid → mid.image ≡ old.image
       → mid.written ≡ old.written → (Quiet old → IsIdle old mid) → IsSealable seen
       → (IsTrue told → standing old.image place m ≡ Some seen)
-      → Brings told place seen.generation seen.text mid new → Opens told place m old new
+      → Brings told place seen.generation seen.text mid new → OpensRegister told place m old new
   opens_later {old} {mid} {new} {seen} time image written idle sealable stands brings = record {
     elsewhere = λ tells f is_not. brings.puts.elsewhere tells f is_not ∙ ap (λ (im : Image). im f) image;
     right = λ tells. right_for (standing old.image place m) seen place old.image

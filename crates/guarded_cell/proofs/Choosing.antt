@@ -14,16 +14,16 @@ use Rattle.disk_model.specs.Medium.{Medium, OnlyReads, Elapses}
 use Rattle.disk_model.specs.Place.{slot}
 use Rattle.disk_model.specs.declared.place.Place.{Place}
 use Rattle.guarded_cell.specs.Register.{IsBlank}
-use Rattle.guarded_cell.specs.Slots.{front, IsFound, Tells, picked, HasNoOther}
+use Rattle.guarded_cell.specs.Slots.{front, IsFoundInSlot, Tells, matches_pick, HasNoOther}
 use Rattle.guarded_cell.specs.declared.slots.Found.{Found}
 use Rattle.guarded_cell.specs.declared.slots.Found.TheVariants.{Nothing, Wanted, Another}
 use Rattle.guarded_cell.specs.declared.slots.Pick.{Pick}
 use Rattle.guarded_cell.specs.declared.slots.Pick.TheVariants.{Lacking, Verifying, Others}
 
--- what is found is told by the flag
+-- the flag says what is found
 pub told_by : (pick : Pick) (found : Found) (bytes : List ℕ) (generation : ℕ) (text : List ℕ)
-    → IsFound found bytes generation text
-    → Tells pick (picked pick found) bytes generation text
+    → IsFoundInSlot found bytes generation text
+    → Tells pick (matches_pick pick found) bytes generation text
 told_by Lacking Nothing bytes generation text blank = λ v. blank generation text v
 told_by Lacking Wanted bytes generation text v = v
 told_by Lacking Another bytes generation text found = found.0
@@ -39,7 +39,7 @@ told_by Others Another bytes generation text found = λ only. found.1 (λ g t v.
     both only g t v = let (e, f) = only g t v in subst (λ (x : ℕ). VerifiesAs bytes x text) e
         (subst (λ (y : List ℕ). VerifiesAs bytes g y) f v)
 
--- a slot verifies as its front does
+-- a slot verifies as its start does
 pub front_is : (bytes : List ℕ) (g : ℕ) (t : List ℕ) → VerifiesAs (take front bytes) g t → VerifiesAs bytes g t
 front_is bytes g t v =
     let short = body_short (take front bytes) g t v in
@@ -52,15 +52,15 @@ is_front bytes g t v =
     let short = body_short bytes g t v in
     verifies-take front bytes g t (omega (arith, short)) v
 
--- the front of a slot tells what the slot holds
+-- the start of a slot tells what the slot holds
 pub front_tells : (found : Found) (bytes : List ℕ) (generation : ℕ) (text : List ℕ)
-    → IsFound found (take front bytes) generation text → IsFound found bytes generation text
+    → IsFoundInSlot found (take front bytes) generation text → IsFoundInSlot found bytes generation text
 front_tells Nothing bytes generation text blank = λ g t v. blank g t (is_front bytes g t v)
 front_tells Wanted bytes generation text v = front_is bytes generation text v
 front_tells Another bytes generation text found =
     ((λ v. found.0 (is_front bytes generation text v)), (λ blank. found.1 (λ g t v. blank g t (front_is bytes g t v))))
 
--- what was read is the front
+-- what was read is the start
 pub read_is : (n len : ℕ) (out file : List ℕ) → len ≡ front → n ≡ min len (length file - 0)
     → take n out ≡ take n (drop 0 file)
     → take n out ≡ take front file
@@ -100,29 +100,29 @@ chooses : (pick : Pick) (chosen : List Bool) (image start : Image) (place : Plac
     (text : List ℕ) (found : Found)
     → length chosen ≡ 8 → k < 8 → image ≡ start
     → ((copy : ℕ) → copy < k → Tells pick (get_or chosen copy false) (start (slot place copy parity)) generation text)
-    → IsFound found (image (slot place k parity)) generation text
-    → (copy : ℕ) → copy < k + 1 → Tells pick (get_or (set chosen k (picked pick found)) copy false)
+    → IsFoundInSlot found (image (slot place k parity)) generation text
+    → (copy : ℕ) → copy < k + 1 → Tells pick (get_or (set chosen k (matches_pick pick found)) copy false)
     (start (slot place copy parity)) generation text
 chooses pick chosen image start place parity k generation text found long lt same before here copy below = ⊎_elim
     (λ earlier. subst (λ (b : Bool). Tells pick b (start (slot place copy parity)) generation text)
-    (sym (get_or-set_other chosen k copy (picked pick found) false (λ e. omega (arith, e, earlier))))
+    (sym (get_or-set_other chosen k copy (matches_pick pick found) false (λ e. omega (arith, e, earlier))))
     (before copy earlier))
     (λ last.
     let e : copy ≡ k = omega (arith, last, below) in
-    subst (λ (x : ℕ). Tells pick (get_or (set chosen k (picked pick found)) x false) (start (slot place x parity))
+    subst (λ (x : ℕ). Tells pick (get_or (set chosen k (matches_pick pick found)) x false) (start (slot place x parity))
     generation text) (sym e)
     (subst (λ (b : Bool). Tells pick b (start (slot place k parity)) generation text)
-    (sym (get_or-set_same chosen k (picked pick found) false (omega (arith, long, lt))))
+    (sym (get_or-set_same chosen k (matches_pick pick found) false (omega (arith, long, lt))))
     (told_by pick found (start (slot place k parity)) generation text
-    (subst (λ (im : Image). IsFound found (im (slot place k parity)) generation text) same here))))
+    (subst (λ (im : Image). IsFoundInSlot found (im (slot place k parity)) generation text) same here))))
     (cases_lt copy k)
 
 -- one turn of the loop
 pub chooses_on : {told : Bool} {start mid new : Medium} (pick : Pick) (chosen : List Bool)
     (place : Place) (parity k generation : ℕ) (text : List ℕ) (found : Found) (b : Bool) (file : ℕ)
-    → k < 8 → b ≡ picked pick found → file ≡ slot place k parity
+    → k < 8 → b ≡ matches_pick pick found → file ≡ slot place k parity
     → IsChoosing pick chosen told start mid place parity k generation text
-    → (IsTrue told → IsFound found (mid.image file) generation text) → OnlyReads mid new → Elapses mid new
+    → (IsTrue told → IsFoundInSlot found (mid.image file) generation text) → OnlyReads mid new → Elapses mid new
     → new.faults ≡ mid.faults
     → IsChoosing pick (set chosen k b) told start new place parity (k + 1) generation text
 chooses_on {told} {start} {mid} {new} pick chosen place parity k generation text found b file lt flag is w here reads
@@ -133,7 +133,7 @@ chooses_on {told} {start} {mid} {new} pick chosen place parity k generation text
           (sym flag)
           (chooses pick chosen mid.image start.image place parity k generation text found w.long lt w.reads.image
           (w.picks tells)
-          (subst (λ (f : ℕ). IsFound found (mid.image f) generation text) is (here tells)));
+          (subst (λ (f : ℕ). IsFoundInSlot found (mid.image f) generation text) is (here tells)));
       reads = reads_on w.time w.reads time reads;
       time = elapses_on w.time time;
       passes = passed ∙ w.passes;

@@ -10,7 +10,7 @@ use Rattle.disk_model.specs.declared.place.Place.{Place}
 use Rattle.guarded_cell.specs.Register.{Holds, own}
 use Rattle.guarded_cell.specs.Stops.{SlotText, IsSlotPiece}
 use Rattle.guarded_cell.specs.Fronts.{IsChosen, PutsSome, FrontsCase}
-use Rattle.guarded_cell.specs.Differing.{IsFront, TextsCase}
+use Rattle.guarded_cell.specs.Differing.{IsSlotMidway, TextsCase}
 
 -- a slot of the place holds a text that it held at the start, or one of some others
 abbrev pub IsKnown : (place : Place) → (Extra : ℕ → List ℕ → Type 0) → (start image : Image) → Type 0
@@ -36,7 +36,7 @@ module _ (place : Place) (Extra : ℕ → List ℕ → Type 0) where
       (λ put. inr (only (a (slot place copy parity)) h t (subst (λ (s : List ℕ). VerifiesAs s h t) put v)))
       (puts.each (slot place copy parity))
 
-  pub known_texts : (bytes : List ℕ) (start a b : Image) → ((f : ℕ) → IsFront bytes (a f) (b f))
+  pub known_texts : (bytes : List ℕ) (start a b : Image) → ((f : ℕ) → IsSlotMidway bytes (a f) (b f))
       → ((old : List ℕ) (h : ℕ) (t : List ℕ) → VerifiesAs (put_bytes old 0 bytes) h t → Extra h t)
       → IsKnown place Extra start a → IsKnown place Extra start b
   known_texts bytes start a b each only known copy parity lt p h t v = ⊎_elim

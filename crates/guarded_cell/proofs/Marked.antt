@@ -14,7 +14,7 @@ use Rattle.guarded_cell.specs.Held.{Text, holds}
 use Rattle.guarded_cell.specs.lemmas.HeldLaws.{holds_is, is_holds}
 use Rattle.guarded_cell.specs.Register.{own, other}
 use Rattle.guarded_cell.specs.Seens.{IsSeenOn}
-use Rattle.guarded_cell.specs.Slots.{AreFlags, IsFlag, IsSlotsOf, Picks, Tells, others_of}
+use Rattle.guarded_cell.specs.Slots.{AreFlags, IsFlag, IsSlotsOf, Picks, Tells, other_flags}
 use Rattle.guarded_cell.specs.declared.looking.Seen.{Seen}
 use Rattle.guarded_cell.specs.declared.slots.Pick.TheVariants.{Lacking, Verifying}
 use Rattle.guarded_cell.specs.declared.slots.Slots.{Slots}
@@ -54,25 +54,25 @@ flags_more image place parity k flags flag long lt before here copy below = ⊎_
 
 -- the slots of the other parity that hold a text are stale
 pub stale_slots : (image : Image) (place : Place) (g : ℕ) (t : List ℕ) (slots : Slots) → IsSlotsOf image place slots
-    → Picks Verifying (others_of slots g) image place (other g) g t
+    → Picks Verifying (other_flags slots g) image place (other g) g t
 stale_slots image place g t slots are copy lt = ⊎_elim
     (λ even.
     let one : other g ≡ 1 = omega (arith, even) in
-    let odds : others_of slots g ≡ slots.odd =
+    let odds : other_flags slots g ≡ slots.odd =
     cond-true (eqb (g % 2) 0) slots.odd slots.even (eq-eqb (g % 2) 0 even) in
     tells 1 slots.odd (sym one) (sym odds) (are.odd copy lt))
     (λ odd.
     let none : other g ≡ 0 = omega (arith, odd) in
-    let evens : others_of slots g ≡ slots.even =
+    let evens : other_flags slots g ≡ slots.even =
     cond-false (eqb (g % 2) 0) slots.odd slots.even (ne_eqb (g % 2) 0 odd) in
     tells 0 slots.even (sym none) (sym evens) (are.even copy lt))
     (cases_eq (g % 2) 0)
   where
-    tells : (parity : ℕ) (flags : List Bool) → parity ≡ other g → flags ≡ others_of slots g
+    tells : (parity : ℕ) (flags : List Bool) → parity ≡ other g → flags ≡ other_flags slots g
         → IsFlag (image (slot place copy parity)) (get_or flags copy false)
-        → Tells Verifying (get_or (others_of slots g) copy false) (image (slot place copy (other g))) g t
+        → Tells Verifying (get_or (other_flags slots g) copy false) (image (slot place copy (other g))) g t
     tells parity flags p f is =
-        subst (λ (x : ℕ). Tells Verifying (get_or (others_of slots g) copy false) (image (slot place copy x)) g t) p
+        subst (λ (x : ℕ). Tells Verifying (get_or (other_flags slots g) copy false) (image (slot place copy x)) g t) p
         (subst (λ (xs : List Bool). Tells Verifying (get_or xs copy false) (image (slot place copy parity)) g t) f
         (flag_tells (image (slot place copy parity)) g t (get_or flags copy false) is))
 

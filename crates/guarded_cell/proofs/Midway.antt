@@ -1,4 +1,4 @@
--- A text over one front, run by run: midway the slot holds no text.
+-- A text at one start, run by run: midway the slot holds no text.
 use Rattle.std.proofs.Common.{◌≡◌, ℕ, zero, suc, ◌+◌, ◌-◌, ◌*◌, ◌<◌, min, List, ◌++◌, length, take, drop, replicate}
 use Rattle.std.proofs.Common.{get_or, Bool, true, refl, sym, ap, ◌∙◌, subst, inl, inr, ⊎_elim, arith}
 use Rattle.std.proofs.lemmas.List.{get_or-take, get_or_past, get_or-replicate, take_min}
@@ -13,7 +13,7 @@ use Rattle.disk_model.specs.Written.{put_outside, put_image_here, put_image_else
 use Rattle.disk_model.specs.Case.{Case, WriteOrNot, Follows}
 use Rattle.disk_model.specs.Medium.{Medium, Elapses, OnlyReads}
 use Rattle.disk_model.specs.Laws.{cases_on}
-use Rattle.changed_runs.specs.Parts.{IsWhole, WritePart}
+use Rattle.changed_runs.specs.Parts.{HasNoFailedWrite, WritePart}
 use Rattle.guarded_cell.specs.Register.{IsBlank}
 use Rattle.guarded_cell.specs.Differing.{front_is_blank, FrontCase}
 
@@ -36,7 +36,7 @@ blank_reads slot blank i small =
     (λ past. get_or_past slot i 0 past)
     (cases_lt i (length slot))
 
--- what a look at the front tells
+-- what a look at the start tells
 pub look_tells : (slot out : List ℕ) (count : ℕ) (blank : Bool)
     → blank ≡ bytes_eq (take count out) (take count (replicate 44 0)) → count ≡ min 44 (length slot - 0)
     → take count out ≡ take count slot → blank ≡ front_is_blank slot
@@ -54,7 +54,7 @@ pub behind_blank : (slot b : List ℕ) (j : ℕ) → front_is_blank slot ≡ tru
 behind_blank slot b j blank = zeros_hold_none (put_bytes slot (0 + 256 * suc j) b)
     (λ i small. put_outside slot (0 + 256 * suc j) b i (inl (omega arith)) ∙ blank_reads slot blank i small)
 
--- a write of the whole, or none, over a front
+-- a write of the whole, or none, at a start
 pub front_whole : (file : ℕ) (bytes : List ℕ) (old new : Case) → WriteOrNot file 0 bytes old new
     → FrontCase file bytes old new
 front_whole file bytes old new (inl write) = record {
@@ -70,7 +70,7 @@ front_whole file bytes old new (inr same) = record {
   left = λ f other. ap (λ (c : Case). c.left f) same;
 }
 
--- a write of the runs that differ, over a front that is blank
+-- a write of the runs that differ, at a start that is blank
 pub front_part : (file : ℕ) (bytes : List ℕ) (old new : Case) → front_is_blank (old.full file) ≡ true
     → WritePart file 0 bytes old new → FrontCase file bytes old new
 front_part file bytes old new blank (zero, made) = record {
@@ -90,11 +90,11 @@ front_part file bytes old new blank (suc j, made) = record {
   left = λ f other. made.left.others f other;
 }
 
--- ---- after a look at the front
+-- ---- after a look at the start
 
 module _ (file : ℕ) (bytes : List ℕ) {old mid new : Medium} (reads : OnlyReads old mid) (time : Elapses old mid)
-    (next : Elapses mid new) (whole : IsWhole file old) where
-  look_whole : IsWhole file mid
+    (next : Elapses mid new) (whole : HasNoFailedWrite file old) where
+  look_whole : HasNoFailedWrite file mid
   look_whole c now = whole c (reads.now c now) ∙ ap (λ (i : Image). i file) (sym reads.image)
 
   then_step : (P : Case → Case → Type 0) → ((d c : Case) → old.now d → P d c → FrontCase file bytes d c)
@@ -109,7 +109,7 @@ module _ (file : ℕ) (bytes : List ℕ) {old mid new : Medium} (reads : OnlyRea
   then_whole = then_step (WriteOrNot file 0 bytes) (λ d c was step. front_whole file bytes d c step)
 
   pub then_part : front_is_blank (old.image file) ≡ true
-      → (IsWhole file mid → Follows (WritePart file 0 bytes) mid.now (new.since mid.moment))
+      → (HasNoFailedWrite file mid → Follows (WritePart file 0 bytes) mid.now (new.since mid.moment))
       → Follows (FrontCase file bytes) old.now (new.since old.moment)
   then_part blank steps = then_step (WritePart file 0 bytes)
       (λ d c was step. front_part file bytes d c

@@ -1,4 +1,4 @@
--- How a text gets over the fronts of chosen slots, slot by slot, where only what differs is written.
+-- How a text is written at the starts of chosen slots, slot by slot, where only what differs is written.
 use Rattle.std.proofs.Common.{
   ◌≡◌,
   ◌⊎◌,
@@ -28,9 +28,9 @@ use Rattle.disk_model.specs.Frame.{Spares}
 use Rattle.disk_model.specs.Place.{slot}
 use Rattle.disk_model.specs.Laws.{elapses_none, elapses_on, cases_on, case_now}
 use Rattle.disk_model.specs.declared.place.Place.{Place}
-use Rattle.changed_runs.specs.Parts.{IsWhole}
+use Rattle.changed_runs.specs.Parts.{HasNoFailedWrite}
 use Rattle.guarded_cell.specs.Fronts.{IsChosen, IsNone, PutsSome, FrontsPut}
-use Rattle.guarded_cell.specs.Differing.{front_cost, texts_cost, IsFront, FrontCase, TextsCase, IsTextsCase}
+use Rattle.guarded_cell.specs.Differing.{front_cost, texts_cost, IsSlotMidway, FrontCase, TextsCase, IsTextsCase}
 use Rattle.guarded_cell.proofs.Writing.{puts_none, put_again, puts_step, more_times, times_within}
 
 -- a chosen slot of one of the first k copies
@@ -75,8 +75,8 @@ module _ (Files : ℕ → Type 0) (bytes : List ℕ) where
     left = λ f not. refl;
   }
 
-  front_on : (a d c : List ℕ) → IsFront bytes a d → IsFront bytes d c → IsFront bytes a c
-  front_on a d c first (inl same) = subst (IsFront bytes a) (sym same) first
+  front_on : (a d c : List ℕ) → IsSlotMidway bytes a d → IsSlotMidway bytes d c → IsSlotMidway bytes a c
+  front_on a d c first (inl same) = subst (IsSlotMidway bytes a) (sym same) first
   front_on a d c first (inr next) = inr next
 
   pub texts_step : (file : ℕ) → Files file → (a d c : Case) → TextsCase Files bytes a d → FrontCase file bytes d c
@@ -84,9 +84,9 @@ module _ (Files : ℕ → Type 0) (bytes : List ℕ) where
   texts_step file is a d c texts front = record {
     base = front.base ∙ texts.base;
     each = λ f. ⊎_elim
-        (λ same. subst (λ (x : ℕ). IsFront bytes (a.full x) (c.full x)) (sym same)
+        (λ same. subst (λ (x : ℕ). IsSlotMidway bytes (a.full x) (c.full x)) (sym same)
         (front_on (a.full file) (d.full file) (c.full file) (texts.each file) front.front))
-        (λ differs. subst (IsFront bytes (a.full f)) (sym (front.full f differs)) (texts.each f))
+        (λ differs. subst (IsSlotMidway bytes (a.full f)) (sym (front.full f differs)) (texts.each f))
         (cases_eq f file);
     full = λ f not. front.full f (λ e. not (subst Files (sym e) is)) ∙ texts.full f not;
     left = λ f not. front.left f (λ e. not (subst Files (sym e) is)) ∙ texts.left f not;
@@ -172,7 +172,7 @@ module _ (place : Place) (parity : ℕ) (chosen : List Bool) (bytes : List ℕ) 
 
   pub still_whole : {told : Bool} {start mid : Medium} (k : ℕ) → IsLawful told mid
       → IsPutting place parity k chosen bytes told start mid
-      → IsTrue told → Quiet start → IsWhole (slot place k parity) mid
+      → IsTrue told → Quiet start → HasNoFailedWrite (slot place k parity) mid
   still_whole {told} {start} {mid} k law w tells quiet c now =
       let (d, was, texts) = w.during tells quiet c (case_now law w.time c now) in
       texts.full (slot place k parity) (not_yet k)
@@ -182,7 +182,7 @@ module _ (place : Place) (parity : ℕ) (chosen : List Bool) (bytes : List ℕ) 
   module _ {told : Bool} {start mid new : Medium} (k : ℕ) (lt : k < place.copies) (is_set : get_or chosen k false ≡
       true)
       (law : IsLawful told mid) (w : IsPutting place parity k chosen bytes told start mid)
-      (cases : IsTrue told → IsWhole (slot place k parity) mid
+      (cases : IsTrue told → HasNoFailedWrite (slot place k parity) mid
       → Follows (FrontCase (slot place k parity) bytes) mid.now (new.since mid.moment))
       (cost : IsTrue told → new.written ≤ mid.written + front_cost (mid.image (slot place k parity)) bytes)
       (most : new.written ≤ mid.written + length bytes) (next : Elapses mid new) where

@@ -15,7 +15,8 @@ use Rattle.guarded_cell.specs.declared.looking.Seen.{Seen}
 use Rattle.guarded_cell.specs.declared.slots.Pick.TheVariants.{Lacking}
 use Rattle.guarded_cell.specs.Register.{own}
 use Rattle.guarded_cell.specs.Slots.{front, Tells, Picks}
-use Rattle.guarded_cell.specs.Held.{Text, of_parity, text_in, is_seen, is_text, holds, copies_that, lacking, with_copy}
+use Rattle.guarded_cell.specs.Held.{Text, of_parity, text_held, is_seen, is_slot_text, holds, copies_that, lacking}
+use Rattle.guarded_cell.specs.Held.{with_copy}
 use Rattle.guarded_cell.specs.Held.{with_slot, held_in_first, held, standing}
 use Rattle.guarded_cell.specs.Seens.{IsBefore}
 use Rattle.guarded_cell.proofs.Choosing.{front_is, is_front}
@@ -153,23 +154,23 @@ unfolding held_in_first
 held_none image place = refl
 
 held_suc : (image : Image) (place : Place) (k : ℕ)
-    → held_in_first image place (suc k) ≡ with_slot (k + 1) (text_in image place k 1)
-    (with_slot (k + 1) (text_in image place k 0) (held_in_first image place k))
+    → held_in_first image place (suc k) ≡ with_slot (k + 1) (text_held image place k 1)
+    (with_slot (k + 1) (text_held image place k 0) (held_in_first image place k))
 unfolding held_in_first
 held_suc image place k = refl
 
 pub held_more : (start a b : Image) (place : Place) (k : ℕ) (none one two : List Seen) → a ≡ start → b ≡ start
     → none ≡ held_in_first start place k
-    → one ≡ with_slot (k + 1) (text_in a place k 0) none → two ≡ with_slot (k + 1) (text_in b place k 1) one
+    → one ≡ with_slot (k + 1) (text_held a place k 0) none → two ≡ with_slot (k + 1) (text_held b place k 1) one
     → two ≡ held_in_first start place (k + 1)
 held_more start a b place k none one two ea eb before first_slot second_slot =
-    let low : one ≡ with_slot (k + 1) (text_in start place k 0) (held_in_first start place k) =
-    first_slot ∙ ap (λ (im : Image). with_slot (k + 1) (text_in im place k 0) none) ea
-    ∙ ap (with_slot (k + 1) (text_in start place k 0)) before in
-    let high : two ≡ with_slot (k + 1) (text_in start place k 1)
-    (with_slot (k + 1) (text_in start place k 0) (held_in_first start place k)) =
-    second_slot ∙ ap (λ (im : Image). with_slot (k + 1) (text_in im place k 1) one) eb
-    ∙ ap (with_slot (k + 1) (text_in start place k 1)) low in
+    let low : one ≡ with_slot (k + 1) (text_held start place k 0) (held_in_first start place k) =
+    first_slot ∙ ap (λ (im : Image). with_slot (k + 1) (text_held im place k 0) none) ea
+    ∙ ap (with_slot (k + 1) (text_held start place k 0)) before in
+    let high : two ≡ with_slot (k + 1) (text_held start place k 1)
+    (with_slot (k + 1) (text_held start place k 0) (held_in_first start place k)) =
+    second_slot ∙ ap (λ (im : Image). with_slot (k + 1) (text_held im place k 1) one) eb
+    ∙ ap (with_slot (k + 1) (text_held start place k 1)) low in
     high ∙ sym (held_suc start place k) ∙ ap (held_in_first start place) (sym (add-one k))
 
 -- ---- the text that stands
@@ -205,17 +206,17 @@ no_text u bytes g text e never = unlike (nat_eq u.0 g) (bytes_eq u.1 text)
     (subst (λ (y : List ℕ). VerifiesAs bytes u.0 y) alike (verified-verifies bytes u.0 u.1 e))))
 
 flag_is : (b : Bool) (bytes : List ℕ) (g : ℕ) (text : List ℕ) → Tells Lacking b bytes g text
-    → b ≡ not (is_text (g, text) (verified bytes))
+    → b ≡ not (is_slot_text (g, text) (verified bytes))
 flag_is false bytes g text v =
     let one : nat_eq g g ≡ true = eq-eqb g g refl in
     let two : bytes_eq text text ≡ true = (bytes_eq-Decides text text).1 refl in
-    sym (ap (λ (w : Option Text). not (is_text (g, text) w)) (verifies-verified bytes g text v)
+    sym (ap (λ (w : Option Text). not (is_slot_text (g, text) w)) (verifies-verified bytes g text v)
     ∙ ap (λ (x : Bool). not (x && bytes_eq text text)) one ∙ ap (λ (x : Bool). not (true && x)) two)
 flag_is true bytes g text never = go (verified bytes) refl
   where
-    go : (answer : Option Text) → verified bytes ≡ answer → true ≡ not (is_text (g, text) (verified bytes))
-    go None e = sym (ap (λ (w : Option Text). not (is_text (g, text) w)) e)
-    go (Some u) e = no_text u bytes g text e never ∙ sym (ap (λ (w : Option Text). not (is_text (g, text) w)) e)
+    go : (answer : Option Text) → verified bytes ≡ answer → true ≡ not (is_slot_text (g, text) (verified bytes))
+    go None e = sym (ap (λ (w : Option Text). not (is_slot_text (g, text) w)) e)
+    go (Some u) e = no_text u bytes g text e never ∙ sym (ap (λ (w : Option Text). not (is_slot_text (g, text) w)) e)
 
 pub lacking_is : (image : Image) (place : Place) (g : ℕ) (text : List ℕ) (chosen : List Bool) (numbers : List ℕ)
     → Picks Lacking chosen image place (own g) g text

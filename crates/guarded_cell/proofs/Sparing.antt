@@ -7,7 +7,7 @@ use Rattle.disk_model.specs.Place.{slot}
 use Rattle.disk_model.specs.declared.place.Place.{Place}
 use Rattle.guarded_cell.specs.declared.looking.Seen.{Seen}
 use Rattle.guarded_cell.specs.Register.{IsAlone, own, other}
-use Rattle.guarded_cell.specs.Slots.{Tells, Picks, IsSpared}
+use Rattle.guarded_cell.specs.Slots.{Tells, Picks, IsNotPicked}
 use Rattle.guarded_cell.specs.declared.slots.Pick.{Pick}
 use Rattle.guarded_cell.specs.declared.slots.Pick.TheVariants.{Lacking, Verifying, Others}
 use Rattle.guarded_cell.specs.Fronts.{IsChosen, IsNone}
@@ -17,12 +17,12 @@ use Rattle.guarded_cell.specs.Rights.{IsRight, IsRightFor, IsClear}
 pub spared_apart : (pick : Pick) (chosen : List Bool) (image : Image) (place : Place) (parity generation : ℕ)
     (text : List ℕ) (file : ℕ)
     → Picks pick chosen image place parity generation text
-    → ((copy : ℕ) → copy < place.copies → file ≡ slot place copy parity → IsSpared pick (image file) generation text)
+    → ((copy : ℕ) → copy < place.copies → file ≡ slot place copy parity → IsNotPicked pick (image file) generation text)
     → ¬ (IsChosen place parity chosen file)
 spared_apart pick chosen image place parity generation text file picks spared is =
     let here = slot place is.copy parity in
     let not = subst (λ (b : Bool). Tells pick b (image here) generation text) is.flag (picks is.copy is.within) in
-    not (subst (λ (f : ℕ). IsSpared pick (image f) generation text) is.is (spared is.copy is.within is.is))
+    not (subst (λ (f : ℕ). IsNotPicked pick (image f) generation text) is.is (spared is.copy is.within is.is))
 
 module _ (place : Place) (generation : ℕ) (text : List ℕ) (old : Image) (mine stale : List Bool) where
   pub right_first : (mid : Image) → Picks Lacking mine old place (own generation) generation text

@@ -1,4 +1,4 @@
--- A text, or a blank, written over the front of a slot.
+-- A text, or a blank, written at the start of a slot.
 use Rattle.std.proofs.Common.{◌≡◌, ◌≢◌, ℕ, ◌+◌, ◌-◌, ◌^◌, ◌<◌, ◌≤◌, List, ◌++◌, length, take, drop, replicate, refl}
 use Rattle.std.proofs.Common.{sym, ap, ◌∙◌, subst, ⊎_elim, zero-add, eqb, ne_eqb, arith}
 use Rattle.std.proofs.lemmas.List.{drop_at}
@@ -26,7 +26,7 @@ put_twice old bytes = ⊎_elim
     ∙ sym (put_front old bytes some))
     (cases_eq (length bytes) 0)
 
--- a sealed text over the front of a slot verifies, and nothing else does there
+-- a sealed text at the start of a slot verifies, and nothing else does there
 pub put_verifies : (old : List ℕ) (generation : ℕ) (text : List ℕ) → 1 ≤ generation → generation < 2 ^ 64
     → length text ≤ max_body
     → VerifiesAs (put_bytes old 0 (sealed generation text)) generation text
@@ -42,7 +42,7 @@ put_only old generation text positive fits short h t v =
     verifies_once (put_bytes old 0 (sealed generation text)) h generation t text v
     (put_verifies old generation text positive fits short)
 
--- zeros over the front of a slot blank it
+-- zeros at the start of a slot blank it
 pub put_blank : (old : List ℕ) → IsBlank (put_bytes old 0 (replicate 44 0))
 put_blank old g t v =
     let long : length (replicate {A = ℕ} 44 0) ≡ 44 = refl in

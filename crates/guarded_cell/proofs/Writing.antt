@@ -1,4 +1,4 @@
--- How bytes get over the fronts of chosen slots, write by write.
+-- How bytes are written at the starts of chosen slots, write by write.
 use Rattle.std.proofs.Common.{◌≡◌, ◌⊎◌, ℕ, ◌+◌, ◌*◌, ◌<◌, ◌≤◌, List, length, get_or, Bool, true, false, IsTrue, refl}
 use Rattle.std.proofs.Common.{sym, ap, ◌∙◌, subst, inl, inr, ⊎_elim, le_trans, add-one, arith}
 use Rattle.std.proofs.Math.Nat.{suc-mul, mul-le-mul_right}

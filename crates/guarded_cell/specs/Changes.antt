@@ -15,12 +15,12 @@ use Rattle.guarded_cell.specs.Opens.{OpenStops}
 
 -- A text is put into every copy. Only slots of the place change, and a stop at any moment leaves every copy what it
 -- held or every copy the text.
-pub record Puts (told : Bool) (place : Place) (generation : ℕ) (text : List ℕ) (old new : Medium) : Type 0 where
+pub record PutsText (told : Bool) (place : Place) (generation : ℕ) (text : List ℕ) (old new : Medium) : Type 0 where
   pub elsewhere : IsTrue told → Spares (IsNoSlot place) old.image new.image
   pub any_moment : IsTrue told → Quiet old
       → EachCase (PutStops place generation text old.image) old new
   pub written : new.written ≤ old.written + place.copies * (header + length text + header)
-  -- where a slot's front is blank, only the runs of the text are written that differ, and the blanks
+  -- where a slot's start is blank, only the runs of the text are written that differ, and the blanks
   pub differing : IsTrue told → new.written ≤ old.written
       + texts_cost place (own generation) (sealed generation text) old.image place.copies + place.copies * header
   pub time : Elapses old new
@@ -28,7 +28,7 @@ pub record Puts (told : Bool) (place : Place) (generation : ℕ) (text : List �
 -- Every copy is brought to a text: it is put where it lacks. No slot that is right already changes, and where every
 -- copy holds the text alone, nothing is written.
 pub record Brings (told : Bool) (place : Place) (generation : ℕ) (text : List ℕ) (old new : Medium) : Type 0 where
-  pub puts : Puts told place generation text old new
+  pub puts : PutsText told place generation text old new
   pub right : IsTrue told → Spares (IsRight old.image place generation text) old.image new.image
   pub already : IsTrue told → IsAlone old.image place generation text → new.written ≡ old.written
 
@@ -42,9 +42,9 @@ pub record Clears (told : Bool) (place : Place) (generation : ℕ) (text : List 
   pub written : new.written ≤ old.written + place.copies * (header + header)
   pub time : Elapses old new
 
--- A register is made anew with a text, under generation 1. Only slots of the place change, and a stop at any moment
+-- A register is formatted with a text, under generation 1. Only slots of the place change, and a stop at any moment
 -- leaves only what was held or only the text.
-pub record Formats (told : Bool) (place : Place) (text : List ℕ) (old new : Medium) : Type 0 where
+pub record FormatsRegister (told : Bool) (place : Place) (text : List ℕ) (old new : Medium) : Type 0 where
   pub elsewhere : IsTrue told → Spares (IsNoSlot place) old.image new.image
   pub any_moment : IsTrue told → Quiet old
       → EachCase (FormatStops place 1 text old.image) old new
@@ -53,7 +53,7 @@ pub record Formats (told : Bool) (place : Place) (text : List ℕ) (old new : Me
 
 -- Every copy is brought to the text that stands, if one does. Only slots of the place change, and none that is right
 -- already, and a stop at any moment leaves every copy what it held or every copy the text that stood.
-pub record Opens (told : Bool) (place : Place) (m : ℕ) (old new : Medium) : Type 0 where
+pub record OpensRegister (told : Bool) (place : Place) (m : ℕ) (old new : Medium) : Type 0 where
   pub elsewhere : IsTrue told → Spares (IsNoSlot place) old.image new.image
   pub right : IsTrue told
       → Spares (IsRightFor (standing old.image place m) old.image place) old.image

@@ -1,4 +1,4 @@
--- A text put over the fronts of slots, of which only the runs are written that differ.
+-- A text put at the starts of slots, of which only the runs are written that differ.
 use Rattle.std.specs.Prelude.{
   ◌≡◌,
   ◌≢◌,
@@ -32,7 +32,7 @@ use Rattle.guarded_cell.specs.Fronts.{IsChosen}
 abbrev pub front_is_blank : List ℕ → Bool
 front_is_blank slot = bytes_eq (take 44 slot) (take (length slot) (replicate 44 0))
 
--- at most that many bytes are written for a text over the front of a slot: where the front is blank, the runs that
+-- at most that many bytes are written for a text at the start of a slot: where the start is blank, the runs that
 -- differ
 abbrev pub front_cost : List ℕ → List ℕ → ℕ
 front_cost slot bytes = if front_is_blank slot then changed_len slot 0 bytes else length bytes
@@ -43,21 +43,21 @@ texts_cost place parity bytes image zero = 0
 texts_cost place parity bytes image (suc copy) =
     texts_cost place parity bytes image copy + front_cost (image (slot place copy parity)) bytes
 
--- a slot as it was, or with the bytes at its front, or midway: then it holds no text
-abbrev pub IsFront : List ℕ → (old new : List ℕ) → Type 0
-IsFront bytes old new = (new ≡ old) ⊎ (((x : List ℕ) × (new ≡ put_bytes x 0 bytes)) ⊎ IsBlank new)
+-- a slot as it was, or with the bytes at its start, or midway: then it holds no text
+abbrev pub IsSlotMidway : List ℕ → (old new : List ℕ) → Type 0
+IsSlotMidway bytes old new = (new ≡ old) ⊎ (((x : List ℕ) × (new ≡ put_bytes x 0 bytes)) ⊎ IsBlank new)
 
--- a case while the bytes get over the front of one file
+-- a case while the bytes are written at the start of one file
 pub record FrontCase (file : ℕ) (bytes : List ℕ) (old new : Case) : Type 0 where
   pub base : new.base ≡ old.base
-  pub front : IsFront bytes (old.full file) (new.full file)
+  pub front : IsSlotMidway bytes (old.full file) (new.full file)
   pub full : (f : ℕ) → f ≢ file → new.full f ≡ old.full f
   pub left : (f : ℕ) → f ≢ file → new.left f ≡ old.left f
 
--- a case while they get over the fronts of some files
+-- a case while they are written at the starts of some files
 pub record TextsCase (Files : ℕ → Type 0) (bytes : List ℕ) (old new : Case) : Type 0 where
   pub base : new.base ≡ old.base
-  pub each : (f : ℕ) → IsFront bytes (old.full f) (new.full f)
+  pub each : (f : ℕ) → IsSlotMidway bytes (old.full f) (new.full f)
   pub full : (f : ℕ) → ¬ (Files f) → new.full f ≡ old.full f
   pub left : (f : ℕ) → ¬ (Files f) → new.left f ≡ old.left f
 
@@ -67,7 +67,7 @@ abbrev pub IsTextsCase : Place → (parity : ℕ) → List Bool → List ℕ →
 IsTextsCase place parity chosen bytes old new done c =
     ((d : Case) × old.now d × TextsCase (IsChosen place parity chosen) bytes d c) ⊎ (done × IsSettledAt new.image c)
 
--- just the chosen slots took the text and the zeros at their fronts; after these they are as they were
+-- just the chosen slots took the text and the zeros at their start; after these they are as they were
 pub record PutsOver (place : Place) (generation : ℕ) (lacking stale : List Bool) (bytes : List ℕ)
     (old new : Image) : Type 0 where
   pub own_slots : (copy : ℕ) → copy < place.copies → get_or lacking copy false ≡ true
@@ -76,7 +76,7 @@ pub record PutsOver (place : Place) (generation : ℕ) (lacking stale : List Boo
       → new (slot place copy (other generation))
       ≡ put_bytes (old (slot place copy (other generation))) 0 (replicate 44 0)
 
--- each slot of the generation's parity took the text at its front, and each other one zeros
+-- each slot of the generation's parity took the text at its start, and each other one zeros
 pub record IsOver (place : Place) (generation : ℕ) (bytes : List ℕ) (old new : Image) : Type 0 where
   pub own_slots : (copy : ℕ) → copy < place.copies
       → new (slot place copy (own generation)) ≡ put_bytes (old (slot place copy (own generation))) 0 bytes

@@ -1,4 +1,4 @@
--- Bytes written over the fronts of chosen slots of one parity.
+-- Bytes written at the starts of chosen slots of one parity.
 use Rattle.std.specs.Prelude.{◌≡◌, ◌⊎◌, ℕ, ◌<◌, List, Bool, true, false, get_or}
 use Rattle.disk_model.specs.Image.{Image, put_bytes}
 use Rattle.disk_model.specs.Case.{Case, IsSettledAt}
@@ -18,12 +18,12 @@ pub record IsChosen (place : Place) (parity : ℕ) (chosen : List Bool) (file : 
 abbrev pub IsNone : (copies : ℕ) → (chosen : List Bool) → Type 0
 IsNone copies chosen = (copy : ℕ) → copy < copies → get_or chosen copy false ≡ false
 
--- some of these files took the bytes at their fronts, and every other is as it was
+-- some of these files took the bytes at their start, and every other is as it was
 pub record PutsSome (Files : ℕ → Type 0) (bytes : List ℕ) (old new : Image) : Type 0 where
   pub each : (f : ℕ) → (new f ≡ old f) ⊎ (new f ≡ put_bytes (old f) 0 bytes)
   pub others : (f : ℕ) → ¬ (Files f) → new f ≡ old f
 
--- each chosen slot took the bytes at its front, and every other file is as it was
+-- each chosen slot took the bytes at its start, and every other file is as it was
 pub record FrontsPut (place : Place) (parity : ℕ) (chosen : List Bool) (bytes : List ℕ) (old new : Image) : Type 0 where
   pub some : PutsSome (IsChosen place parity chosen) bytes old new
   pub put : (copy : ℕ) → copy < place.copies → get_or chosen copy false ≡ true
@@ -35,7 +35,7 @@ pub record FrontsCase (place : Place) (parity : ℕ) (chosen : List Bool) (bytes
   pub full : PutsSome (IsChosen place parity chosen) bytes old.full new.full
   pub left : Spares (λ f. ¬ (IsChosen place parity chosen f)) old.left new.left
 
--- a case while the fronts are written, or one after they were made durable
+-- a case while the starts are written, or one after they were made durable
 abbrev pub IsFrontsCase : Place → (parity : ℕ) → List Bool → List ℕ → (old new : Medium) → (done : Type 0) → Case
     → Type 0
 IsFrontsCase place parity chosen bytes old new done c =

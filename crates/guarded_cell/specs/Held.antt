@@ -18,19 +18,19 @@ of_parity parity None = None
 of_parity parity (Some t) = if t.0 % 2 == parity then Some t else None
 
 -- the text that a copy holds in its slot of this parity
-abbrev pub text_in : Image → Place → (copy parity : ℕ) → Option Text
-text_in image place copy parity = of_parity parity (verified (image (slot place copy parity)))
+abbrev pub text_held : Image → Place → (copy parity : ℕ) → Option Text
+text_held image place copy parity = of_parity parity (verified (image (slot place copy parity)))
 
 abbrev pub is_seen : Text → Seen → Bool
 is_seen t seen = nat_eq seen.generation t.0 && bytes_eq seen.text t.1
 
 -- whether the slot that would hold a text holds it
-abbrev pub is_text : Text → Option Text → Bool
-is_text t None = Bool.false
-is_text t (Some u) = nat_eq u.0 t.0 && bytes_eq u.1 t.1
+abbrev pub is_slot_text : Text → Option Text → Bool
+is_slot_text t None = Bool.false
+is_slot_text t (Some u) = nat_eq u.0 t.0 && bytes_eq u.1 t.1
 
 abbrev pub holds : Image → Place → (copy : ℕ) → Text → Bool
-holds image place copy t = is_text t (verified (image (slot place copy (t.0 % 2))))
+holds image place copy t = is_slot_text t (verified (image (slot place copy (t.0 % 2))))
 
 -- which of the first n copies pass a test, ascending and counted from 1
 abbrev pub copies_that : (ℕ → Bool) → ℕ → List ℕ
@@ -58,8 +58,8 @@ with_slot copy (Some t) seens = with_copy copy t seens
 -- every text that one of the first n copies holds, with those copies, greatest generation first, then by first copy
 unfoldable pub held_in_first : Image → Place → (n : ℕ) → List Seen
 held_in_first image place zero = []
-held_in_first image place (suc copy) = with_slot (copy + 1) (text_in image place copy 1)
-    (with_slot (copy + 1) (text_in image place copy 0) (held_in_first image place copy))
+held_in_first image place (suc copy) = with_slot (copy + 1) (text_held image place copy 1)
+    (with_slot (copy + 1) (text_held image place copy 0) (held_in_first image place copy))
 
 -- every text that a copy of the place holds
 abbrev pub held : Image → Place → List Seen

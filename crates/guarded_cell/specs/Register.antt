@@ -44,7 +44,7 @@ abbrev pub IsOneEach : Image → Place → Type 0
 IsOneEach image place = (a b generation : ℕ) (s t : List ℕ) → a < place.copies → b < place.copies
     → Holds image place a generation s → Holds image place b generation t → s ≡ t
 
--- what may stand: at least m copies hold it, and so many hold no greater generation (of two such texts under one
+-- what may stand: at least m copies hold it, and that many hold no greater generation (of two such texts under one
 -- generation the one stands that is held first: `standing`)
 pub record IsStanding (image : Image) (place : Place) (m generation : ℕ) (text : List ℕ) : Type 0 where
   pub enough : IsHeldBy image place m generation text

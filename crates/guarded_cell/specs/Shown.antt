@@ -10,7 +10,7 @@ use Rattle.guarded_cell.specs.Held.{holds, copies_that}
 
 -- the list has every text that is held, greatest generation first, and at one generation in the order of the first
 -- copies
-pub record Shows (image : Image) (place : Place) (seens : List Seen) : Type 0 where
+pub record ShowsTexts (image : Image) (place : Place) (seens : List Seen) : Type 0 where
   pub every : (copy generation : ℕ) (text : List ℕ) → copy < place.copies → Holds image place copy generation text
       → Any (λ seen. (seen.generation ≡ generation) × (seen.text ≡ text)) seens
   -- with just the copies that hold it, ascending, and at least one
@@ -28,7 +28,7 @@ pub record Shows (image : Image) (place : Place) (seens : List Seen) : Type 0 wh
       → slice_index_or (slice_index_or seens i d).copies 0 0 < slice_index_or (slice_index_or seens j d).copies 0 0
 
 -- a text that at least m copies hold under the greatest such generation is chosen, at one generation the one that is
--- held first, and none only where no text is held by so many
+-- held first, and none only where no text is held by that many
 pub record Chooses (image : Image) (place : Place) (m : ℕ) (answer : Option Seen) : Type 0 where
   pub stands : (seen : Seen) → answer ≡ Some seen → IsStanding image place m seen.generation seen.text
   pub copies_are : (seen : Seen) → answer ≡ Some seen

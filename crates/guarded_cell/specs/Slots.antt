@@ -16,37 +16,37 @@ abbrev pub front : ℕ
 front = 524288
 
 -- what is found in a slot, where this text is wanted
-abbrev pub IsFound : Found → List ℕ → ℕ → List ℕ → Type 0
-IsFound Nothing bytes generation text = IsBlank bytes
-IsFound Wanted bytes generation text = VerifiesAs bytes generation text
-IsFound Another bytes generation text = ¬ (VerifiesAs bytes generation text) × ¬ (IsBlank bytes)
+abbrev pub IsFoundInSlot : Found → List ℕ → ℕ → List ℕ → Type 0
+IsFoundInSlot Nothing bytes generation text = IsBlank bytes
+IsFoundInSlot Wanted bytes generation text = VerifiesAs bytes generation text
+IsFoundInSlot Another bytes generation text = ¬ (VerifiesAs bytes generation text) × ¬ (IsBlank bytes)
 
 -- whether a slot with this in it is picked
-abbrev pub picked : Pick → Found → Bool
-picked Lacking Nothing = true
-picked Lacking Wanted = false
-picked Lacking Another = true
-picked Verifying Nothing = false
-picked Verifying Wanted = true
-picked Verifying Another = true
-picked Others Nothing = false
-picked Others Wanted = false
-picked Others Another = true
+abbrev pub matches_pick : Pick → Found → Bool
+matches_pick Lacking Nothing = true
+matches_pick Lacking Wanted = false
+matches_pick Lacking Another = true
+matches_pick Verifying Nothing = false
+matches_pick Verifying Wanted = true
+matches_pick Verifying Another = true
+matches_pick Others Nothing = false
+matches_pick Others Wanted = false
+matches_pick Others Another = true
 
 -- nothing but this text verifies in the slot
 abbrev pub HasNoOther : List ℕ → ℕ → List ℕ → Type 0
 HasNoOther bytes generation text = (g : ℕ) (t : List ℕ) → VerifiesAs bytes g t → (g ≡ generation) × (t ≡ text)
 
 -- what a slot is that is not picked
-abbrev pub IsSpared : Pick → List ℕ → ℕ → List ℕ → Type 0
-IsSpared Lacking bytes generation text = VerifiesAs bytes generation text
-IsSpared Verifying bytes generation text = IsBlank bytes
-IsSpared Others bytes generation text = HasNoOther bytes generation text
+abbrev pub IsNotPicked : Pick → List ℕ → ℕ → List ℕ → Type 0
+IsNotPicked Lacking bytes generation text = VerifiesAs bytes generation text
+IsNotPicked Verifying bytes generation text = IsBlank bytes
+IsNotPicked Others bytes generation text = HasNoOther bytes generation text
 
 -- a slot is picked just where it is not to be spared
 abbrev pub Tells : Pick → Bool → List ℕ → ℕ → List ℕ → Type 0
-Tells pick true bytes generation text = ¬ (IsSpared pick bytes generation text)
-Tells pick false bytes generation text = IsSpared pick bytes generation text
+Tells pick true bytes generation text = ¬ (IsNotPicked pick bytes generation text)
+Tells pick false bytes generation text = IsNotPicked pick bytes generation text
 
 -- which of the copies are picked, by their slots of this parity
 abbrev pub Picks : Pick → (chosen : List Bool) → Image → Place → (parity generation : ℕ) → List ℕ → Type 0
@@ -70,5 +70,5 @@ pub record IsSlotsOf (image : Image) (place : Place) (slots : Slots) : Type 0 wh
   pub odd : AreFlags image place place.copies 1 slots.odd
 
 -- the flags of the parity that is not the generation's
-abbrev pub others_of : Slots → (generation : ℕ) → List Bool
-others_of slots generation = if generation % 2 == 0 then slots.odd else slots.even
+abbrev pub other_flags : Slots → (generation : ℕ) → List Bool
+other_flags slots generation = if generation % 2 == 0 then slots.odd else slots.even

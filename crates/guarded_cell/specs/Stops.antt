@@ -55,23 +55,23 @@ pub record IsOldOrNew (place : Place) (generation : ℕ) (text damaged : List �
       ⊎ ((copy : ℕ) → copy < place.copies → IsUndamaged damaged place copy → Holds image place copy generation text)
 
 -- the files of this place that are no slots, and all files elsewhere, hold in every case what they held
-abbrev pub IsElsewhere : Place → Image → Case → Type 0
-IsElsewhere place start c = IsSettledOn (IsNoSlot place) start c
+abbrev pub IsSettledElsewhere : Place → Image → Case → Type 0
+IsSettledElsewhere place start c = IsSettledOn (IsNoSlot place) start c
 
 -- a stop while a text is put into every copy
 pub record PutStops (place : Place) (generation : ℕ) (text : List ℕ) (start : Image) (c : Case) : Type 0 where
   pub slots : AfterStop place (λ damaged image. IsOldOrNew place generation text damaged start image) c
-  pub elsewhere : IsElsewhere place start c
+  pub elsewhere : IsSettledElsewhere place start c
 
 -- a stop while all texts but one are taken away
 pub record KeepStops (place : Place) (generation : ℕ) (text : List ℕ) (start : Image) (c : Case) : Type 0 where
   pub known : AfterStop place (λ damaged image. HoldsLess place start image) c
   pub kept : AfterStop place (λ damaged image. KeepsText place generation text damaged start image) c
-  pub elsewhere : IsElsewhere place start c
+  pub elsewhere : IsSettledElsewhere place start c
 
--- a stop while a register is made anew: every copy holds only what it held, or every copy holds only the text
+-- a stop while a register is formatted: every copy holds only what it held, or every copy holds only the text
 pub record FormatStops (place : Place) (generation : ℕ) (text : List ℕ) (start : Image) (c : Case) : Type 0 where
   pub slots : AfterStop place (λ damaged image. HoldsLess place start image
       ⊎ ((copy : ℕ) → copy < place.copies → (g : ℕ) (t : List ℕ) → Holds image place copy g t
       → (g ≡ generation) × (t ≡ text))) c
-  pub elsewhere : IsElsewhere place start c
+  pub elsewhere : IsSettledElsewhere place start c

@@ -6,7 +6,7 @@ ghost use Rattle.per_base.specs.Causes.{Rose};
 ghost use Rattle.per_base.specs.Faults.{HandsBack, IsDeviceFault};
 ghost use Rattle.hash_guard.specs.SealedText.{max_body, header, sealed};
 ghost use Rattle.disk_model.specs.Medium.{Quiet};
-ghost use Rattle.guarded_cell.specs.Changes.{Puts};
+ghost use Rattle.guarded_cell.specs.Changes.{PutsText};
 ghost use Rattle.guarded_cell.specs.Faults.{DiskFaults};
 
 use crate::replacing::replace;
@@ -33,7 +33,7 @@ impl Cell {
         Cell { place, generation }
     }
 
-    /// The generation of the text. Takes no memory.
+    /// The generation of the text. Does not allocate.
     pub fn generation(&self) -> u64
         ensures { result ≡ generation_of self.now }
     {
@@ -79,7 +79,7 @@ impl Cell {
         // Only slots of the place change, and a stop at any moment leaves the old text or the new one.
         ensures over { IsTrue D.told → OnOk result (IsOver (place_of self) (generation_of self + 1)
             (sealed (generation_of self + 1) text.now) (D.medium disk.old).image (D.medium disk.new).image) }
-        ensures puts { Puts D.told (place_of self) (generation_of self + 1) text.now (D.medium disk.old)
+        ensures puts { PutsText D.told (place_of self) (generation_of self + 1) text.now (D.medium disk.old)
             (D.medium disk.new) }
     {
         match Cell::room(alloc, text.len()) {
@@ -112,7 +112,7 @@ impl Cell {
         // Only slots of the place change, and a stop at any moment leaves the old text or the new one.
         ensures over { IsTrue D.told → OnOk result (IsOver (place_of self) (generation_of self + 1)
             (sealed (generation_of self + 1) text.now) (D.medium disk.old).image (D.medium disk.new).image) }
-        ensures puts { Puts D.told (place_of self) (generation_of self + 1) text.now (D.medium disk.old)
+        ensures puts { PutsText D.told (place_of self) (generation_of self + 1) text.now (D.medium disk.old)
             (D.medium disk.new) }
     {
         let all = [true; MAX_COPIES];

@@ -1,11 +1,11 @@
-//! Beginning anew.
+//! Formatting a register.
 
 ghost use Rattle.std.specs.Prelude.{◌≡◌, ◌≤◌, IsTrue, IfOk, OnOk, IsErrOf, length};
 ghost use Rattle.hash_guard.specs.SealedText.{max_body, sealed};
 ghost use Rattle.disk_model.specs.Medium.{Quiet};
 ghost use Rattle.guarded_cell.specs.Register.{IsAlone};
 ghost use Rattle.guarded_cell.specs.Cells.{CellAt, IsCellOf};
-ghost use Rattle.guarded_cell.specs.Changes.{Formats};
+ghost use Rattle.guarded_cell.specs.Changes.{FormatsRegister};
 ghost use Rattle.guarded_cell.specs.Faults.{DiskFaults, CellFaults};
 
 use crate::cell::Cell;
@@ -39,7 +39,7 @@ pub fn format_cell<D: Disk>(
     ensures faults { CellFaults result (D.medium disk.old) (D.medium disk.new) }
 
     // Only slots of the place change, and a stop at any moment leaves only what was held or only the new text.
-    ensures formats { Formats D.told place text.now (D.medium disk.old) (D.medium disk.new) }
+    ensures formats { FormatsRegister D.told place text.now (D.medium disk.old) (D.medium disk.new) }
 {
     let sealed_text = seal(alloc, 1, text)?;
     format_in(disk, place, text, &sealed_text)?;
@@ -59,7 +59,7 @@ fn format_in<D: Disk>(
     ensures alone { IsTrue D.told → OnOk result (IsAlone (D.medium disk.new).image place 1
         text.now) }
     ensures quiet { OnOk result (Quiet (D.medium disk.new)) }
-    ensures formats { Formats D.told place text.now (D.medium disk.old) (D.medium disk.new) }
+    ensures formats { FormatsRegister D.told place text.now (D.medium disk.old) (D.medium disk.new) }
     ensures faults { DiskFaults result (D.medium disk.old) (D.medium disk.new) }
 {
     let all = [true; MAX_COPIES];

@@ -1,4 +1,4 @@
-//! Writing over the fronts of slots.
+//! Writing at the starts of slots.
 
 ghost use Rattle.std.specs.Prelude.{◌≡◌, ◌≤◌, ◌<◌, ◌+◌, ◌*◌, IsTrue, IsOk, IfOk, OnOk, OnErr, length};
 ghost use Rattle.disk_model.specs.Case.{Follows};
@@ -8,7 +8,7 @@ ghost use Rattle.guarded_cell.specs.Fronts.{IsChosen, IsNone, FrontsPut, FrontsC
 ghost use Rattle.guarded_cell.specs.Faults.{DiskFaults};
 ghost use Rattle.guarded_cell.specs.Differing.{front_is_blank, front_cost, texts_cost, FrontCase, TextsCase};
 ghost use Rattle.guarded_cell.specs.Differing.{IsTextsCase};
-ghost use Rattle.changed_runs.specs.Parts.{IsWhole};
+ghost use Rattle.changed_runs.specs.Parts.{HasNoFailedWrite};
 ghost use Rattle.disk_model.specs.Image.{put_image, TornImage};
 ghost use Rattle.disk_model.specs.Medium.{OnlyReads};
 ghost use Rattle.per_base.specs.Causes.{Rose};
@@ -17,7 +17,7 @@ use changed_runs::write_changed;
 use disk_model::{Disk, DiskFailed, Place};
 use hash_guard::{BLANK, HEADER};
 
-/// Writes the bytes over the fronts of the chosen slots of one parity.
+/// Writes the bytes at the starts of the chosen slots of one parity.
 pub(crate) fn write_fronts<D: Disk>(
     disk: &mut D,
     place: Place,
@@ -80,7 +80,7 @@ pub(crate) fn write_durably<D: Disk>(
     Ok(())
 }
 
-/// Puts a text over the fronts of the chosen slots of one parity; where a slot's front is blank, it writes only what
+/// Puts a text at the starts of the chosen slots of one parity; where a slot's start is blank, it writes only what
 /// differs.
 pub(crate) fn put_fronts<D: Disk>(
     disk: &mut D,
@@ -149,13 +149,13 @@ pub(crate) fn put_durably<D: Disk>(
     Ok(())
 }
 
-// Puts the bytes over the front of a file: where its front is blank, only the runs that differ, and the first one last.
+// Puts the bytes at the start of a file: where its start is blank, only the runs that differ, and the first one last.
 fn write_front<D: Disk>(disk: &mut D, file: u32, bytes: &[u8]) -> Result<(), DiskFailed>
     ensures image { IsTrue D.told → OnOk result
         ((D.medium disk.new).image ≡ put_image (D.medium disk.old).image file 0 bytes.now) }
     ensures torn { IsTrue D.told → OnErr result
         (TornImage file 0 (length bytes.now) (D.medium disk.old).image (D.medium disk.new).image) }
-    ensures during { IsTrue D.told → IsWhole file (D.medium disk.old) →
+    ensures during { IsTrue D.told → HasNoFailedWrite file (D.medium disk.old) →
         Follows (FrontCase file bytes.now) (D.medium disk.old).now
         ((D.medium disk.new).since (D.medium disk.old).moment) }
     ensures differing { IsTrue D.told → (D.medium disk.new).written
@@ -172,7 +172,7 @@ fn write_front<D: Disk>(disk: &mut D, file: u32, bytes: &[u8]) -> Result<(), Dis
     }
 }
 
-// Whether zeros stand at the front of a file.
+// Whether zeros stand at the start of a file.
 fn has_blank_front<D: Disk>(disk: &mut D, file: u32) -> Result<bool, DiskFailed>
     ensures blank { IsTrue D.told → IfOk result (λ blank. blank ≡ front_is_blank ((D.medium disk.old).image file)) }
     ensures reads { OnlyReads (D.medium disk.old) (D.medium disk.new) }

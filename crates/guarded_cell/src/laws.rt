@@ -12,7 +12,7 @@ ghost use Rattle.disk_model.specs.declared.place.Place.{Place};
 ghost use Rattle.guarded_cell.specs.declared.looking.Seen.{Seen};
 ghost use Rattle.guarded_cell.specs.Held.{held, standing, standing_in, lacking, copies_that};
 ghost use Rattle.guarded_cell.specs.Register.{Holds, IsHeldBy, IsAlone, IsStanding, HasNoStanding, IsOneEach};
-ghost use Rattle.guarded_cell.specs.Shown.{Shows, Chooses};
+ghost use Rattle.guarded_cell.specs.Shown.{ShowsTexts, Chooses};
 ghost use Rattle.guarded_cell.specs.Stops.{AfterStop, HoldsLess, KeepsText, IsOldOrNew};
 ghost use Rattle.guarded_cell.specs.Stands.{SameSlots, IsAdopting};
 ghost use Rattle.std.specs.Prelude.{replicate};
@@ -25,7 +25,7 @@ ghost use Rattle.guarded_cell.specs.Register.{own};
 
 /// The laws of [`look`](crate::look) and [`open_cell`](crate::open_cell), for proofs.
 pub fn held_is_lawful()
-    ensures held { (image : Image) (place : Place) → Shows image place (held image place) }
+    ensures held { (image : Image) (place : Place) → ShowsTexts image place (held image place) }
     ensures standing { (image : Image) (place : Place) (m : ℕ) → 1 ≤ m
         → Chooses image place m (standing image place m) }
     ensures among { (image : Image) (place : Place) (m : ℕ)

@@ -4,7 +4,7 @@ ghost use Rattle.std.specs.Prelude.{◌≡◌, ◌≤◌, ◌<◌, ◌+◌, ◌-
 ghost use Rattle.disk_model.specs.Medium.{Quiet, IsIdle, OnlyReads, Elapses};
 ghost use Rattle.disk_model.specs.Place.{slot};
 ghost use Rattle.guarded_cell.specs.Slots.{front, IsFlag, IsSlotsOf};
-ghost use Rattle.guarded_cell.specs.Held.{held, of_parity, text_in, is_seen, with_copy, with_slot};
+ghost use Rattle.guarded_cell.specs.Held.{held, of_parity, text_held, is_seen, with_copy, with_slot};
 ghost use Rattle.hash_guard.specs.SealedText.{verified, max_body};
 ghost use Rattle.guarded_cell.specs.Seens.{IsSealable, IsPlaceOf};
 ghost use Rattle.guarded_cell.specs.Faults.{CellFaults};
@@ -111,7 +111,7 @@ fn see_slot<D: Disk>(
     requires parity { parity < 2 }
     requires sealable { All IsSealable seens.old.items }
     ensures seen { IsTrue D.told → OnOk result
-        (seens.new.items ≡ with_slot (copy + 1) (text_in (D.medium disk.old).image place copy parity)
+        (seens.new.items ≡ with_slot (copy + 1) (text_held (D.medium disk.old).image place copy parity)
         seens.old.items) }
     ensures flag { IsTrue D.told → IfOk result (IsFlag ((D.medium disk.old).image (slot place copy parity))) }
     ensures sealable { OnOk result (All IsSealable seens.new.items) }
@@ -125,7 +125,7 @@ fn see_slot<D: Disk>(
     Ok(verifies)
 }
 
-// Adds what the front of a slot holds, if its generation has the slot's parity, and says whether it holds a text.
+// Adds what the start of a slot holds, if its generation has the slot's parity, and says whether it holds a text.
 fn note_front(
     alloc: Global,
     bytes: &[u8],

@@ -9,7 +9,7 @@ ghost use Rattle.guarded_cell.specs.Slots.{IsSlotsOf};
 ghost use Rattle.hash_guard.specs.SealedText.{header};
 ghost use Rattle.guarded_cell.specs.Opens.{StandsAs};
 ghost use Rattle.guarded_cell.specs.Cells.{CellAt, IsCellOf, place_of, generation_of};
-ghost use Rattle.guarded_cell.specs.Changes.{Brings, Opens};
+ghost use Rattle.guarded_cell.specs.Changes.{Brings, OpensRegister};
 ghost use Rattle.guarded_cell.specs.Faults.{CellFaults};
 
 use crate::adopting::adopt_seen;
@@ -70,7 +70,7 @@ pub fn open_cell<D: Disk>(
 
     // Only slots of the place change, and none that is right already. A stop at any moment leaves every copy what it
     // held or every copy the text that stood.
-    ensures opens { Opens D.told place m (D.medium disk.old) (D.medium disk.new) }
+    ensures opens { OpensRegister D.told place m (D.medium disk.old) (D.medium disk.new) }
     ensures written { IfOk result (λ opened.
         (D.medium disk.new).written ≤ (D.medium disk.old).written
         + place.copies * (header + length opened.text + header)) }
@@ -85,8 +85,8 @@ pub fn open_cell<D: Disk>(
     }
 }
 
-/// The text that stands among those that [`look`] gave: the first that at least `m` copies hold. Takes no memory and no
-/// disk, so that a text can be judged before [`adopt_seen`](crate::adopt_seen) brings every copy to it.
+/// The text that stands among those that [`look`] gave: the first that at least `m` copies hold. Does not allocate and
+/// no disk, so that a text can be judged before [`adopt_seen`](crate::adopt_seen) brings every copy to it.
 pub fn standing_among(seens: Vec<Seen>, m: u32) -> Option<Seen>
     ensures { result ≡ standing_in m seens.items }
 {

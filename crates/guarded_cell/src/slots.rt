@@ -5,7 +5,7 @@ ghost use Rattle.std.specs.Prelude.{get_or, false};
 ghost use Rattle.std.specs.Str.{bytes_eq};
 ghost use Rattle.disk_model.specs.Medium.{Quiet, IsIdle, OnlyReads, Elapses};
 ghost use Rattle.disk_model.specs.Orders.{named_in};
-ghost use Rattle.guarded_cell.specs.Slots.{front, IsFound, Picks, picked};
+ghost use Rattle.guarded_cell.specs.Slots.{front, IsFoundInSlot, Picks, matches_pick};
 ghost use Rattle.guarded_cell.specs.Faults.{DiskFaults};
 
 use disk_model::{Disk, DiskFailed, Place};
@@ -26,11 +26,11 @@ pub struct Slots {
 }
 
 impl Slots {
-    ghost use Rattle.guarded_cell.specs.Slots.{others_of};
+    ghost use Rattle.guarded_cell.specs.Slots.{other_flags};
 
     // Those of the parity in which no text of this generation belongs.
     pub(crate) fn others(self, generation: u64) -> [bool; MAX_COPIES]
-        ensures { result ≡ others_of self generation }
+        ensures { result ≡ other_flags self generation }
     {
         if generation % 2 == 0 {
             self.odd
@@ -62,7 +62,7 @@ pub(crate) enum Pick {
     Others,
 }
 
-/// Room for the front of a slot.
+/// Room for the start of a slot.
 pub(crate) fn front_room(alloc: Global) -> Result<Vec<u8>, AllocError>
     ensures { IfOk result (λ room. length room.items ≡ front) }
 {
@@ -83,7 +83,7 @@ pub(crate) fn settle<D: Disk>(disk: &mut D) -> Result<(), DiskFailed>
     Ok(())
 }
 
-/// Reads the front of a slot, and says how long it is.
+/// Reads the start of a slot, and says how long it is.
 pub(crate) fn read_front<D: Disk>(
     disk: &mut D,
     file: u32,
@@ -100,9 +100,9 @@ pub(crate) fn read_front<D: Disk>(
     Ok(count)
 }
 
-// What the front of a slot holds.
+// What the start of a slot holds.
 fn find_text(bytes: &[u8], generation: u64, text: &[u8]) -> Found
-    ensures { IsFound result bytes.now generation text.now }
+    ensures { IsFoundInSlot result bytes.now generation text.now }
 {
     match verify(bytes) {
         None => Found::Nothing,
@@ -133,7 +133,7 @@ fn look_at<D: Disk>(
 ) -> Result<Found, DiskFailed>
     requires { length room.old ≡ front }
     ensures found { IsTrue D.told → IfOk result (λ found.
-        IsFound found ((D.medium disk.old).image file) generation text.now) }
+        IsFoundInSlot found ((D.medium disk.old).image file) generation text.now) }
     ensures reads { OnlyReads (D.medium disk.old) (D.medium disk.new) }
     ensures time { Elapses (D.medium disk.old) (D.medium disk.new) }
     ensures faults { DiskFaults result (D.medium disk.old) (D.medium disk.new) }
@@ -145,7 +145,7 @@ fn look_at<D: Disk>(
 
 // Whether a slot with this in it is picked.
 fn is_picked(pick: Pick, found: Found) -> bool
-    ensures { result ≡ picked pick found }
+    ensures { result ≡ matches_pick pick found }
 {
     match pick {
         Pick::Lacking => match found {

@@ -1,4 +1,4 @@
--- Laws of sealed texts: how long they are, what verifies and what never does, and that a slot's front decides alone.
+-- Laws of sealed texts: how long they are, what verifies and what never does, and that a slot's start decides alone.
 use Rattle.std.proofs.Common.{◌≡◌, ℕ, ◌+◌, ◌-◌, ◌^◌, ◌<◌, ◌≤◌, List, ◌++◌, length, take, drop, replicate, Bool, true}
 use Rattle.std.proofs.Common.{false, ◌&&◌, Option, Some, None, refl, sym, ap, ◌∙◌, append_assoc, subst, arith}
 use Rattle.std.proofs.Common.{length-append, length-drop}
@@ -127,7 +127,7 @@ short_never slot g body short v = omega (arith, v.front.head)
 pub long_never : (slot : List ℕ) (g : ℕ) (body : List ℕ) → max_body < length_in slot → VerifiesAs slot g body → ⊥
 long_never slot g body long v = omega (arith, v.front.short)
 
--- ---- the front alone decides
+-- ---- the start alone decides
 
 drop-take_within : (k n : ℕ) (xs : List ℕ) → k ≤ n → drop k (take n xs) ≡ take (n - k) (drop k xs)
 drop-take_within k n xs le =
@@ -220,7 +220,7 @@ each : (a b : Bool) → (a && b) ≡ true → (a ≡ true) × (b ≡ true)
 each true b p = (refl, p)
 each false b p = cc
 
--- the test is true exactly where the slot's front is a text under its own hash
+-- the test is true exactly where the slot's start is a text under its own hash
 is_sealed-true : (slot : List ℕ) → IsSealed slot → is_sealed slot ≡ true
 is_sealed-true slot s =
     both _ _ (both _ _ (both _ _ (both _ _ (le-leb _ _ s.head) (le-leb _ _ s.generation)) (le-leb _ _ s.short))

@@ -34,7 +34,7 @@ length_in slot = little_number 4 (drop 40 slot)
 abbrev pub body_in : List ℕ → List ℕ
 body_in slot = take (length_in slot) (drop header slot)
 
--- the slot's front is a text under its own hash
+-- the slot's start is a text under its own hash
 pub record IsSealed (slot : List ℕ) : Type 0 where
   pub head : header ≤ length slot
   pub generation : 1 ≤ generation_in slot

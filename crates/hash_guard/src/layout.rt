@@ -6,7 +6,7 @@ pub const HEADER: usize = 44;
 /// The greatest length of a body in bytes, so that a sealed text has at most 512 KiB.
 pub const MAX_BODY: usize = 524_244;
 
-/// What blanks a slot that is written at its front: a generation of 0, which never verifies.
+/// What blanks a slot that is written at its start: a generation of 0, which never verifies.
 pub const BLANK: [u8; HEADER] = [0; HEADER];
 
 /// The bytes of the hash, with which a sealed text begins.

@@ -15,7 +15,7 @@ pub struct Sealed<'a> {
     pub body: &'a [u8],
 }
 
-/// The generation and the body of the sealed text at the slot's front; `None` exactly where no such
+/// The generation and the body of the sealed text at the slot's start; `None` exactly where no such
 /// text stands there. It does not allocate and reads nothing after the text.
 pub fn verify(slot: &[u8]) -> Option<Sealed<'_>>
     ensures some { IfSome result (λ found. VerifiesAs slot.now found.generation found.body.now) }

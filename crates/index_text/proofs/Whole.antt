@@ -12,8 +12,9 @@ use Rattle.index_text.specs.declared.entries.Index.{Index}
 use Rattle.index_text.specs.declared.reading.Header.{Header}
 use Rattle.index_text.specs.declared.errors.IndexError.{IndexError}
 use Rattle.index_text.specs.declared.errors.IndexError.TheVariants as errors
-use Rattle.index_text.specs.Rules.{EntryInRange, InRange, IsEntry, IsIndex, block_count, blocks_of, is_format, names_of}
-use Rattle.index_text.specs.Spelling.{changed_text, entry_text, header_text, index_text, info_text, kind_code}
+use Rattle.index_text.specs.Rules.{EntriesInRange, EntryInRange, IsEntry, IsIndex, block_count, blocks_of, is_format}
+use Rattle.index_text.specs.Rules.{names_of}
+use Rattle.index_text.specs.Spelling.{changed_text, entry_text, header_text, index_text, info_text, store_kind_code}
 use Rattle.index_text.specs.Spelling.{name_text}
 use Rattle.per_base.specs.Fields.{byte_at, bytes_at, many, number_at}
 use Rattle.index_text.specs.Reading.{Gives, are_distinct, ascends, changed_at, entry_at, header_at, index_of, info_at}
@@ -153,7 +154,7 @@ header_takes bytes h rest fits e =
     let t0 = byte_reader.takes bytes format.0.0 format.0.1 fits format.1 in
     let t1 = byte_reader.takes format.0.1 code.0.0 code.0.1 t0.0.rest_fits code.1 in
     let t2 = (number_reader w16 (2 ^ 16) wide_16).takes code.0.1 count.0.0 count.0.1 t1.0.rest_fits count.1 in
-    let kind_is : Takes format.0.1 (kind_code kind.0 ∷ []) code.0.1 =
+    let kind_is : Takes format.0.1 (store_kind_code kind.0 ∷ []) code.0.1 =
     subst (λ (n : ℕ). Takes format.0.1 (n ∷ []) code.0.1) (kind_back code.0.0 kind.0 kind.1) t1.0 in
     let whole = Takes-then t0.0 (Takes-then kind_is t2.0) in
     subst (λ (p : Header × List ℕ). Takes bytes (header_text p.0.format p.0.kind p.0.count) p.1
@@ -176,7 +177,7 @@ ends_there bytes text rest took nothing = took.parts ∙ ap (λ (r : List ℕ). 
 
 -- what is read keeps the rules, and is spelled so
 pub index_takes : (text : List ℕ) (i : Index) → IsBytes text → index_of text ≡ Some i
-    → (IsIndex i × InRange i) × (text ≡ index_text i)
+    → (IsIndex i × EntriesInRange i) × (text ≡ index_text i)
 unfolding index_of index_text
 index_takes text i fits e =
     let header = bind_some (header_at text) _ i e in
@@ -205,10 +206,11 @@ index_takes text i fits e =
       names_ascend = sorted_from_ascends (names_of es) front_tests.1;
       blocks_apart = apart_from_test (blocks_of es) tests.1;
     } in
-    subst (λ (j : Index). (IsIndex j × InRange j) × (text ≡ index_text j)) {x = made} passed.1 ((rules, parts.1), whole)
+    subst (λ (j : Index). (IsIndex j × EntriesInRange j) × (text ≡ index_text j)) {x = made} passed.1
+    ((rules, parts.1), whole)
 
 -- what is spelled is read
-pub index_again : (i : Index) → IsIndex i → InRange i → index_of (index_text i) ≡ Some i
+pub index_again : (i : Index) → IsIndex i → EntriesInRange i → index_of (index_text i) ≡ Some i
 unfolding index_of index_text
 index_again i rules range =
     let header : Header = record { format = i.format; kind = i.kind; count = length i.entries } in
@@ -226,12 +228,13 @@ index_again i rules range =
 -- ---- what follows
 
 -- a text has one index
-pub one_index : (i j : Index) → IsIndex i → InRange i → IsIndex j → InRange j → index_text i ≡ index_text j → i ≡ j
+pub one_index : (i j : Index) → IsIndex i → EntriesInRange i → IsIndex j → EntriesInRange j → index_text i
+    ≡ index_text j → i ≡ j
 one_index i j i_rules i_range j_rules j_range same =
     some_is i j (sym (index_again i i_rules i_range) ∙ ap index_of same ∙ index_again j j_rules j_range)
 
 pub read_keeps_rules : (text : List ℕ) (r : Result Index IndexError) → IsBytes text → Gives (λ i. i) r (index_of text)
-    → IfOk r (λ i. IsIndex i × InRange i)
+    → IfOk r (λ i. IsIndex i × EntriesInRange i)
 read_keeps_rules text (Ok i) fits given = (index_takes text i fits given).0
 read_keeps_rules text (Err e) fits given = tt
 
@@ -246,7 +249,7 @@ all_written es fs n whole same = take_all n es whole ∙ same
 
 -- what is refused is the text of no index
 pub refused_is_none : (text : List ℕ) (r : Result Index IndexError) → Gives (λ i. i) r (index_of text)
-    → r ≡ Err errors.NotAnIndex → (i : Index) → IsIndex i → InRange i → text ≡ index_text i → ⊥
+    → r ≡ Err errors.NotAnIndex → (i : Index) → IsIndex i → EntriesInRange i → text ≡ index_text i → ⊥
 refused_is_none text (Ok j) given refused i rules range same = absurd cc
 refused_is_none text (Err errors.OutOfMemory) given refused i rules range same = absurd cc
 refused_is_none text (Err errors.NotAnIndex) given refused i rules range same =

@@ -8,7 +8,7 @@ use Rattle.per_base.specs.Names.{name_cmp}
 use Rattle.index_text.specs.Rules.{has_info, max_len}
 
 -- an info exactly for files, and no more bytes than the kind allows
-pub record IsFresh (kind : StoreKind) (f : Fresh) : Type 0 where
+pub record SuitsKind (kind : StoreKind) (f : Fresh) : Type 0 where
   pub info : IsTrue (has_info kind f.info)
   pub small : length f.bytes ≤ max_len kind
 
@@ -18,7 +18,7 @@ fresh_size f = length f.name + length f.bytes
 
 -- names that ascend, at most 1024, and together no more bytes than the maximum
 pub record AreContents (kind : StoreKind) (maximum : ℕ) (contents : List Fresh) : Type 0 where
-  pub each : AllByRecursion (IsFresh kind) contents
+  pub each : AllByRecursion (SuitsKind kind) contents
   pub names_ascend : IsStrictlySortedBy name_cmp (map (λ (f : Fresh). f.name) contents)
   pub few : length contents ≤ 1024
   pub small : sum_by fresh_size contents ≤ maximum

@@ -19,13 +19,13 @@ use Rattle.index_text.specs.declared.errors.IndexError.TheVariants as errors
 use Rattle.index_text.specs.Rules.{block_count, max_len, is_format, names_of, blocks_of}
 
 -- what a function returned, seen by view, is what reading gives, unless memory ran out
-abbrev pub Refuses : {Y : Type 0} → IndexError → Option Y → Type 0
-Refuses errors.NotAnIndex read = read ≡ None
-Refuses errors.OutOfMemory read = Unit {0}
+abbrev pub FailsToRead : {Y : Type 0} → IndexError → Option Y → Type 0
+FailsToRead errors.NotAnIndex read = read ≡ None
+FailsToRead errors.OutOfMemory read = Unit {0}
 
 abbrev pub Gives : {X Y : Type 0} → (X → Y) → Result X IndexError → Option Y → Type 0
 Gives view (Ok x) read = read ≡ Some (view x)
-Gives view (Err e) read = Refuses e read
+Gives view (Err e) read = FailsToRead e read
 
 -- ---- the fields of an entry
 

@@ -70,5 +70,5 @@ pub record EntryInRange (e : IndexEntry) : Type 0 where
   pub changed : e.changed < 2 ^ 64
   pub blocks : AllByRecursion (λ b. b < 2 ^ 32) e.blocks
 
-abbrev pub InRange : Index → Type 0
-InRange i = AllByRecursion EntryInRange i.entries
+abbrev pub EntriesInRange : Index → Type 0
+EntriesInRange i = AllByRecursion EntryInRange i.entries

@@ -7,7 +7,7 @@ use Rattle.per_base.specs.declared.elements.StoreKind.TheVariants.{Keys, Files}
 use Rattle.index_text.specs.declared.entries.IndexEntry.{IndexEntry}
 use Rattle.index_text.specs.declared.entries.Index.{Index}
 use Rattle.index_text.specs.Rules.{blocks_of}
-use Rattle.index_text.specs.Spelling.{kind_code}
+use Rattle.index_text.specs.Spelling.{store_kind_code}
 
 -- names and contents, in bytes
 abbrev pub size_of : List IndexEntry → ℕ
@@ -33,7 +33,7 @@ area_blocks allowed = 2 * (allowed / 256 + 1024)
 
 -- an index of this kind whose names and contents are within the allowed bytes and whose blocks are in the area
 abbrev pub fits : StoreKind → ℕ → Index → Bool
-fits kind allowed i = kind_code i.kind == kind_code kind && nat_le (size_of i.entries) allowed
+fits kind allowed i = store_kind_code i.kind == store_kind_code kind && nat_le (size_of i.entries) allowed
     && list_all (λ b. nat_lt b (area_blocks allowed)) (blocks_of i.entries)
 
 abbrev pub Fits : StoreKind → ℕ → Index → Type 0

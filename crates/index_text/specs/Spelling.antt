@@ -10,9 +10,9 @@ use Rattle.per_base.specs.declared.elements.FileInfo.{FileInfo}
 use Rattle.index_text.specs.declared.entries.IndexEntry.{IndexEntry}
 use Rattle.index_text.specs.declared.entries.Index.{Index}
 
-abbrev pub kind_code : StoreKind → ℕ
-kind_code Keys = 1
-kind_code Files = 2
+abbrev pub store_kind_code : StoreKind → ℕ
+store_kind_code Keys = 1
+store_kind_code Files = 2
 
 abbrev pub cause_code : Cause → ℕ
 cause_code Installation = 1
@@ -45,7 +45,7 @@ entry_text format e = name_text e.name ++ (info_text e.info
 
 -- format, kind, and the number of entries
 abbrev pub header_text : ℕ → StoreKind → ℕ → List ℕ
-header_text format kind count = format ∷ kind_code kind ∷ to_le_bytes w16 count
+header_text format kind count = format ∷ store_kind_code kind ∷ to_le_bytes w16 count
 
 unfoldable pub index_text : Index → List ℕ
 index_text i = header_text i.format i.kind (length i.entries) ++ flat_map (entry_text i.format) i.entries

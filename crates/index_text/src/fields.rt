@@ -1,4 +1,4 @@
-//! The fields of an entry, each read from the front of what is left of a text.
+//! The fields of an entry, each read from the start of what is left of a text.
 
 ghost use Rattle.std.specs.Prelude.{◌≡◌};
 ghost use Rattle.std.specs.Int.{w32};

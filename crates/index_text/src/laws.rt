@@ -3,13 +3,13 @@
 ghost use Rattle.std.specs.Prelude.{◌≡◌, ◌≤◌, ◌+◌, ◌/◌, ℕ, length};
 ghost use Rattle.per_base.specs.declared.elements.StoreKind.{StoreKind};
 ghost use Rattle.index_text.specs.declared.entries.Index.{Index};
-ghost use Rattle.index_text.specs.Rules.{InRange, IsIndex, blocks_of};
+ghost use Rattle.index_text.specs.Rules.{EntriesInRange, IsIndex, blocks_of};
 ghost use Rattle.index_text.specs.Spelling.{index_text};
 ghost use Rattle.index_text.specs.Sizes.{Fits, size_of};
 
 /// Indexes with one text are one index.
 pub fn one_index()
-    ensures { (i j : Index) → IsIndex i → InRange i → IsIndex j → InRange j
+    ensures { (i j : Index) → IsIndex i → EntriesInRange i → IsIndex j → EntriesInRange j
         → index_text i ≡ index_text j → i ≡ j }
 {}
 

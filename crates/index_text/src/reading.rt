@@ -2,7 +2,7 @@
 
 ghost use Rattle.std.specs.Prelude.{◌≡◌, ◌≢◌, IfOk, IsErrOf};
 ghost use Rattle.index_text.specs.declared.entries.Index.{Index};
-ghost use Rattle.index_text.specs.Rules.{IsIndex, InRange};
+ghost use Rattle.index_text.specs.Rules.{IsIndex, EntriesInRange};
 ghost use Rattle.index_text.specs.Spelling.{index_text};
 ghost use Rattle.per_base.specs.Fields.{many};
 ghost use Rattle.index_text.specs.Reading.{Gives, entry_at, header_at, index_of};
@@ -21,12 +21,12 @@ use std::alloc::Global;
 /// `NotAnIndex` exactly where the bytes are the text of no index; `OutOfMemory`.
 pub fn read_index(alloc: Global, bytes: &[u8]) -> Result<Index, IndexError>
     // What is read keeps the rules, and is spelled so.
-    ensures rules { IfOk result (λ index. IsIndex index × InRange index) }
+    ensures rules { IfOk result (λ index. IsIndex index × EntriesInRange index) }
     ensures spelled { IfOk result (λ index. bytes.now ≡ index_text index) }
 
     // What is refused is the text of no index.
     ensures refused { IsErrOf result IndexError.NotAnIndex
-        → (index : Index) → IsIndex index → InRange index → bytes.now ≢ index_text index }
+        → (index : Index) → IsIndex index → EntriesInRange index → bytes.now ≢ index_text index }
 
     // Which index it is, as a function of the bytes.
     ensures read { Gives (λ index. index) result (index_of bytes.now) }

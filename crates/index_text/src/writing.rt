@@ -5,7 +5,7 @@ ghost use Rattle.std.specs.List.{AllByRecursion, flat_map};
 ghost use Rattle.std.specs.Int.{to_le_bytes, w32};
 ghost use Rattle.index_text.specs.Rules.{EntryInRange, InfoInRange, InfoIsInRange, IsIndex};
 ghost use Rattle.index_text.specs.Spelling.{cause_code, changed_text, entry_text, file_info_text, index_text};
-ghost use Rattle.index_text.specs.Spelling.{info_text, kind_code, name_text};
+ghost use Rattle.index_text.specs.Spelling.{info_text, name_text, store_kind_code};
 ghost use Rattle.index_text.specs.Reading.{index_of};
 ghost use Rattle.index_text.specs.Sizes.{text_length};
 
@@ -36,7 +36,7 @@ pub fn write_index(alloc: Global, index: &Index) -> Result<Vec<u8>, AllocError>
 }
 
 fn kind_byte(kind: StoreKind) -> u8
-    ensures { result ≡ kind_code kind }
+    ensures { result ≡ store_kind_code kind }
 {
     match kind {
         StoreKind::Keys => 1,

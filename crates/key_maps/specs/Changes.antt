@@ -29,9 +29,9 @@ same_content (Bad here) (Bad there) = same_salvage here there
 abbrev pub same_key : Element → Element → Bool
 same_key here there = nat_eq here.len there.len && same_content here.content there.content
 
-abbrev pub is_same : Option Element → Element → Bool
-is_same None key = false
-is_same (Some old) key = same_key old key
+abbrev pub is_same_key : Option Element → Element → Bool
+is_same_key None key = false
+is_same_key (Some old) key = same_key old key
 
 abbrev pub bytes_of : Content → List ℕ
 bytes_of (Good bytes) = bytes
@@ -47,7 +47,7 @@ removal name (Some old) = Some (Remove name)
 -- what is to be done at a name where the one stands and the other shall, and nothing where both are the same
 abbrev pub difference : List ℕ → (old new : Option Element) → Option Change
 difference name old None = removal name old
-difference name old (Some key) = cond (is_same old key) None (Some (put name key))
+difference name old (Some key) = cond (is_same_key old key) None (Some (put name key))
 
 -- the changes that make the first map into the second: in the order of the names, and exactly where the two differ
 pub record AreChanges (changes : List Change) (old new : Map) : Type 0 where

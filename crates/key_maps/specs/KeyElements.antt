@@ -13,7 +13,7 @@ use Rattle.value_code.specs.Reading.{decoded}
 pub use Rattle.value_code.specs.Reading.{is_encoding}
 
 -- the bytes and the value are of each other
-pub record IsStored (bytes : List ℕ) (value : Tree) : Type 0 where
+pub record IsStoredValue (bytes : List ℕ) (value : Tree) : Type 0 where
   pub reads : decoded bytes ≡ Some value
   pub writes : bytes ≡ encoding value
   pub valid : IsValue value
@@ -39,19 +39,19 @@ pub record IsKey (key : Element) : Type 0 where
 
 -- ---- what is on the disk
 
-abbrev pub element_of : Entry → Element
-element_of entry = record { info = entry.info; len = entry.len; content = entry.content }
+abbrev pub entry_element : Entry → Element
+entry_element entry = record { info = entry.info; len = entry.len; content = entry.content }
 
 abbrev pub judged_salvage : Option (List ℕ) → Option (List ℕ)
 judged_salvage None = None
 judged_salvage (Some salvage) = cond (is_encoding salvage) (Some salvage) None
 
-abbrev pub judged_content : Content → Content
-judged_content (Good bytes) = cond (is_encoding bytes) (Good bytes) (Bad None)
-judged_content (Bad salvage) = Bad (judged_salvage salvage)
+abbrev pub judged_key_content : Content → Content
+judged_key_content (Good bytes) = cond (is_encoding bytes) (Good bytes) (Bad None)
+judged_key_content (Bad salvage) = Bad (judged_salvage salvage)
 
 abbrev pub judged : Element → Element
-judged element = record element { content = judged_content element.content }
+judged element = record element { content = judged_key_content element.content }
 
 -- what there is of the content, and the salvage likewise, has this length
 abbrev pub HasLength : Content → ℕ → Type 0
@@ -67,7 +67,7 @@ pub record IsKeyEntry (entry : Entry) : Type 0 where
 
 -- the keys that these entries are
 abbrev pub judged_map : List Entry → Map
-judged_map entries = map (λ (e : Entry). (e.name, judged (element_of e))) entries
+judged_map entries = map (λ (e : Entry). (e.name, judged (entry_element e))) entries
 
 abbrev pub entry_names : List Entry → List (List ℕ)
 entry_names entries = map (λ (e : Entry). e.name) entries

@@ -12,23 +12,23 @@ use Rattle.key_maps.specs.declared.key_states.KeyState.{KeyState}
 use Rattle.key_maps.specs.declared.key_states.Pending.{Pending}
 use Rattle.key_maps.specs.declared.key_states.Pending.TheVariants.{Same, Removed, Now}
 use Rattle.key_maps.specs.declared.extents.Extent.{Extent}
-use Rattle.key_maps.specs.KeyElements.{IsKey, element_of, is_readable, judged}
+use Rattle.key_maps.specs.KeyElements.{IsKey, entry_element, is_readable, judged}
 use Rattle.key_maps.specs.Picked.{picked}
 
 abbrev pub KeyStates : Type 0
 KeyStates = List (List ℕ × KeyState)
 
 -- what stands after a pending change
-abbrev pub changed : Option Element → Pending → Option Element
-changed synced Same = synced
-changed synced Removed = None
-changed synced (Now key) = Some key
+abbrev pub once_changed : Option Element → Pending → Option Element
+once_changed synced Same = synced
+once_changed synced Removed = None
+once_changed synced (Now key) = Some key
 
 abbrev pub synced_of : KeyState → Option Element
 synced_of state = state.synced
 
 abbrev pub visible_of : KeyState → Option Element
-visible_of state = changed state.synced state.pending
+visible_of state = once_changed state.synced state.pending
 
 abbrev pub synced_map : KeyStates → Map
 synced_map states = picked synced_of states
@@ -86,7 +86,7 @@ pub record IsMarkedSynced (old new : KeyStates) : Type 0 where
 
 -- the states of what is on the disk, with nothing pending
 abbrev pub opened_state : Entry → List ℕ × KeyState
-opened_state entry = (entry.name, record { synced = Some (judged (element_of entry)); pending = Same })
+opened_state entry = (entry.name, record { synced = Some (judged (entry_element entry)); pending = Same })
 
-abbrev pub opened : List Entry → KeyStates
-opened entries = map opened_state entries
+abbrev pub opened_states : List Entry → KeyStates
+opened_states entries = map opened_state entries

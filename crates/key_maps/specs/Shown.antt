@@ -5,14 +5,14 @@ use Rattle.per_base.specs.declared.elements.Content.TheVariants as content
 use Rattle.key_maps.specs.declared.key_elements.KeyContent.{KeyContent}
 use Rattle.key_maps.specs.declared.key_elements.KeyContent.TheVariants.{Good, Bad}
 
-abbrev pub content_of : KeyContent → Content
-content_of (Good stored) = content.Good stored
-content_of (Bad salvage) = content.Bad salvage
+abbrev pub content_shown : KeyContent → Content
+content_shown (Good stored) = content.Good stored
+content_shown (Bad salvage) = content.Bad salvage
 
 -- the encoding of a readable content
-abbrev pub stored_in : Content → Option (List ℕ)
-stored_in (content.Good bytes) = Some bytes
-stored_in (content.Bad salvage) = None
+abbrev pub good_bytes : Content → Option (List ℕ)
+good_bytes (content.Good bytes) = Some bytes
+good_bytes (content.Bad salvage) = None
 
 -- the salvage of an unreadable one
 abbrev pub salvage_in : Content → Option (List ℕ)

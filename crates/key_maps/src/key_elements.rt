@@ -4,9 +4,9 @@ ghost use Rattle.std.specs.Prelude.{◌≡◌, ◌≤◌, IfOk, IfSome, IsTrue, 
 ghost use Rattle.per_base.specs.declared.elements.Content.TheVariants.{Bad, Good};
 ghost use Rattle.key_maps.specs.Changes as changes;
 ghost use Rattle.key_maps.specs.Changes.{bytes_of, same_key};
-ghost use Rattle.key_maps.specs.KeyElements.{IsKey, IsKeyEntry, element_of, is_readable, judged, judged_content};
+ghost use Rattle.key_maps.specs.KeyElements.{IsKey, IsKeyEntry, entry_element, is_readable, judged, judged_key_content};
 ghost use Rattle.key_maps.specs.KeyElements.{judged_salvage, key_of};
-ghost use Rattle.key_maps.specs.Shown.{content_of, salvage_in, stored_in};
+ghost use Rattle.key_maps.specs.Shown.{content_shown, good_bytes, salvage_in};
 
 use crate::stored::Stored;
 use per_base::{Bytes, Content, Entry};
@@ -37,11 +37,11 @@ impl Model for KeyElement {
 
     ghost use Rattle.std.specs.Prelude.{None};
     ghost use Rattle.key_maps.specs.KeyElements.{IsKey};
-    ghost use Rattle.key_maps.specs.Shown.{content_of};
+    ghost use Rattle.key_maps.specs.Shown.{content_shown};
 
-    ghost view = { λ k. record { info = None; len = k.len; content = content_of k.content } };
+    ghost view = { λ k. record { info = None; len = k.len; content = content_shown k.content } };
 
-    ghost invariant = { λ k. IsKey (record { info = None; len = k.len; content = content_of k.content }) };
+    ghost invariant = { λ k. IsKey (record { info = None; len = k.len; content = content_shown k.content }) };
 }
 
 impl KeyElement {
@@ -58,7 +58,7 @@ impl KeyElement {
     /// The key that this entry is: bytes that encode no value are unreadable, and no salvage.
     pub fn judge(alloc: Global, entry: &Entry) -> Result<KeyElement, AllocError>
         requires { IsKeyEntry entry.now }
-        ensures { IfOk result (λ key. key ≡ judged (element_of entry.now)) }
+        ensures { IfOk result (λ key. key ≡ judged (entry_element entry.now)) }
     {
         let content = judge_content(alloc, &entry.content)?;
         Ok(KeyElement {
@@ -84,7 +84,7 @@ impl KeyElement {
 
     /// The value of a readable key.
     pub fn stored(&self) -> Option<&Stored>
-        ensures { option_copied result ≡ stored_in self.now.content }
+        ensures { option_copied result ≡ good_bytes self.now.content }
     {
         match &self.content {
             KeyContent::Good(stored) => Some(stored),
@@ -123,7 +123,7 @@ impl KeyElement {
 
 /// The content that this one is: bytes that encode no value are unreadable, and no salvage.
 fn judge_content(alloc: Global, content: &Content) -> Result<KeyContent, AllocError>
-    ensures { IfOk result (λ judged. content_of judged ≡ judged_content content.now) }
+    ensures { IfOk result (λ judged. content_shown judged ≡ judged_key_content content.now) }
 {
     match content {
         Content::Good(bytes) => match read(alloc, bytes.as_slice())? {
@@ -147,7 +147,7 @@ fn read(alloc: Global, bytes: &[u8]) -> Result<Option<Stored>, AllocError>
 }
 
 fn same_content(here: &KeyContent, there: &KeyContent) -> bool
-    ensures { result ≡ changes.same_content (content_of here.now) (content_of there.now) }
+    ensures { result ≡ changes.same_content (content_shown here.now) (content_shown there.now) }
 {
     match here {
         KeyContent::Good(here) => match there {

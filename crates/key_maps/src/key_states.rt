@@ -103,7 +103,7 @@ impl KeyState {
 }
 
 fn is_same(old: &Option<KeyElement>, key: &KeyElement) -> bool
-    ensures { result ≡ spec.is_same old.now key.now }
+    ensures { result ≡ spec.is_same_key old.now key.now }
 {
     match old {
         Some(old) => old.is_same(key),
@@ -201,7 +201,7 @@ fn is_synced(states: &BTreeMap<Name, KeyState>, name: &Name) -> bool
     }
 }
 
-/// Makes nothing visible at a name. Takes no memory.
+/// Makes nothing visible at a name. Does not allocate.
 pub fn remove(states: &mut BTreeMap<Name, KeyState>, name: &Name)
     requires { AreKeyStates states.old.entries }
     ensures { IsStep states.old.entries states.new.entries (without (visible_map states.old.entries) name.now) }
@@ -213,7 +213,7 @@ pub fn remove(states: &mut BTreeMap<Name, KeyState>, name: &Name)
     }
 }
 
-/// Makes nothing visible at all. Takes no memory.
+/// Makes nothing visible at all. Does not allocate.
 pub fn clear(states: &mut BTreeMap<Name, KeyState>)
     requires { AreKeyStates states.old.entries }
     ensures { IsStep states.old.entries states.new.entries [] }
@@ -224,7 +224,7 @@ pub fn clear(states: &mut BTreeMap<Name, KeyState>)
     });
 }
 
-/// Makes visible what is synchronised. Takes no memory.
+/// Makes visible what is synchronised. Does not allocate.
 pub fn discard(states: &mut BTreeMap<Name, KeyState>)
     requires { AreKeyStates states.old.entries }
     ensures { IsStep states.old.entries states.new.entries (synced_map states.old.entries) }
@@ -235,7 +235,7 @@ pub fn discard(states: &mut BTreeMap<Name, KeyState>)
     });
 }
 
-/// Makes synchronised what is visible. Takes no memory.
+/// Makes synchronised what is visible. Does not allocate.
 pub fn mark_synced(states: &mut BTreeMap<Name, KeyState>)
     requires { AreKeyStates states.old.entries }
     ensures { IsMarkedSynced states.old.entries states.new.entries }

@@ -2,7 +2,7 @@
 //!
 //! A [`KeyMaps`] keeps both in one ordered map of key states, so that a look-up and a change take logarithmic time, and
 //! so that discarding all pending changes, removing all keys and marking all as synchronised do not allocate. The
-//! number and the size of the visible keys are kept, never counted anew.
+//! number and the size of the visible keys are kept, never recounted.
 //!
 //! A map holds encodings, each beside the value that it encodes ([`Stored`]): a value is decoded once, when it comes
 //! from the disk, and encoded once, when it is put. What comes from the disk is judged: bytes that encode no value are

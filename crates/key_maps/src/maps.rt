@@ -59,14 +59,14 @@ impl KeyMaps {
         key_states::get(&self.states, name)
     }
 
-    /// Whether this name is visible, readable or not. Takes no memory.
+    /// Whether this name is visible, readable or not. Does not allocate.
     pub fn has(&self, name: &Name) -> bool
         ensures { result ≡ has self.now.visible name.now }
     {
         self.get(name).is_some()
     }
 
-    /// The number of visible keys. Takes no memory.
+    /// The number of visible keys. Does not allocate.
     pub fn count(&self) -> usize
         ensures count { result ≡ length self.now.visible }
         ensures few { result ≤ KEYS }
@@ -74,7 +74,7 @@ impl KeyMaps {
         self.visible.count
     }
 
-    /// The size of the visible map in bytes: names and encodings. Takes no memory.
+    /// The size of the visible map in bytes: names and encodings. Does not allocate.
     pub fn size(&self) -> u64
         ensures size { result ≡ size_of self.now.visible }
         ensures small { result ≤ STORAGE_BYTES }
@@ -89,7 +89,7 @@ impl KeyMaps {
         key_states::names(alloc, &self.states)
     }
 
-    /// The size of the visible map with a key of this length under this name, in bytes. Takes no memory.
+    /// The size of the visible map with a key of this length under this name, in bytes. Does not allocate.
     pub fn size_with(&self, name: &Name, len: u32) -> u64
         ensures { (key : Element) → key.len ≡ len → result ≡ size_of (with_element self.now.visible name.now key) }
     {
@@ -130,7 +130,7 @@ impl KeyMaps {
         Ok(())
     }
 
-    /// Makes nothing visible under this name, and says whether anything was. Takes no memory.
+    /// Makes nothing visible under this name, and says whether anything was. Does not allocate.
     pub fn remove(&mut self, name: &Name) -> bool
         ensures was { result ≡ has self.old.visible name.now }
         ensures removed { self.new ≡ record self.old { visible = without self.old.visible name.now } }
@@ -148,7 +148,7 @@ impl KeyMaps {
         true
     }
 
-    /// Makes nothing visible at all. Takes no memory.
+    /// Makes nothing visible at all. Does not allocate.
     pub fn clear(&mut self)
         ensures { self.new ≡ record self.old { visible = [] } }
     {
@@ -156,7 +156,7 @@ impl KeyMaps {
         self.visible = Extent { count: 0, size: 0 };
     }
 
-    /// Makes visible what is synchronised. Takes no memory.
+    /// Makes visible what is synchronised. Does not allocate.
     pub fn discard(&mut self)
         ensures { self.new ≡ record self.old { visible = self.old.synced } }
     {
@@ -164,7 +164,7 @@ impl KeyMaps {
         self.visible = self.synced;
     }
 
-    /// Makes synchronised what is visible. Takes no memory.
+    /// Makes synchronised what is visible. Does not allocate.
     pub fn mark_synced(&mut self)
         ensures { self.new ≡ record self.old { synced = self.old.visible } }
     {
@@ -172,7 +172,7 @@ impl KeyMaps {
         self.synced = self.visible;
     }
 
-    /// Whether the maps differ. Takes no memory.
+    /// Whether the maps differ. Does not allocate.
     pub fn has_changes(&self) -> bool
         ensures { (result ≡ false) ↔ (self.now.synced ≡ self.now.visible) }
     {

@@ -5,7 +5,7 @@ ghost use Rattle.std.specs.List.{All};
 ghost use Rattle.std.specs.List.Sorted.{IsStrictlySortedBy};
 ghost use Rattle.per_base.specs.Maps.{size_of};
 ghost use Rattle.per_base.specs.Names.{name_cmp};
-ghost use Rattle.key_maps.specs.KeyStates.{opened};
+ghost use Rattle.key_maps.specs.KeyStates.{opened_states};
 ghost use Rattle.key_maps.specs.KeyElements.{IsKeyEntry, entry_names, judged_map};
 
 use crate::extents::Extent;
@@ -47,7 +47,7 @@ impl KeyMaps {
 fn states_of(alloc: Global, entries: &[Entry]) -> Result<BTreeMap<Name, KeyState>, AllocError>
     requires keys { All IsKeyEntry entries.now }
     requires ordered { IsStrictlySortedBy name_cmp (entry_names entries.now) }
-    ensures { IfOk result (λ states. states.entries ≡ opened entries.now) }
+    ensures { IfOk result (λ states. states.entries ≡ opened_states entries.now) }
 {
     let mut states = BTreeMap::new(alloc);
     for entry in entries {

@@ -20,13 +20,13 @@ pub struct Stored {
 
 impl Model for Stored {
     ghost use Rattle.std.specs.Prelude.{ℕ, List};
-    ghost use Rattle.key_maps.specs.KeyElements.{IsStored};
+    ghost use Rattle.key_maps.specs.KeyElements.{IsStoredValue};
 
     ghost Value = { List ℕ };
 
     ghost view = { λ s. s.bytes };
 
-    ghost invariant = { λ s. IsStored s.bytes s.value };
+    ghost invariant = { λ s. IsStoredValue s.bytes s.value };
 }
 
 impl Stored {

@@ -17,27 +17,28 @@ use Rattle.value_text.specs.Limits.{same_kind}
 use Rattle.deployment_model.specs.Data.{StorageData}
 use Rattle.deployment_model.specs.Lookups.{initial_of}
 use Rattle.key_maps.specs.KeyElements.{key_of}
-use Rattle.key_maps.specs.Shown.{stored_in}
-use Rattle.kvs_core.specs.Calls.{as_kind, get_any, get_as, mismatch, placed, read, reset_key, stored_kind, takes_any}
+use Rattle.key_maps.specs.Shown.{good_bytes}
+use Rattle.kvs_core.specs.Calls.{as_kind, get_any, get_as, mismatch, read, reset_key, stored_kind, takes_any}
+use Rattle.kvs_core.specs.Calls.{with_placed}
 use Rattle.kvs_core.specs.Calls.{unless_differ, unless_refused, unless_typed, with_place, with_room}
 use Rattle.kvs_core.specs.Refusals.{IsTextRefusal, NeedsMemory}
 
 pub read_stored : (c : StorageData) (name : List ℕ) (content : Content) (bytes : List ℕ) (value : Tree)
-    → Some bytes ≡ stored_in content → decoded bytes ≡ Some value → read c name content ≡ Ok value
+    → Some bytes ≡ good_bytes content → decoded bytes ≡ Some value → read c name content ≡ Ok value
 read_stored c name (Good there) bytes value is reads = let same : there ≡ bytes = cc in rw (same, reads) refl
 read_stored c name (Bad salvage) bytes value is reads = absurd (cc)
 
-pub read_bad : (c : StorageData) (name : List ℕ) (content : Content) → None ≡ stored_in content
+pub read_bad : (c : StorageData) (name : List ℕ) (content : Content) → None ≡ good_bytes content
     → read c name content ≡ Err (IntegrityCorrupted (Part c.name name))
 read_bad c name (Good there) is = absurd (cc)
 read_bad c name (Bad salvage) is = refl
 
-pub kind_stored : (content : Content) (bytes : List ℕ) (value : Tree) → Some bytes ≡ stored_in content
+pub kind_stored : (content : Content) (bytes : List ℕ) (value : Tree) → Some bytes ≡ good_bytes content
     → decoded bytes ≡ Some value → stored_kind content ≡ Some (type_of value)
 kind_stored (Good there) bytes value is reads = let same : there ≡ bytes = cc in rw (same, reads) refl
 kind_stored (Bad salvage) bytes value is reads = absurd (cc)
 
-pub kind_bad : (content : Content) → None ≡ stored_in content → stored_kind content ≡ None
+pub kind_bad : (content : Content) → None ≡ good_bytes content → stored_kind content ≡ None
 kind_bad (Good there) is = absurd (cc)
 kind_bad (Bad salvage) is = refl
 
@@ -57,7 +58,7 @@ pub needs_value : (c : StorageData) (m : Map) (name : List ℕ) (asked : Kind) (
 needs_value c m name asked value is = rw is (needs_same (type_of value) asked value)
 
 pub needs_kind : (content : Content) (bytes : List ℕ) (value : Tree) (asked : Kind) (m : Map)
-    → Some bytes ≡ stored_in content → decoded bytes ≡ Some value
+    → Some bytes ≡ good_bytes content → decoded bytes ≡ Some value
     → NeedsMemory (unless_typed (stored_kind content) asked (Ok m))
 needs_kind content bytes value asked m is reads = rw (kind_stored content bytes value is reads)
     (needs_same (type_of value) asked m)
@@ -91,7 +92,7 @@ has_place m name full is empty = let here : (not (has m name) && nat_le 1024 (le
 
 pub placed_there : (c : StorageData) (m : Map) (name bytes stored : List ℕ) (full : Bool)
     → full ≡ (not (has m name) && nat_le 1024 (length m)) → full ≡ false → stored ≡ bytes
-    → placed c m name bytes ≡ with_room c (with_element m name (key_of stored))
+    → with_placed c m name bytes ≡ with_room c (with_element m name (key_of stored))
 placed_there c m name bytes stored full is empty same =
     let here : (not (has m name) && nat_le 1024 (length m)) ≡ false = sym is ∙ empty in
     rw (← same, here) refl

@@ -36,12 +36,12 @@ is_readable_key None = false
 is_readable_key (Some key) = is_readable key.content
 
 -- what is readable always encodes a value
-abbrev pub value_in : Option Tree → Result Tree PerError
-value_in None = Err KeyNotFound
-value_in (Some value) = Ok value
+abbrev pub readable_value : Option Tree → Result Tree PerError
+readable_value None = Err KeyNotFound
+readable_value (Some value) = Ok value
 
 abbrev pub read : StorageData → List ℕ → Content → Result Tree PerError
-read c name (Good bytes) = value_in (decoded bytes)
+read c name (Good bytes) = readable_value (decoded bytes)
 read c name (Bad salvage) = Err (IntegrityCorrupted (Part c.name name))
 
 abbrev pub get_any : StorageData → Map → List ℕ → Result Tree PerError
@@ -88,20 +88,20 @@ abbrev pub with_room : StorageData → Map → Result Map PerError
 with_room c new = refuse (nat_lt c.maximum (size_of new)) (OutOfStorageSpace (size_of new) c.maximum) (Ok new)
 
 -- the map with this encoding at the name, where there is room for it
-abbrev pub placed : StorageData → Map → List ℕ → List ℕ → Result Map PerError
-placed c m name bytes = with_place m name (with_room c (with_element m name (key_of bytes)))
+abbrev pub with_placed : StorageData → Map → List ℕ → List ℕ → Result Map PerError
+with_placed c m name bytes = with_place m name (with_room c (with_element m name (key_of bytes)))
 
 -- refused where the storage is read-only, or where values of the name have another type
 abbrev pub unless_refused : StorageData → Map → List ℕ → Kind → Result Map PerError → Result Map PerError
 unless_refused c m name asked rest = refuse c.read_only IllegalWriteAccess
     (unless_typed (kind_for (element_named c name) (element_at m name)) asked rest)
 
--- what refuses a value before it is encoded: all but want of room, for which its encoding must be measured
+-- what refuses a value before it is encoded: all but the lack of room, for which its encoding must be measured
 abbrev pub takes_any : StorageData → Map → List ℕ → Kind → Result Map PerError
 takes_any c m name asked = unless_refused c m name asked (with_place m name (Ok m))
 
 abbrev pub set_any : StorageData → Map → List ℕ → Tree → Result Map PerError
-set_any c m name value = unless_refused c m name (type_of value) (placed c m name (encoding value))
+set_any c m name value = unless_refused c m name (type_of value) (with_placed c m name (encoding value))
 
 -- the value that a thing is may be too deep or too long
 abbrev pub set_value : StorageData → Map → List ℕ → Tree → Result Map PerError
@@ -147,4 +147,4 @@ with_initial (Some bytes) call = call bytes
 
 abbrev pub reset_key : StorageData → Map → List ℕ → Result Map PerError
 reset_key c m name = refuse c.read_only IllegalWriteAccess
-    (with_initial (initial_of c name) (λ bytes. placed c m name bytes))
+    (with_initial (initial_of c name) (λ bytes. with_placed c m name bytes))

@@ -16,14 +16,14 @@ use per_value::PerValue;
 use value_model::{Value, ValueType};
 
 impl KeySession {
-    /// Whether this name is visible, readable or not. Takes no memory.
+    /// Whether this name is visible, readable or not. Does not allocate.
     pub fn key_exists(&self, name: &Name) -> bool
         ensures { result ≡ has self.now.visible name.now }
     {
         self.maps.has(name)
     }
 
-    /// Whether this name is visible and its key readable. Takes no memory.
+    /// Whether this name is visible and its key readable. Does not allocate.
     pub fn is_readable(&self, name: &Name) -> bool
         ensures { result ≡ calls.is_readable_key (element_at self.now.visible name.now) }
     {
@@ -48,7 +48,7 @@ impl KeySession {
         }
     }
 
-    /// The size of the visible map in bytes: names and encodings, readable or not. Takes no memory.
+    /// The size of the visible map in bytes: names and encodings, readable or not. Does not allocate.
     pub fn current_size(&self) -> u64
         ensures { result ≡ size_of self.now.visible }
     {

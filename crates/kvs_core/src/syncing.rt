@@ -8,14 +8,14 @@ use per_base::Change;
 use std::alloc::AllocError;
 
 impl KeySession {
-    /// Makes visible what is synchronised: the pending changes are gone. Takes no memory.
+    /// Makes visible what is synchronised: the pending changes are gone. Does not allocate.
     pub fn discard_pending_changes(&mut self)
         ensures { self.new ≡ record self.old { visible = self.old.synced } }
     {
         self.maps.discard();
     }
 
-    /// Whether the maps differ. Takes no memory.
+    /// Whether the maps differ. Does not allocate.
     pub fn has_changes(&self) -> bool
         ensures { (result ≡ false) ↔ (self.now.synced ≡ self.now.visible) }
     {
@@ -30,7 +30,7 @@ impl KeySession {
         self.maps.changes(self.alloc)
     }
 
-    /// Makes synchronised what is visible, once the changes are written. Takes no memory.
+    /// Makes synchronised what is visible, once the changes are written. Does not allocate.
     pub fn mark_synced(&mut self)
         ensures { self.new ≡ record self.old { synced = self.old.visible } }
     {

@@ -78,8 +78,8 @@ impl KeySession {
     ///
     /// # Errors
     ///
-    /// `IllegalWriteAccess` where the storage is read-only; `KeyNotFound` where the name is not visible. Takes no
-    /// memory.
+    /// `IllegalWriteAccess` where the storage is read-only; `KeyNotFound` where the name is not visible. Does not
+    /// allocate.
     pub fn remove_key(&mut self, name: &Name) -> Result<(), PerError>
         ensures ok { OnOk result (calls.remove_key self.old.config self.old.visible name.now ≡ Ok self.new.visible) }
         ensures refused { IfErr result (λ error. calls.remove_key self.old.config self.old.visible name.now
@@ -100,7 +100,7 @@ impl KeySession {
     ///
     /// # Errors
     ///
-    /// `IllegalWriteAccess` where the storage is read-only. Takes no memory.
+    /// `IllegalWriteAccess` where the storage is read-only. Does not allocate.
     pub fn remove_all_keys(&mut self) -> Result<(), PerError>
         ensures ok { OnOk result (calls.remove_all_keys self.old.config self.old.visible ≡ Ok self.new.visible) }
         ensures refused { IfErr result (λ error. calls.remove_all_keys self.old.config self.old.visible ≡ Err error) }
@@ -117,10 +117,10 @@ impl KeySession {
     /// Puts a value under a name, where there is a place and room for it.
     #[tactic(auto, using(crate::proofs::Contents::few_without, crate::proofs::Contents::has_place, crate::proofs::Contents::placed_there))]
     fn write(&mut self, name: &Name, value: Value) -> Result<(), PerError>
-        ensures ok { OnOk result (calls.placed self.old.config self.old.visible name.now (encoding value)
+        ensures ok { OnOk result (calls.with_placed self.old.config self.old.visible name.now (encoding value)
             ≡ Ok self.new.visible) }
         ensures refused { IfErr result (λ error. IsRefusal
-            (calls.placed self.old.config self.old.visible name.now (encoding value)) error) }
+            (calls.with_placed self.old.config self.old.visible name.now (encoding value)) error) }
         ensures memory { IfErr result (λ error. error ≡ PerError.OutOfMemory
             → calls.with_place self.old.visible name.now (Ok self.old.visible) ≡ Ok self.old.visible) }
         ensures beside { self.new ≡ record self.old { visible = self.new.visible } }
@@ -160,7 +160,7 @@ impl KeySession {
         self.put(name, key)
     }
 
-    /// Whether there is room for a key whose encoding has this length. Takes no memory.
+    /// Whether there is room for a key whose encoding has this length. Does not allocate.
     pub(crate) fn has_room(&self, name: &Name, len: u32) -> Result<(), PerError>
         ensures ok { OnOk result ((key : Element) → key.len ≡ len
             → size_of (with_element self.now.visible name.now key) ≤ self.now.config.maximum) }

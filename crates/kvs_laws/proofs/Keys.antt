@@ -18,7 +18,7 @@ use Rattle.value_code.specs.Reading.{decoded}
 use Rattle.deployment_model.specs.Data.{StorageData}
 use Rattle.deployment_model.specs.Lookups.{element_named}
 use Rattle.key_maps.specs.KeyElements.{key_of}
-use Rattle.kvs_core.specs.Calls.{get_as, kind_for, placed, set_any, set_value, unless_typed, with_room}
+use Rattle.kvs_core.specs.Calls.{get_as, kind_for, set_any, set_value, unless_typed, with_placed, with_room}
 use Rattle.kvs_core.specs.Refusals.{refuse}
 use Rattle.kvs_laws.proofs.SameKinds.{same_kind_self}
 
@@ -47,8 +47,8 @@ set_puts c m name value new is =
     let any = passes (nat_lt max_length (length (encoding value))) (LimitReached limit.ValueBytes)
     (set_any c m name value) new short in
     let writes = passes c.read_only IllegalWriteAccess
-    (unless_typed stored (type_of value) (placed c m name (encoding value))) new any in
-    let place = typed stored (type_of value) (placed c m name (encoding value)) new writes in
+    (unless_typed stored (type_of value) (with_placed c m name (encoding value))) new any in
+    let place = typed stored (type_of value) (with_placed c m name (encoding value)) new writes in
     let room = passes (not (has m name) && nat_le 1024 (length m)) (LimitReached limit.Elements) (with_room c put) new
     place in
     let all = passes (nat_lt c.maximum (size_of put)) (OutOfStorageSpace (size_of put) c.maximum) (Ok put) new room in

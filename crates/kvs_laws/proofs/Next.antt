@@ -15,12 +15,12 @@ use Rattle.per_base.specs.Names.{name_cmp}
 use Rattle.value_model.specs.Trees.{Tree}
 use Rattle.element_state.specs.declared.shapes.Shape.{Shape}
 use Rattle.element_state.specs.declared.shapes.View.{View}
-use Rattle.element_state.specs.Changes.{committed, committed_entry, entry_at, is_same, kept_or_fresh}
+use Rattle.element_state.specs.Changes.{committed, committed_entry, entry_by_name, is_same, kept_or_fresh}
 use Rattle.element_state.specs.Conditions.{IsMended}
 use Rattle.element_state.specs.States.{fresh_entry}
 use Rattle.element_state.specs.Views.{element_of, judged_content, judged_entry}
 use Rattle.element_maps.specs.Laws.{DecidesLaw, SameLaw}
-use Rattle.element_maps.specs.Sessions.{same_map, synced_view}
+use Rattle.element_maps.specs.Sessions.{same_map, view_once_synced}
 use Rattle.key_maps.specs.KeyElements.{is_encoding}
 use Rattle.kvs_store.specs.Storages.{keys_in}
 use Rattle.kvs_laws.specs.Values.{Asked, HasValue}
@@ -31,14 +31,15 @@ AreMended entries = AllByRecursion (λ (e : Entry). IsMended e.content e.lacking
 
 -- ---- nothing is lacking
 
-found_mended : (name : List ℕ) (entries : List Entry) (e : Entry) → AreMended entries → entry_at name entries ≡ Some e
+found_mended : (name : List ℕ) (entries : List Entry) (e : Entry) → AreMended entries → entry_by_name name entries
+    ≡ Some e
     → IsMended e.content e.lacking
 found_mended name [] e mended is = absurd (cc)
 found_mended name (f ∷ entries) e mended is =
     by (bytes_eq f.name name) refl (found_mended name entries e mended.1)
   where
     by : (here : Bool) → bytes_eq f.name name ≡ here
-        → (entry_at name entries ≡ Some e → IsMended e.content e.lacking) → IsMended e.content e.lacking
+        → (entry_by_name name entries ≡ Some e → IsMended e.content e.lacking) → IsMended e.content e.lacking
     by true here later = let h = rw here at is in let same : f ≡ e = cc in rw (← same) mended.0
     by false here later = later (rw here at is)
 
@@ -47,7 +48,7 @@ whole_fresh (Good value) = refl
 whole_fresh (Bad salvage) = tt
 
 kept_mended : (generation : ℕ) (entries : List Entry) (same : Bool) (element : List ℕ × Element) → AreMended entries
-    → (found : Option Entry) → entry_at element.0 entries ≡ found
+    → (found : Option Entry) → entry_by_name element.0 entries ≡ found
     → IsMended (kept_or_fresh generation same found element).content
     (kept_or_fresh generation same found element).lacking
 kept_mended generation entries true element mended (Some e) is = found_mended element.0 entries e mended is
@@ -58,7 +59,7 @@ committed_mended : (generation : ℕ) (entries : List Entry) (synced new : Map) 
     → AreMended (map (committed_entry generation entries synced) new)
 committed_mended generation entries synced [] mended = tt
 committed_mended generation entries synced (e ∷ new) mended = (
-  kept_mended generation entries (is_same (element_at synced e.0) e.1) e mended (entry_at e.0 entries) refl,
+  kept_mended generation entries (is_same (element_at synced e.0) e.1) e mended (entry_by_name e.0 entries) refl,
   committed_mended generation entries synced new mended,
 )
 
@@ -73,21 +74,21 @@ abbrev key_in : Entry → Element
 key_in e = (element_of (judged_entry is_encoding e)).1
 
 key_found : (name : List ℕ) (entries : List Entry)
-    → element_at (keys_of entries) name ≡ option_map key_in (entry_at name entries)
+    → element_at (keys_of entries) name ≡ option_map key_in (entry_by_name name entries)
 key_found name [] = refl
 key_found name (f ∷ entries) = by (bytes_eq f.name name) refl (key_found name entries)
   where
     by : (here : Bool) → bytes_eq f.name name ≡ here
-        → element_at (keys_of entries) name ≡ option_map key_in (entry_at name entries)
-        → element_at (keys_of (f ∷ entries)) name ≡ option_map key_in (entry_at name (f ∷ entries))
+        → element_at (keys_of entries) name ≡ option_map key_in (entry_by_name name entries)
+        → element_at (keys_of (f ∷ entries)) name ≡ option_map key_in (entry_by_name name (f ∷ entries))
     by true here later = rw (tests_alike name f.name, here) refl
     by false here later = rw (tests_alike name f.name, here) later
 
-found_named : (name : List ℕ) (entries : List Entry) (e : Entry) → entry_at name entries ≡ Some e → e.name ≡ name
+found_named : (name : List ℕ) (entries : List Entry) (e : Entry) → entry_by_name name entries ≡ Some e → e.name ≡ name
 found_named name [] e is = absurd (cc)
 found_named name (f ∷ entries) e is = by (bytes_eq f.name name) refl (found_named name entries e)
   where
-    by : (here : Bool) → bytes_eq f.name name ≡ here → (entry_at name entries ≡ Some e → e.name ≡ name)
+    by : (here : Bool) → bytes_eq f.name name ≡ here → (entry_by_name name entries ≡ Some e → e.name ≡ name)
         → e.name ≡ name
     by true here later =
         let h = rw here at is in
@@ -106,9 +107,9 @@ module _ (generation : ℕ) (entries : List Entry) (synced : Map) where
   Next e = committed_entry generation entries synced e
 
   next_named : (e : List ℕ × Element) → (Next e).name ≡ e.0
-  next_named e = by (is_same (element_at synced e.0) e.1) (entry_at e.0 entries) refl
+  next_named e = by (is_same (element_at synced e.0) e.1) (entry_by_name e.0 entries) refl
     where
-      by : (same : Bool) (found : Option Entry) → entry_at e.0 entries ≡ found
+      by : (same : Bool) (found : Option Entry) → entry_by_name e.0 entries ≡ found
           → (kept_or_fresh generation same found e).name ≡ e.0
       by true (Some f) is = found_named e.0 entries f is
       by true None is = refl
@@ -117,13 +118,13 @@ module _ (generation : ℕ) (entries : List Entry) (synced : Map) where
   next_key : SameLaw → synced ≡ keys_of entries → (e : List ℕ × Element) (bytes : List ℕ) → e.1.content ≡ Good bytes
       → is_encoding bytes ≡ true → key_in (Next e) ≡ e.1
   next_key law held e bytes good encodes =
-      by (is_same (element_at synced e.0) e.1) (entry_at e.0 entries) refl refl
+      by (is_same (element_at synced e.0) e.1) (entry_by_name e.0 entries) refl refl
     where
       fresh : key_in (fresh_entry generation e) ≡ e.1
       fresh = rw (judged_stays e.1.content bytes good encodes) refl
 
       by : (same : Bool) (found : Option Entry) → is_same (element_at synced e.0) e.1 ≡ same
-          → entry_at e.0 entries ≡ found → key_in (kept_or_fresh generation same found e) ≡ e.1
+          → entry_by_name e.0 entries ≡ found → key_in (kept_or_fresh generation same found e) ≡ e.1
       by true (Some f) same is =
           let there : element_at synced e.0 ≡ Some (key_in f) = rw (held, key_found e.0 entries, is) refl in
           let alike = rw there at same in
@@ -169,17 +170,17 @@ whole_committed shape v synced new mended = committed_mended (v.generation + 1) 
 
 pub synced_whole : DecidesLaw → SameLaw → (asked : Asked) (shape : Shape) (v : View) (synced new : Map) (after : Tree)
     → synced ≡ keys_in v → AreMended v.entries → HasValue asked new after
-    → IsWhole asked (synced_view shape v synced new) after
+    → IsWhole asked (view_once_synced shape v synced new) after
 synced_whole decides law asked shape v synced new after held mended has = by (same_map synced new) refl
   where
-    by : (same : Bool) → same_map synced new ≡ same → IsWhole asked (synced_view shape v synced new) after
+    by : (same : Bool) → same_map synced new ≡ same → IsWhole asked (view_once_synced shape v synced new) after
     by true same =
         let equal = (decides synced new).0 same in
         let there : new ≡ keys_in v = sym equal ∙ held in
-        let stays : synced_view shape v synced new ≡ v = rw same refl in
+        let stays : view_once_synced shape v synced new ≡ v = rw same refl in
         rw stays (record { mended = mended; has = rw there at has })
     by false same =
-        let next : synced_view shape v synced new ≡ committed shape v synced new = rw same refl in
+        let next : view_once_synced shape v synced new ≡ committed shape v synced new = rw same refl in
         rw next (record {
           mended = whole_committed shape v synced new mended;
           has = committed_has law asked shape v synced new after held has;

@@ -19,7 +19,7 @@ use Rattle.deployment_model.specs.Data.{StorageData}
 use Rattle.element_state.specs.declared.shapes.Shape.{Shape}
 use Rattle.element_state.specs.declared.shapes.View.{View}
 use Rattle.element_state.specs.Conditions.{IsMended}
-use Rattle.element_state.specs.Kept.{HasEnough, IsKeptOn, IsSpared, KeepsGood, SameHeadings, Stays, heading}
+use Rattle.element_state.specs.Kept.{HasEnough, IsKeptOn, IsSpared, KeepsGood, SameHeadings, StaysOpen, heading}
 use Rattle.element_state.specs.States.{Opens, store_at}
 use Rattle.element_state.specs.Views.{element_of, judged_content, judged_entry}
 use Rattle.key_maps.specs.KeyElements.{is_encoding}
@@ -164,7 +164,7 @@ pub record IsWhole (asked : Asked) (v : View) (value : Tree) : Type 0 where
 
 stays_left : (asked : Asked) (shape : Shape) (damaged : List ℕ) (image : Image) (v next : View) (before after : Tree)
     → IsWhole asked v before → IsWhole asked next after
-    → Stays shape damaged (store_at image shape) (Opens v []) (Opens next []) → HasEnough shape damaged v.lacking
+    → StaysOpen shape damaged (store_at image shape) (Opens v []) (Opens next []) → HasEnough shape damaged v.lacking
     → ReadsAs asked shape before image ⊎ ReadsAs asked shape after image
 stays_left asked shape damaged image v next before after old new stays enough =
     let s = stays enough in
@@ -190,5 +190,6 @@ pub kept_left : (asked : Asked) (shape : Shape) (damaged : List ℕ) (start imag
     → IsKeptOn shape damaged start image (Opens next []) → HasEnough shape damaged v.lacking
     → ReadsAs asked shape before image ⊎ ReadsAs asked shape after image
 kept_left asked shape damaged start image v next before after opens old new kept enough =
-    let stays : Stays shape damaged (store_at image shape) (Opens v []) (Opens next []) = rw opens at kept.kept.stays in
+    let stays : StaysOpen shape damaged (store_at image shape) (Opens v [])
+    (Opens next []) = rw opens at kept.kept.stays in
     stays_left asked shape damaged image v next before after old new stays enough

@@ -18,7 +18,7 @@ use Rattle.per_base.specs.Maps.{Map, element_at}
 use Rattle.per_base.specs.Names.{name_cmp}
 use Rattle.element_state.specs.declared.shapes.Shape.{Shape}
 use Rattle.element_state.specs.declared.shapes.View.{View}
-use Rattle.element_state.specs.Reports.{element_failed, element_reports, is_readable, recovered_reports, report_of}
+use Rattle.element_state.specs.Reports.{element_failed, element_reports, is_readable_by, recovered_reports, report_of}
 use Rattle.element_state.specs.Reports.{report_some, reports, store_recovered}
 use Rattle.element_state.specs.States.{mended_by, mended_entry, mended_view}
 use Rattle.element_state.specs.Views as views
@@ -34,7 +34,7 @@ use Rattle.kvs_store.specs.Judged.{shown_entry, shown_view}
 
 -- the map has the key of this entry
 abbrev Stands : Map → Entry → Type 0
-Stands m e = element_at m e.name ≡ Some (keys.judged (keys.element_of e))
+Stands m e = element_at m e.name ≡ Some (keys.judged (keys.entry_element e))
 
 -- one before all others hides none of them
 stand_later : (m : Map) (e : List ℕ × Element) (es : List Entry) → Above name_cmp e.0 (entry_names es)
@@ -50,7 +50,7 @@ all_stand : (es : List Entry) → IsStrictlySortedBy name_cmp (entry_names es)
 all_stand [] sorted = tt
 all_stand (e ∷ es) sorted = (
   rw (tied_itself nat_list_cmp_total e.name) refl,
-  stand_later (judged_map es) (e.name, keys.judged (keys.element_of e)) es
+  stand_later (judged_map es) (e.name, keys.judged (keys.entry_element e)) es
       (sorted_head name_cmp e.name (entry_names es) sorted)
       (all_stand es (sorted_tail name_cmp e.name (entry_names es) sorted)),
 )
@@ -58,12 +58,13 @@ all_stand (e ∷ es) sorted = (
 -- ---- reports
 
 readable_is : (c : Content)
-    → is_readable (λ bytes. true) (cond (keys.is_readable (keys.judged_content c)) c (Bad None))
-    ≡ is_readable is_encoding c
+    → is_readable_by (λ bytes. true) (cond (keys.is_readable (keys.judged_key_content c)) c (Bad None))
+    ≡ is_readable_by is_encoding c
 readable_is (Good value) = by (is_encoding value)
   where
     by : (b : Bool)
-        → is_readable (λ bytes. true) (cond (keys.is_readable (cond b (Good value) (Bad None))) (Good value) (Bad None))
+        → is_readable_by (λ bytes. true) (cond (keys.is_readable (cond b (Good value) (Bad None))) (Good value)
+        (Bad None))
         ≡ b
     by true = refl
     by false = refl
@@ -77,12 +78,13 @@ same_recovered m scope.Storage shape e = refl
 entry_reports : (m : Map) (shape : Shape) (e : Entry) → Stands m e
     → element_reports (λ bytes. true) shape (shown_entry m e) ≡ element_reports is_encoding shape e
 entry_reports m shape e stands =
-    ap (λ (l : List Report). cond (is_readable (λ bytes. true) (shown_entry m e).content) l
+    ap (λ (l : List Report). cond (is_readable_by (λ bytes. true) (shown_entry m e).content) l
     (report_of (element_failed shape.kind) shape (Some e.name) e.lacking ∷ []))
     (same_recovered m shape.scope shape e)
     ∙ ap (λ (b : Bool). cond b (recovered_reports shape.scope shape e)
     (report_of (element_failed shape.kind) shape (Some e.name) e.lacking ∷ []))
-    (ap (λ (key : Option Element). is_readable (λ bytes. true) (cond (is_readable_key key) e.content (Bad None))) stands
+    (ap (λ (key : Option Element). is_readable_by (λ bytes. true) (cond (is_readable_key key) e.content (Bad None)))
+    stands
     ∙ readable_is e.content)
 
 all_reports : (m : Map) (shape : Shape) (es : List Entry) → AllByRecursion (Stands m) es
@@ -104,7 +106,7 @@ same_salvage : (salvage : List ℕ) (b : Bool) → cond b (Bad (Some salvage)) (
 same_salvage salvage true = refl
 same_salvage salvage false = refl
 
-same_judged : (c : Content) → judged_content is_encoding c ≡ keys.judged_content c
+same_judged : (c : Content) → judged_content is_encoding c ≡ keys.judged_key_content c
 same_judged (Good bytes) = refl
 same_judged (Bad None) = refl
 same_judged (Bad (Some salvage)) = same_salvage salvage (is_encoding salvage)
@@ -120,7 +122,7 @@ judged_synchronised v = each v.entries
 -- ---- mending
 
 key_in : Entry → List ℕ × Element
-key_in e = (e.name, keys.judged (keys.element_of e))
+key_in e = (e.name, keys.judged (keys.entry_element e))
 
 mended_key : (e : Entry) (c : Content) → key_in (mended_by c e) ≡ key_in e
 unfolding key_in

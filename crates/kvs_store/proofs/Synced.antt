@@ -20,24 +20,24 @@ use Rattle.element_state.specs.declared.shapes.View.{View}
 use Rattle.element_state.specs.Changes.{committed, committed_by}
 use Rattle.element_state.specs.Clean.{IsClean}
 use Rattle.element_state.specs.Conditions.{IsShape}
-use Rattle.element_state.specs.Kept.{KeptThroughout}
+use Rattle.element_state.specs.Kept.{KeptThroughout, KeptWhileMending}
 use Rattle.element_state.specs.Read.{IsView}
 use Rattle.element_state.specs.States.{State, Opens}
 use Rattle.element_state.specs.Written.{IsWithin, commit_cost, map_cost}
 use Rattle.element_laws.specs.Phases.{UntouchedLaw}
 use Rattle.element_maps.specs.Differences.{MakeInto}
-use Rattle.element_maps.specs.Laws.{CommittedLaw, CostLaw, HeldLaw, OthersLaw}
-use Rattle.element_maps.specs.Sessions.{IsHeld, IsNext, IsSync, IsWritable, Passes}
+use Rattle.element_maps.specs.Laws.{CommittedLaw, CostLaw, HeldLaw, UnchangedNamesLaw}
+use Rattle.element_maps.specs.Sessions.{IsHeldElement, IsNext, IsSync, IsWritable, PassesTest}
 use Rattle.element_maps.specs.Storages.{IsConfigured, IsDurable, IsStoring}
 use Rattle.element_store.specs.declared.store.Store.{Store}
 use Rattle.element_store.specs.Changing.{KeepsOthers}
 use Rattle.element_store.specs.Committing.{index_in, index_length}
 use Rattle.element_store.specs.Stores.{IsUsed, entries_of, shape_of, view_in}
-use Rattle.element_laws.specs.lemmas.Untouched.{none_around, none_kept}
+use Rattle.element_laws.specs.lemmas.Untouched.{kept_mending, none_around, none_kept}
 use Rattle.key_maps.specs.KeyElements.{Encodes, IsKey, is_encoding, is_readable}
 use Rattle.key_maps.specs.TwoMaps.{AreTwoMaps}
 use Rattle.kvs_core.specs.Sessions.{HasRoom}
-use Rattle.kvs_store.specs.Storages.{IsOpen, KvsSession, keys_in, session_of}
+use Rattle.kvs_store.specs.Storages.{IsOpen, KvsSession, keys_in, kvs_session}
 use Rattle.kvs_store.specs.Synced.{IsSynced, WritesAtMost, is_synced, marked_synced, synced_view}
 
 -- ---- where nothing is called
@@ -47,7 +47,7 @@ pub none_storing : UntouchedLaw → (told : Bool) (shape : Shape) (after : State
 none_storing untouched told shape after m is law = record {
   elsewhere = λ tells file spared. refl;
   outside = λ tells quiet. none_around told shape.place m law quiet;
-  any_moment = λ tells. none_kept untouched told shape after m is law;
+  any_moment = λ tells. kept_mending shape after m m (none_kept untouched told shape after m is law);
   time = elapses_none law;
 }
 
@@ -56,7 +56,7 @@ pub opened_storing : (told : Bool) (shape : Shape) (old new : Medium)
     → (IsTrue told → Spares (IsOutside shape.place) old.image new.image)
     → (IsTrue told → Quiet old → EachCase (IsSettledOn (IsOutside shape.place) old.image) old
     new)
-    → (IsTrue told → (after : State) → KeptThroughout shape after old new) → Elapses old new → (after : State)
+    → (IsTrue told → (after : State) → KeptWhileMending shape after old new) → Elapses old new → (after : State)
     → IsStoring told shape after old new
 opened_storing told shape old new elsewhere outside any_moment time after = record {
   elsewhere = elsewhere;
@@ -114,11 +114,11 @@ writable kind keys key bytes good is =
 
 held_as : (kind : StoreKind) → kind ≡ Keys → (synced : Option Element) (key : Element) (content : Content)
     → key.content ≡ content → IsKey key
-    → (is_readable content ≡ false → synced ≡ Some key) → IsHeld kind synced key content
+    → (is_readable content ≡ false → synced ≡ Some key) → IsHeldElement kind synced key content
 held_as kind keys synced key (Good bytes) p is unreadable = writable kind keys key bytes p is
 held_as kind keys synced key (Bad salvage) p is unreadable = unreadable refl
 
-module _ (kvs : KvsSession) (is : IsOpen kvs.store (session_of kvs))
+module _ (kvs : KvsSession) (is : IsOpen kvs.store (kvs_session kvs))
     (read : IsView (shape_of kvs.store) (view_in kvs.store)) (maps : AreTwoMaps kvs.session)
     (room : HasRoom kvs.config kvs.session) (changes : List Change)
     (made : MakeInto changes kvs.session.synced kvs.session.visible) where
@@ -136,7 +136,7 @@ module _ (kvs : KvsSession) (is : IsOpen kvs.store (session_of kvs))
       changes
   is_sync = record { read = read; held = is.synced; next = next_map; made = made }
 
-  visible_passes : Passes is_encoding kvs.session.visible
+  visible_passes : PassesTest is_encoding kvs.session.visible
   visible_passes name key bytes at good = (subst (λ (c : Content). Encodes c key.len) good
       (maps.visible.keys name key at).measured).0
 
@@ -148,7 +148,7 @@ module _ (kvs : KvsSession) (is : IsOpen kvs.store (session_of kvs))
   -- the storage after the commit keeps what always holds
   pub open_later : CommittedLaw → HeldLaw → (later : Store) → shape_of later ≡ shape_of kvs.store
       → view_in later ≡ committed_by (shape_of kvs.store) (view_in kvs.store) changes
-      → IsOpen later (record (session_of kvs) { synced = kvs.session.visible })
+      → IsOpen later (record (kvs_session kvs) { synced = kvs.session.visible })
   open_later law held later shape view = record {
     configured = subst (λ (s : Shape). IsConfigured Keys kvs.config s) (sym shape) is.configured;
     synced = sym (ap keys_in (view ∙ law (shape_of kvs.store) is_encoding (view_in kvs.store) kvs.session.synced
@@ -198,7 +198,7 @@ module _ (kvs : KvsSession) (changes : List Change) (sync : IsSync (shape_of kvs
       changes).entries)
       old.written new.written (costs cost) within)
 
-  pub commit_synced : CostLaw → OthersLaw → (told : Bool) (later : Store) (old new : Medium)
+  pub commit_synced : CostLaw → UnchangedNamesLaw → (told : Bool) (later : Store) (old new : Medium)
       → view_in later ≡ committed_by (shape_of kvs.store) (view_in kvs.store) changes
       → shape_of later ≡ shape_of kvs.store → IsUsed told new.image later
       → (IsTrue told → IsClean (shape_of kvs.store) old.image → IsClean (shape_of kvs.store) new.image) → Quiet new
@@ -236,7 +236,7 @@ module _ (kvs : KvsSession) (changes : List Change) (sync : IsSync (shape_of kvs
   commit_storing told old new elsewhere outside any_moment time = record {
     elsewhere = elsewhere;
     outside = outside;
-    any_moment = λ tells. subst (λ (v : View). KeptThroughout (shape_of kvs.store) (Opens v []) old new) view_then
-        (any_moment tells);
+    any_moment = λ tells. kept_mending (shape_of kvs.store) (Opens (synced_view kvs) []) old new
+        (subst (λ (v : View). KeptThroughout (shape_of kvs.store) (Opens v []) old new) view_then (any_moment tells));
     time = time;
   }

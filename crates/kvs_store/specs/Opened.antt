@@ -3,8 +3,8 @@ use Rattle.element_store.specs.Stores.{shape_of, view_in}
 use Rattle.element_maps.specs.Storages.{Opened}
 use Rattle.kvs_store.specs.declared.opening.OpenedKvs.{OpenedKvs}
 
-abbrev pub given : OpenedKvs → Opened
-given o = record {
+abbrev pub opened_as : OpenedKvs → Opened
+opened_as o = record {
   shape = shape_of o.kvs.store;
   view = view_in o.kvs.store;
   synced = o.kvs.session.synced;

@@ -19,8 +19,8 @@ pub record KvsSession : Type 0 where
   pub session : TwoMaps
 
 -- all but the storage below it
-abbrev pub session_of : KvsSession → Session
-session_of kvs = record { config = kvs.config; synced = kvs.session.synced; visible = kvs.session.visible }
+abbrev pub kvs_session : KvsSession → Session
+kvs_session kvs = record { config = kvs.config; synced = kvs.session.synced; visible = kvs.session.visible }
 
 -- the same, where the calls see this map
 abbrev pub showing : KvsSession → Map → KvsSession

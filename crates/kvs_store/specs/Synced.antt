@@ -23,7 +23,7 @@ marked_synced session = record session { synced = session.visible }
 
 -- the view after a sync: that of before where nothing differs
 abbrev pub synced_view : KvsSession → View
-synced_view kvs = maps.synced_view (shape_of kvs.store) (view_in kvs.store) kvs.session.synced kvs.session.visible
+synced_view kvs = maps.view_once_synced (shape_of kvs.store) (view_in kvs.store) kvs.session.synced kvs.session.visible
 
 -- in each copy at most the keys that differ, and the next index
 abbrev pub WritesAtMost : KvsSession → (old new : Medium) → Type 0

@@ -15,7 +15,7 @@ ghost use Rattle.element_store.specs.Opened.{LacksNothing, OpensBy};
 ghost use Rattle.element_store.specs.Stores.{IsUsed};
 ghost use Rattle.element_maps.specs.Storages.{IsConfigured, IsOpened, IsStoring};
 ghost use Rattle.key_maps.specs.KeyElements.{is_encoding};
-ghost use Rattle.kvs_store.specs.Opened.{given};
+ghost use Rattle.kvs_store.specs.Opened.{opened_as};
 
 use crate::judging::judged;
 use crate::storages::Kvs;
@@ -54,7 +54,7 @@ pub fn open_kvs<D: Disk>(
 
     // The storage in use, by the index that was found; what is synchronised is the keys that it shows, and nothing is
     // pending.
-    ensures opened { IfOk result (λ o. IsOpened D.told (D.medium disk.old).image shape is_encoding (given o)) }
+    ensures opened { IfOk result (λ o. IsOpened D.told (D.medium disk.old).image shape is_encoding (opened_as o)) }
     ensures adopted { IsTrue D.told → IfOk result (λ o. OpensBy (D.medium disk.old).image shape
         (index_in o.kvs.store)) }
     ensures session { IfOk result (λ o. o.kvs.session.visible ≡ o.kvs.session.synced) }

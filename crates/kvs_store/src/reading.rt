@@ -7,7 +7,7 @@ ghost use Rattle.value_model.specs.Validity.{IsValue};
 ghost use Rattle.value_model.specs.Views.{kind_of};
 ghost use Rattle.kvs_core.specs.Calls as calls;
 ghost use Rattle.kvs_core.specs.Refusals.{IsRefusal, IsTextRefusal, NeedsMemory};
-ghost use Rattle.kvs_store.specs.Storages.{session_of};
+ghost use Rattle.kvs_store.specs.Storages.{kvs_session};
 
 use crate::storages::Kvs;
 use per_base::{Name, PerError};
@@ -15,9 +15,9 @@ use per_value::PerValue;
 use value_model::{Value, ValueType};
 
 impl Kvs {
-    /// Whether this name is visible, readable or not. Takes no memory.
+    /// Whether this name is visible, readable or not. Does not allocate.
     pub fn key_exists(&self, name: &Name) -> bool
-        ensures { result ≡ has (session_of self.now).visible name.now }
+        ensures { result ≡ has (kvs_session self.now).visible name.now }
     {
         self.session.key_exists(name)
     }
@@ -28,15 +28,15 @@ impl Kvs {
     ///
     /// `OutOfMemory` alone.
     pub fn all_keys(&self) -> Result<Vec<Name>, PerError>
-        ensures names { IfOk result (λ names. names.items ≡ names_of (session_of self.now).visible) }
+        ensures names { IfOk result (λ names. names.items ≡ names_of (kvs_session self.now).visible) }
         ensures memory { IfErr result (λ error. error ≡ PerError.OutOfMemory) }
     {
         self.session.all_keys()
     }
 
-    /// The size of what is visible in bytes: names and encodings, readable or not. Takes no memory.
+    /// The size of what is visible in bytes: names and encodings, readable or not. Does not allocate.
     pub fn current_size(&self) -> u64
-        ensures { result ≡ size_of (session_of self.now).visible }
+        ensures { result ≡ size_of (kvs_session self.now).visible }
     {
         self.session.current_size()
     }
@@ -48,13 +48,13 @@ impl Kvs {
     /// `KeyNotFound` where it is not visible; `IntegrityCorrupted` where it is unreadable; `OutOfMemory`.
     pub fn get_any(&self, name: &Name) -> Result<&Value, PerError>
         ensures ok { IfOk result (λ value.
-            calls.get_any (session_of self.now).config (session_of self.now).visible name.now ≡ Ok value.now) }
+            calls.get_any (kvs_session self.now).config (kvs_session self.now).visible name.now ≡ Ok value.now) }
         ensures valid { IfOk result (λ value. IsValue value.now) }
         ensures refused { IfErr result (λ error.
-            IsRefusal (calls.get_any (session_of self.now).config (session_of self.now).visible name.now) error) }
+            IsRefusal (calls.get_any (kvs_session self.now).config (kvs_session self.now).visible name.now) error) }
         // A value is not allocated, nor is the answer that there is none.
         ensures memory { IfErr result (λ error. error ≡ PerError.OutOfMemory
-            → IsTextRefusal (calls.get_any (session_of self.now).config (session_of self.now).visible name.now)) }
+            → IsTextRefusal (calls.get_any (kvs_session self.now).config (kvs_session self.now).visible name.now)) }
     {
         self.session.get_any(name)
     }
@@ -68,14 +68,14 @@ impl Kvs {
     pub fn get_as(&self, name: &Name, asked: &ValueType) -> Result<&Value, PerError>
         requires { IsTrue (kind_fits (kind_of asked.now)) }
         ensures ok { IfOk result (λ value.
-            calls.get_as (session_of self.now).config (session_of self.now).visible name.now (kind_of asked.now)
+            calls.get_as (kvs_session self.now).config (kvs_session self.now).visible name.now (kind_of asked.now)
             ≡ Ok value.now) }
         ensures valid { IfOk result (λ value. IsValue value.now) }
         ensures refused { IfErr result (λ error.
-            IsRefusal (calls.get_as (session_of self.now).config (session_of self.now).visible name.now
+            IsRefusal (calls.get_as (kvs_session self.now).config (kvs_session self.now).visible name.now
             (kind_of asked.now)) error) }
         ensures memory { IfErr result (λ error. error ≡ PerError.OutOfMemory
-            → IsTextRefusal (calls.get_as (session_of self.now).config (session_of self.now).visible name.now
+            → IsTextRefusal (calls.get_as (kvs_session self.now).config (kvs_session self.now).visible name.now
             (kind_of asked.now))) }
     {
         self.session.get_as(name, asked)
@@ -88,12 +88,13 @@ impl Kvs {
     /// Those of `get_any`; `DataTypeMismatch` with the stored and the asked type where they differ; `OutOfMemory`.
     pub fn get_value<T: PerValue>(&self, name: &Name) -> Result<T, PerError>
         ensures ok { IfOk result (λ thing.
-            calls.get_as (session_of self.now).config (session_of self.now).visible name.now T.kind
+            calls.get_as (kvs_session self.now).config (kvs_session self.now).visible name.now T.kind
             ≡ Ok (T.tree thing)) }
         ensures refused { IfErr result (λ error.
-            IsRefusal (calls.get_as (session_of self.now).config (session_of self.now).visible name.now T.kind) error) }
+            IsRefusal (calls.get_as (kvs_session self.now).config (kvs_session self.now).visible name.now T.kind)
+            error) }
         ensures memory { IfErr result (λ error. error ≡ PerError.OutOfMemory
-            → NeedsMemory (calls.get_as (session_of self.now).config (session_of self.now).visible name.now T.kind)) }
+            → NeedsMemory (calls.get_as (kvs_session self.now).config (kvs_session self.now).visible name.now T.kind)) }
     {
         self.session.get_value(name)
     }

@@ -32,7 +32,7 @@ pub enum SyncFault {
 impl Kvs {
     /// Makes what the calls see the content of the storage, all at once: a stop at any moment leaves the storage of
     /// before or that of after. Only the keys that differ are written, and where none does, the disk is not called and
-    /// no memory is taken.
+    /// nothing is allocated.
     ///
     /// # Errors
     ///
@@ -89,7 +89,7 @@ impl Kvs {
         }
     }
 
-    // Whether what the calls see is what is synchronised. Takes no memory.
+    // Whether what the calls see is what is synchronised. Does not allocate.
     fn is_synced(&self) -> bool
         ensures { result ≡ is_synced self.now }
     {

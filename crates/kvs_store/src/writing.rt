@@ -8,7 +8,7 @@ ghost use Rattle.per_value.specs.Memory.{TakesMemory};
 ghost use Rattle.deployment_model.specs.Lookups.{initial_of};
 ghost use Rattle.kvs_core.specs.Calls as calls;
 ghost use Rattle.kvs_core.specs.Refusals.{IsRefusal, NeedsMemory};
-ghost use Rattle.kvs_store.specs.Storages.{session_of, showing};
+ghost use Rattle.kvs_store.specs.Storages.{kvs_session, showing};
 
 use crate::storages::Kvs;
 use per_base::{Name, PerError};
@@ -25,15 +25,16 @@ impl Kvs {
     /// `Elements` where the name is not visible and 1,024 are; `OutOfStorageSpace` where the visible size would exceed
     /// the maximum, with both numbers; `OutOfMemory`.
     pub fn set_any(&mut self, name: &Name, value: Value) -> Result<(), PerError>
-        ensures ok { OnOk result (calls.set_any (session_of self.old).config (session_of self.old).visible name.now
-            value ≡ Ok (session_of self.new).visible) }
+        ensures ok { OnOk result (calls.set_any (kvs_session self.old).config (kvs_session self.old).visible name.now
+            value ≡ Ok (kvs_session self.new).visible) }
         ensures refused { IfErr result (λ error.
-            IsRefusal (calls.set_any (session_of self.old).config (session_of self.old).visible name.now value) error) }
+            IsRefusal (calls.set_any (kvs_session self.old).config (kvs_session self.old).visible name.now value)
+            error) }
         // `OutOfMemory` replaces `OutOfStorageSpace` alone.
         ensures memory { IfErr result (λ error. error ≡ PerError.OutOfMemory
-            → NeedsMemory (calls.takes_any (session_of self.old).config (session_of self.old).visible name.now
+            → NeedsMemory (calls.takes_any (kvs_session self.old).config (kvs_session self.old).visible name.now
             (type_of value))) }
-        ensures beside { self.new ≡ showing self.old (session_of self.new).visible }
+        ensures beside { self.new ≡ showing self.old (kvs_session self.new).visible }
         ensures unchanged { OnErr result (self.new ≡ self.old) }
     {
         self.session.set_any(name, value)
@@ -45,48 +46,48 @@ impl Kvs {
     ///
     /// `LimitReached` with `ValueDepth` or `ValueBytes` where the value is too deep or too long; then as `set_any`.
     pub fn set_value<T: PerValue>(&mut self, name: &Name, value: &T) -> Result<(), PerError>
-        ensures ok { OnOk result (calls.set_value (session_of self.old).config (session_of self.old).visible name.now
-            (T.tree value.now) ≡ Ok (session_of self.new).visible) }
+        ensures ok { OnOk result (calls.set_value (kvs_session self.old).config (kvs_session self.old).visible name.now
+            (T.tree value.now) ≡ Ok (kvs_session self.new).visible) }
         ensures refused { IfErr result (λ error.
-            IsRefusal (calls.set_value (session_of self.old).config (session_of self.old).visible name.now
+            IsRefusal (calls.set_value (kvs_session self.old).config (kvs_session self.old).visible name.now
             (T.tree value.now)) error) }
         // `OutOfMemory` replaces `OutOfStorageSpace` alone, but where the value itself is allocated, which comes first.
         ensures memory { IfErr result (λ error. error ≡ PerError.OutOfMemory → TakesMemory T.kind
-            ⊎ NeedsMemory (calls.takes_any (session_of self.old).config (session_of self.old).visible name.now
+            ⊎ NeedsMemory (calls.takes_any (kvs_session self.old).config (kvs_session self.old).visible name.now
             (type_of (T.tree value.now)))) }
-        ensures beside { self.new ≡ showing self.old (session_of self.new).visible }
+        ensures beside { self.new ≡ showing self.old (kvs_session self.new).visible }
         ensures unchanged { OnErr result (self.new ≡ self.old) }
     {
         self.session.set_value(name, value)
     }
 
-    /// Makes nothing visible under a name. Takes no memory.
+    /// Makes nothing visible under a name. Does not allocate.
     ///
     /// # Errors
     ///
     /// `IllegalWriteAccess` where the storage is read-only; `KeyNotFound` where the name is not visible.
     pub fn remove_key(&mut self, name: &Name) -> Result<(), PerError>
-        ensures ok { OnOk result (calls.remove_key (session_of self.old).config (session_of self.old).visible name.now
-            ≡ Ok (session_of self.new).visible) }
-        ensures refused { IfErr result (λ error. calls.remove_key (session_of self.old).config
-            (session_of self.old).visible name.now ≡ Err error) }
-        ensures beside { self.new ≡ showing self.old (session_of self.new).visible }
+        ensures ok { OnOk result (calls.remove_key (kvs_session self.old).config (kvs_session self.old).visible name.now
+            ≡ Ok (kvs_session self.new).visible) }
+        ensures refused { IfErr result (λ error. calls.remove_key (kvs_session self.old).config
+            (kvs_session self.old).visible name.now ≡ Err error) }
+        ensures beside { self.new ≡ showing self.old (kvs_session self.new).visible }
         ensures unchanged { OnErr result (self.new ≡ self.old) }
     {
         self.session.remove_key(name)
     }
 
-    /// Makes nothing visible at all. Takes no memory.
+    /// Makes nothing visible at all. Does not allocate.
     ///
     /// # Errors
     ///
     /// `IllegalWriteAccess` where the storage is read-only.
     pub fn remove_all_keys(&mut self) -> Result<(), PerError>
-        ensures ok { OnOk result (calls.remove_all_keys (session_of self.old).config (session_of self.old).visible
-            ≡ Ok (session_of self.new).visible) }
-        ensures refused { IfErr result (λ error. calls.remove_all_keys (session_of self.old).config
-            (session_of self.old).visible ≡ Err error) }
-        ensures beside { self.new ≡ showing self.old (session_of self.new).visible }
+        ensures ok { OnOk result (calls.remove_all_keys (kvs_session self.old).config (kvs_session self.old).visible
+            ≡ Ok (kvs_session self.new).visible) }
+        ensures refused { IfErr result (λ error. calls.remove_all_keys (kvs_session self.old).config
+            (kvs_session self.old).visible ≡ Err error) }
+        ensures beside { self.new ≡ showing self.old (kvs_session self.new).visible }
         ensures unchanged { OnErr result (self.new ≡ self.old) }
     {
         self.session.remove_all_keys()
@@ -99,17 +100,18 @@ impl Kvs {
     /// `IllegalWriteAccess` where the storage is read-only; `KeyNotFound` where the name is not visible;
     /// `OutOfStorageSpace` where the initial value does not fit; `OutOfMemory`.
     pub fn recover_key(&mut self, name: &Name) -> Result<(), PerError>
-        ensures ok { OnOk result (calls.recover_key (session_of self.old).config (session_of self.old).visible name.now
-            ≡ Ok (session_of self.new).visible) }
+        ensures ok { OnOk result (calls.recover_key (kvs_session self.old).config
+            (kvs_session self.old).visible name.now
+            ≡ Ok (kvs_session self.new).visible) }
         ensures refused { IfErr result (λ error.
-            IsRefusal (calls.recover_key (session_of self.old).config (session_of self.old).visible name.now) error) }
+            IsRefusal (calls.recover_key (kvs_session self.old).config (kvs_session self.old).visible name.now) error) }
         // `OutOfMemory` never replaces a refusal; it comes only where a salvage or an initial value is taken.
         ensures memory { IfErr result (λ error. error ≡ PerError.OutOfMemory
-            → NeedsMemory (calls.recover_key (session_of self.old).config (session_of self.old).visible name.now)) }
+            → NeedsMemory (calls.recover_key (kvs_session self.old).config (kvs_session self.old).visible name.now)) }
         ensures copies { IfErr result (λ error. error ≡ PerError.OutOfMemory → (key : Element)
-            → element_at (session_of self.old).visible name.now ≡ Some key
-            → calls.TakesCopy (initial_of (session_of self.old).config name.now) key.content) }
-        ensures beside { self.new ≡ showing self.old (session_of self.new).visible }
+            → element_at (kvs_session self.old).visible name.now ≡ Some key
+            → calls.TakesCopy (initial_of (kvs_session self.old).config name.now) key.content) }
+        ensures beside { self.new ≡ showing self.old (kvs_session self.new).visible }
         ensures unchanged { OnErr result (self.new ≡ self.old) }
     {
         self.session.recover_key(name)
@@ -122,22 +124,22 @@ impl Kvs {
     /// `IllegalWriteAccess` where the storage is read-only; `InitValueNotAvailable` where there is no initial value;
     /// `LimitReached` with `Elements`; `OutOfStorageSpace`; `OutOfMemory`.
     pub fn reset_key(&mut self, name: &Name) -> Result<(), PerError>
-        ensures ok { OnOk result (calls.reset_key (session_of self.old).config (session_of self.old).visible name.now
-            ≡ Ok (session_of self.new).visible) }
+        ensures ok { OnOk result (calls.reset_key (kvs_session self.old).config (kvs_session self.old).visible name.now
+            ≡ Ok (kvs_session self.new).visible) }
         ensures refused { IfErr result (λ error.
-            IsRefusal (calls.reset_key (session_of self.old).config (session_of self.old).visible name.now) error) }
+            IsRefusal (calls.reset_key (kvs_session self.old).config (kvs_session self.old).visible name.now) error) }
         // `OutOfMemory` never replaces a refusal.
         ensures memory { IfErr result (λ error. error ≡ PerError.OutOfMemory
-            → NeedsMemory (calls.reset_key (session_of self.old).config (session_of self.old).visible name.now)) }
-        ensures beside { self.new ≡ showing self.old (session_of self.new).visible }
+            → NeedsMemory (calls.reset_key (kvs_session self.old).config (kvs_session self.old).visible name.now)) }
+        ensures beside { self.new ≡ showing self.old (kvs_session self.new).visible }
         ensures unchanged { OnErr result (self.new ≡ self.old) }
     {
         self.session.reset_key(name)
     }
 
-    /// Makes visible what is synchronised: the pending changes are gone. Takes no memory.
+    /// Makes visible what is synchronised: the pending changes are gone. Does not allocate.
     pub fn discard_pending_changes(&mut self)
-        ensures discarded { self.new ≡ showing self.old (session_of self.old).synced }
+        ensures discarded { self.new ≡ showing self.old (kvs_session self.old).synced }
     {
         self.session.discard_pending_changes();
     }

@@ -17,7 +17,7 @@ use Rattle.std.proofs.lemmas.Map.Keys.{IsDistinct-cons, IsDistinct-from_sorted, 
 use Rattle.std.proofs.lemmas.Map.Made.{IsDistinct-from_count, distinct_count-from_IsDistinct, length-from_keys}
 use Rattle.std.proofs.lemmas.Map.Text.{is_eq-slice_cmp}
 use Rattle.per_base.specs.Names.{name_cmp}
-use Rattle.manifest.specs.Parts.{Listed, Named, name_in, named, with_named}
+use Rattle.manifest.specs.Parts.{Listed, NamedParts, name_in, named, with_named}
 use Rattle.manifest.specs.Rules.{all_differ, names_differ}
 use Rattle.manifest.proofs.ByName.{Entry, equal_names, keys_sorted}
 
@@ -47,7 +47,7 @@ or_nothing : (b : Bool) → b ≡ (b || false)
 or_nothing true = refl
 or_nothing false = refl
 
-any_at : (o : Ordering) (q k : List ℕ) (v : Listed) (e : Entry) (es more : Named) → name_cmp k e.0 ≡ o
+any_at : (o : Ordering) (q k : List ℕ) (v : Listed) (e : Entry) (es more : NamedParts) → name_cmp k e.0 ≡ o
     → list_any (same q) (keys_of more) ≡ (same q k || list_any (same q) (keys_of es))
     → list_any (same q) (keys_of (match_ordering o ((k, v) ∷ e ∷ es) ((e.0, v) ∷ es) (e ∷ more)))
     ≡ (same q k || list_any (same q) (keys_of (e ∷ es)))
@@ -59,12 +59,12 @@ any_at Equal q k v e es more is rest =
 any_at Greater q k v e es more is rest = ap (λ b. same q e.0 || b) rest
     ∙ swapped (same q e.0) (same q k) (list_any (same q) (keys_of es))
 
-any_inserted : (q k : List ℕ) (v : Listed) (es : Named)
+any_inserted : (q k : List ℕ) (v : Listed) (es : NamedParts)
     → list_any (same q) (keys_of (insert_entry name_cmp es k v)) ≡ (same q k || list_any (same q) (keys_of es))
 any_inserted q k v [] = refl
 any_inserted q k v (e ∷ es) = any_at (name_cmp k e.0) q k v e es _ refl (any_inserted q k v es)
 
-any_from : (q : List ℕ) (ls : List Listed) (m : Named)
+any_from : (q : List ℕ) (ls : List Listed) (m : NamedParts)
     → list_any (same q) (keys_of (fold with_named m ls))
     ≡ (list_any (same q) (keys_of m) || list_any (same q) (names ls))
 any_from q [] m = or_nothing (list_any (same q) (keys_of m))
@@ -76,7 +76,7 @@ any_named : (q : List ℕ) (ls : List Listed) → list_any (same q) (keys_of (na
 unfolding named
 any_named q ls = any_from q ls []
 
-length-keys : (m : Named) → length (keys_of m) ≡ length m
+length-keys : (m : NamedParts) → length (keys_of m) ≡ length m
 length-keys [] = refl
 length-keys (e ∷ m) = ap suc (length-keys m)
 

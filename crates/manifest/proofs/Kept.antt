@@ -22,11 +22,11 @@ use Rattle.value_text.specs.Texts.{type_text}
 use Rattle.value_text.specs.lemmas.Public.{same_type, value_in_takes}
 use Rattle.deployment_model.specs.declared.configs.Deployment.{Deployment}
 use Rattle.manifest.specs.declared.errors.ManifestError.{ManifestError}
-use Rattle.manifest.specs.Reading.{Judges, Refuses, broken_in, broken_rule, deployment_in, said_in, value_of}
+use Rattle.manifest.specs.Reading.{Judges, RefusesManifest, broken_in, broken_rule, deployment_in, said_in, value_of}
 use Rattle.deployment_model.specs.Data.{deployment_data, ElementData, StorageData, DeploymentData}
 use Rattle.deployment_model.specs.Conditions.{HasTypeFor, IsEncodingOf, IsInitial, StartsAs, IsElement, IsStorage}
 use Rattle.deployment_model.specs.Conditions.{IsDeployment, initial_size as start_of, overwrites}
-use Rattle.manifest.specs.Values.{is_within, may_be, whole_in}
+use Rattle.manifest.specs.Values.{is_in_range, may_be, whole_in}
 use Rattle.manifest.specs.Parts.{Listed, storages, elements, all_elements, name_in, maximum_in, redundancy_in}
 use Rattle.manifest.specs.Parts.{agreeing_in, copies_in, version_in, strategy_in, type_in, type_for, encoding_as}
 use Rattle.manifest.specs.Parts.{key_bytes, file_bytes, if_short, is_lower_digit, ok_of, bytes_said, initial_in}
@@ -71,7 +71,7 @@ parts_all : {A B : Type 0} (P : B → Type 0) (f : A → List B) (xs : List A) �
 parts_all P f [] all = tt
 parts_all P f (x ∷ xs) all = let both = front_all P (f x) (flat_map f xs) all in (both.0, parts_all P f xs both.1)
 
-within_range : (low high default : ℕ) (o : Option ℕ) → is_within low high o ≡ true
+within_range : (low high default : ℕ) (o : Option ℕ) → is_in_range low high o ≡ true
     → (low ≤ unwrap_or o default) × (unwrap_or o default ≤ high)
 within_range low high default None h = absurd cc
 within_range low high default (Some n) h = let both = and_parts _ _ h in (leb-true _ _ both.0, leb-true _ _ both.1)
@@ -382,7 +382,8 @@ keeps_read text (Ok d) judged said = read_kept (value_of text) (nat_le (length t
     said
 keeps_read text (Err e) judged said = tt
 
-pub rejected_of : (r : Result Deployment ManifestError) (broken : Option ℕ) → Judges r broken → IfErr r (Refuses broken)
+pub rejected_of : (r : Result Deployment ManifestError) (broken : Option ℕ) → Judges r broken
+    → IfErr r (RefusesManifest broken)
 rejected_of (Ok d) broken judged = tt
 rejected_of (Err e) broken judged = judged
 

@@ -9,7 +9,7 @@ use Rattle.std.specs.declared.cmp.Ordering.TheVariants.{Less, Equal, Greater}
 use denote.Ref.{Bor}
 use Rattle.serde_json.specs.View.{view}
 use Rattle.manifest.specs.Parts.{name_in}
-use Rattle.manifest.specs.Parts.{Named, with_named}
+use Rattle.manifest.specs.Parts.{NamedParts, with_named}
 use Rattle.per_base.specs.Names.{name_cmp}
 use Rattle.manifest.specs.declared.parts.Listed.{Listed as Part}
 use Rattle.manifest.specs.Views.{listed_view, listed_views, named_views}
@@ -36,7 +36,7 @@ values_viewed [] = refl
 values_viewed (e ∷ es) = ap (λ ls. listed_view e.1 ∷ ls) (values_viewed es)
 
 -- one more thing is taken into the map
-pub named_more : (things : List Part) (i : ℕ) (x : Part) (old new : Parts) (key : Bor (List ℕ)) (whole : Named)
+pub named_more : (things : List Part) (i : ℕ) (x : Part) (old new : Parts) (key : Bor (List ℕ)) (whole : NamedParts)
     → x ≡ get_or things i x → i < length things → key.now ≡ name_in (view x.value.now)
     → new ≡ insert_entry text_cmp old key x
     → fold with_named (named_views old) (listed_views (drop i things)) ≡ whole

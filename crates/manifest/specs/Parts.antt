@@ -28,20 +28,20 @@ use Rattle.manifest.specs.Values.{small_in, text_in, things_in, whole_in}
 abbrev pub Listed : Type 0
 Listed = StoreKind × Data
 
-abbrev pub of_kind : StoreKind → List Data → List Listed
-of_kind kind things = map (λ d. (kind, d)) things
+abbrev pub things_of_kind : StoreKind → List Data → List Listed
+things_of_kind kind things = map (λ d. (kind, d)) things
 
 -- the storages of keys, and then those of files
 unfoldable pub storages : Data → List Listed
-storages d = of_kind Keys (things_in (get (codes "keyValueStorages") d))
-    ++ of_kind Files (things_in (get (codes "fileStorages") d))
+storages d = things_of_kind Keys (things_in (get (codes "keyValueStorages") d))
+    ++ things_of_kind Files (things_in (get (codes "fileStorages") d))
 
 abbrev pub elements_word : StoreKind → List ℕ
 elements_word Keys = codes "keyValuePairs"
 elements_word Files = codes "files"
 
 unfoldable pub elements : Listed → List Listed
-elements s = of_kind s.0 (things_in (get (elements_word s.0) s.1))
+elements s = things_of_kind s.0 (things_in (get (elements_word s.0) s.1))
 
 abbrev pub all_elements : List Listed → List Listed
 all_elements ss = flat_map elements ss
@@ -51,13 +51,13 @@ unfoldable pub name_in : Data → List ℕ
 name_in d = unwrap_or (text_in (get (codes "name") d)) []
 
 -- things by their names, in the order of the names
-abbrev pub Named : Type 0
-Named = List (List ℕ × Listed)
+abbrev pub NamedParts : Type 0
+NamedParts = List (List ℕ × Listed)
 
-abbrev pub with_named : Named → Listed → Named
+abbrev pub with_named : NamedParts → Listed → NamedParts
 with_named found l = insert_entry name_cmp found (name_in l.1) l
 
-unfoldable pub named : List Listed → Named
+unfoldable pub named : List Listed → NamedParts
 named ls = fold with_named [] ls
 
 abbrev pub by_name : List Listed → List Listed

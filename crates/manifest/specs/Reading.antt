@@ -47,17 +47,17 @@ unfoldable pub deployment_in : List ℕ → Option DeploymentData
 deployment_in text = said_in (value_of text) (broken_rule text)
 
 -- what an error says of the first violated rule: OutOfMemory says nothing
-abbrev pub Refuses : Option ℕ → ManifestError → Type 0
-Refuses broken (Rejected rule) = broken ≡ Some rule
-Refuses broken OutOfMemory = ⊤
+abbrev pub RefusesManifest : Option ℕ → ManifestError → Type 0
+RefusesManifest broken (Rejected rule) = broken ≡ Some rule
+RefusesManifest broken OutOfMemory = ⊤
 
 -- a check of rules passed where none is broken
 abbrev pub Judges : {A : Type 0} → Result A ManifestError → Option ℕ → Type 0
 Judges (Ok a) broken = broken ≡ None
-Judges (Err e) broken = Refuses broken e
+Judges (Err e) broken = RefusesManifest broken e
 
 -- what reading a text as a value gave
-abbrev pub Reads : Result Value ManifestError → Option Data → Type 0
-Reads (Ok v) said = said ≡ Some (view v)
-Reads (Err (Rejected rule)) said = (rule ≡ 2) × (said ≡ None)
-Reads (Err OutOfMemory) said = ⊤
+abbrev pub ReadsValue : Result Value ManifestError → Option Data → Type 0
+ReadsValue (Ok v) said = said ≡ Some (view v)
+ReadsValue (Err (Rejected rule)) said = (rule ≡ 2) × (said ≡ None)
+ReadsValue (Err OutOfMemory) said = ⊤

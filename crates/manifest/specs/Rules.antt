@@ -1,4 +1,4 @@
--- The rules that a manifest keeps, each a test that passes where the rule is kept, and the least that is broken.
+-- The rules that a manifest keeps, each a test that passes where the rule is kept, and the first violated one.
 use Rattle.std.specs.Prelude.{ℕ, List, [], ◌∷◌, length, map, codes, sum_by, Bool, true, false, ◌&&◌, ◌||◌, not, nat_le}
 use Rattle.std.specs.Prelude.{Option, None, Some, option_and_then, is_none, is_some, if◌then◌else◌}
 use Rattle.std.specs.List.{list_all, list_any}
@@ -9,7 +9,7 @@ use Rattle.per_base.specs.declared.elements.StoreKind.{StoreKind}
 use Rattle.per_base.specs.declared.elements.StoreKind.TheVariants.{Keys, Files}
 use Rattle.per_base.specs.Names.{is_name}
 use Rattle.deployment_model.specs.Conditions.{overwrites, start_size}
-use Rattle.manifest.specs.Values.{has_only, is_list_of_objects, is_object, is_within, may_be, whole_in}
+use Rattle.manifest.specs.Values.{has_only, is_in_range, is_list_of_objects, is_object, may_be, whole_in}
 use Rattle.manifest.specs.Parts.{Listed, storages, elements, elements_word, all_elements, name_in, minimum_in}
 use Rattle.manifest.specs.Parts.{maximum_in, collection_said, scope_said, strategy_said, redundancy_in, agreeing_in}
 use Rattle.manifest.specs.Parts.{copies_in, version_in, strategy_in, type_in, initial_in}
@@ -20,7 +20,7 @@ unfoldable pub is_an_object : Data → Bool
 is_an_object d = is_object d
 
 unfoldable pub has_version : Data → Bool
-has_version d = is_within 1 4294967295 (version_in d)
+has_version d = is_in_range 1 4294967295 (version_in d)
 
 unfoldable pub lists_storages : Data → Bool
 lists_storages d = may_be is_list_of_objects (get (codes "keyValueStorages") d)
@@ -59,7 +59,7 @@ unfoldable pub names_differ : List Listed → Bool
 names_differ ls = all_differ (map (λ (l : Listed). name_in l.1) ls)
 
 abbrev pub has_size : ℕ → Data → Bool
-has_size least d = is_within least 4194304 (whole_in (Some d))
+has_size least d = is_in_range least 4194304 (whole_in (Some d))
 
 unfoldable pub has_sizes : Listed → Bool
 has_sizes s = may_be (has_size 0) (get (codes "minimumSustainedSize") s.1)

@@ -38,9 +38,9 @@ if_small n = if nat_le n 4294967295 then Some n else None
 abbrev pub small_in : Option Data → Option ℕ
 small_in d = option_and_then if_small (whole_in d)
 
-abbrev pub is_within : ℕ → ℕ → Option ℕ → Bool
-is_within low high None = false
-is_within low high (Some n) = nat_le low n && nat_le n high
+abbrev pub is_in_range : ℕ → ℕ → Option ℕ → Bool
+is_in_range low high None = false
+is_in_range low high (Some n) = nat_le low n && nat_le n high
 
 -- a member that may be missing passes the test where it is there
 abbrev pub may_be : (Data → Bool) → Option Data → Bool

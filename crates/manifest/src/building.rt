@@ -73,7 +73,7 @@ fn storage_said(alloc: Global, storage: Listed<'_>) -> Result<StorageConfig, All
     })
 }
 
-/// The name with this text. Where the rules are kept every name is in the grammar, and only memory can be wanting.
+/// The name with this text. Where the rules are kept every name is in the grammar, and only memory can run out.
 fn checked_name(alloc: Global, text: &str) -> Result<Name, AllocError>
     ensures { IfOk result (λ name. name ≡ text.now) }
 {

@@ -5,7 +5,7 @@ ghost use Rattle.serde_json.specs.View.{view};
 ghost use Rattle.value_model.specs.Views.{kind_of};
 ghost use Rattle.per_base.specs.declared.elements.StoreKind.TheVariants.{Files, Keys};
 ghost use Rattle.manifest.specs.Parts.{agreeing_in, all_elements, collection_in, collection_said, copies_in, elements};
-ghost use Rattle.manifest.specs.Parts.{elements_word, maximum_in, minimum_in, name_in, of_kind, read_only_in};
+ghost use Rattle.manifest.specs.Parts.{elements_word, maximum_in, minimum_in, name_in, read_only_in, things_of_kind};
 ghost use Rattle.manifest.specs.Parts.{redundancy_in, scope_in, scope_said, storages, strategy_in, strategy_said};
 ghost use Rattle.manifest.specs.Parts.{type_in, version_in};
 ghost use Rattle.manifest.specs.Views.{listed_view, listed_views};
@@ -79,7 +79,7 @@ fn push_listed<'a>(
     found: &mut Vec<Listed<'a>>,
 ) -> Result<(), AllocError>
     ensures { IfOk result (λ _. listed_views found.new.items
-        ≡ listed_views found.old.items ++ of_kind kind (map view things.now)) }
+        ≡ listed_views found.old.items ++ things_of_kind kind (map view things.now)) }
 {
     for value in things {
         found.push(Listed { kind, value })?;
@@ -100,7 +100,7 @@ pub(crate) fn elements_word(kind: StoreKind) -> &'static str
 /// What is listed as the elements of a storage.
 #[tactic(auto, unfolding(crate::specs::Parts::elements))]
 pub(crate) fn element_list(storage: Listed<'_>) -> &[Value]
-    ensures { of_kind storage.entry.kind (map view result.now) ≡ elements (listed_view storage.entry) }
+    ensures { things_of_kind storage.entry.kind (map view result.now) ≡ elements (listed_view storage.entry) }
 {
     things(storage.value, elements_word(storage.kind))
 }

@@ -5,7 +5,8 @@ ghost use Rattle.serde_json.specs.View.{view};
 ghost use Rattle.deployment_model.specs.Conditions.{IsDeployment};
 ghost use Rattle.deployment_model.specs.Data.{deployment_data};
 ghost use Rattle.manifest.specs.Contents.{deployment_said};
-ghost use Rattle.manifest.specs.Reading.{Judges, Reads, Refuses, broken_rule, deployment_in, is_short, value_of};
+ghost use Rattle.manifest.specs.Reading.{Judges, ReadsValue, RefusesManifest, broken_rule, deployment_in, is_short};
+ghost use Rattle.manifest.specs.Reading.{value_of};
 ghost use Rattle.manifest.specs.Rules.{least_broken};
 
 use crate::building::deployment_said;
@@ -28,7 +29,7 @@ const MAX_BYTES: usize = 65_536;
 /// `Rejected` with the least rule that the text breaks, exactly where it breaks one; `OutOfMemory`.
 pub fn read_manifest(alloc: Global, bytes: &[u8]) -> Result<Deployment, ManifestError>
     // the text decides: which rule is the first violated, and which deployment it says where none is
-    ensures rejected { IfErr result (Refuses (broken_rule bytes.now)) }
+    ensures rejected { IfErr result (RefusesManifest (broken_rule bytes.now)) }
     ensures accepted { OnOk result (broken_rule bytes.now ≡ None) }
     ensures read { IfOk result (λ d. deployment_in bytes.now ≡ Some (deployment_data d)) }
     ensures unsaid { IfErr result (λ e. e ≢ ManifestError.OutOfMemory → deployment_in bytes.now ≡ None) }
@@ -61,7 +62,7 @@ fn is_short(bytes: &[u8]) -> bool
 /// Rule 2: the text is read as a value, which is this one.
 #[tactic(auto, unfolding(crate::specs::Reading::value_of))]
 fn value_of(alloc: Global, bytes: &[u8]) -> Result<Value, ManifestError>
-    ensures { Reads result (value_of bytes.now) }
+    ensures { ReadsValue result (value_of bytes.now) }
 {
     match Value::from_slice(alloc, bytes) {
         Ok(value) => Ok(value),

@@ -3,7 +3,7 @@
 //! | row | what is printed |
 //! |---|---|
 //! | `rule MANIFEST` | the least rule that is broken, and 0 where none is |
-//! | `fronts MANIFEST` | the same of each proper front of the manifest, from the empty one on |
+//! | `fronts MANIFEST` | the same of each proper prefix of the manifest, from the empty one on |
 //! | `read MANIFEST` | the deployment |
 //! | `copy MANIFEST` | a copy of the deployment |
 //! | `storage NAME MANIFEST` | the number of the storage of this name, and the storage |

@@ -11,7 +11,7 @@ pub(crate) fn rule(alloc: Global, row: &str) -> Result<String, RowError> {
     Ok(format!(in alloc; "{rule}")?)
 }
 
-/// The same of each of its proper fronts.
+/// The same of each of its proper prefixes.
 pub(crate) fn fronts(alloc: Global, row: &str) -> Result<String, RowError> {
     let text = spelled_bytes(alloc, row)?;
     let bytes = text.as_slice();

@@ -5,7 +5,8 @@ use Rattle.std.specs.Prelude.{◌⊎◌, ◌&&◌, nat_le, slice_get, option_map
 use Rattle.std.proofs.lemmas.Bool.{eq-eqb, le-leb, leb-true, lt-ltb}
 use Rattle.std.proofs.lemmas.Option.{slice_get_past}
 use Rattle.value_model.specs.Kinds.{Kind}
-use Rattle.migrate_fns.specs.Chains.{usable, linked, fitting, list_less, IsFound, or_later, with_place, first_link}
+use Rattle.migrate_fns.specs.Chains.{usable, linked, fitting, list_less, IsShortestChain, or_later, with_link}
+use Rattle.migrate_fns.specs.Chains.{first_link}
 use Rattle.migrate_fns.specs.Chains.{if_same, links, shortest, chain_of}
 use Rattle.migrate_fns.specs.Rules.{Rule}
 use Rattle.migrate_fns.specs.SameKind.{same_kind}
@@ -91,7 +92,7 @@ module _ (rules : List Rule) (element : List ℕ) (to : Kind) where
         let later = first_least rs (suc i) inv' in
         let o = first_link element from next (suc i) rs in
         elim (usable element from r) as (λ b. usable element from r ≡ b
-        → Least i (or_later (with_place b i next r.to) (λ u. first_link element from next (suc i) rs))) [
+        → Least i (or_later (with_link b i next r.to) (λ u. first_link element from next (suc i) rs))) [
           | false ↦ λ no. extend i r at (λ yes. absurd (not_false (sym no ∙ yes)))
               (first_link element from next (suc i) rs) later
           | true ↦ λ yes. elim (next r.to) as (λ p. next r.to ≡ p
@@ -187,11 +188,11 @@ module _ (rules : List Rule) (element : List ℕ) (to : Kind) where
 
     shortest_found : (fuel n : ℕ) → 1 ≤ n → n + fuel ≡ 9
         → ((js : List ℕ) → 1 ≤ length js → length js < n → linked rules element to js from ≡ true → ⊥)
-        → IsFound rules element from to (shortest rules element from to fuel n)
+        → IsShortestChain rules element from to (shortest rules element from to fuel n)
     shortest_found zero n some sum none = λ is. is_false (fitting rules element from to is)
         (λ h. let p = fitting_parts is h in none is p.0 (omega (arith, p.1, sum)) p.2)
     shortest_found (suc fuel) n some sum none = elim (links rules element to n from) as
-        (λ o. links rules element to n from ≡ o → IsFound rules element from to
+        (λ o. links rules element to n from ≡ o → IsShortestChain rules element from to
         (or_later o (λ u. shortest rules element from to fuel (suc n)))) [
           | None ↦ λ e.
               let at_n = subst (λ o. IsLeast n from o) e (links_least n from) in
@@ -224,7 +225,7 @@ module _ (rules : List Rule) (element : List ℕ) (to : Kind) where
         ] refl
 
 pub chain_is_found : (rules : List Rule) (element : List ℕ) (from to : Kind)
-    → IsFound rules element from to (chain_of rules element from to)
+    → IsShortestChain rules element from to (chain_of rules element from to)
 unfolding chain_of
 chain_is_found rules element from to = shortest_found rules element to from 8 1 (omega arith) (omega arith)
     (λ js one lt h. omega (arith, one, lt))

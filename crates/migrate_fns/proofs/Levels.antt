@@ -8,10 +8,10 @@ use Rattle.std.proofs.lemmas.List.{length-set, append-nil, map-append}
 use Rattle.std.proofs.lemmas.Option.{slice_get-get_or, slice_get-map, slice_get_past, slice_get_read, slice_get_within}
 use Rattle.value_model.specs.Kinds.{Kind}
 use Rattle.value_model.specs.Trees.{Tree, type_of}
-use Rattle.migrate_fns.specs.Chains.{usable, linked, IsFound, or_later, with_place, first_link, if_same, links}
+use Rattle.migrate_fns.specs.Chains.{usable, linked, IsShortestChain, or_later, with_link, first_link, if_same, links}
 use Rattle.migrate_fns.specs.Chains.{shortest, chain_of, first_place, takes}
-use Rattle.migrate_fns.specs.Links.{AllDiffer, AreLevels, AreLinks, IsLevel, Leads, entered, is_link, levels_view}
-use Rattle.migrate_fns.specs.Links.{place_of}
+use Rattle.migrate_fns.specs.Links.{AllDiffer, AreLevels, AreLinks, IsLevel, LinkLeads, entered, is_link, levels_view}
+use Rattle.migrate_fns.specs.Links.{link_place}
 use Rattle.migrate_fns.specs.Rules.{Rule, Answers, ConvertsTo, is_for, first_type, last_type, reached, if_takes}
 use Rattle.migrate_fns.specs.SameKind.{same_kind}
 use Rattle.migrate_fns.specs.declared.numbering.Link.{Link}
@@ -65,7 +65,7 @@ module _ (rules : List Rule) where
     opened : (from : Kind) (n i : ℕ) (r : Rule) (rs : List Rule) → usable element from r ≡ true
         → is_some (links rules element to n r.to) ≡ true → rest_from n from i (r ∷ rs) ≡ Some i
     opened from n i r rs fits leads =
-        ap (λ b. first_place (or_later (with_place b i (links rules element to n) r.to)
+        ap (λ b. first_place (or_later (with_link b i (links rules element to n) r.to)
         (λ u. first_link element from (links rules element to n) (suc i) rs))) fits
         ∙ elim (links rules element to n r.to) as (λ o. is_some o ≡ true
         → first_place (or_later (option_map (λ is. i ∷ is) o)
@@ -76,13 +76,13 @@ module _ (rules : List Rule) where
 
     unusable : (from : Kind) (n i : ℕ) (r : Rule) (rs : List Rule) → usable element from r ≡ false
         → rest_from n from i (r ∷ rs) ≡ rest_from n from (suc i) rs
-    unusable from n i r rs off = ap (λ b. first_place (or_later (with_place b i (links rules element to n) r.to)
+    unusable from n i r rs off = ap (λ b. first_place (or_later (with_link b i (links rules element to n) r.to)
         (λ u. first_link element from (links rules element to n) (suc i) rs))) off
 
     closed : (from : Kind) (n i : ℕ) (r : Rule) (rs : List Rule) → links rules element to n r.to ≡ None
         → rest_from n from i (r ∷ rs) ≡ rest_from n from (suc i) rs
     closed from n i r rs none = elim (usable element from r) as
-        (λ b. first_place (or_later (with_place b i (links rules element to n) r.to)
+        (λ b. first_place (or_later (with_link b i (links rules element to n) r.to)
         (λ u. first_link element from (links rules element to n) (suc i) rs)) ≡ rest_from n from (suc i) rs) [
           | false ↦ refl
           | true ↦ ap (λ (o : Option (List ℕ)). first_place (or_later (option_map (λ is. i ∷ is) o)
@@ -101,9 +101,9 @@ module _ (rules : List Rule) where
     pub record Begun (kinds : List Kind) (n i : ℕ) (level : List (Option Link)) : Type 0 where
       pub count : length level ≡ length kinds
       pub cells : (a : ℕ) (from : Kind) → slice_get kinds a ≡ Some from
-          → or_first (place_of (get_or level a None)) (rest_from n from i (drop i rules)) ≡ rest_from n from 0 rules
+          → or_first (link_place (get_or level a None)) (rest_from n from i (drop i rules)) ≡ rest_from n from 0 rules
       pub lead : (a : ℕ) (from : Kind) → slice_get kinds a ≡ Some from
-          → IfSome (get_or level a None) (Leads rules kinds)
+          → IfSome (get_or level a None) (LinkLeads rules kinds)
 
     pub level_begun : (kinds : List Kind) (n : ℕ) (level : List (Option Link))
         → level ≡ replicate (length kinds) None → Begun kinds n 0 level
@@ -114,9 +114,9 @@ module _ (rules : List Rule) where
         ∙ get_or-replicate (length kinds) a None None (slice_get_within kinds a from at) in
         record {
           count = ap (λ ls. length ls) e ∙ length-replicate (length kinds) None;
-          cells = λ a from at. ap (λ (c : Option Link). or_first (place_of c) (rest_from n from 0 rules))
+          cells = λ a from at. ap (λ (c : Option Link). or_first (link_place c) (rest_from n from 0 rules))
               (empty a from at);
-          lead = λ a from at. subst (λ c. IfSome c (Leads rules kinds)) (sym (empty a from at)) tt;
+          lead = λ a from at. subst (λ c. IfSome c (LinkLeads rules kinds)) (sym (empty a from at)) tt;
         }
 
     pub level_made : (kinds : List Kind) (n i : ℕ) (level : List (Option Link)) → length rules ≤ i
@@ -124,8 +124,8 @@ module _ (rules : List Rule) where
     level_made kinds n i level past b = (
       b.count,
       (λ a from at. (
-        sym (or_first-none (place_of (get_or level a None)))
-            ∙ ap (λ rs. or_first (place_of (get_or level a None)) (rest_from n from i rs))
+        sym (or_first-none (link_place (get_or level a None)))
+            ∙ ap (λ rs. or_first (link_place (get_or level a None)) (rest_from n from i rs))
             (sym (drop_all i rules past))
             ∙ b.cells a from at,
         b.lead a from at,
@@ -137,16 +137,17 @@ module _ (rules : List Rule) where
       -- the cells after the converter at i is read
       advance : (level longer : List (Option Link)) → length longer ≡ length level
           → ((a : ℕ) (from : Kind) → slice_get kinds a ≡ Some from
-          → or_first (place_of (get_or longer a None)) (rest_from n from (suc i) (drop (suc i) rules))
-          ≡ or_first (place_of (get_or level a None)) (rest_from n from i (r ∷ drop (suc i) rules)))
-          → ((a : ℕ) (from : Kind) → slice_get kinds a ≡ Some from → IfSome (get_or longer a None) (Leads rules kinds))
+          → or_first (link_place (get_or longer a None)) (rest_from n from (suc i) (drop (suc i) rules))
+          ≡ or_first (link_place (get_or level a None)) (rest_from n from i (r ∷ drop (suc i) rules)))
+          → ((a : ℕ) (from : Kind) → slice_get kinds a ≡ Some from
+          → IfSome (get_or longer a None) (LinkLeads rules kinds))
           → Begun kinds n i level → Begun kinds n (i + 1) longer
       advance level longer same cells lead b =
           let next : suc i ≡ i + 1 = omega arith in
           subst (λ j. Begun kinds n j longer) next (record {
             count = same ∙ b.count;
             cells = λ a from at. cells a from at
-                ∙ ap (λ rs. or_first (place_of (get_or level a None)) (rest_from n from i rs)) (sym here.1)
+                ∙ ap (λ rs. or_first (link_place (get_or level a None)) (rest_from n from i rs)) (sym here.1)
                 ∙ b.cells a from at;
             lead = lead;
           })
@@ -157,12 +158,12 @@ module _ (rules : List Rule) where
           → Begun kinds n i level → Begun kinds n (i + 1) level
       skip level why b = advance level level refl (λ a from at. elim (why a from at) [
         | inl some ↦ elim (get_or level a None) as (λ c. is_some c ≡ true
-            → or_first (place_of c) (rest_from n from (suc i) (drop (suc i) rules))
-            ≡ or_first (place_of c) (rest_from n from i (r ∷ drop (suc i) rules))) [
+            → or_first (link_place c) (rest_from n from (suc i) (drop (suc i) rules))
+            ≡ or_first (link_place c) (rest_from n from i (r ∷ drop (suc i) rules))) [
               | None ↦ λ h. absurd (not_false h)
               | Some l ↦ λ h. refl
             ] some
-        | inr same ↦ ap (λ o. or_first (place_of (get_or level a None)) o) (sym same)
+        | inr same ↦ ap (λ o. or_first (link_place (get_or level a None)) o) (sym same)
       ]) b.lead b
 
       other_element : (level : List (Option Link)) → is_link element kinds i r None ≡ true
@@ -184,7 +185,7 @@ module _ (rules : List Rule) where
         closes level shut = skip level (λ a from at. inr (closed from n i r (drop (suc i) rules)
             (none_is (links rules element to n r.to) shut)))
 
-        leads_on : Leads rules kinds l
+        leads_on : LinkLeads rules kinds l
         leads_on =
             let p = linked_is element kinds i r l is in
             (r, ap (slice_get rules) p.place ∙ here.0, p.to)
@@ -201,24 +202,24 @@ module _ (rules : List Rule) where
                   let kind : from ≡ r.from = some_is from r.from (sym at ∙ ap (slice_get kinds) same ∙ p.from) in
                   let usable : usable element from r ≡ true = true_both (is_for r.element element)
                   (same_kind r.from from) p.named (same_from_is r.from from (sym kind)) in
-                  ap (λ (c : Option Link). or_first (place_of c) (rest_from n from (suc i) (drop (suc i) rules)))
+                  ap (λ (c : Option Link). or_first (link_place c) (rest_from n from (suc i) (drop (suc i) rules)))
                   (ap (λ x. get_or (set level l.from (Some l)) x None) same
                   ∙ get_or-set_same level l.from (Some l) None within)
                   ∙ ap (λ x. Some x) p.place ∙ sym (opened from n i r (drop (suc i) rules) usable leads)
-                  ∙ ap (λ (c : Option Link). or_first (place_of c) (rest_from n from i (r ∷ drop (suc i) rules)))
+                  ∙ ap (λ (c : Option Link). or_first (link_place c) (rest_from n from i (r ∷ drop (suc i) rules)))
                   (sym (ap (λ x. get_or level x None) same ∙ none))
               | inr apart ↦
-                  ap (λ (c : Option Link). or_first (place_of c) (rest_from n from (suc i) (drop (suc i) rules)))
+                  ap (λ (c : Option Link). or_first (link_place c) (rest_from n from (suc i) (drop (suc i) rules)))
                   (get_or-set_other level l.from a (Some l) None apart)
-                  ∙ ap (λ o. or_first (place_of (get_or level a None)) o)
+                  ∙ ap (λ o. or_first (link_place (get_or level a None)) o)
                   (sym (unusable from n i r (drop (suc i) rules)
                   (other_type kinds a l.from from r differ at p.from apart)))
             ])
             (λ a from at. elim (same_or_apart a l.from) [
-              | inl same ↦ subst (λ c. IfSome c (Leads rules kinds))
+              | inl same ↦ subst (λ c. IfSome c (LinkLeads rules kinds))
                   (sym (ap (λ x. get_or (set level l.from (Some l)) x None) same
                   ∙ get_or-set_same level l.from (Some l) None within)) leads_on
-              | inr apart ↦ subst (λ c. IfSome c (Leads rules kinds))
+              | inr apart ↦ subst (λ c. IfSome c (LinkLeads rules kinds))
                   (sym (get_or-set_other level l.from a (Some l) None apart)) (b.lead a from at)
             ]) b
 
@@ -384,13 +385,13 @@ module _ (rules : List Rule) where
         → Left kinds (places ++ l.place ∷ []) n l.to all
     back kinds levels level n a l places all known found cell left =
         let step = (known n level found).1 a left.at left.number in
-        let on : Leads rules kinds l = subst (λ c. IfSome c (Leads rules kinds)) cell step.1 in
+        let on : LinkLeads rules kinds l = subst (λ c. IfSome c (LinkLeads rules kinds)) cell step.1 in
         record {
           at = on.0.to;
           number = on.2;
           way = left.way
               ∙ ap (behind places) (is_linked n left.at l.place on.0
-              (sym step.0 ∙ ap (λ (c : Option Link). place_of c) cell) on.1)
+              (sym step.0 ∙ ap (λ (c : Option Link). link_place c) cell) on.1)
               ∙ behind_more places l.place (links rules element to n on.0.to);
         }
 
@@ -406,7 +407,7 @@ module _ (rules : List Rule) where
     no_way kinds levels level n a places all known found cell left =
         let step = (known n level found).1 a left.at left.number in
         left.way ∙ ap (behind places)
-        (no_link n left.at (sym step.0 ∙ ap (λ (c : Option Link). place_of c) cell))
+        (no_link n left.at (sym step.0 ∙ ap (λ (c : Option Link). link_place c) cell))
 
     -- at the end of the way
     pub arrived : (kinds : List Kind) (places : List ℕ) (a end : ℕ) (all : Option (List ℕ)) → AllDiffer kinds
@@ -472,7 +473,7 @@ module _ (rules : List Rule) where
 
       pub chain_ends : (is : List ℕ) → chain_of rules element from to ≡ Some is → Ends is
       chain_ends is e =
-          let found = subst (λ o. IsFound rules element from to o) e (chain_is_found rules element from to) in
+          let found = subst (λ o. IsShortestChain rules element from to o) e (chain_is_found rules element from to) in
           let parts = fitting_parts rules element to from is found.0 in
           let first : first_type rules is ≡ Some from = linked_first is parts.0 parts.2 in
           record {

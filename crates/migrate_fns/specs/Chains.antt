@@ -30,9 +30,9 @@ abbrev pub comes_before : List ℕ → List ℕ → Bool
 comes_before is js = cond (nat_eq (length is) (length js)) (list_less is js) (nat_lt (length is) (length js))
 
 -- what is to be found: the shortest fitting list, and of these the least; none exactly where no list fits
-abbrev pub IsFound : List Rule → List ℕ → Kind → Kind → Option (List ℕ) → Type 0
-IsFound rules element from to None = (is : List ℕ) → fitting rules element from to is ≡ false
-IsFound rules element from to (Some is) = (fitting rules element from to is ≡ true)
+abbrev pub IsShortestChain : List Rule → List ℕ → Kind → Kind → Option (List ℕ) → Type 0
+IsShortestChain rules element from to None = (is : List ℕ) → fitting rules element from to is ≡ false
+IsShortestChain rules element from to (Some is) = (fitting rules element from to is ≡ true)
     × ((js : List ℕ) → fitting rules element from to js ≡ true → (js ≡ is) ⊎ (comes_before is js ≡ true))
 
 -- ---- the same as a function
@@ -41,13 +41,13 @@ abbrev pub or_later : Option (List ℕ) → (⊤ → Option (List ℕ)) → Opti
 or_later None later = later tt
 or_later (Some is) later = Some is
 
-abbrev pub with_place : Bool → ℕ → (Kind → Option (List ℕ)) → Kind → Option (List ℕ)
-with_place false i next to = None
-with_place true i next to = option_map (λ is. i ∷ is) (next to)
+abbrev pub with_link : Bool → ℕ → (Kind → Option (List ℕ)) → Kind → Option (List ℕ)
+with_link false i next to = None
+with_link true i next to = option_map (λ is. i ∷ is) (next to)
 
 abbrev pub first_link : List ℕ → Kind → (Kind → Option (List ℕ)) → ℕ → List Rule → Option (List ℕ)
 first_link element from next i [] = None
-first_link element from next i (r ∷ rs) = or_later (with_place (usable element from r) i next r.to)
+first_link element from next i (r ∷ rs) = or_later (with_link (usable element from r) i next r.to)
     (λ u. first_link element from next (suc i) rs)
 
 abbrev pub if_same : Bool → Option (List ℕ)

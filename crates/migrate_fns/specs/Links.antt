@@ -32,19 +32,19 @@ AreLinks rules element kinds ls = (i : ℕ) (r : Rule) (l : Option Link) → sli
 -- ---- levels of the search
 
 -- the link leads from the converter at its place to the number of the type that this gives
-abbrev pub Leads : List Rule → List Kind → Link → Type 0
-Leads rules kinds l = (r : Rule) × (slice_get rules l.place ≡ Some r) × (slice_get kinds l.to ≡ Some r.to)
+abbrev pub LinkLeads : List Rule → List Kind → Link → Type 0
+LinkLeads rules kinds l = (r : Rule) × (slice_get rules l.place ≡ Some r) × (slice_get kinds l.to ≡ Some r.to)
 
-abbrev pub place_of : Option Link → Option ℕ
-place_of o = option_map (λ (l : Link). l.place) o
+abbrev pub link_place : Option Link → Option ℕ
+link_place o = option_map (λ (l : Link). l.place) o
 
 -- the level holds, for the number of each type, the link that the least list of n + 1 links from it to the end begins
 -- with
 abbrev pub IsLevel : List Rule → List ℕ → Kind → List Kind → ℕ → List (Option Link) → Type 0
 IsLevel rules element to kinds n level = (length level ≡ length kinds)
     × ((i : ℕ) (from : Kind) → slice_get kinds i ≡ Some from
-    → (place_of (slice_index_or level i None) ≡ first_place (links rules element to (suc n) from))
-    × IfSome (slice_index_or level i None) (Leads rules kinds))
+    → (link_place (slice_index_or level i None) ≡ first_place (links rules element to (suc n) from))
+    × IfSome (slice_index_or level i None) (LinkLeads rules kinds))
 
 abbrev pub levels_view : List (Vec (Option Link) Global) → List (List (Option Link))
 levels_view levels = map (λ v. v.items) levels

@@ -3,7 +3,7 @@
 ghost use Rattle.std.specs.Prelude.{◌≡◌, ◌≤◌, Some, IfOk, IfSome, IsTrue, is_some, length, option_map, slice_get};
 ghost use Rattle.value_model.specs.Trees.{type_of};
 ghost use Rattle.value_model.specs.Views.{kind_of};
-ghost use Rattle.migrate_fns.specs.Chains.{IsFound, chain_of, takes};
+ghost use Rattle.migrate_fns.specs.Chains.{IsShortestChain, chain_of, takes};
 ghost use Rattle.migrate_fns.specs.Rules.{ConvertsTo, first_type, last_type, reached};
 ghost use Rattle.migrate_fns.specs.Stored.{answers_of, rules_of};
 
@@ -23,7 +23,7 @@ pub struct Chain<'a> {
 }
 
 impl Chain<'_> {
-    /// The places of the converters, counted from 0, in the order in which they are called. Takes no memory.
+    /// The places of the converters, counted from 0, in the order in which they are called. Does not allocate.
     pub fn places(&self) -> &[u32]
         ensures places { result.now ≡ self.now.places }
         ensures linked { IsTrue (is_some (last_type (rules_of self.now.migrations.now) self.now.places)) }
@@ -88,7 +88,7 @@ impl Migrations {
     ) -> Result<Option<Chain<'_>>, AllocError>
         ensures places { IfOk result (λ chain. option_map (λ c. c.places) chain
             ≡ chain_of (rules_of self.now) element.now (kind_of from.now) (kind_of to.now)) }
-        ensures found { IfOk result (λ chain. IsFound (rules_of self.now) element.now (kind_of from.now)
+        ensures found { IfOk result (λ chain. IsShortestChain (rules_of self.now) element.now (kind_of from.now)
             (kind_of to.now) (option_map (λ c. c.places) chain)) }
         ensures lent { IfOk result (λ chain. IfSome chain (λ c. c.migrations.now ≡ self.now)) }
         ensures first { IfOk result (λ chain. IfSome chain

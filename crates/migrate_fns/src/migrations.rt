@@ -34,7 +34,7 @@ impl Migration {
     ghost use Rattle.migrate_fns.specs.Stored.{MayGive, rule_of};
 
     /// A converter. The function may be called on every value of the type `from`, and answers only values of the type
-    /// `to`, or `OutOfMemory`: whoever makes one shows this. Takes no memory.
+    /// `to`, or `OutOfMemory`: whoever makes one shows this. Does not allocate.
     pub fn new(
         element: Option<Name>,
         from: ValueType,
@@ -101,7 +101,7 @@ pub struct Migrations {
 impl Migrations {
     ghost use Rattle.migrate_fns.specs.Stored.{listed, rule_of};
 
-    /// The converters of a list, in its order. Takes no memory.
+    /// The converters of a list, in its order. Does not allocate.
     pub fn new(list: Vec<Migration>) -> Migrations
         requires { length list.items < 2 ^ 32 }
         ensures { listed result ≡ list.items }
@@ -109,8 +109,8 @@ impl Migrations {
         Migrations { list }
     }
 
-    /// The first converter that has these types and names this element or none; none exactly where there is none. Takes
-    /// no memory.
+    /// The first converter that has these types and names this element or none; none exactly where there is none. Does
+    /// not allocate.
     pub fn find(&self, element: &Name, from: &ValueType, to: &ValueType) -> Option<&Migration>
         ensures first { option_copied result
             ≡ find (λ m. serves element.now (kind_of from.now) (kind_of to.now) (rule_of m)) (listed self.now) }

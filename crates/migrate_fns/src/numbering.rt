@@ -32,7 +32,7 @@ impl<'a> Model for Types<'a> {
 }
 
 impl<'a> Types<'a> {
-    /// No types. Takes no memory.
+    /// No types. Does not allocate.
     pub fn new(alloc: Global) -> Types<'a>
         ensures { result ≡ [] }
     {

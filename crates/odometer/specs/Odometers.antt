@@ -28,7 +28,7 @@ the_total config = record { config = config; name = KEY.now; kind = unsigned_kin
 abbrev pub kilometres : ℕ → Tree
 kilometres n = unsigned_tree four n
 
--- the storage is in use on the disk and shows what it stands for; nothing is pending, in it or on the disk
+-- the storage is in use on the disk and shows what it denotes; nothing is pending, in it or on the disk
 pub record IsAtRest (told : Bool) (m : Medium) (kvs : KvsSession) : Type 0 where
   pub used : IsUsed told m.image kvs.store
   pub shown : kvs.session.synced ≡ keys_in (view_in kvs.store)
@@ -45,8 +45,8 @@ IfOpen told m None total = ⊤
 IfOpen told m (Some kvs) total = IsOdometer told m kvs total
 
 -- on this image the storage opens, and reads this total
-abbrev pub Reads : KvsSession → ℕ → Image → Type 0
-Reads kvs total image = ReadsAs (the_total kvs.config) (shape_of kvs.store) (kilometres total) image
+abbrev pub ReadsTotal : KvsSession → ℕ → Image → Type 0
+ReadsTotal kvs total image = ReadsAs (the_total kvs.config) (shape_of kvs.store) (kilometres total) image
 
 -- the storage is on its way to what it would be with this total: a stop at any moment leaves it as before or so
 pub record Saves (told : Bool) (kvs : KvsSession) (total : ℕ) (old new : Medium) : Type 0 where

@@ -1,7 +1,7 @@
 //! An odometer: the model of a program that embeds a key-value storage.
 //!
 //! `odometer FOLDER` opens the total that a folder keeps in three copies, and adds the kilometres of standard input,
-//! one number a line. It prints the total at the start, and behind each line once it is durable. A refusal is one line
+//! one number a line. It prints the total at the start, and after each line once it is durable. A refusal is one line
 //! on standard error, and each has a status of its own ([`refusals`]).
 #![tactic(auto)]
 
@@ -49,7 +49,7 @@ fn show(rt: &HostRuntime, total: u32) -> Result<(), Refusal> {
     println!(rt; "{total}").map_err(Refusal::Output)
 }
 
-/// The one word behind the program's name.
+/// The one argument after the program's name.
 fn folder(rt: &HostRuntime) -> Result<String, Refusal> {
     let mut words = env::args(rt).map_err(Refusal::Input)?.skip(1);
     match (words.next(), words.next()) {

@@ -9,7 +9,7 @@ ghost use Rattle.element_maps.specs.Storages.{IsStoring};
 ghost use Rattle.element_store.specs.Stores.{IsUsed, shape_of};
 ghost use Rattle.kvs_store.specs.Storages.{showing};
 ghost use Rattle.kvs_store.specs.Synced.{synced_view};
-ghost use Rattle.odometer.specs.Odometers.{IfOpen, IsAtRest, Reads, Saves, TotalThroughout, kilometres, the_total};
+ghost use Rattle.odometer.specs.Odometers.{IfOpen, IsAtRest, ReadsTotal, Saves, TotalThroughout, kilometres, the_total};
 
 use crate::refusals::Refusal;
 use disk_model::Disk;
@@ -54,7 +54,8 @@ impl<D: Disk + Drop> Odometer<D> {
     /// The kilometres driven so far. While the odometer is open, the disk reads so, and nothing is pending on it.
     pub(crate) fn total(&self) -> u32
         ensures total { result ≡ self.now.total }
-        ensures reads { IsTrue D.told → IfSome self.now.kvs (λ kvs. Reads kvs result (D.medium self.now.disk).image) }
+        ensures reads { IsTrue D.told → IfSome self.now.kvs (λ kvs. ReadsTotal kvs result
+            (D.medium self.now.disk).image) }
         ensures durable { IfSome self.now.kvs (λ kvs. Quiet (D.medium self.now.disk)) }
     {
         values_stand();

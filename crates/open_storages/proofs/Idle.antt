@@ -8,7 +8,7 @@ use Rattle.disk_model.specs.Place.{IsOutside}
 use Rattle.element_laws.specs.Phases.{IsOfPlace, UntouchedLaw}
 use Rattle.element_maps.specs.Storages.{IsStoring}
 use Rattle.element_state.specs.declared.shapes.Shape.{Shape}
-use Rattle.element_state.specs.Kept.{IsKeptCase}
+use Rattle.element_state.specs.Kept.{IsKeptMending}
 use Rattle.element_state.specs.States.{State}
 use Rattle.element_state.specs.Written.{IsWithin}
 
@@ -18,8 +18,8 @@ none_storing untouched told shape after m some law = record {
   elsewhere = λ tells file spared. refl;
   outside = λ tells quiet. goes_none (IsSettledOn (IsOutside shape.place) m.image) law
       (λ c here. settled_on (IsOutside shape.place) (quiet c here));
-  any_moment = λ tells quiet clean. goes_none (IsKeptCase shape m.image after) law
-      (λ c here. untouched shape m.image after c some clean
+  any_moment = λ tells quiet clean. goes_none (IsKeptMending shape m.image after) law
+      (λ c here twins. untouched shape m.image after c some clean
       (settled_on (IsOfPlace shape.place) (quiet c here)));
   time = elapses_none law;
 }

@@ -17,17 +17,17 @@ use Rattle.element_maps.specs.Storages.{IsOpened}
 use Rattle.file_handles.specs.Sessions.{Session}
 use Rattle.file_storage.specs.declared.opening.OpenedFiles.{OpenedFiles}
 use Rattle.file_storage.specs.FileSessions.{stored_in}
-use Rattle.file_storage.specs.Opened.{given}
+use Rattle.file_storage.specs.Opened.{opened_as}
 use Rattle.deploy_rows.specs.Recovering.{is_content}
 use Rattle.run_model.specs.Sessions.{files, session_of}
 use Rattle.open_storages.specs.declared.opens.Open.TheVariants.{Files}
 use Rattle.open_storages.specs.declared.opening.Opening.TheVariants as opening
-use Rattle.open_storages.specs.Openings.{IsOpeningOf, Shows}
+use Rattle.open_storages.specs.Openings.{IsOpeningOf, ShowsView}
 use Rattle.open_storages.specs.Opens.{session_in}
 
 module _ (told : Bool) (tells : IsTrue told) (image : Image) (shape : Shape) (config : StorageData) (o : OpenedFiles)
     (untested : UntestedLaw) (of_files : config.kind ≡ kinds.Files)
-    (is : IsOpened told image shape (λ bytes. true) (given o))
+    (is : IsOpened told image shape (λ bytes. true) (opened_as o))
     (fresh : o.files.session ≡ record { files = stored_in o.files.store; handles = [] }) where
   stored_is : stored_in o.files.store ≡ map_of is.before
   stored_is = is.synced ∙ untested is.before
@@ -36,7 +36,7 @@ module _ (told : Bool) (tells : IsTrue told) (image : Image) (shape : Shape) (co
   session_is = ap (λ (w : Session). files (record { synced = stored_in o.files.store; working = w })) fresh
       ∙ ap (λ (m : Map). files (record { synced = m; working = record { files = m; handles = [] } })) stored_is
 
-  shows : Shows shape config is.before (Files o.files) o.reports.items
+  shows : ShowsView shape config is.before (Files o.files) o.reports.items
   shows = record {
     session = subst (λ (k : StoreKind). session_in (Files o.files) ≡ session_of k is.before) (sym of_files) session_is;
     all = subst (λ (k : StoreKind). o.reports.items ≡ reports (is_content k) shape is.before) (sym of_files) is.reports;
@@ -46,7 +46,7 @@ module _ (told : Bool) (tells : IsTrue told) (image : Image) (shape : Shape) (co
   by : (state : State) → opened_of state ≡ Some is.before
       → IsOpeningOf state shape config (opening.Opened (Files o.files) o.reports)
   by (Opens v others) seen = let same : v ≡ is.before =
-      cc in subst (λ (w : View). Shows shape config w (Files o.files) o.reports.items) (sym same) shows
+      cc in subst (λ (w : View). ShowsView shape config w (Files o.files) o.reports.items) (sym same) shows
   by (Corrupt salvage others) seen = absurd (cc)
 
   pub opened_files : IsOpeningOf (store_at image shape) shape config (opening.Opened (Files o.files) o.reports)

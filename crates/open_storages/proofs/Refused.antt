@@ -10,7 +10,7 @@ use Rattle.file_handles.specs.declared.handle.Handle.{Handle}
 use Rattle.file_handles.specs.Handling.{on_open}
 use Rattle.file_handles.specs.Opening.{first, when}
 use Rattle.file_handles.specs.Sessions.{open_at}
-use Rattle.file_storage.specs.FileSessions.{FileSession}
+use Rattle.file_storage.specs.FileSessions.{FilesInUse}
 use Rattle.file_storage.specs.Syncs as below
 use Rattle.open_storages.specs.declared.opens.Open.TheVariants.{Files}
 use Rattle.open_storages.specs.Refusals.{error_of, flush_refused}
@@ -24,6 +24,6 @@ no_writer_is : (o : Option (Handle × Element)) → error_of {A = ⊤}
 no_writer_is None = refl
 no_writer_is (Some o) = refused_when (not (writes o.0.cursor.kind)) IllegalWriteAccess
 
-pub flush_refused_is : (f : FileSession) (handle : ℕ) → flush_refused (Files f) handle ≡ below.sync_refused f handle
+pub flush_refused_is : (f : FilesInUse) (handle : ℕ) → flush_refused (Files f) handle ≡ below.sync_refused f handle
 flush_refused_is f handle = ap (λ (e : Option PerError). first e (below.worn f))
     (no_writer_is (open_at f.session handle))

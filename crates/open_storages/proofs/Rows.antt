@@ -6,7 +6,7 @@ use Rattle.file_core.specs.Refusals.{IsRefusal}
 use Rattle.command_text.specs.declared.replies.Answer.{Answer}
 use Rattle.command_text.specs.Replies.{HasText}
 use Rattle.deploy_rows.specs.Rows.{◌>>=◌}
-use Rattle.open_storages.specs.Answers.{IsAnswered}
+use Rattle.open_storages.specs.Answers.{IsAnsweredAsRow}
 
 -- a refusal of the row is one of what is made of it
 pub refused_then : {A B : Type 0} (row : Result A PerError) (next : A → Result B PerError) (error : PerError)
@@ -26,7 +26,7 @@ answered_then {A} {B} row next x done = ap (λ (r : Result A PerError). r >>= ne
 pub handed_on : {S A : Type 0} (row : Result A PerError) (next : A → Result (Answer × S) PerError) (old new : S)
     (result : Result Answer PerError) (error : PerError)
     → IsErr result × IsErrAnd result (λ e. e ≡ error) → IsRefusal row error → new ≡ old
-    → IsAnswered (row >>= next) old new result
+    → IsAnsweredAsRow (row >>= next) old new result
 handed_on {S} {A} row next old new (Ok answer) error is refusal same = absurd is.1
 handed_on {S} {A} row next old new (Err e) error is refusal same =
     (refused_then row next e (subst (λ (x : PerError). IsRefusal row x) (sym is.1) refusal), same)
@@ -38,21 +38,21 @@ abbrev pub wrapped : {S T : Type 0} → (S → T) → Answer × S → Result (An
 wrapped wrap x = Ok (x.0, wrap x.1)
 
 module _ {S T : Type 0} (row : Result (Answer × S) PerError) (wrap : S → T) (old new : S) where
-  pub answered_ok : (result : Result Answer PerError) → IsAnswered row old new result
+  pub answered_ok : (result : Result Answer PerError) → IsAnsweredAsRow row old new result
       → IfOk result (λ answer. (row >>= wrapped wrap) ≡ Ok (answer, wrap new))
   answered_ok (Ok answer) is = answered_then row (wrapped wrap) (answer, new) is.0
   answered_ok (Err error) is = tt
 
-  pub answered_refused : (result : Result Answer PerError) → IsAnswered row old new result
+  pub answered_refused : (result : Result Answer PerError) → IsAnsweredAsRow row old new result
       → IfErr result (λ error. IsRefusal (row >>= wrapped wrap) error)
   answered_refused (Ok answer) is = tt
   answered_refused (Err error) is = refused_then row (wrapped wrap) error is.0
 
-  pub answered_unchanged : (result : Result Answer PerError) → IsAnswered row old new result
+  pub answered_unchanged : (result : Result Answer PerError) → IsAnsweredAsRow row old new result
       → OnErr result (wrap new ≡ wrap old)
   answered_unchanged (Ok answer) is = tt
   answered_unchanged (Err error) is = ap wrap is.1
 
-  pub answered_text : (result : Result Answer PerError) → IsAnswered row old new result → IfOk result HasText
+  pub answered_text : (result : Result Answer PerError) → IsAnsweredAsRow row old new result → IfOk result HasText
   answered_text (Ok answer) is = is.1
   answered_text (Err error) is = tt

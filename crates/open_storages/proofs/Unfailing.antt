@@ -42,7 +42,7 @@ use Rattle.command_text.specs.declared.replies.Answer.{Answer}
 use Rattle.deploy_rows.specs.Rows.{◌>>=◌}
 use Rattle.run_model.specs.Sessions as run
 use Rattle.run_model.specs.Sessions.{KeySession, on_keys, on_working}
-use Rattle.open_storages.specs.Answers.{IsAnswered}
+use Rattle.open_storages.specs.Answers.{IsAnsweredAsRow}
 
 -- an error of a call, but no failure of the device
 abbrev pub IsCallers : PerError → Type 0
@@ -111,7 +111,7 @@ fine_found : {A : Type 0} (key : Option Element) (call : Element → Result A Pe
 fine_found None call fine = tt
 fine_found (Some key) call fine = fine key
 
-fine_value : (value : Option Tree) → IsFine (kvs.value_in value)
+fine_value : (value : Option Tree) → IsFine (kvs.readable_value value)
 fine_value None = tt
 fine_value (Some value) = tt
 
@@ -142,7 +142,7 @@ fine_room c new = fine_refuse (nat_lt c.maximum (size_of new)) (error.OutOfStora
 abbrev key_with : List ℕ → Element
 key_with bytes = record { info = None; len = length bytes; content = Good bytes }
 
-fine_placed : (c : StorageData) (m : Map) (name bytes : List ℕ) → IsFine (kvs.placed c m name bytes)
+fine_placed : (c : StorageData) (m : Map) (name bytes : List ℕ) → IsFine (kvs.with_placed c m name bytes)
 fine_placed c m name bytes = fine_refuse (not (has m name) && nat_le 1024 (length m))
     (error.LimitReached limit.Elements) (kvs.with_room c (with_element m name (key_with bytes))) tt
     (fine_room c (with_element m name (key_with bytes)))
@@ -150,9 +150,9 @@ fine_placed c m name bytes = fine_refuse (not (has m name) && nat_le 1024 (lengt
 fine_set : (c : StorageData) (m : Map) (name : List ℕ) (value : Tree) → IsFine (kvs.set_any c m name value)
 fine_set c m name value = fine_refuse c.read_only error.IllegalWriteAccess
     (kvs.unless_typed (kvs.kind_for (element_named c name) (element_at m name)) (type_of value)
-    (kvs.placed c m name (encoding value))) tt
+    (kvs.with_placed c m name (encoding value))) tt
     (fine_typed (kvs.kind_for (element_named c name) (element_at m name)) (type_of value)
-    (kvs.placed c m name (encoding value)) (fine_placed c m name (encoding value)))
+    (kvs.with_placed c m name (encoding value)) (fine_placed c m name (encoding value)))
 
 fine_remove : (c : StorageData) (m : Map) (name : List ℕ) → IsFine (kvs.remove_key c m name)
 fine_remove c m name = fine_refuse c.read_only error.IllegalWriteAccess
@@ -183,8 +183,8 @@ fine_initial (Some bytes) call fine = fine bytes
 
 fine_reset : (c : StorageData) (m : Map) (name : List ℕ) → IsFine (kvs.reset_key c m name)
 fine_reset c m name = fine_refuse c.read_only error.IllegalWriteAccess
-    (kvs.with_initial (initial_of c name) (λ bytes. kvs.placed c m name bytes)) tt
-    (fine_initial (initial_of c name) (λ bytes. kvs.placed c m name bytes) (λ bytes. fine_placed c m name bytes))
+    (kvs.with_initial (initial_of c name) (λ bytes. kvs.with_placed c m name bytes)) tt
+    (fine_initial (initial_of c name) (λ bytes. kvs.with_placed c m name bytes) (λ bytes. fine_placed c m name bytes))
 
 pub keys_fine : (c : StorageData) (s : KeySession) (l : Call) → IsFine (on_keys c s l)
 unfolding on_keys
@@ -370,7 +370,7 @@ fine_read_line s number delimiter = fine_at s number _
 fine_moved_by : (cursor : Cursor) (size : ℕ) (origin : Origin) (offset : ℤ)
     → IsFine (places.move_position cursor size origin offset)
 fine_moved_by cursor size origin offset =
-    let target : ℤ = pos (places.start_of origin cursor size) +ℤ offset in
+    let target : ℤ = pos (places.origin_place origin cursor size) +ℤ offset in
     fine_refuse {A = ℕ × Cursor} (not (int_le (pos 0) target && int_le target (pos size))) error.InvalidPosition
     (Ok (unsigned_abs target, places.moved cursor (unsigned_abs target))) tt tt
 
@@ -392,7 +392,7 @@ fine_cat storage s name now = fine_and_then (opening.open_file storage s name Re
     (fine_open storage s name Read whole.plain now) (λ o. tt)
 
 fine_put : (storage : Storage) (s : Session) (name bytes : List ℕ) (now : ℕ)
-    → IsFine (whole.put storage s name bytes now)
+    → IsFine (whole.put_whole storage s name bytes now)
 fine_put storage s name bytes now = fine_refused_by (opening.can_open storage s name Write whole.truncating) _
     (fine_can_open storage s name Write whole.truncating)
     (fine_refused_by (opening.would_fit storage s.files name (length bytes)) _
@@ -442,14 +442,14 @@ files_fine c now w (call.ResetFile n f) = fine_then (by_name.reset_file (run.sto
     (fine_file_reset (run.storage_of c) w f now (initial_of c f)) (λ x. tt)
 files_fine c now w (call.Cat n f) = fine_then (whole.cat (run.storage_of c) w f now) _
     (fine_cat (run.storage_of c) w f now) (λ x. tt)
-files_fine c now w (call.Put n f bytes) = fine_then (whole.put (run.storage_of c) w f bytes now) _
+files_fine c now w (call.Put n f bytes) = fine_then (whole.put_whole (run.storage_of c) w f bytes now) _
     (fine_put (run.storage_of c) w f bytes now) (λ x. tt)
 files_fine c now w other = tt
 
 -- ---- answers
 
 pub answered_unfailed : {S : Type 0} (row : Result (Answer × S) PerError) (old new : S)
-    (result : Result Answer PerError) → IsFine row → IsAnswered row old new result
+    (result : Result Answer PerError) → IsFine row → IsAnsweredAsRow row old new result
     → IfErr result (λ error. error ≢ PhysicalStorageFailure)
 answered_unfailed {S} row old new (Ok answer) fine is = tt
 answered_unfailed {S} row old new (Err error) fine is = fine_refusal row error fine is.0

@@ -9,10 +9,11 @@ use Rattle.command_text.specs.Replies.{HasText}
 
 -- The answer is the row's, and so is what the calls see afterwards. A refusal is the row's, or OutOfMemory, and
 -- changes nothing.
-abbrev pub IsAnswered : {S : Type 0} → (row : Result (Answer × S) PerError) → (old new : S) → Result Answer PerError
+abbrev pub IsAnsweredAsRow : {S : Type 0} → (row : Result (Answer × S) PerError) → (old new : S)
+    → Result Answer PerError
     → Type 0
-IsAnswered row old new (Ok answer) = (row ≡ Ok (answer, new)) × HasText answer
-IsAnswered row old new (Err error) = IsRefusal row error × (new ≡ old)
+IsAnsweredAsRow row old new (Ok answer) = (row ≡ Ok (answer, new)) × HasText answer
+IsAnsweredAsRow row old new (Err error) = IsRefusal row error × (new ≡ old)
 
 -- ---- the calls on files, in three groups
 

@@ -6,7 +6,7 @@ use Rattle.disk_model.specs.Medium.{Medium}
 use Rattle.element_state.specs.Written.{IsWithin, map_cost}
 use Rattle.element_store.specs.Committing.{index_length}
 use Rattle.element_store.specs.Stores.{IsUsed, shape_of, view_in}
-use Rattle.run_model.specs.Sessions.{made_durable, seen_of, synced_of}
+use Rattle.run_model.specs.Sessions.{made_durable, seen_of, synced_in_session}
 use Rattle.open_storages.specs.declared.opens.Open.{Open}
 use Rattle.open_storages.specs.declared.syncing.Durable.{Durable}
 use Rattle.open_storages.specs.declared.syncing.Durable.TheVariants as made
@@ -16,7 +16,7 @@ use Rattle.open_storages.specs.Opens.{config_in, session_in, store_in}
 use Rattle.open_storages.specs.Refusals.{durable_view}
 
 -- a later storage in whose place what the calls saw is on the disk, and all else is as it was
-pub record IsDurable (told : Bool) (image : Image) (before later : Open) : Type 0 where
+pub record IsMadeDurable (told : Bool) (image : Image) (before later : Open) : Type 0 where
   pub session : session_in later ≡ made_durable (session_in before)
   pub config : config_in later ≡ config_in before
   pub shape : shape_of (store_in later) ≡ shape_of (store_in before)
@@ -24,18 +24,19 @@ pub record IsDurable (told : Bool) (image : Image) (before later : Open) : Type 
   pub used : IsUsed told image (store_in later)
 
 -- it was not to be refused and is durable, or it was refused for what was due and is handed back as it was
-abbrev pub IsMade : (told : Bool) → Image → Open → Option PerError → Durable → Type 0
-IsMade told image before refused (made.Done later) = (refused ≡ None) × IsDurable told image before later
-IsMade told image before refused (made.Refused same error) = (refused ≡ Some error) × (same ≡ before)
+abbrev pub IsDurableOrRefused : (told : Bool) → Image → Open → Option PerError → Durable → Type 0
+IsDurableOrRefused told image before refused (made.Done later) = (refused ≡ None)
+    × IsMadeDurable told image before later
+IsDurableOrRefused told image before refused (made.Refused same error) = (refused ≡ Some error) × (same ≡ before)
 
 -- refused where there is an error
 abbrev pub made_of : Open → Option PerError → Durable
 made_of o None = made.Done o
 made_of o (Some error) = made.Refused o error
 
-abbrev pub IsClosed : Open → Option PerError → Closing → Type 0
-IsClosed before refused left.Done = refused ≡ None
-IsClosed before refused (left.Refused same error) = (refused ≡ Some error) × (same ≡ before)
+abbrev pub IsClosedOrRefused : Open → Option PerError → Closing → Type 0
+IsClosedOrRefused before refused left.Done = refused ≡ None
+IsClosedOrRefused before refused (left.Refused same error) = (refused ≡ Some error) × (same ≡ before)
 
 -- it was closed, and then this holds
 abbrev pub OnClosed : Closing → Type 0 → Type 0
@@ -45,5 +46,5 @@ OnClosed (left.Refused same error) P = ⊤
 -- in each copy at most the contents that differ, and the next index
 abbrev pub WritesAtMost : Open → (old new : Medium) → Type 0
 WritesAtMost o old new = IsWithin (shape_of (store_in o)).place.copies
-    (map_cost (config_in o).kind (synced_of (session_in o)) (seen_of (session_in o)))
+    (map_cost (config_in o).kind (synced_in_session (session_in o)) (seen_of (session_in o)))
     (index_length (config_in o).kind (durable_view o).entries) old.written new.written

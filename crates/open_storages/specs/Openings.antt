@@ -15,14 +15,15 @@ use Rattle.open_storages.specs.declared.opening.Opening.TheVariants as given
 use Rattle.open_storages.specs.Opens.{config_in, session_in, store_in}
 
 -- what was seen is in the session and in the reports, and what could be mended is mended
-pub record Shows (shape : Shape) (config : StorageData) (seen : View) (o : Open) (reported : List Report) : Type 0 where
+pub record ShowsView (shape : Shape) (config : StorageData) (seen : View) (o : Open)
+    (reported : List Report) : Type 0 where
   pub session : session_in o ≡ session_of config.kind seen
   pub all : reported ≡ reports (is_content config.kind) shape seen
   pub view : view_in (store_in o) ≡ mended_view shape seen
 
 -- a storage that opens is opened, and one that is corrupt is reported
 abbrev pub IsOpeningOf : State → Shape → StorageData → Opening → Type 0
-IsOpeningOf (Opens v others) shape config (given.Opened o reported) = Shows shape config v o reported.items
+IsOpeningOf (Opens v others) shape config (given.Opened o reported) = ShowsView shape config v o reported.items
 IsOpeningOf (Opens v others) shape config (given.Corrupt report) = ⊥
 IsOpeningOf (Corrupt salvage others) shape config (given.Opened o reported) = ⊥
 IsOpeningOf (Corrupt salvage others) shape config (given.Corrupt report) = report ≡ failed_report shape
@@ -38,6 +39,6 @@ OnCorrupt (given.Opened o reported) P = ⊤
 OnCorrupt (given.Corrupt report) P = P
 
 -- it is where it is configured to
-pub record IsPlaced (shape : Shape) (config : StorageData) (o : Open) : Type 0 where
+pub record IsWhereConfigured (shape : Shape) (config : StorageData) (o : Open) : Type 0 where
   pub configured : config_in o ≡ config
   pub placed : shape_of (store_in o) ≡ shape

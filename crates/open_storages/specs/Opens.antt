@@ -13,7 +13,7 @@ use Rattle.open_storages.specs.declared.opens.Open.TheVariants.{Keys, Files}
 abbrev pub keys_of : stored.KvsSession → KeySession
 keys_of k = record { synced = k.session.synced; visible = k.session.visible }
 
-abbrev pub files_of : working.FileSession → FileSession
+abbrev pub files_of : working.FilesInUse → FileSession
 files_of f = record { synced = working.stored_in f.store; working = f.session }
 
 abbrev pub session_in : Open → Session
@@ -30,6 +30,6 @@ store_in (Keys k) = k.store
 store_in (Files f) = f.store
 
 -- the kind of storage that a session is one of
-abbrev pub kind_of : Session → StoreKind
-kind_of (keys s) = kinds.Keys
-kind_of (files s) = kinds.Files
+abbrev pub session_kind : Session → StoreKind
+session_kind (keys s) = kinds.Keys
+session_kind (files s) = kinds.Files

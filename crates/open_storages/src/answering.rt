@@ -4,7 +4,7 @@ ghost use Rattle.std.specs.Prelude.{◌≡◌, ◌≢◌, IfErr, IfOk, OnErr, Ok
 ghost use Rattle.element_store.specs.Stores.{shape_of};
 ghost use Rattle.file_core.specs.Refusals.{IsRefusal};
 ghost use Rattle.command_text.specs.Replies.{HasText};
-ghost use Rattle.run_model.specs.Sessions.{in_session, synced_of};
+ghost use Rattle.run_model.specs.Sessions.{in_session, synced_in_session};
 ghost use Rattle.open_storages.specs.Opens.{config_in, session_in, store_in};
 
 use crate::opens::Open;
@@ -33,7 +33,7 @@ impl Open {
         ensures unchanged { OnErr result (session_in self.new ≡ session_in self.old) }
         ensures config { config_in self.new ≡ config_in self.old }
         ensures store { store_in self.new ≡ store_in self.old }
-        ensures synced { synced_of (session_in self.new) ≡ synced_of (session_in self.old) }
+        ensures synced { synced_in_session (session_in self.new) ≡ synced_in_session (session_in self.old) }
     {
         match self {
             Open::Keys(kvs) => answer_keys(kvs, alloc, call),

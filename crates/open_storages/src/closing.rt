@@ -9,7 +9,7 @@ ghost use Rattle.element_state.specs.Clean.{IsClean};
 ghost use Rattle.element_state.specs.States.{Opens, store_at};
 ghost use Rattle.element_store.specs.Stores.{IsUsed, shape_of};
 ghost use Rattle.element_maps.specs.Storages.{IsStoring};
-ghost use Rattle.open_storages.specs.Durables.{IsClosed, OnClosed, WritesAtMost};
+ghost use Rattle.open_storages.specs.Durables.{IsClosedOrRefused, OnClosed, WritesAtMost};
 ghost use Rattle.open_storages.specs.Opens.{config_in, store_in};
 ghost use Rattle.open_storages.specs.Refusals.{close_refused, durable_view, is_still};
 
@@ -44,7 +44,7 @@ impl Open {
 
         // What is due is given: a refusal hands the storage back as it was, and where nothing differs the disk is not
         // called.
-        ensures done { IfOk result (IsClosed self (close_refused self)) }
+        ensures done { IfOk result (IsClosedOrRefused self (close_refused self)) }
         ensures due { (error : PerError) → close_refused self ≡ Some error
             → (result ≡ Ok (Closing.Refused self error)) × (disk.new ≡ disk.old) }
         ensures keys { (config_in self).kind ≡ kinds.Keys → (result ≡ Ok Closing.Done) × (disk.new ≡ disk.old) }

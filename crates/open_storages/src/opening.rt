@@ -11,7 +11,7 @@ ghost use Rattle.element_state.specs.Reports.{failed_report};
 ghost use Rattle.element_state.specs.States.{State, store_at};
 ghost use Rattle.element_store.specs.Stores.{IsUsed};
 ghost use Rattle.element_maps.specs.Storages.{IsConfigured, IsStoring};
-ghost use Rattle.open_storages.specs.Openings.{IsOpeningOf, IsPlaced, OnCorrupt, OnOpened};
+ghost use Rattle.open_storages.specs.Openings.{IsOpeningOf, IsWhereConfigured, OnCorrupt, OnOpened};
 ghost use Rattle.open_storages.specs.Opens.{store_in};
 
 use crate::opens::Open;
@@ -54,7 +54,7 @@ pub fn open_storage<D: Disk>(
 
     ensures opened { IsTrue D.told → IfOk result (IsOpeningOf (store_at (D.medium disk.old).image shape) shape
         (storage_data config.now)) }
-    ensures placed { IfOk result (λ opening. OnOpened opening (IsPlaced shape (storage_data config.now))) }
+    ensures placed { IfOk result (λ opening. OnOpened opening (IsWhereConfigured shape (storage_data config.now))) }
     ensures used { IfOk result (λ opening. OnOpened opening
         (λ o. IsUsed D.told (D.medium disk.new).image (store_in o))) }
     ensures clean { IsTrue D.told → IsClean shape (D.medium disk.old).image
@@ -97,7 +97,7 @@ fn open_keys<D: Disk>(
 
     ensures opened { IsTrue D.told → IfOk result (IsOpeningOf (store_at (D.medium disk.old).image shape) shape
         (storage_data config.now)) }
-    ensures placed { IfOk result (λ opening. OnOpened opening (IsPlaced shape (storage_data config.now))) }
+    ensures placed { IfOk result (λ opening. OnOpened opening (IsWhereConfigured shape (storage_data config.now))) }
     ensures used { IfOk result (λ opening. OnOpened opening
         (λ o. IsUsed D.told (D.medium disk.new).image (store_in o))) }
     ensures clean { IsTrue D.told → IsClean shape (D.medium disk.old).image
@@ -133,7 +133,7 @@ fn open_file_storage<D: Disk>(
 
     ensures opened { IsTrue D.told → IfOk result (IsOpeningOf (store_at (D.medium disk.old).image shape) shape
         (storage_data config.now)) }
-    ensures placed { IfOk result (λ opening. OnOpened opening (IsPlaced shape (storage_data config.now))) }
+    ensures placed { IfOk result (λ opening. OnOpened opening (IsWhereConfigured shape (storage_data config.now))) }
     ensures used { IfOk result (λ opening. OnOpened opening
         (λ o. IsUsed D.told (D.medium disk.new).image (store_in o))) }
     ensures clean { IsTrue D.told → IsClean shape (D.medium disk.old).image

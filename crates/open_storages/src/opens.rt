@@ -3,8 +3,8 @@
 ghost use Rattle.std.specs.Prelude.{◌≡◌};
 ghost use Rattle.element_maps.specs.Storages.{IsConfigured};
 ghost use Rattle.element_store.specs.Stores.{shape_of, view_in};
-ghost use Rattle.run_model.specs.Sessions.{seen_in, synced_of};
-ghost use Rattle.open_storages.specs.Opens.{config_in, kind_of, session_in, store_in};
+ghost use Rattle.run_model.specs.Sessions.{seen_in, synced_in_session};
+ghost use Rattle.open_storages.specs.Opens.{config_in, session_in, session_kind, store_in};
 
 use file_storage::Files;
 use kvs_store::Kvs;
@@ -23,8 +23,8 @@ impl Open {
     pub fn invariants(&self)
         ensures configured { IsConfigured (config_in self.now).kind (config_in self.now)
             (shape_of (store_in self.now)) }
-        ensures kind { kind_of (session_in self.now) ≡ (config_in self.now).kind }
-        ensures synced { synced_of (session_in self.now) ≡ seen_in (config_in self.now).kind
+        ensures kind { session_kind (session_in self.now) ≡ (config_in self.now).kind }
+        ensures synced { synced_in_session (session_in self.now) ≡ seen_in (config_in self.now).kind
             (view_in (store_in self.now)) }
     {
         match self {

@@ -9,7 +9,7 @@ ghost use Rattle.element_state.specs.Clean.{IsClean};
 ghost use Rattle.element_state.specs.States.{Opens};
 ghost use Rattle.element_store.specs.Stores.{IsUsed, shape_of};
 ghost use Rattle.element_maps.specs.Storages.{IsStoring};
-ghost use Rattle.open_storages.specs.Durables.{IsMade, WritesAtMost, made_of};
+ghost use Rattle.open_storages.specs.Durables.{IsDurableOrRefused, WritesAtMost, made_of};
 ghost use Rattle.open_storages.specs.Opens.{config_in, store_in};
 ghost use Rattle.open_storages.specs.Refusals.{durable_view, flush_refused, is_still, sync_refused};
 
@@ -45,7 +45,7 @@ impl Open {
         requires keys { (config_in self).kind ≡ kinds.Keys }
 
         // What is due is given: a refusal hands the storage back as it was, and where nothing differs nothing happens.
-        ensures done { IfOk result (IsMade D.told (D.medium disk.new).image self (sync_refused self)) }
+        ensures done { IfOk result (IsDurableOrRefused D.told (D.medium disk.new).image self (sync_refused self)) }
         ensures due { (error : PerError) → sync_refused self ≡ Some error
             → (result ≡ Ok (Durable.Refused self error)) × (disk.new ≡ disk.old) }
         ensures unchanged { is_still self ≡ true → IsOk result × (disk.new ≡ disk.old) }
@@ -94,7 +94,8 @@ impl Open {
     pub fn flush<D: Disk>(self, disk: &mut D, handle: u32) -> Result<Durable, Stop>
         requires used { IsUsed D.told (D.medium disk.old).image (store_in self) }
 
-        ensures done { IfOk result (IsMade D.told (D.medium disk.new).image self (flush_refused self handle)) }
+        ensures done { IfOk result (IsDurableOrRefused D.told (D.medium disk.new).image self
+            (flush_refused self handle)) }
         ensures due { (error : PerError) → flush_refused self handle ≡ Some error
             → (result ≡ Ok (Durable.Refused self error)) × (disk.new ≡ disk.old) }
         ensures unchanged { is_still self ≡ true → IsOk result × (disk.new ≡ disk.old) }

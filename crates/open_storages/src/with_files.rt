@@ -5,7 +5,7 @@ ghost use Rattle.file_core.specs.Refusals.{IsRefusal};
 ghost use Rattle.file_handles.specs.Handling as handling;
 ghost use Rattle.file_handles.specs.Opening.{open_file};
 ghost use Rattle.run_model.specs.Sessions.{on_working, storage_of};
-ghost use Rattle.open_storages.specs.Answers.{IsAnswered, is_by_name, is_placing, is_reading};
+ghost use Rattle.open_storages.specs.Answers.{IsAnsweredAsRow, is_by_name, is_placing, is_reading};
 
 use command_text::{Answer, Call};
 use file_storage::Files;
@@ -14,7 +14,7 @@ use per_base::{Bytes, Name, OpenKind, OpenMode, PerError, Sequence};
 /// Answers a call on files, at a moment in seconds.
 #[tactic(auto, using(crate::proofs::Rows::refused_then, crate::proofs::Rows::due_then, crate::proofs::Rows::answered_then), unfolding(run_model::specs::Sessions::on_working))]
 pub(crate) fn answer_files(files: &mut Files, now: u64, call: &Call) -> Result<Answer, PerError>
-    ensures answered { IsAnswered (on_working files.old.config now files.old.session call.now) files.old.session
+    ensures answered { IsAnsweredAsRow (on_working files.old.config now files.old.session call.now) files.old.session
         files.new.session result }
     ensures beside { files.new ≡ record files.old { session = files.new.session; moment = files.new.moment } }
 {
@@ -43,7 +43,7 @@ pub(crate) fn answer_files(files: &mut Files, now: u64, call: &Call) -> Result<A
 #[tactic(auto, using(crate::proofs::Rows::refused_then, crate::proofs::Rows::due_then, crate::proofs::Rows::answered_then), unfolding(run_model::specs::Sessions::on_working))]
 fn by_name(files: &mut Files, now: u64, call: &Call) -> Result<Answer, PerError>
     requires { is_by_name call.now ≡ true }
-    ensures answered { IsAnswered (on_working files.old.config now files.old.session call.now) files.old.session
+    ensures answered { IsAnsweredAsRow (on_working files.old.config now files.old.session call.now) files.old.session
         files.new.session result }
     ensures beside { files.new ≡ record files.old { session = files.new.session; moment = files.new.moment } }
 {
@@ -73,7 +73,7 @@ fn by_name(files: &mut Files, now: u64, call: &Call) -> Result<Answer, PerError>
 #[tactic(auto, using(crate::proofs::Rows::refused_then, crate::proofs::Rows::due_then, crate::proofs::Rows::answered_then), unfolding(run_model::specs::Sessions::on_working))]
 fn read(files: &mut Files, call: &Call) -> Result<Answer, PerError>
     requires { is_reading call.now ≡ true }
-    ensures answered { (now : ℕ) → IsAnswered (on_working files.old.config now files.old.session call.now)
+    ensures answered { (now : ℕ) → IsAnsweredAsRow (on_working files.old.config now files.old.session call.now)
         files.old.session files.new.session result }
     ensures beside { files.new ≡ record files.old { session = files.new.session; moment = files.new.moment } }
 {
@@ -95,7 +95,7 @@ fn read(files: &mut Files, call: &Call) -> Result<Answer, PerError>
 #[tactic(auto, using(crate::proofs::Rows::refused_then, crate::proofs::Rows::due_then, crate::proofs::Rows::answered_then), unfolding(run_model::specs::Sessions::on_working))]
 fn place(files: &mut Files, call: &Call) -> Result<Answer, PerError>
     requires { is_placing call.now ≡ true }
-    ensures answered { (now : ℕ) → IsAnswered (on_working files.old.config now files.old.session call.now)
+    ensures answered { (now : ℕ) → IsAnsweredAsRow (on_working files.old.config now files.old.session call.now)
         files.old.session files.new.session result }
     ensures beside { files.new ≡ record files.old { session = files.new.session; moment = files.new.moment } }
 {
@@ -120,7 +120,7 @@ fn change(files: &mut Files, now: u64, call: &Call) -> Result<Answer, PerError>
     requires by_name { is_by_name call.now ≡ false }
     requires reading { is_reading call.now ≡ false }
     requires placing { is_placing call.now ≡ false }
-    ensures answered { IsAnswered (on_working files.old.config now files.old.session call.now) files.old.session
+    ensures answered { IsAnsweredAsRow (on_working files.old.config now files.old.session call.now) files.old.session
         files.new.session result }
     ensures beside { files.new ≡ record files.old { session = files.new.session; moment = files.new.moment } }
 {

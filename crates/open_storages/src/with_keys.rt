@@ -3,9 +3,9 @@
 ghost use Rattle.std.specs.Prelude.{◌≡◌, IfErr, IfOk, OnErr, OnOk, Ok};
 ghost use Rattle.kvs_core.specs.Calls as calls;
 ghost use Rattle.kvs_core.specs.Refusals.{IsRefusal};
-ghost use Rattle.kvs_store.specs.Storages.{session_of, showing};
+ghost use Rattle.kvs_store.specs.Storages.{kvs_session, showing};
 ghost use Rattle.run_model.specs.Sessions.{on_keys};
-ghost use Rattle.open_storages.specs.Answers.{IsAnswered};
+ghost use Rattle.open_storages.specs.Answers.{IsAnsweredAsRow};
 ghost use Rattle.open_storages.specs.Opens.{keys_of};
 
 use command_text::{Answer, AskedType, Call};
@@ -17,7 +17,7 @@ use value_model::Value;
 /// Answers a call on keys.
 #[tactic(auto, using(crate::proofs::Rows::refused_then, crate::proofs::Rows::due_then, crate::proofs::Rows::answered_then), unfolding(run_model::specs::Sessions::on_keys))]
 pub(crate) fn answer_keys(kvs: &mut Kvs, alloc: Global, call: &Call) -> Result<Answer, PerError>
-    ensures answered { IsAnswered (on_keys kvs.old.config (keys_of kvs.old) call.now) (keys_of kvs.old)
+    ensures answered { IsAnsweredAsRow (on_keys kvs.old.config (keys_of kvs.old) call.now) (keys_of kvs.old)
         (keys_of kvs.new) result }
     ensures beside { kvs.new ≡ showing kvs.old kvs.new.session.visible }
 {

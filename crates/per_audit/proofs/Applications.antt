@@ -10,29 +10,30 @@ use Rattle.deployment_model.specs.declared.configs.Deployment.{Deployment}
 use Rattle.element_state.specs.declared.shapes.Shape.{Shape}
 use Rattle.element_state.specs.States.{State, store_at}
 use Rattle.deploy.specs.Views.{ShowsVersions, seen_at, seen_by, versions}
-use Rattle.deploy_laws.specs.Apps.{IsPlaced, Says, nothing, absent, installed, app_at, root_sole, says_at}
+use Rattle.deploy_laws.specs.Apps.{IsInBank, Says, nothing, absent, installed, app_at, root_sole, says_at}
 use Rattle.deploy_laws.specs.Apps.{shapes_named}
-use Rattle.deploy_laws.specs.Places.{Named, shape_of, shapes_from, shapes_if, shapes_in}
+use Rattle.deploy_laws.specs.Places.{Named, shapes_from, shapes_if, shapes_in, storage_shape}
 use Rattle.per_audit.specs.declared.findings.Finding.{Finding}
 use Rattle.per_audit.specs.declared.findings.Listed.{Listed}
 use Rattle.per_audit.specs.declared.noting.Notes.{Notes}
 use Rattle.per_audit.specs.Audits.{damaged_by, each_storage, elements_of, findings_of, listed_of, of_storage}
 use Rattle.per_audit.specs.Audits.{storages_if, storages_of, unless_sole}
-use Rattle.per_audit.specs.Noted.{Adds, elements_seen, findings_seen, named_in, of_previous, of_version, within}
+use Rattle.per_audit.specs.Noted.{AddsNotes, elements_seen, findings_seen, of_previous, of_version, version_in_bank}
+use Rattle.per_audit.specs.Noted.{within}
 
 -- ---- the storages of both versions
 
 module _ {A : Type 0} (f : ℕ → StorageData → State → List A) (image : Image) (app : ℕ) where
-  -- those of one version in front of others
+  -- those of one version before others
   each_more : (bank number : ℕ) (ss : List StorageData) (rest : List (ℕ × StorageData)) (shapes : List Shape)
       → each_storage f (map (λ s. (bank, s)) ss ++ rest) (map (store_at image)
       (shapes_from app bank number ss ++ shapes))
       ≡ within f image app bank number ss ++ each_storage f rest (map (store_at image) shapes)
   each_more bank number [] rest shapes = refl
   each_more bank number (s ∷ ss) rest shapes =
-      ap (λ (xs : List A). f bank s (store_at image (shape_of app bank number s)) ++ xs)
+      ap (λ (xs : List A). f bank s (store_at image (storage_shape app bank number s)) ++ xs)
       (each_more bank (suc number) ss rest shapes)
-      ∙ sym (append_assoc (f bank s (store_at image (shape_of app bank number s)))
+      ∙ sym (append_assoc (f bank s (store_at image (storage_shape app bank number s)))
       (within f image app bank (suc number) ss) (each_storage f rest (map (store_at image) shapes)))
 
   versions_each : (active : Named) (previous : Option Named)
@@ -89,12 +90,12 @@ module _ (image : Image) (app : ℕ) where
 -- ---- the versions that are seen
 
 pub shown_active : (active : Named) (previous : Option Named) (lacking : List ℕ) (sole : Bool)
-    → ShowsVersions (versions active previous lacking sole) → IsPlaced active
+    → ShowsVersions (versions active previous lacking sole) → IsInBank active
 shown_active active None lacking sole shown = shown
 shown_active active (Some v) lacking sole shown = shown.of_active
 
 pub shown_previous : (active : Named) (bank : ℕ) (previous : Option Deployment) (lacking : List ℕ) (sole : Bool)
-    → ShowsVersions (versions active (named_in bank previous) lacking sole)
+    → ShowsVersions (versions active (version_in_bank bank previous) lacking sole)
     → IfSome previous (λ d. IsDeployment (deployment_data d))
 shown_previous active bank None lacking sole shown = tt
 shown_previous active bank (Some d) lacking sole shown = shown.of_previous.keeps
@@ -106,8 +107,8 @@ kept_some previous d is kept = subst (λ (o : Option Deployment). IfSome o (λ x
 
 -- ---- what was added
 
-pub adds_on : (es fs : List Listed) (gs hs : List Finding) (a b c : Notes) → Adds es gs a b → Adds fs hs b c
-    → Adds (es ++ fs) (gs ++ hs) a c
+pub adds_on : (es fs : List Listed) (gs hs : List Finding) (a b c : Notes) → AddsNotes es gs a b → AddsNotes fs hs b c
+    → AddsNotes (es ++ fs) (gs ++ hs) a c
 adds_on es fs gs hs a b c first next = record {
   elements_are = next.elements_are ∙ ap (λ (xs : List Listed). xs ++ fs) first.elements_are
       ∙ append_assoc a.elements.items es fs;
@@ -115,7 +116,7 @@ adds_on es fs gs hs a b c first next = record {
       ∙ append_assoc a.findings.items gs hs;
 }
 
-pub adds_nothing : (a : Notes) → Adds [] [] a a
+pub adds_nothing : (a : Notes) → AddsNotes [] [] a a
 adds_nothing a = record {
   elements_are = sym (append-nil a.elements.items);
   findings_are =

@@ -12,14 +12,14 @@ use Rattle.element_state.specs.declared.shapes.View.{View}
 use Rattle.element_state.specs.declared.surveying.Found.{Found}
 use Rattle.element_state.specs.Fit.{FitText, fit_texts, is_sole}
 use Rattle.element_state.specs.Views.{qualifies, view_of}
-use Rattle.element_state.specs.States.{State, Corrupt, store_at, state_of, picked, beside, others_of, salvage_of}
-use Rattle.element_state.specs.Surveys.{IsOf, IsViewedOn}
+use Rattle.element_state.specs.States.{State, Corrupt, store_at, state_of, first_picked, beside, others_of, salvage_of}
+use Rattle.element_state.specs.Surveys.{IsViewedOn, OpensOrSalvages}
 use Rattle.per_audit.specs.declared.findings.FindingKind.TheVariants.{Lost}
 use Rattle.per_audit.specs.declared.noting.Notes.{Notes}
 use Rattle.per_audit.specs.declared.findings.Finding.{Finding}
 use Rattle.per_audit.specs.declared.findings.Listed.{Listed}
 use Rattle.per_audit.specs.Audits.{damaged_by, finding, is_none_left, listed_of, of_element, of_storage, unless_sole}
-use Rattle.per_audit.specs.Noted.{Adds, elements_by, elements_found, findings_by, findings_found}
+use Rattle.per_audit.specs.Noted.{AddsNotes, elements_by, elements_found, findings_by, findings_found}
 
 -- ---- whether other texts are held
 
@@ -36,10 +36,10 @@ more_left view t u texts false None = refl
 more_left view t u texts false (Some found) = refl
 
 state_settled : (view : FitText → View) (test : FitText → Bool) (texts : List FitText)
-    → is_none_left (others_of (state_of view texts (picked test texts))) ≡ is_sole texts
+    → is_none_left (others_of (state_of view texts (first_picked test texts))) ≡ is_sole texts
 state_settled view test [] = refl
 state_settled view test (t ∷ []) = one_left view t (test t)
-state_settled view test (t ∷ u ∷ texts) = more_left view t u texts (test t) (picked test (u ∷ texts))
+state_settled view test (t ∷ u ∷ texts) = more_left view t u texts (test t) (first_picked test (u ∷ texts))
     ∙ sym (lt-leb (length (t ∷ u ∷ texts)) 1 (omega arith))
 
 store_settled : (image : Image) (shape : Shape) → is_none_left (others_of (store_at image shape))
@@ -65,12 +65,12 @@ none_seen : (image : Image) (shape : Shape) → salvage_of (store_at image shape
     → store_at image shape ≡ Corrupt None []
 unfolding store_at
 none_seen image shape e = no_text (view_of image shape) (fit_texts shape image)
-    (picked (qualifies image shape) (fit_texts shape image)) e
+    (first_picked (qualifies image shape) (fit_texts shape image)) e
 
 -- ---- what is found
 
 module _ (app bank : ℕ) (s : StorageData) where
-  findings_as : (opens : Bool) (v : View) (state : State) → IsOf opens v state
+  findings_as : (opens : Bool) (v : View) (state : State) → OpensOrSalvages opens v state
       → v.sole ≡ is_none_left (others_of state)
       → findings_by app bank s opens v ≡ of_storage app bank s state
   findings_as true v state of sole =
@@ -84,7 +84,7 @@ module _ (app bank : ℕ) (s : StorageData) where
       (sole ∙ ap (λ (st : State). is_none_left (others_of st)) of.1)
       ∙ sym (ap (of_storage app bank s) of.1)
 
-  elements_as : (opens : Bool) (v : View) (state : State) → IsOf opens v state
+  elements_as : (opens : Bool) (v : View) (state : State) → OpensOrSalvages opens v state
       → elements_by app bank s opens v ≡ listed_of app bank s state
   elements_as true v state of = sym (ap (listed_of app bank s) of.1)
   elements_as false v state of = sym (ap (listed_of app bank s) of.1)
@@ -106,8 +106,9 @@ module _ (app bank : ℕ) (s : StorageData) where
 
 -- ---- what was added
 
-pub adds_as : (es fs : List Listed) (gs hs : List Finding) (old new : Notes) → es ≡ fs → gs ≡ hs → Adds es gs old new
-    → Adds fs hs old new
+pub adds_as : (es fs : List Listed) (gs hs : List Finding) (old new : Notes) → es ≡ fs → gs ≡ hs
+    → AddsNotes es gs old new
+    → AddsNotes fs hs old new
 adds_as es fs gs hs old new elements findings adds = record {
   elements_are = adds.elements_are ∙ ap (λ (xs : List Listed). old.elements.items ++ xs) elements;
   findings_are = adds.findings_are ∙ ap (λ (xs : List Finding). old.findings.items ++ xs) findings;

@@ -13,10 +13,10 @@ use Rattle.deployment_model.specs.Conditions.{IsStorage}
 use Rattle.deployment_model.specs.Data.{StorageData, storage_data}
 use Rattle.deployment_model.specs.declared.configs.StorageConfig.{StorageConfig}
 use Rattle.element_state.specs.States.{State, store_at}
-use Rattle.deploy_laws.specs.Places.{shape_of}
+use Rattle.deploy_laws.specs.Places.{storage_shape}
 use Rattle.deploy_laws.specs.Apps.{app_at, root_sole}
 use Rattle.per_audit.specs.Audits.{elements_at, elements_of, findings_at, findings_of, listed_of, of_storage}
-use Rattle.per_audit.specs.Noted.{Adds, within}
+use Rattle.per_audit.specs.Noted.{AddsNotes, within}
 use Rattle.per_audit.specs.declared.findings.Finding.{Finding}
 use Rattle.per_audit.specs.declared.findings.Listed.{Listed}
 use Rattle.per_audit.specs.declared.noting.Notes.{Notes}
@@ -35,10 +35,10 @@ module _ {A : Type 0} (f : ℕ → StorageData → State → List A) (image : Im
   left_more : (number : ℕ) (x : StorageConfig) (now new : List A) → number < length storages
       → x ≡ get_or storages number x
       → Left f image app bank number storages start now
-      → new ≡ now ++ f bank (storage_data x) (store_at image (shape_of app bank number (storage_data x)))
+      → new ≡ now ++ f bank (storage_data x) (store_at image (storage_shape app bank number (storage_data x)))
       → Left f image app bank (number + 1) storages start new
   left_more number x now new lt is left added =
-      let here = f bank (storage_data x) (store_at image (shape_of app bank number (storage_data x))) in
+      let here = f bank (storage_data x) (store_at image (storage_shape app bank number (storage_data x))) in
       let later = drop (number + 1) storages in
       let rest = within f image app bank (suc number) (map storage_data later) in
       let next : number + 1 ≡ suc number = omega arith in
@@ -67,8 +67,9 @@ module _ (image : Image) (app bank : ℕ) (storages : List StorageConfig) (start
   pub are_left_more : (number : ℕ) (x : StorageConfig) (now new : Notes) → number < length storages
       → x ≡ get_or storages number x
       → AreLeft image app bank number storages start now
-      → Adds (listed_of app bank (storage_data x) (store_at image (shape_of app bank number (storage_data x))))
-      (of_storage app bank (storage_data x) (store_at image (shape_of app bank number (storage_data x)))) now new
+      → AddsNotes (listed_of app bank (storage_data x) (store_at image
+      (storage_shape app bank number (storage_data x))))
+      (of_storage app bank (storage_data x) (store_at image (storage_shape app bank number (storage_data x)))) now new
       → AreLeft image app bank (number + 1) storages start new
   are_left_more number x now new lt is left adds = record {
     elements = left_more (listed_of app) image app bank storages start.elements.items number x now.elements.items
@@ -79,7 +80,7 @@ module _ (image : Image) (app bank : ℕ) (storages : List StorageConfig) (start
 
   pub none_are_left : (number : ℕ) (now : Notes) → length storages ≤ number
       → AreLeft image app bank number storages start now
-      → Adds (within (listed_of app) image app bank 0 (map storage_data storages))
+      → AddsNotes (within (listed_of app) image app bank 0 (map storage_data storages))
       (within (of_storage app) image app bank 0 (map storage_data storages)) start now
   none_are_left number now past left = record {
     elements_are = left_all (listed_of app) image app bank storages start.elements.items number now.elements.items past
@@ -175,7 +176,7 @@ seen_on first next = record {
   time = elapses_on first.time next.time;
 }
 
--- behind a sync that succeeded: a crash leaves what reads give, or what one before the sync might have left
+-- after a sync that succeeded: a crash leaves what reads give, or what one before the sync might have left
 pub seen_behind : {old mid new : Medium} → Elapses old mid → WritesNothing old mid → Quiet mid → Elapses mid new
     → (Quiet mid → IsIdle mid new) → EachCase (λ c. old.now c ⊎ IsSettledAt old.image c) old new
 seen_behind time nothing quiet later idle c s = ⊎_elim

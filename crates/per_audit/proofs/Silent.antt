@@ -13,16 +13,16 @@ use Rattle.disk_model.specs.Image.{Image}
 use Rattle.deployment_model.specs.Data.{StorageData}
 use Rattle.element_state.specs.declared.shapes.Shape.{Shape}
 use Rattle.element_state.specs.declared.shapes.View.{View}
-use Rattle.element_state.specs.Reports.{element_failed, element_recovered, element_reports, is_readable}
+use Rattle.element_state.specs.Reports.{element_failed, element_recovered, element_reports, is_readable_by}
 use Rattle.element_state.specs.Reports.{recovered_reports, report_of, report_some, reports, store_recovered}
 use Rattle.element_state.specs.States.{State, Opens, Corrupt, store_at}
 use Rattle.deploy_laws.specs.Apps.{Says, nothing, absent, installed, app_at, root_sole, says_at, shapes_named}
-use Rattle.deploy_laws.specs.Places.{Named, shape_of, shapes_from, shapes_if, shapes_in}
+use Rattle.deploy_laws.specs.Places.{Named, shapes_from, shapes_if, shapes_in, storage_shape}
 use Rattle.deploy_rows.specs.Recovering.{is_content}
 use Rattle.per_audit.specs.declared.findings.Finding.{Finding}
 use Rattle.per_audit.specs.declared.findings.FindingKind.TheVariants.{Lost}
 use Rattle.per_audit.specs.Audits.{damaged_by, each_storage, finding, findings_at, findings_of, is_none_left}
-use Rattle.per_audit.specs.Audits.{lacking_by, of_element, of_storage, storages_if, storages_of, unless_sole}
+use Rattle.per_audit.specs.Audits.{lacking_named, of_element, of_storage, storages_if, storages_of, unless_sole}
 use Rattle.element_state.specs.Chosen.{opened_of}
 use Rattle.per_audit.specs.Laws.{IntactIsSoundLaw, IsIntactApp, IsIntactStorage, SilentOpeningLaw, SoundIsIntactLaw}
 use Rattle.per_audit.proofs.Lists.{all_silent, flat_silent, nil_join, nil_left, nil_right, range_silent}
@@ -52,7 +52,7 @@ report_none kind shape element (copy ∷ copies) e = cc
 
 module _ (app bank : ℕ) (shape : Shape) (e : Entry) (unit : Unit) (lost : Finding) (report : Report) where
   element_silent : (readable : Bool) (scope : Scope) → cond readable
-      (damaged_by app (Some bank) unit (lacking_by scope e.lacking)) (lost ∷ []) ≡ []
+      (damaged_by app (Some bank) unit (lacking_named scope e.lacking)) (lost ∷ []) ≡ []
       → cond readable (recovered_reports scope shape e) (report ∷ []) ≡ []
   element_silent true scope.Element none =
       ap (report_some (element_recovered shape.kind) shape (Some e.name))
@@ -61,7 +61,7 @@ module _ (app bank : ℕ) (shape : Shape) (e : Entry) (unit : Unit) (lost : Find
   element_silent false scope none = cc
 
   report_silent : (readable : Bool) (scope : Scope) → cond readable (recovered_reports scope shape e) (report ∷ []) ≡ []
-      → cond readable (damaged_by app (Some bank) unit (lacking_by scope e.lacking)) (lost ∷ []) ≡ []
+      → cond readable (damaged_by app (Some bank) unit (lacking_named scope e.lacking)) (lost ∷ []) ≡ []
   report_silent true scope.Element none =
       ap (damaged_by app (Some bank) unit) (report_none (element_recovered shape.kind) shape (Some e.name) e.lacking
       none)
@@ -72,31 +72,31 @@ module _ (app bank : ℕ) (shape : Shape) (e : Entry) (unit : Unit) (lost : Find
 
 module _ (image : Image) (app bank number : ℕ) (s : StorageData) where
   abbrev shape : Shape
-  shape = shape_of app bank number s
+  shape = storage_shape app bank number s
 
   abbrev test : List ℕ → Bool
   test = is_content s.kind
 
   same_reports : (v : View) → reports (is_content shape.kind) shape v
       ≡ report_some (store_recovered s.kind) shape None v.lacking ++ flat_map (element_reports test shape) v.entries
-  unfolding reports shape_of
+  unfolding reports storage_shape
   same_reports v = refl
 
   elements_silent : (entries : List Entry) → flat_map (of_element app bank s) entries ≡ []
       → flat_map (element_reports test shape) entries ≡ []
-  unfolding shape_of
+  unfolding storage_shape
   elements_silent = flat_silent (of_element app bank s) (element_reports test shape)
       (λ e. element_silent app bank shape e (Part s.name e.name)
       (finding app (Some bank) Lost (Part s.name e.name) e.lacking)
-      (report_of (element_failed shape.kind) shape (Some e.name) e.lacking) (is_readable test e.content) s.scope)
+      (report_of (element_failed shape.kind) shape (Some e.name) e.lacking) (is_readable_by test e.content) s.scope)
 
   reports_silent : (entries : List Entry) → flat_map (element_reports test shape) entries ≡ []
       → flat_map (of_element app bank s) entries ≡ []
-  unfolding shape_of
+  unfolding storage_shape
   reports_silent = flat_silent (element_reports test shape) (of_element app bank s)
       (λ e. report_silent app bank shape e (Part s.name e.name)
       (finding app (Some bank) Lost (Part s.name e.name) e.lacking)
-      (report_of (element_failed shape.kind) shape (Some e.name) e.lacking) (is_readable test e.content) s.scope)
+      (report_of (element_failed shape.kind) shape (Some e.name) e.lacking) (is_readable_by test e.content) s.scope)
 
   state_sound : (state : State) → store_at image shape ≡ state → of_storage app bank s state ≡ []
       → IsIntactStorage image shape
@@ -149,7 +149,7 @@ module _ (image : Image) (app : ℕ) where
       → AreSound (shapes_from app bank number ss ++ shapes)
   each_sound bank number [] rest shapes then none = then none
   each_sound bank number (s ∷ ss) rest shapes then none =
-      let here = of_storage app bank s (store_at image (shape_of app bank number s)) in
+      let here = of_storage app bank s (store_at image (storage_shape app bank number s)) in
       let later = found (map (λ s. (bank, s)) ss ++ rest) (shapes_from app bank (suc number) ss ++ shapes) in (
         storage_sound image app bank number s (nil_left here later none),
         each_sound bank (suc number) ss rest shapes then (nil_right here later none),
@@ -161,7 +161,7 @@ module _ (image : Image) (app : ℕ) where
       → found (map (λ s. (bank, s)) ss ++ rest) (shapes_from app bank number ss ++ shapes) ≡ []
   sound_each bank number [] rest shapes then all = then all
   sound_each bank number (s ∷ ss) rest shapes then all =
-      nil_join (of_storage app bank s (store_at image (shape_of app bank number s)))
+      nil_join (of_storage app bank s (store_at image (storage_shape app bank number s)))
       (found (map (λ s. (bank, s)) ss ++ rest) (shapes_from app bank (suc number) ss ++ shapes))
       (sound_storage image app bank number s all.0) (sound_each bank (suc number) ss rest shapes then all.1)
 
@@ -171,7 +171,7 @@ module _ (image : Image) (app : ℕ) where
       → AreSound (shapes_from app bank number ss)
   version_sound bank number [] none = tt
   version_sound bank number (s ∷ ss) none =
-      let here = of_storage app bank s (store_at image (shape_of app bank number s)) in
+      let here = of_storage app bank s (store_at image (storage_shape app bank number s)) in
       let later = found (map (λ s. (bank, s)) ss) (shapes_from app bank (suc number) ss) in (
         storage_sound image app bank number s (nil_left here later none),
         version_sound bank (suc number) ss (nil_right here later none),
@@ -181,7 +181,7 @@ module _ (image : Image) (app : ℕ) where
       → found (map (λ s. (bank, s)) ss) (shapes_from app bank number ss) ≡ []
   sound_version bank number [] all = refl
   sound_version bank number (s ∷ ss) all =
-      nil_join (of_storage app bank s (store_at image (shape_of app bank number s)))
+      nil_join (of_storage app bank s (store_at image (storage_shape app bank number s)))
       (found (map (λ s. (bank, s)) ss) (shapes_from app bank (suc number) ss))
       (sound_storage image app bank number s all.0) (sound_version bank (suc number) ss all.1)
 

@@ -19,7 +19,7 @@ kind_word Damaged = codes "damaged"
 kind_word Lost = codes "lost"
 kind_word Unsettled = codes "unsettled"
 
--- a root lies in no bank
+-- a root is in no bank
 abbrev pub bank_text : Option ℕ → List ℕ
 bank_text None = codes "-"
 bank_text (Some bank) = decimal bank

@@ -9,7 +9,7 @@ use Rattle.per_base.specs.declared.errors.Unit.TheVariants.{Root, Whole, Part}
 use Rattle.disk_model.specs.Image.{Image}
 use Rattle.deployment_model.specs.Data.{StorageData}
 use Rattle.element_state.specs.declared.shapes.View.{View}
-use Rattle.element_state.specs.Reports.{is_readable}
+use Rattle.element_state.specs.Reports.{is_readable_by}
 use Rattle.element_state.specs.States.{State, Opens, Corrupt}
 use Rattle.deploy_laws.specs.Apps.{App, Says, nothing, absent, installed, app_at, root_sole}
 use Rattle.deploy_laws.specs.Places.{Named}
@@ -46,14 +46,14 @@ of_root app sole (installed g active previous) lacking =
 -- ---- a storage, in its bank
 
 -- with storage scope a copy that lacks an element lacks the storage, which is named once
-abbrev pub lacking_by : Scope → List ℕ → List ℕ
-lacking_by scope.Element lacking = lacking
-lacking_by scope.Storage lacking = []
+abbrev pub lacking_named : Scope → List ℕ → List ℕ
+lacking_named scope.Element lacking = lacking
+lacking_named scope.Storage lacking = []
 
 -- an element is lost where an opening would report that it failed
 abbrev pub of_element : (app bank : ℕ) → StorageData → Entry → List Finding
-of_element app bank s e = cond (is_readable (is_content s.kind) e.content)
-    (damaged_by app (Some bank) (Part s.name e.name) (lacking_by s.scope e.lacking))
+of_element app bank s e = cond (is_readable_by (is_content s.kind) e.content)
+    (damaged_by app (Some bank) (Part s.name e.name) (lacking_named s.scope e.lacking))
     (finding app (Some bank) Lost (Part s.name e.name) e.lacking ∷ [])
 
 abbrev pub is_none_left : List View → Bool
@@ -70,12 +70,12 @@ of_storage app bank s (Opens v others) = damaged_by app (Some bank) (Whole s.nam
     ++ flat_map (of_element app bank s) v.entries
 
 -- every element of a storage that opens is listed
-abbrev pub listed : (app bank : ℕ) → StorageData → Entry → Listed
-listed app bank s e = record { app = app; bank = bank; storage = s.name; element = e.name; changed = e.changed }
+abbrev pub listed_element : (app bank : ℕ) → StorageData → Entry → Listed
+listed_element app bank s e = record { app = app; bank = bank; storage = s.name; element = e.name; changed = e.changed }
 
 abbrev pub listed_of : (app bank : ℕ) → StorageData → State → List Listed
 listed_of app bank s (Corrupt salvage others) = []
-listed_of app bank s (Opens v others) = map (listed app bank s) v.entries
+listed_of app bank s (Opens v others) = map (listed_element app bank s) v.entries
 
 -- ---- an application
 

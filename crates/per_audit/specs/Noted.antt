@@ -14,11 +14,11 @@ use Rattle.per_audit.specs.declared.findings.Finding.{Finding}
 use Rattle.per_audit.specs.declared.findings.FindingKind.TheVariants.{Lost}
 use Rattle.per_audit.specs.declared.findings.Listed.{Listed}
 use Rattle.per_audit.specs.declared.noting.Notes.{Notes}
-use Rattle.per_audit.specs.Audits.{damaged_by, each_storage, finding, listed, listed_of, of_element, of_storage}
+use Rattle.per_audit.specs.Audits.{damaged_by, each_storage, finding, listed_element, listed_of, of_element, of_storage}
 use Rattle.per_audit.specs.Audits.{unless_sole}
 
 -- these elements and these findings were added to the notes
-pub record Adds (elements : List Listed) (findings : List Finding) (old new : Notes) : Type 0 where
+pub record AddsNotes (elements : List Listed) (findings : List Finding) (old new : Notes) : Type 0 where
   pub elements_are : new.elements.items ≡ old.elements.items ++ elements
   pub findings_are : new.findings.items ≡ old.findings.items ++ findings
 
@@ -43,7 +43,7 @@ findings_found app bank s None = of_corrupt app bank s true
 findings_found app bank s (Some found) = findings_by app bank s found.opens found.view
 
 abbrev pub elements_by : (app bank : ℕ) → StorageData → (opens : Bool) → View → List Listed
-elements_by app bank s true v = map (listed app bank s) v.entries
+elements_by app bank s true v = map (listed_element app bank s) v.entries
 elements_by app bank s false v = []
 
 abbrev pub elements_found : (app bank : ℕ) → StorageData → Option Found → List Listed
@@ -63,8 +63,8 @@ abbrev pub of_version : {A : Type 0} → (ℕ → StorageData → State → List
 of_version f image app v = within f image app v.bank 0 v.deployment.storages
 
 -- a version in this bank, where there is one
-abbrev pub named_in : (bank : ℕ) → Option Deployment → Option Named
-named_in bank previous = option_map (λ d. record { bank = bank; deployment = deployment_data d }) previous
+abbrev pub version_in_bank : (bank : ℕ) → Option Deployment → Option Named
+version_in_bank bank previous = option_map (λ d. record { bank = bank; deployment = deployment_data d }) previous
 
 abbrev pub of_previous : {A : Type 0} → (ℕ → StorageData → State → List A) → Image → (app : ℕ) → Option Named → List A
 of_previous f image app None = []

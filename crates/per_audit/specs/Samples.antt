@@ -149,7 +149,7 @@ corrupt_others : text_of 0 true (of_state scope.Element
 unfolding computed
 corrupt_others = refl
 
--- ---- the active version in bank 1, and behind it the previous one in bank 0
+-- ---- the active version in bank 1, and after it the previous one in bank 0
 
 both_versions : text_of 5 true (record {
   says = installed 2 (version_in 1 scope.Element) (Some (version_in 0 scope.Element));

@@ -11,9 +11,9 @@ ghost use Rattle.element_state.specs.States.{store_at};
 ghost use Rattle.deploy.specs.Views.{ShowsVersions, root_seen};
 ghost use Rattle.deploy.specs.declared.viewing.RootView.TheVariants.{Installed};
 ghost use Rattle.deploy_laws.specs.Apps.{app_at, root_sole};
-ghost use Rattle.deploy_laws.specs.Places.{shape_of};
+ghost use Rattle.deploy_laws.specs.Places.{storage_shape};
 ghost use Rattle.per_audit.specs.Audits.{elements_at, elements_of, findings_at, findings_of, listed_of, of_storage};
-ghost use Rattle.per_audit.specs.Noted.{Adds, elements_seen, findings_seen, named_in, of_previous, within};
+ghost use Rattle.per_audit.specs.Noted.{AddsNotes, elements_seen, findings_seen, of_previous, version_in_bank, within};
 
 use crate::findings::Audit;
 use crate::noting::{Notes, note_bad_root, note_root, note_storage};
@@ -76,7 +76,7 @@ fn audit_all<D: Disk>(alloc: Global, disk: &mut D) -> Result<Audit, Stop>
 // Adds what one application has.
 fn audit_app<D: Disk>(alloc: Global, disk: &mut D, app: u32, notes: &mut Notes) -> Result<(), Stop>
     requires { app < 8 }
-    ensures adds { IsTrue D.told → OnOk result (Adds (elements_of app (app_at (D.medium disk.old).image app))
+    ensures adds { IsTrue D.told → OnOk result (AddsNotes (elements_of app (app_at (D.medium disk.old).image app))
         (findings_of app (root_sole (D.medium disk.old).image app) (app_at (D.medium disk.old).image app)) notes.old
         notes.new) }
     ensures quiet { OnOk result (Quiet (D.medium disk.new)) }
@@ -103,7 +103,8 @@ fn audit_view<D: Disk>(
 ) -> Result<(), Stop>
     requires app { app < 8 }
     requires versions { ShowsVersions (root_seen view.now) }
-    ensures adds { IsTrue D.told → OnOk result (Adds (elements_seen (D.medium disk.old).image app (root_seen view.now))
+    ensures adds { IsTrue D.told → OnOk result (AddsNotes (elements_seen (D.medium disk.old).image app
+        (root_seen view.now))
         (findings_seen (D.medium disk.old).image app (root_seen view.now)) notes.old notes.new) }
     ensures image { (D.medium disk.new).image ≡ (D.medium disk.old).image }
     ensures idle { Quiet (D.medium disk.old) → IsIdle (D.medium disk.old) (D.medium disk.new) }
@@ -137,7 +138,7 @@ fn audit_versions<D: Disk>(
 ) -> Result<(), Stop>
     requires app { app < 8 }
     requires versions { ShowsVersions (root_seen (Installed state.now)) }
-    ensures adds { IsTrue D.told → OnOk result (Adds (elements_seen (D.medium disk.old).image app
+    ensures adds { IsTrue D.told → OnOk result (AddsNotes (elements_seen (D.medium disk.old).image app
         (root_seen (Installed state.now)))
         (findings_seen (D.medium disk.old).image app (root_seen (Installed state.now))) notes.old notes.new) }
     ensures image { (D.medium disk.new).image ≡ (D.medium disk.old).image }
@@ -173,9 +174,10 @@ fn audit_previous<D: Disk>(
     requires app { app < 8 }
     requires bank { bank ≤ 1 }
     requires deployment { IfSome previous.now (λ d. IsDeployment (deployment_data d)) }
-    ensures adds { IsTrue D.told → OnOk result (Adds (of_previous (listed_of app) (D.medium disk.old).image app
-        (named_in bank previous.now))
-        (of_previous (of_storage app) (D.medium disk.old).image app (named_in bank previous.now)) notes.old notes.new) }
+    ensures adds { IsTrue D.told → OnOk result (AddsNotes (of_previous (listed_of app) (D.medium disk.old).image app
+        (version_in_bank bank previous.now))
+        (of_previous (of_storage app) (D.medium disk.old).image app (version_in_bank bank previous.now)) notes.old
+        notes.new) }
     ensures image { (D.medium disk.new).image ≡ (D.medium disk.old).image }
     ensures idle { Quiet (D.medium disk.old) → IsIdle (D.medium disk.old) (D.medium disk.new) }
     ensures written { (D.medium disk.new).written ≡ (D.medium disk.old).written }
@@ -211,7 +213,7 @@ fn audit_storages<D: Disk>(
     requires bank { bank ≤ 1 }
     requires few { length storages.now ≤ 16 }
     requires each { AllByRecursion IsStorage (map storage_data storages.now) }
-    ensures adds { IsTrue D.told → OnOk result (Adds (within (listed_of app) (D.medium disk.old).image app bank 0
+    ensures adds { IsTrue D.told → OnOk result (AddsNotes (within (listed_of app) (D.medium disk.old).image app bank 0
         (map storage_data storages.now))
         (within (of_storage app) (D.medium disk.old).image app bank 0 (map storage_data storages.now)) notes.old
         notes.new) }
@@ -243,11 +245,11 @@ fn audit_storage<D: Disk>(
     requires bank { bank ≤ 1 }
     requires number { number < 16 }
     requires config { IsStorage (storage_data config.now) }
-    ensures adds { IsTrue D.told → OnOk result (Adds
+    ensures adds { IsTrue D.told → OnOk result (AddsNotes
         (listed_of app bank (storage_data config.now) (store_at (D.medium disk.old).image
-        (shape_of app bank number (storage_data config.now))))
+        (storage_shape app bank number (storage_data config.now))))
         (of_storage app bank (storage_data config.now) (store_at (D.medium disk.old).image
-        (shape_of app bank number (storage_data config.now))))
+        (storage_shape app bank number (storage_data config.now))))
         notes.old notes.new) }
     ensures image { (D.medium disk.new).image ≡ (D.medium disk.old).image }
     ensures idle { Quiet (D.medium disk.old) → IsIdle (D.medium disk.old) (D.medium disk.new) }

@@ -5,11 +5,11 @@ ghost use Rattle.std.specs.Prelude.{◌≡◌, ◌∷◌, ◌++◌, [], IfOk, No
 ghost use Rattle.std.specs.List.{flat_map, range_with_len};
 ghost use Rattle.per_base.specs.declared.errors.Unit.TheVariants.{Root, Whole};
 ghost use Rattle.deployment_model.specs.Data.{storage_data};
-ghost use Rattle.element_state.specs.Reports.{is_readable};
+ghost use Rattle.element_state.specs.Reports.{is_readable_by};
 ghost use Rattle.deploy_rows.specs.Recovering.{is_content};
 ghost use Rattle.per_audit.specs.declared.findings.FindingKind.TheVariants.{Lost};
-ghost use Rattle.per_audit.specs.Audits.{damaged_by, finding, lacking_by, listed, of_element, unless_sole};
-ghost use Rattle.per_audit.specs.Noted.{Adds, elements_found, findings_found, of_corrupt, of_view};
+ghost use Rattle.per_audit.specs.Audits.{damaged_by, finding, lacking_named, listed_element, of_element, unless_sole};
+ghost use Rattle.per_audit.specs.Noted.{AddsNotes, elements_found, findings_found, of_corrupt, of_view};
 
 use crate::findings::{Audit, Finding, FindingKind, Listed};
 use deployment_model::StorageConfig;
@@ -53,7 +53,7 @@ impl Notes {
 
 /// Adds what is found of a root that says nothing.
 pub(crate) fn note_bad_root(alloc: Global, notes: &mut Notes, app: u32) -> Result<(), AllocError>
-    ensures { OnOk result (Adds [] (finding app None Lost Root (1 ∷ 2 ∷ 3 ∷ []) ∷ []) notes.old notes.new) }
+    ensures { OnOk result (AddsNotes [] (finding app None Lost Root (1 ∷ 2 ∷ 3 ∷ []) ∷ []) notes.old notes.new) }
 {
     let copies = Numbers::new(vec![in alloc; 1, 2, 3]?);
     notes.findings.push(Finding {
@@ -74,7 +74,7 @@ pub(crate) fn note_root(
     lacking: &Numbers,
     sole: bool,
 ) -> Result<(), AllocError>
-    ensures { OnOk result (Adds [] (damaged_by app None Root lacking.now ++ unless_sole sole app None Root)
+    ensures { OnOk result (AddsNotes [] (damaged_by app None Root lacking.now ++ unless_sole sole app None Root)
         notes.old notes.new) }
 {
     let findings = &mut notes.findings;
@@ -93,7 +93,7 @@ pub(crate) fn note_storage(
     config: &StorageConfig,
     found: &Option<Found>,
 ) -> Result<(), AllocError>
-    ensures { OnOk result (Adds (elements_found app bank (storage_data config.now) found.now)
+    ensures { OnOk result (AddsNotes (elements_found app bank (storage_data config.now) found.now)
         (findings_found app bank (storage_data config.now) found.now) notes.old notes.new) }
 {
     match found {
@@ -129,7 +129,7 @@ fn list_entries(
     entries: &[Entry],
 ) -> Result<(), AllocError>
     ensures { OnOk result (elements.new.items ≡ elements.old.items
-        ++ map (listed app bank (storage_data config.now)) entries.now) }
+        ++ map (listed_element app bank (storage_data config.now)) entries.now) }
 {
     for entry in entries {
         elements.push(listed(app, bank, config, entry)?)?;
@@ -138,7 +138,7 @@ fn list_entries(
 }
 
 fn listed(app: u32, bank: u32, config: &StorageConfig, entry: &Entry) -> Result<Listed, AllocError>
-    ensures { IfOk result (λ line. line ≡ listed app bank (storage_data config.now) entry.now) }
+    ensures { IfOk result (λ line. line ≡ listed_element app bank (storage_data config.now) entry.now) }
 {
     let storage = config.name.copy()?;
     let element = entry.name.copy()?;
@@ -231,7 +231,7 @@ fn push_element(
 
 // Whether enough copies agree on a content that the kind has.
 fn is_readable(alloc: Global, kind: StoreKind, content: &Content) -> Result<bool, AllocError>
-    ensures { IfOk result (λ answer. answer ≡ is_readable (is_content kind) content.now) }
+    ensures { IfOk result (λ answer. answer ≡ is_readable_by (is_content kind) content.now) }
 {
     match (content, kind) {
         (Content::Bad(_), _) => Ok(false),
@@ -240,7 +240,7 @@ fn is_readable(alloc: Global, kind: StoreKind, content: &Content) -> Result<bool
     }
 }
 
-// The numbers of so many copies, from 1 on.
+// The numbers of `count` copies, from 1 on.
 fn all_copies(alloc: Global, copies: u32) -> Result<Numbers, AllocError>
     ensures { IfOk result (λ numbers. numbers ≡ range_with_len 1 copies) }
 {
@@ -253,7 +253,7 @@ fn all_copies(alloc: Global, copies: u32) -> Result<Numbers, AllocError>
 
 // ---- one finding
 
-// The unit lies in a bank and is lost.
+// The unit is in a bank and is lost.
 fn push_lost(
     findings: &mut Vec<Finding>,
     app: u32,

@@ -33,15 +33,15 @@ use Rattle.export_text.specs.Exports.{AreExportable, IsExportable, export_text}
 use Rattle.export_text.specs.Exports as exports
 use Rattle.per_backup.specs.declared.exporting.Exported.{Exported}
 use Rattle.per_backup.specs.declared.finding.Located.{Located}
-use Rattle.per_backup.specs.Backups.{contents_of, exported_from, exporting, fresh_by, fresh_of, text_from}
-use Rattle.per_backup.specs.Clauses.{IsSeen, IsViewFor, exported_as}
-use Rattle.per_backup.specs.Finding.{IsLocated, IsMissing, config_of, found_as}
+use Rattle.per_backup.specs.Backups.{exported_contents, exported_from, exporting, fresh_by, fresh_of, text_from}
+use Rattle.per_backup.specs.Clauses.{IsAppSeen, IsViewFor, exported_as}
+use Rattle.per_backup.specs.Finding.{IsLocatedAs, IsMissingStorage, config_of, found_as}
 use Rattle.per_backup.proofs.Lists.{no_ok, ok_same}
 use Rattle.per_backup.proofs.Rows.{exporting_found, exporting_missing}
 
 -- ---- element by element
 
--- the contents that are known, and behind them those of the rest
+-- the contents that are known, and after them those of the rest
 abbrev pub followed_by : List Fresh → Result (List Fresh) PerError → Result (List Fresh) PerError
 followed_by known rest = rest >>= λ fs. Ok (known ++ fs)
 
@@ -51,18 +51,18 @@ one_more known f (Ok fs) = ap (λ (xs : List Fresh). Ok xs) (sym (append_assoc k
 one_more known f (Err e) = refl
 
 pub follows_one : (s : StorageData) (known : List Fresh) (e : Entry) (es : List Entry) (f : Fresh) → fresh_of s e ≡ Ok f
-    → followed_by known (contents_of s (e ∷ es)) ≡ followed_by (known ++ f ∷ []) (contents_of s es)
+    → followed_by known (exported_contents s (e ∷ es)) ≡ followed_by (known ++ f ∷ []) (exported_contents s es)
 follows_one s known e es f is = ap (λ (r : Result Fresh PerError).
-    followed_by known (r >>= λ g. contents_of s es >>= λ fs. Ok (g ∷ fs))) is
-    ∙ one_more known f (contents_of s es)
+    followed_by known (r >>= λ g. exported_contents s es >>= λ fs. Ok (g ∷ fs))) is
+    ∙ one_more known f (exported_contents s es)
 
 pub follows_none : (s : StorageData) (known : List Fresh) (e : Entry) (es : List Entry) (x : PerError)
     → fresh_of s e ≡ Err x
-    → followed_by known (contents_of s (e ∷ es)) ≡ Err x
+    → followed_by known (exported_contents s (e ∷ es)) ≡ Err x
 follows_none s known e es x is = ap (λ (r : Result Fresh PerError).
-    followed_by known (r >>= λ g. contents_of s es >>= λ fs. Ok (g ∷ fs))) is
+    followed_by known (r >>= λ g. exported_contents s es >>= λ fs. Ok (g ∷ fs))) is
 
-pub follows_end : (s : StorageData) (known : List Fresh) → followed_by known (contents_of s []) ≡ Ok known
+pub follows_end : (s : StorageData) (known : List Fresh) → followed_by known (exported_contents s []) ≡ Ok known
 follows_end s known = ap (λ (xs : List Fresh). Ok xs) (append-nil known)
 
 pub follows_start : (r : Result (List Fresh) PerError) → followed_by [] r ≡ r
@@ -148,15 +148,15 @@ module _ (shape : Shape) (s : StorageData) (kind : shape.kind ≡ s.kind) where
     pub rules : AllByRecursion (IsExportable s.kind) fs
     pub long : length fs ≡ length es
 
-  all_so : (es : List Entry) → AllByRecursion (IsEntryOf shape) es → (fs : List Fresh) → contents_of s es ≡ Ok fs
+  all_so : (es : List Entry) → AllByRecursion (IsEntryOf shape) es → (fs : List Fresh) → exported_contents s es ≡ Ok fs
       → AreAll es fs
   all_so [] entries fs given = subst (λ (xs : List Fresh). AreAll [] xs) (ok_same [] fs given)
       (record { names = refl; rules = tt; long = refl })
-  all_so (e ∷ es) entries fs given = by (all_so es entries.1) (fresh_of s e) refl (contents_of s es) refl given
+  all_so (e ∷ es) entries fs given = by (all_so es entries.1) (fresh_of s e) refl (exported_contents s es) refl given
     where
-      by : ((gs : List Fresh) → contents_of s es ≡ Ok gs → AreAll es gs) → (one : Result Fresh PerError)
+      by : ((gs : List Fresh) → exported_contents s es ≡ Ok gs → AreAll es gs) → (one : Result Fresh PerError)
           → fresh_of s e ≡ one
-          → (rest : Result (List Fresh) PerError) → contents_of s es ≡ rest
+          → (rest : Result (List Fresh) PerError) → exported_contents s es ≡ rest
           → (one >>= λ f. rest >>= λ gs. Ok (f ∷ gs)) ≡ Ok fs → AreAll (e ∷ es) fs
       by all (Err x) one rest others is = absurd (no_ok x fs is)
       by all (Ok f) one (Err x) others is = absurd (no_ok x fs is)
@@ -170,7 +170,7 @@ module _ (shape : Shape) (s : StorageData) (kind : shape.kind ≡ s.kind) where
             long = ap suc more.long;
           })
 
-  pub exportable : (v : View) → IsView shape v → (fs : List Fresh) → contents_of s v.entries ≡ Ok fs
+  pub exportable : (v : View) → IsView shape v → (fs : List Fresh) → exported_contents s v.entries ≡ Ok fs
       → AreExportable s.kind fs
   exportable v view fs given = let all = all_so v.entries view.each fs given in record {
     few = subst (λ (n : ℕ). n ≤ 1024) (sym all.long) view.few;
@@ -186,29 +186,31 @@ text_corrupt s (Opens v others) is = absurd cc
 text_corrupt s (Corrupt salvage others) is = refl
 
 text_opens : (s : StorageData) (v : View) (state : State) → opened_of state ≡ Some v
-    → text_from s state ≡ ((contents_of s v.entries >>= λ contents. Ok (record { kind = s.kind; contents = contents }))
+    → text_from s state ≡ ((exported_contents s v.entries >>= λ contents. Ok
+    (record { kind = s.kind; contents = contents }))
     >>= λ x. Ok (export_text x))
 text_opens s v (Corrupt salvage others) is = absurd cc
 text_opens s v (Opens w others) is = let same : w ≡ v = cc in
-    ap (λ (u : View). (contents_of s u.entries >>= λ contents. Ok (record { kind = s.kind; contents = contents })) >>=
+    ap (λ (u : View). (exported_contents s u.entries >>= λ contents. Ok
+    (record { kind = s.kind; contents = contents })) >>=
     λ x. Ok (export_text x)) same
 
 pub text_made : (s : StorageData) (v : View) (state : State) → opened_of state ≡ Some v → (fs : List Fresh)
-    → contents_of s v.entries ≡ Ok fs
+    → exported_contents s v.entries ≡ Ok fs
     → text_from s state ≡ Ok (export_text (record { kind = s.kind; contents = fs }))
 text_made s v state is fs given = text_opens s v state is
     ∙ ap (λ (r : Result (List Fresh) PerError). (r >>= λ contents. Ok (record { kind = s.kind; contents = contents }))
     >>= λ x. Ok (export_text x)) given
 
 pub text_refused : (s : StorageData) (v : View) (state : State) → opened_of state ≡ Some v → (e : PerError)
-    → contents_of s v.entries ≡ Err e → text_from s state ≡ Err e
+    → exported_contents s v.entries ≡ Err e → text_from s state ≡ Err e
 text_refused s v state is e given = text_opens s v state is
     ∙ ap (λ (r : Result (List Fresh) PerError). (r >>= λ contents. Ok (record { kind = s.kind; contents = contents }))
     >>= λ x. Ok (export_text x)) given
 
 -- ---- the answer of an export
 
--- the state that was seen: on a disk that tells nothing, one that opens at what was read
+-- the state that was seen: on a disk that models nothing, one that opens at what was read
 abbrev state_of : Option View → State
 state_of None = Corrupt None []
 state_of (Some v) = Opens v []
@@ -223,10 +225,10 @@ state_seen true there view is = (there, λ tells. refl, is refl)
 state_seen false there view is = (state_of view, λ tells. absurd (true≢false (sym tells)), opened_so view)
 
 abbrev Answered : (told : Bool) → Image → ℕ → List ℕ → Exported → Type 0
-Answered told image app name x = (it : App) × IsSeen told image app it × (exported_as x ≡ exporting it name)
+Answered told image app name x = (it : App) × IsAppSeen told image app it × (exported_as x ≡ exporting it name)
 
 pub answered : (told : Bool) (image mid : Image) (app : ℕ) (name : List ℕ) (l : Located) → mid ≡ image
-    → IsLocated told image app name l
+    → IsLocatedAs told image app name l
     → (view : Option View) → (IsTrue told → opened_of (store_at mid l.shape) ≡ view)
     → (x : Exported) → ((state : State) → opened_of state ≡ view → exported_as x ≡ text_from (config_of l) state)
     → Answered told image app name x
@@ -241,7 +243,7 @@ answered told image mid app name l same located view opened x gives =
     )
 
 pub answered_missing : (told : Bool) (image : Image) (app : ℕ) (name : List ℕ) (e : PerError)
-    → IsMissing told image app name e
+    → IsMissingStorage told image app name e
     → (x : Exported) → exported_as x ≡ Err e → Answered told image app name x
 answered_missing told image app name e missing x is = (
   missing.0,

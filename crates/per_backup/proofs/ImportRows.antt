@@ -13,7 +13,7 @@ use Rattle.per_base.specs.declared.errors.Limit.TheVariants as limit
 use Rattle.per_base.specs.declared.errors.PerError.TheVariants as error
 use Rattle.per_base.specs.declared.errors.PerError.TheVariants.{ExportRejected}
 use Rattle.per_base.specs.FieldLaws.{IsBytes}
-use Rattle.index_text.specs.Contents.{IsFresh, fresh_size}
+use Rattle.index_text.specs.Contents.{SuitsKind, fresh_size}
 use Rattle.deployment_model.specs.Data.{StorageData}
 use Rattle.element_state.specs.States.{State, Corrupt, Opens, fresh_entry, fresh_element, fresh_map, fresh_state}
 use Rattle.element_state.specs.States.{next_generation, salvage_of}
@@ -21,14 +21,14 @@ use Rattle.update_plan.specs.Plans.{is_kind}
 use Rattle.deployment_model.specs.Lookups.{storage_number}
 use Rattle.deploy_laws.specs.Places.{Named}
 use Rattle.deploy_laws.specs.Apps.{App, Says, absent, installed, nothing}
-use Rattle.deploy_rows.specs.Recovering.{if_fits, is_content, is_worn_out, rebuilding}
+use Rattle.deploy_rows.specs.Recovering.{if_contents_fit, is_content, is_worn_out, rebuilding}
 use Rattle.deploy_rows.specs.Rows.{◌>>=◌}
 use Rattle.deploy.specs.Recovered.{AreElements}
 use Rattle.export_text.specs.declared.exports.Export.{Export}
 use Rattle.export_text.specs.Exports.{AreExportable, IsExport, IsExportable, export_of, export_text}
 use Rattle.export_text.specs.Exports as exports
-use Rattle.run_model.specs.Found.{Found, found_at, found_in, found_with, storage_in, with_state}
-use Rattle.per_backup.specs.Backups.{contents_of, export_for, exported_from, exporting, fresh_of, importing}
+use Rattle.run_model.specs.Found.{Found, found_at, found_in, found_with, storage_in, with_storage_state}
+use Rattle.per_backup.specs.Backups.{export_for, exported_contents, exported_from, exporting, fresh_of, importing}
 use Rattle.per_backup.specs.Backups.{importing_into, least_mismatch, text_from, unless}
 use Rattle.per_backup.specs.Laws.{AgainLaw, ExportedLaw, ImportsLaw}
 use Rattle.per_backup.proofs.ExportRows.{agrees, fresh_counts}
@@ -38,7 +38,7 @@ use Rattle.per_backup.proofs.Rows.{exporting_found, importing_found, importing_m
 -- ---- the rules of the elements of an export are those of the elements of a storage
 
 elements_each : (kind : StoreKind) (fs : List Fresh) → AllByRecursion (IsExportable kind) fs
-    → AllByRecursion (IsFresh kind) fs
+    → AllByRecursion (SuitsKind kind) fs
 elements_each kind [] each = tt
 elements_each kind (f ∷ fs) each = (record { info = each.0.info; small = each.0.len }, elements_each kind fs each.1)
 
@@ -57,10 +57,10 @@ kind_is Files Files is = refl
 
 row_of : (s : StorageData) (state : State) (text : List ℕ) (found : Option Export) → export_of text ≡ found
     → importing s state text ≡ (export_for s.kind found >>= λ x.
-    unless (least_mismatch s x.contents) (if_fits s state x.contents))
+    unless (least_mismatch s x.contents) (if_contents_fit s state x.contents))
 unfolding importing
 row_of s state text found is = ap (λ (o : Option Export). export_for s.kind o >>= λ x.
-    unless (least_mismatch s x.contents) (if_fits s state x.contents)) is
+    unless (least_mismatch s x.contents) (if_contents_fit s state x.contents)) is
 
 pub row_rejected : (s : StorageData) (text : List ℕ) → export_of text ≡ None → (state : State)
     → importing s state text ≡ Err ExportRejected
@@ -69,10 +69,10 @@ row_rejected s text is state = row_of s state text None is
 row_kind : (s : StorageData) (text : List ℕ) (x : Export) → export_of text ≡ Some x → (b : Bool)
     → is_kind s.kind x.kind ≡ b → (state : State)
     → importing s state text ≡ (cond b (Ok x) (Err ExportRejected) >>= λ y.
-    unless (least_mismatch s y.contents) (if_fits s state y.contents))
+    unless (least_mismatch s y.contents) (if_contents_fit s state y.contents))
 row_kind s text x is b same state = row_of s state text (Some x) is
     ∙ ap (λ (c : Bool). cond c (Ok x) (Err ExportRejected) >>= λ y.
-    unless (least_mismatch s y.contents) (if_fits s state y.contents)) same
+    unless (least_mismatch s y.contents) (if_contents_fit s state y.contents)) same
 
 pub row_other : (s : StorageData) (text : List ℕ) (x : Export) → export_of text ≡ Some x → is_kind s.kind x.kind ≡ false
     → (state : State) → importing s state text ≡ Err ExportRejected
@@ -80,21 +80,21 @@ row_other s text x is differ state = row_kind s text x is false differ state
 
 pub row_taken : (s : StorageData) (text : List ℕ) (x : Export) → export_of text ≡ Some x → is_kind s.kind x.kind ≡ true
     → (state : State)
-    → importing s state text ≡ unless (least_mismatch s x.contents) (if_fits s state x.contents)
+    → importing s state text ≡ unless (least_mismatch s x.contents) (if_contents_fit s state x.contents)
 row_taken s text x is same state = row_kind s text x is true same state
 
 pub row_typed : (s : StorageData) (text : List ℕ) (x : Export) → export_of text ≡ Some x → is_kind s.kind x.kind ≡ true
     → (e : PerError) → least_mismatch s x.contents ≡ Some e
     → (state : State) → importing s state text ≡ Err e
 row_typed s text x is same e typed state = row_taken s text x is same state
-    ∙ ap (λ (o : Option PerError). unless o (if_fits s state x.contents)) typed
+    ∙ ap (λ (o : Option PerError). unless o (if_contents_fit s state x.contents)) typed
 
 pub row_fits : (s : StorageData) (text : List ℕ) (x : Export) → export_of text ≡ Some x → is_kind s.kind x.kind ≡ true
     → least_mismatch s x.contents ≡ None
-    → (fs : List Fresh) → fs ≡ x.contents → (state : State) → importing s state text ≡ if_fits s state fs
+    → (fs : List Fresh) → fs ≡ x.contents → (state : State) → importing s state text ≡ if_contents_fit s state fs
 row_fits s text x is same typed fs are state = row_taken s text x is same state
-    ∙ ap (λ (o : Option PerError). unless o (if_fits s state x.contents)) typed
-    ∙ ap (λ (gs : List Fresh). if_fits s state gs) (sym are)
+    ∙ ap (λ (o : Option PerError). unless o (if_contents_fit s state x.contents)) typed
+    ∙ ap (λ (gs : List Fresh). if_contents_fit s state gs) (sym are)
 
 pub elements_taken : (kind : StoreKind) (x : Export) → IsExport x → is_kind kind x.kind ≡ true → (fs : List Fresh)
     → fs ≡ x.contents → AreElements kind fs
@@ -117,7 +117,7 @@ made_so false true s state fs next is = absurd (no_ok _ next is)
 made_so false false s state fs next is = sym (ok_same (fresh_state (next_generation (salvage_of state)) (fresh_map fs))
     next is)
 
-fits_made : (s : StorageData) (state : State) (fs : List Fresh) (next : State) → if_fits s state fs ≡ Ok next
+fits_made : (s : StorageData) (state : State) (fs : List Fresh) (next : State) → if_contents_fit s state fs ≡ Ok next
     → next ≡ fresh_state (next_generation (salvage_of state)) (fresh_map fs)
 fits_made s state fs next is = made_so (nat_lt s.maximum (sum_by fresh_size fs)) (is_worn_out (salvage_of state)) s
     state fs next is
@@ -136,19 +136,21 @@ unless_done (Some e) row x is = absurd (no_ok e x is)
 
 made_by : (s : StorageData) (state : State) (text : List ℕ) (next : State) (found : Option Export)
     → export_of text ≡ found
-    → (export_for s.kind found >>= λ x. unless (least_mismatch s x.contents) (if_fits s state x.contents)) ≡ Ok next
+    → (export_for s.kind found >>= λ x. unless (least_mismatch s x.contents) (if_contents_fit s state x.contents))
+    ≡ Ok next
     → IsMade s state text next
 made_by s state text next None read is = absurd (no_ok ExportRejected next is)
 made_by s state text next (Some x) read is = by (is_kind s.kind x.kind) refl is
   where
     by : (b : Bool) → is_kind s.kind x.kind ≡ b → (cond b (Ok x) (Err ExportRejected) >>= λ y.
-        unless (least_mismatch s y.contents) (if_fits s state y.contents)) ≡ Ok next → IsMade s state text next
+        unless (least_mismatch s y.contents) (if_contents_fit s state y.contents)) ≡ Ok next → IsMade s state text next
     by false kind is = absurd (no_ok ExportRejected next is)
     by true kind is = record {
       spelled = x;
       read = read;
       kind = sym (kind_is s.kind x.kind kind);
-      made = fits_made s state x.contents next (unless_done (least_mismatch s x.contents) (if_fits s state x.contents)
+      made = fits_made s state x.contents next (unless_done (least_mismatch s x.contents)
+          (if_contents_fit s state x.contents)
           next is);
     }
 
@@ -173,7 +175,7 @@ TakenLaw = (text : List ℕ) (x : Export) → IsBytes text → export_of text �
 
 kind_from : (from : StorageData) (old : State) (x : Export) → exported_from from old ≡ Ok x → x.kind ≡ from.kind
 kind_from from (Corrupt salvage others) x is = absurd (no_ok _ x is)
-kind_from from (Opens v others) x is = by (contents_of from v.entries) is
+kind_from from (Opens v others) x is = by (exported_contents from v.entries) is
   where
     by : (r : Result (List Fresh) PerError) → (r >>= λ contents. Ok (record { kind = from.kind; contents = contents }))
         ≡ Ok x → x.kind ≡ from.kind
@@ -191,10 +193,11 @@ fresh_again : (s : StorageData) (generation : ℕ) (f : Fresh) → IsTrue (is_co
 fresh_again s generation f counts = fresh_counts s (fresh_entry generation (fresh_element f)) f.bytes refl counts
 
 contents_again : (s : StorageData) (generation : ℕ) (fs : List Fresh) → AllByRecursion (IsExportable s.kind) fs
-    → contents_of s (map (fresh_entry generation) (fresh_map fs)) ≡ Ok fs
+    → exported_contents s (map (fresh_entry generation) (fresh_map fs)) ≡ Ok fs
 contents_again s generation [] each = refl
 contents_again s generation (f ∷ fs) each =
-    ap (λ (r : Result Fresh PerError). r >>= λ g. contents_of s (map (fresh_entry generation) (fresh_map fs)) >>= λ gs.
+    ap (λ (r : Result Fresh PerError). r >>= λ g. exported_contents s
+    (map (fresh_entry generation) (fresh_map fs)) >>= λ gs.
     Ok (g ∷ gs))
     (fresh_again s generation f (sym (agrees s.kind f.bytes) ∙ each.0.content))
     ∙ ap (λ (r : Result (List Fresh) PerError). r >>= λ gs. Ok (f ∷ gs)) (contents_again s generation fs each.1)
@@ -240,8 +243,8 @@ found_again (installed g active previous) states name f is next =
     found_again_at active states (storage_number active.deployment name) f is next
 
 row_done : (a : App) (f : Found) (row : Result State PerError) (b : App) → with_row a f row ≡ Ok b
-    → (next : State) × (row ≡ Ok next) × (b ≡ with_state a f next)
-row_done a f (Ok next) b is = (next, refl, sym (ok_same (with_state a f next) b is))
+    → (next : State) × (row ≡ Ok next) × (b ≡ with_storage_state a f next)
+row_done a f (Ok next) b is = (next, refl, sym (ok_same (with_storage_state a f next) b is))
 row_done a f (Err e) b is = absurd (no_ok e b is)
 
 again_found : TakenLaw → (a b : App) (name text : List ℕ) → IsBytes text → (f : Found) → storage_in a name None ≡ Ok f

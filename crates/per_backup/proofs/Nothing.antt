@@ -17,14 +17,14 @@ use Rattle.element_state.specs.States.{State, store_at}
 use Rattle.deploy_laws.specs.Places.{IsFileOf, IsNoFileOf}
 use Rattle.deploy_laws.specs.Apps.{App, IsCleanApp, app_at}
 use Rattle.deploy_laws.specs.Stands.{StandsCase, StandsThroughout}
-use Rattle.deploy_rows.specs.Rows.{Answers, after}
+use Rattle.deploy_rows.specs.Rows.{AnswersRow, after}
 use Rattle.deploy.specs.Clauses.{ChangesNothing}
 use Rattle.run_model.specs.Found.{Found, shape_in, storage_in}
 use Rattle.per_backup.specs.Backups.{importing, importing_into}
 use Rattle.per_backup.specs.declared.finding.Located.{Located}
-use Rattle.per_backup.specs.Clauses.{Imported, IsSeen, KeepsSettled}
-use Rattle.per_backup.specs.Finding.{IsLocated, IsMissing, config_of, found_as}
-use Rattle.per_backup.specs.StorageLaws.{StorageLaws}
+use Rattle.per_backup.specs.Clauses.{Imported, IsAppSeen, KeepsSettled}
+use Rattle.per_backup.specs.Finding.{IsLocatedAs, IsMissingStorage, config_of, found_as}
+use Rattle.per_backup.specs.StorageLaws.{BackupLaws}
 use Rattle.per_backup.proofs.Rows.{importing_found, importing_missing, later_import, row_goes, some_agree, with_row}
 
 pub nothing_on : {old mid new : Medium} → Elapses old mid → ChangesNothing old mid → Elapses mid new
@@ -37,7 +37,7 @@ nothing_on {old} {mid} {new} before first later next = record {
 
 -- ---- while nothing changes
 
-module _ (laws : StorageLaws) (app : ℕ) (lt : app < 8) (name text : List ℕ) (old new : Medium)
+module _ (laws : BackupLaws) (app : ℕ) (lt : app < 8) (name text : List ℕ) (old new : Medium)
     (nothing : ChangesNothing old new) where
   kept_so : (shape : Shape) (state : State) → 1 ≤ shape.m → KeptThroughout shape state old new
   kept_so shape state some quiet clean c past = laws.untouched shape old.image state c some clean
@@ -68,7 +68,7 @@ module _ (laws : StorageLaws) (app : ℕ) (lt : app < 8) (name text : List ℕ) 
 
 -- ---- what follows
 
-module _ (laws : StorageLaws) (old mid new : Medium) (before : Elapses old mid) (nothing : ChangesNothing old mid)
+module _ (laws : BackupLaws) (old mid new : Medium) (before : Elapses old mid) (nothing : ChangesNothing old mid)
     (later : Elapses mid new) where
   pub then_kept : (shape : Shape) (state : State) → 1 ≤ shape.m → KeptThroughout shape state mid new
       → KeptThroughout shape state old new
@@ -92,10 +92,10 @@ module _ (laws : StorageLaws) (old mid new : Medium) (before : Elapses old mid) 
 
 -- the application that was seen refuses
 abbrev pub Refuses : (told : Bool) → Image → ℕ → (name text : List ℕ) → PerError → Type 0
-Refuses told image app name text e = (it : App) × IsSeen told image app it × (importing_into it name text ≡ Err e)
+Refuses told image app name text e = (it : App) × IsAppSeen told image app it × (importing_into it name text ≡ Err e)
 
 pub missing_refuses : (told : Bool) (image : Image) (app : ℕ) (name text : List ℕ) (e : PerError)
-    → IsMissing told image app name e → Refuses told image app name text e
+    → IsMissingStorage told image app name e → Refuses told image app name text e
 missing_refuses told image app name text e missing = (
   missing.0,
   missing.1,
@@ -107,7 +107,7 @@ abbrev pub IsRefusedRow : StorageData → (text : List ℕ) → PerError → Typ
 IsRefusedRow s text e = (state : State) → importing s state text ≡ Err e
 
 pub early_refuses : (told : Bool) (image : Image) (app : ℕ) (name text : List ℕ) (e : PerError) (l : Located)
-    → IsLocated told image app name l
+    → IsLocatedAs told image app name l
     → ((state : State) → importing (config_of l) state text ≡ Err e) → Refuses told image app name text e
 early_refuses told image app name text e l located row =
     let there = store_at image l.shape in
@@ -121,11 +121,11 @@ early_refuses told image app name text e l located row =
 
 pub refuses_answers : (told : Bool) (image : Image) (app : ℕ) (name text : List ℕ) (e : PerError)
     → Refuses told image app name text e
-    → (it : App) × IsSeen told image app it × Answers (Some e) (importing_into it name text)
+    → (it : App) × IsAppSeen told image app it × AnswersRow (Some e) (importing_into it name text)
 refuses_answers told image app name text e given = (
   given.0,
   given.1,
-  subst (λ (r : Result App PerError). Answers (Some e) r) (sym given.2) refl,
+  subst (λ (r : Result App PerError). AnswersRow (Some e) r) (sym given.2) refl,
 )
 
 pub refuses_there : (told : Bool) (image : Image) (app : ℕ) (name text : List ℕ) (e : PerError)

@@ -19,13 +19,14 @@ use Rattle.value_model.specs.Kinds.{Kind}
 use Rattle.value_text.specs.Limits.{same_kind}
 use Rattle.deploy_laws.specs.Places.{Named}
 use Rattle.deploy_laws.specs.Apps.{App, Says, absent, installed, nothing}
-use Rattle.deploy_rows.specs.Recovering.{if_fits, is_content, is_worn_out, rebuilding}
+use Rattle.deploy_rows.specs.Recovering.{if_contents_fit, is_content, is_worn_out, rebuilding}
 use Rattle.deploy_rows.specs.Rows.{◌>>=◌}
 use Rattle.export_text.specs.declared.exports.Export.{Export}
 use Rattle.export_text.specs.Exports.{export_of, export_text}
 use Rattle.kvs_core.specs.Calls.{mismatch}
-use Rattle.run_model.specs.Found.{Found, found_at, found_in, found_with, of_kind, storage_in, with_state}
-use Rattle.per_backup.specs.Backups.{configured_type, contents_of, differing, export_for, exported_from, exported_type}
+use Rattle.run_model.specs.Found.{Found, found_at, found_in, found_with, of_kind, storage_in, with_storage_state}
+use Rattle.per_backup.specs.Backups.{configured_type, differing, export_for, exported_contents, exported_from}
+use Rattle.per_backup.specs.Backups.{exported_type}
 use Rattle.per_backup.specs.Backups.{exporting, fresh_by, fresh_of, importing, importing_into, least_mismatch}
 use Rattle.per_backup.specs.Backups.{mismatch_of, or_next, text_from, unless}
 use Rattle.per_backup.specs.Laws.{ExportNumbersLaw, ImportNumbersLaw}
@@ -79,15 +80,16 @@ fresh_numbered : (storage : List ℕ) (e : Entry) (content : Content) → Number
 fresh_numbered storage e (Good bytes) = tt
 fresh_numbered storage e (Bad salvage) = refl
 
-contents_numbered : (s : StorageData) (es : List Entry) → Numbered (contents_of s es)
+contents_numbered : (s : StorageData) (es : List Entry) → Numbered (exported_contents s es)
 contents_numbered s [] = tt
 contents_numbered s (e ∷ es) =
     both (fresh_of s e) _ (fresh_numbered s.name e (judged_content (is_content s.kind) e.content))
-    (λ f. both (contents_of s es) _ (contents_numbered s es) (λ fs. tt))
+    (λ f. both (exported_contents s es) _ (contents_numbered s es) (λ fs. tt))
 
 from_numbered : (s : StorageData) (state : State) → Numbered (exported_from s state)
 from_numbered s (Corrupt salvage others) = refl
-from_numbered s (Opens v others) = both (contents_of s v.entries) _ (contents_numbered s v.entries) (λ contents. tt)
+from_numbered s (Opens v others) = both (exported_contents s v.entries) _ (contents_numbered s v.entries)
+    (λ contents. tt)
 
 pub exports : ExportNumbersLaw
 unfolding exporting
@@ -120,7 +122,7 @@ least_numbered s [] = tt
 least_numbered s (f ∷ fs) = next_numbered (mismatch_of s f) (least_mismatch s fs)
     (differing_numbered (exported_type f) (configured_type s f.name)) (least_numbered s fs)
 
-fits_numbered : (s : StorageData) (state : State) (contents : List Fresh) → Numbered (if_fits s state contents)
+fits_numbered : (s : StorageData) (state : State) (contents : List Fresh) → Numbered (if_contents_fit s state contents)
 fits_numbered s state contents = either (nat_lt s.maximum (sum_by fresh_size contents)) _ _ refl
     (either (is_worn_out (salvage_of state)) _ _ refl tt)
 

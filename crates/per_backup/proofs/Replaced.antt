@@ -1,4 +1,4 @@
--- An import that makes its storage anew, by what a deployment promises of that.
+-- An import that rebuilds its storage, by what a deployment promises of that.
 use Rattle.std.proofs.Common.{◌≡◌, ◌⊎◌, ℕ, ◌<◌, ◌≤◌, Bool, true, List, Option, Some, None, Result, Ok, Err, slice_set}
 use Rattle.std.proofs.Common.{refl, sym, ap, ◌∙◌, subst, inl, inr}
 use Rattle.std.specs.Prelude.{IfOk, IsErr, IsOk, IsSome, IsTrue, OnOk}
@@ -15,29 +15,29 @@ use Rattle.element_state.specs.Clean.{IsClean}
 use Rattle.element_state.specs.declared.shapes.Shape.{Shape}
 use Rattle.element_state.specs.Kept.{KeptThroughout}
 use Rattle.element_state.specs.States.{State, store_at}
-use Rattle.deploy_laws.specs.Places.{Named, shape_of}
+use Rattle.deploy_laws.specs.Places.{Named, storage_shape}
 use Rattle.deploy_laws.specs.Apps.{App, IsCleanApp, app_at, installed, says_at}
 use Rattle.deploy_laws.specs.Stands.{StandsThroughout}
-use Rattle.deploy_rows.specs.Recovering.{after_state, if_fits}
-use Rattle.deploy_rows.specs.Rows.{Answers, after}
+use Rattle.deploy_rows.specs.Recovering.{after_state, if_contents_fit}
+use Rattle.deploy_rows.specs.Rows.{AnswersRow, after}
 use Rattle.deploy.specs.Clauses.{ChangesNothing, Leaves}
 use Rattle.deploy.specs.declared.errors.Stop.{Stop}
-use Rattle.run_model.specs.Found.{Found, shape_in, storage_in, with_state}
+use Rattle.run_model.specs.Found.{Found, shape_in, storage_in, with_storage_state}
 use Rattle.per_backup.specs.declared.finding.Located.{Located}
 use Rattle.per_backup.specs.Backups.{importing, importing_into}
-use Rattle.per_backup.specs.Clauses.{Imported, IsSeen, KeepsSettled}
-use Rattle.per_backup.specs.Finding.{IsLocated, config_of, found_as}
-use Rattle.per_backup.specs.StorageLaws.{StorageLaws}
+use Rattle.per_backup.specs.Clauses.{Imported, IsAppSeen, KeepsSettled}
+use Rattle.per_backup.specs.Finding.{IsLocatedAs, config_of, found_as}
+use Rattle.per_backup.specs.StorageLaws.{BackupLaws}
 use Rattle.per_backup.proofs.Lists.{ok_so}
 use Rattle.per_backup.proofs.Nothing.{nothing_on, then_kept, then_outside, then_spares}
 use Rattle.per_backup.proofs.Rows.{after_row, answers_row, importing_found, one_found, row_done, row_refused, with_row}
 use Rattle.per_backup.proofs.Stored.{app_beside, clean_there, stays_so, stored_here, storing_here}
 
--- what a deployment promises of a storage that it makes anew with these contents
+-- what a deployment promises of a storage that it rebuilds with these contents
 pub record Replaces (told : Bool) (shape : Shape) (row : State → Result State PerError) (old new : Medium)
     (result : Result (Option PerError) Stop) : Type 0 where
   pub refused : IfOk result (λ refused. (state : State) × (IsTrue told → store_at old.image shape ≡ state)
-      × Answers refused (row state))
+      × AnswersRow refused (row state))
   pub state : IsTrue told → OnOk result (store_at new.image shape
       ≡ after_state (store_at old.image shape) (row (store_at old.image shape)))
   pub unchanged : IfOk result (λ refused. IsSome refused → ChangesNothing old new)
@@ -63,12 +63,12 @@ if_done (Err stop) P gives = tt
 on_so : {X E : Type 0} (r : Result X E) (x : X) (P : Type 0) → r ≡ Ok x → OnOk r P → P
 on_so r x P is given = subst (λ (y : Result _ _). OnOk y P) is given
 
-module _ (laws : StorageLaws) (told : Bool) (app : ℕ) (lt : app < 8) (name text : List ℕ) (l : Located)
+module _ (laws : BackupLaws) (told : Bool) (app : ℕ) (lt : app < 8) (name text : List ℕ) (l : Located)
     (contents : List Fresh)
-    (row_is : (state : State) → importing (config_of l) state text ≡ if_fits (config_of l) state contents)
+    (row_is : (state : State) → importing (config_of l) state text ≡ if_contents_fit (config_of l) state contents)
     (old mid new : Medium) (before : Elapses old mid) (nothing : ChangesNothing old mid) (later : Elapses mid new)
-    (located : IsLocated told old.image app name l) (result : Result (Option PerError) Stop)
-    (replaces : Replaces told l.shape (λ state. if_fits (config_of l) state contents) mid new result) where
+    (located : IsLocatedAs told old.image app name l) (result : Result (Option PerError) Stop)
+    (replaces : Replaces told l.shape (λ state. if_contents_fit (config_of l) state contents) mid new result) where
   abbrev s : StorageData
   s = config_of l
 
@@ -76,24 +76,24 @@ module _ (laws : StorageLaws) (told : Bool) (app : ℕ) (lt : app < 8) (name tex
   number = located.of.number
 
   abbrev here : Shape
-  here = shape_of app located.active.bank number s
+  here = storage_shape app located.active.bank number s
 
   abbrev row : State → Result State PerError
-  row state = if_fits s state contents
+  row state = if_contents_fit s state contents
 
   anew : Replaces told here row mid new result
   anew = at_shape told l.shape here row mid new result located.of.shape replaces
 
   -- ---- its answer
 
-  pub replaced_answers : IfOk result (λ refused. (it : App) × IsSeen told old.image app it
-      × Answers refused (importing_into it name text))
+  pub replaced_answers : IfOk result (λ refused. (it : App) × IsAppSeen told old.image app it
+      × AnswersRow refused (importing_into it name text))
   replaced_answers = by result replaces.refused
     where
       by : (r : Result (Option PerError) Stop) → IfOk r (λ refused. (state : State)
-          × (IsTrue told → store_at mid.image l.shape ≡ state) × Answers refused (row state))
-          → IfOk r (λ refused. (it : App) × IsSeen told old.image app it
-          × Answers refused (importing_into it name text))
+          × (IsTrue told → store_at mid.image l.shape ≡ state) × AnswersRow refused (row state))
+          → IfOk r (λ refused. (it : App) × IsAppSeen told old.image app it
+          × AnswersRow refused (importing_into it name text))
       by (Err stop) given = tt
       by (Ok refused) given =
           let found = located.named given.0 (λ tells. sym (given.1 tells)
@@ -101,7 +101,7 @@ module _ (laws : StorageLaws) (told : Bool) (app : ℕ) (lt : app < 8) (name tex
           let f = found_as located.active number l given.0 in (
             found.0,
             found.1,
-            subst (λ (r : Result App PerError). Answers refused r)
+            subst (λ (r : Result App PerError). AnswersRow refused r)
                 (sym (importing_found found.0 name text f found.2
                 ∙ ap (λ (r : Result State PerError). with_row found.0 f r) (row_is given.0)))
                 (answers_row found.0 f refused (row given.0) given.2),
@@ -115,7 +115,7 @@ module _ (laws : StorageLaws) (told : Bool) (app : ℕ) (lt : app < 8) (name tex
       by (Err stop) given = tt
       by (Ok refused) given = λ some. nothing_on before nothing later (given some)
 
-  -- ---- what lies on the disk
+  -- ---- what is on the disk
 
   module _ (tells : IsTrue told) where
     abbrev a : App
@@ -149,14 +149,14 @@ module _ (laws : StorageLaws) (told : Bool) (app : ℕ) (lt : app < 8) (name tex
     next_mid : after_state (store_at mid.image here) (row (store_at mid.image here)) ≡ next
     next_mid = ap (λ (st : State). after_state st (row st)) was_mid
 
-    same : with_state a f was ≡ a
+    same : with_storage_state a f was ≡ a
     same = stays_so laws app (located.says tells).0 located.active (located.says tells).1 number s located.of.config
         old.image says_old
 
     row_into : importing_into a name text ≡ with_row a f (row was)
     row_into = importing_found a name text f found ∙ ap (with_row a f) (row_is was)
 
-    world : after a (importing_into a name text) ≡ with_state a f next
+    world : after a (importing_into a name text) ≡ with_storage_state a f next
     world = ap (after a) row_into ∙ after_row a f (row was) same
 
     some : 1 ≤ here.m
@@ -212,7 +212,7 @@ module _ (laws : StorageLaws) (told : Bool) (app : ℕ) (lt : app < 8) (name tex
     made : (refused : Option PerError) → result ≡ Ok refused → IsOk (row was) → refused ≡ None
     made refused is ok =
         let given = ok_so result refused _ is anew.refused in
-        row_done refused (row was) (subst (λ (st : State). Answers refused (row st)) (sym (given.1 tells) ∙ was_mid)
+        row_done refused (row was) (subst (λ (st : State). AnswersRow refused (row st)) (sym (given.1 tells) ∙ was_mid)
         given.2) ok
 
     pub replaced_imported : OnOk result (Imported app name text old new)

@@ -8,14 +8,14 @@ use Rattle.deployment_model.specs.Conditions.{IsStorage}
 use Rattle.deployment_model.specs.Data.{StorageData}
 use Rattle.deployment_model.specs.Lookups.{storage_number}
 use Rattle.element_state.specs.States.{State}
-use Rattle.deploy_laws.specs.Places.{Named, shape_of}
+use Rattle.deploy_laws.specs.Places.{Named, storage_shape}
 use Rattle.deploy_laws.specs.Apps.{App, AreVersions, Says, absent, app_at, installed, nothing, says_at}
 use Rattle.deploy_laws.specs.Stands.{IsLater, same_root}
 use Rattle.deploy_rows.specs.Recovering.{after_state}
-use Rattle.deploy_rows.specs.Rows.{◌>>=◌, Answers, after}
-use Rattle.run_model.specs.Found.{Found, found_at, found_in, found_with, shape_in, storage_in, with_state}
+use Rattle.deploy_rows.specs.Rows.{◌>>=◌, AnswersRow, after}
+use Rattle.run_model.specs.Found.{Found, found_at, found_in, found_with, shape_in, storage_in, with_storage_state}
 use Rattle.per_backup.specs.Backups.{exporting, importing, importing_into, text_from}
-use Rattle.per_backup.specs.StorageLaws.{StorageLaws}
+use Rattle.per_backup.specs.StorageLaws.{BackupLaws}
 use Rattle.per_backup.proofs.Lists.{all_at, length_set, ok_same}
 use Rattle.per_backup.proofs.Stored.{says_of}
 
@@ -37,31 +37,32 @@ exporting_missing a name e is = ap (λ (r : Result Found PerError). r >>= λ g. 
 
 -- the application with a state, if it is one
 abbrev pub with_row : App → Found → Result State PerError → Result App PerError
-with_row a f row = row >>= λ state. Ok (with_state a f state)
+with_row a f row = row >>= λ state. Ok (with_storage_state a f state)
 
 pub importing_found : (a : App) (name text : List ℕ) (f : Found) → storage_in a name None ≡ Ok f
     → importing_into a name text ≡ with_row a f (importing f.config f.state text)
 unfolding importing_into
 importing_found a name text f is = ap (λ (r : Result Found PerError). r >>= λ g.
-    importing g.config g.state text >>= λ state. Ok (with_state a g state)) is
+    importing g.config g.state text >>= λ state. Ok (with_storage_state a g state)) is
 
 pub importing_missing : (a : App) (name text : List ℕ) (e : PerError) → storage_in a name None ≡ Err e
     → importing_into a name text ≡ Err e
 unfolding importing_into
 importing_missing a name text e is = ap (λ (r : Result Found PerError). r >>= λ g.
-    importing g.config g.state text >>= λ state. Ok (with_state a g state)) is
+    importing g.config g.state text >>= λ state. Ok (with_storage_state a g state)) is
 
 -- ---- what a row leads to
 
-pub answers_row : (a : App) (f : Found) (refused : Option PerError) (row : Result State PerError) → Answers refused row
-    → Answers refused (with_row a f row)
+pub answers_row : (a : App) (f : Found) (refused : Option PerError) (row : Result State PerError)
+    → AnswersRow refused row
+    → AnswersRow refused (with_row a f row)
 answers_row a f None (Ok state) answers = tt
 answers_row a f None (Err e) answers = absurd answers
 answers_row a f (Some e) (Ok state) answers = absurd answers
 answers_row a f (Some e) (Err g) answers = answers
 
-pub after_row : (a : App) (f : Found) (row : Result State PerError) → with_state a f f.state ≡ a
-    → after a (with_row a f row) ≡ with_state a f (after_state f.state row)
+pub after_row : (a : App) (f : Found) (row : Result State PerError) → with_storage_state a f f.state ≡ a
+    → after a (with_row a f row) ≡ with_storage_state a f (after_state f.state row)
 after_row a f (Ok state) same = refl
 after_row a f (Err e) same = sym same
 
@@ -69,7 +70,7 @@ pub row_refused : (a : App) (f : Found) (row : Result State PerError) → IsErr 
 row_refused a f (Ok state) err = err
 row_refused a f (Err e) err = refl
 
-pub row_done : (refused : Option PerError) (row : Result State PerError) → Answers refused row → IsOk row
+pub row_done : (refused : Option PerError) (row : Result State PerError) → AnswersRow refused row → IsOk row
     → refused ≡ None
 row_done None row answers ok = refl
 row_done (Some e) (Ok state) answers ok = absurd answers
@@ -135,12 +136,12 @@ found_keeps (installed g v previous) states name f are is =
     let part = part_at v states (storage_number v.deployment name) f is in
     storages_keep g v previous are f.number f.config part.config
 
-shape_m : (app bank number : ℕ) (s : StorageData) → (shape_of app bank number s).m ≡ s.m
-unfolding shape_of
+shape_m : (app bank number : ℕ) (s : StorageData) → (storage_shape app bank number s).m ≡ s.m
+unfolding storage_shape
 shape_m app bank number s = refl
 
 -- at least one of its copies has to agree
-pub some_agree : StorageLaws → (image : Image) (app : ℕ) (name : List ℕ) (f : Found)
+pub some_agree : BackupLaws → (image : Image) (app : ℕ) (name : List ℕ) (f : Found)
     → storage_in (app_at image app) name None ≡ Ok f → 1 ≤ (shape_in app f).m
 some_agree laws image app name f is =
     let keeps = found_keeps (app_at image app).says (app_at image app).states name f

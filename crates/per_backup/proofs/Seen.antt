@@ -13,10 +13,10 @@ use Rattle.deploy_laws.specs.Places.{Named}
 use Rattle.deploy_laws.specs.Apps.{App, Says, absent, app_at, installed, nothing, root_sole, says_at}
 use Rattle.deploy.specs.Views.{RootSeen, bad, no_version, seen_at, seen_by, versions}
 use Rattle.run_model.specs.Found.{found_at, found_in, found_with, storage_in}
-use Rattle.per_backup.specs.Clauses.{IsSeen}
-use Rattle.per_backup.specs.Finding.{IsIn, IsLocated, IsMissing, IsOf, IsOut, config_of, found_as}
+use Rattle.per_backup.specs.Clauses.{IsAppSeen}
+use Rattle.per_backup.specs.Finding.{IsIn, IsLocatedAs, IsMissingStorage, IsOut, IsStorageOf, config_of, found_as}
 use Rattle.per_backup.specs.declared.finding.Located.{Located}
-use Rattle.per_backup.specs.StorageLaws.{StorageLaws}
+use Rattle.per_backup.specs.StorageLaws.{BackupLaws}
 use Rattle.per_backup.proofs.Stored.{says_of, state_there}
 
 -- ---- an application of which this was seen
@@ -51,7 +51,7 @@ out_so (versions active previous lacking sole) name e out =
 
 pub missing : (told : Bool) (image : Image) (app : ℕ) (name : List ℕ) (look : RootSeen)
     → (IsTrue told → look ≡ seen_at image app)
-    → (e : PerError) → IsOut name look e → IsMissing told image app name e
+    → (e : PerError) → IsOut name look e → IsMissingStorage told image app name e
 missing true image app name look seen e out = (
   app_at image app,
   λ tells. refl,
@@ -84,8 +84,8 @@ found_so active states found number s state by at is = ap (found_at active state
     ∙ ap (λ (c : Option StorageData). found_with active.bank number None c (slice_get states number)) at
     ∙ ap (λ (x : Option State). found_with active.bank number None (Some s) x) is
 
-module _ (laws : StorageLaws) (image : Image) (app : ℕ) (name : List ℕ) (active : Named) (l : Located)
-    (of : IsOf app name active l) where
+module _ (laws : BackupLaws) (image : Image) (app : ℕ) (name : List ℕ) (active : Named) (l : Located)
+    (of : IsStorageOf app name active l) where
   named_there : (g : ℕ) (previous : Option Named) → says_at image app ≡ installed g active previous → (state : State)
       → state ≡ store_at image l.shape
       → storage_in (app_at image app) name None ≡ Ok (found_as active of.number l state)
@@ -104,9 +104,9 @@ module _ (laws : StorageLaws) (image : Image) (app : ℕ) (name : List ℕ) (act
       (slice_get-map (λ (s : StorageData). state) active.deployment.storages of.number
       ∙ ap (option_map (λ (s : StorageData). state)) of.config)
 
-pub located : StorageLaws → (told : Bool) (image : Image) (app : ℕ) (name : List ℕ) (look : RootSeen)
+pub located : BackupLaws → (told : Bool) (image : Image) (app : ℕ) (name : List ℕ) (look : RootSeen)
     → (IsTrue told → look ≡ seen_at image app)
-    → (l : Located) → IsIn app name look l → IsLocated told image app name l
+    → (l : Located) → IsIn app name look l → IsLocatedAs told image app name l
 located laws told image app name bad seen l of = absurd of
 located laws told image app name (no_version lacking sole) seen l of = absurd of
 located laws told image app name (versions active previous lacking sole) seen l of = record {
@@ -122,7 +122,7 @@ located laws told image app name (versions active previous lacking sole) seen l 
         (s.0, s.1, sym (says_of image app) ∙ s.2)
 
     named : (b : Bool) → b ≡ told → (state : State) → (IsTrue told → state ≡ store_at image l.shape)
-        → (it : App) × IsSeen told image app it × (storage_in it name None ≡ Ok (found_as active of.number l state))
+        → (it : App) × IsAppSeen told image app it × (storage_in it name None ≡ Ok (found_as active of.number l state))
     named true is state at = let s = says (sym is) in
         (app_at image app, λ tells. refl, named_there laws image app name active l of s.0 s.1 s.2 state (at (sym is)))
     named false is state at = (

@@ -13,10 +13,10 @@ use Rattle.element_state.specs.Clean.{IsClean}
 use Rattle.element_state.specs.Kept.{KeptThroughout}
 use Rattle.element_state.specs.declared.shapes.Shape.{Shape}
 use Rattle.element_state.specs.States.{State, store_at}
-use Rattle.deploy_laws.specs.Places.{IsBeside, IsFileOf, IsNoFileOf, Named, shape_of, shapes_if, shapes_in}
+use Rattle.deploy_laws.specs.Places.{IsBeside, IsFileOf, IsNoFileOf, Named, shapes_if, shapes_in, storage_shape}
 use Rattle.deploy_laws.specs.Apps.{App, IsCleanApp, Says, app_at, installed, says_at, shapes_named}
 use Rattle.deploy_laws.specs.Stands.{StandsThroughout}
-use Rattle.per_backup.specs.StorageLaws.{StorageLaws}
+use Rattle.per_backup.specs.StorageLaws.{BackupLaws}
 use Rattle.per_backup.proofs.Lists.{all_at, get_append, set_same}
 
 pub says_of : (image : Image) (app : ℕ) → (app_at image app).says ≡ says_at image app
@@ -33,15 +33,15 @@ shapes_of : (app g : ℕ) (v : Named) (previous : Option Named)
 unfolding shapes_named
 shapes_of app g v previous = refl
 
--- a file that is none of the application lies beside each of its storages
+-- a file that is none of the application is beside each of its storages
 pub app_beside : (app bank number f : ℕ) → bank ≤ 1 → number < 16 → IsNoFileOf app f → IsBeside app bank number f
 app_beside app bank number f ltb ltn aside =
     ⊎_elim (λ low. inl (omega (arith, low))) (λ high. inr (omega (arith, high, ltb, ltn))) aside
 
-module _ (laws : StorageLaws) (app g : ℕ) (v : Named) (previous : Option Named) (number : ℕ) (s : StorageData)
+module _ (laws : BackupLaws) (app g : ℕ) (v : Named) (previous : Option Named) (number : ℕ) (s : StorageData)
     (at : slice_get v.deployment.storages number ≡ Some s) where
   abbrev here : Shape
-  here = shape_of app v.bank number s
+  here = storage_shape app v.bank number s
 
   shape_there : (says : Says) → says ≡ installed g v previous → slice_get (shapes_named app says) number ≡ Some here
   shape_there says is = ap (λ (x : Says). slice_get (shapes_named app x) number) is
@@ -94,4 +94,4 @@ module _ (laws : StorageLaws) (app g : ℕ) (v : Named) (previous : Option Named
         laws.storing app g number old.image v previous s after c lt clean is at
         (settled_less (λ f p. outside_of f p.1)
         (outside quiet c since))
-        (kept quiet (clean_there old.image is clean) c since)
+        (λ twins. kept quiet (clean_there old.image is clean) c since)

@@ -1,4 +1,4 @@
--- What the calls behind a sync keep, said of the sync and them.
+-- What the calls after a sync keep, said of the sync and them.
 use Rattle.std.proofs.Common.{◌≡◌, ℕ, Bool, true, false, List, None, Result, Ok, Err, sym, ap, ◌∙◌, subst, inl}
 use Rattle.std.proofs.Common.{true≢false}
 use Rattle.std.specs.Prelude.{IfOk, IsErr, IsSome, IsTrue, OnErr, OnOk, is_err}
@@ -19,7 +19,7 @@ use Rattle.deploy.specs.Clauses.{ChangesNothing}
 use Rattle.run_model.specs.Found.{Found, shape_in, storage_in}
 use Rattle.run_model.specs.Lives.{LooksOnly, behind_sync, looks_unsynced}
 use Rattle.per_backup.specs.Backups.{importing, importing_into}
-use Rattle.per_backup.specs.Clauses.{ImportKeeps, Imported, IsSeen, KeepsSettled}
+use Rattle.per_backup.specs.Clauses.{ImportKeeps, Imported, IsAppSeen, KeepsSettled}
 
 -- ---- a result that was tested
 
@@ -61,8 +61,8 @@ module _ (told : Bool) (old mid new : Medium) (lawful : IsLawful told mid) (time
         (subst (λ (im : Image). EachCase (IsSettledAt im) mid new) nothing.image (changes.idle quiet).during);
   }
 
-  -- what was seen behind the sync was seen
-  pub then_seen : (app : ℕ) (it : App) → IsSeen told mid.image app it → IsSeen told old.image app it
+  -- what was seen after the sync was seen
+  pub then_seen : (app : ℕ) (it : App) → IsAppSeen told mid.image app it → IsAppSeen told old.image app it
   then_seen app it seen tells = seen tells ∙ ap (λ (im : Image). app_at im app) nothing.image
 
   module _ (app : ℕ) (name text : List ℕ) where

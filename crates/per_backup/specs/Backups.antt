@@ -20,9 +20,9 @@ use Rattle.element_state.specs.Views.{judged_content}
 use Rattle.update_plan.specs.Plans.{is_kind}
 use Rattle.kvs_core.specs.Calls.{mismatch}
 use Rattle.deploy_laws.specs.Apps.{App}
-use Rattle.deploy_rows.specs.Recovering.{if_fits, is_content}
+use Rattle.deploy_rows.specs.Recovering.{if_contents_fit, is_content}
 use Rattle.deploy_rows.specs.Rows.{◌>>=◌}
-use Rattle.run_model.specs.Found.{storage_in, with_state}
+use Rattle.run_model.specs.Found.{storage_in, with_storage_state}
 use Rattle.export_text.specs.declared.exports.Export.{Export}
 use Rattle.export_text.specs.Exports.{export_of, export_text}
 
@@ -38,14 +38,14 @@ abbrev pub fresh_of : StorageData → Entry → Result Fresh PerError
 fresh_of s e = fresh_by s.name e (judged_content (is_content s.kind) e.content)
 
 -- all elements, or the refusal for the first that cannot be read: names ascend, so that it is the least
-abbrev pub contents_of : StorageData → List Entry → Result (List Fresh) PerError
-contents_of s [] = Ok []
-contents_of s (e ∷ es) = fresh_of s e >>= λ f. contents_of s es >>= λ fs. Ok (f ∷ fs)
+abbrev pub exported_contents : StorageData → List Entry → Result (List Fresh) PerError
+exported_contents s [] = Ok []
+exported_contents s (e ∷ es) = fresh_of s e >>= λ f. exported_contents s es >>= λ fs. Ok (f ∷ fs)
 
 -- a storage that does not open is not exported
 abbrev pub exported_from : StorageData → State → Result Export PerError
 exported_from s (Corrupt salvage others) = Err (error.IntegrityCorrupted (unit.Whole s.name))
-exported_from s (Opens v others) = contents_of s v.entries >>= λ contents.
+exported_from s (Opens v others) = exported_contents s v.entries >>= λ contents.
     Ok (record { kind = s.kind; contents = contents })
 
 abbrev pub text_from : StorageData → State → Result (List ℕ) PerError
@@ -97,9 +97,9 @@ unless (Some e) row = Err e
 -- generation of a reset
 unfoldable pub importing : StorageData → State → (text : List ℕ) → Result State PerError
 importing s state text = export_for s.kind (export_of text) >>= λ x.
-    unless (least_mismatch s x.contents) (if_fits s state x.contents)
+    unless (least_mismatch s x.contents) (if_contents_fit s state x.contents)
 
 -- the application with this storage so
 unfoldable pub importing_into : App → (name text : List ℕ) → Result App PerError
 importing_into a name text = storage_in a name None >>= λ f. importing f.config f.state text >>= λ state.
-    Ok (with_state a f state)
+    Ok (with_storage_state a f state)

@@ -26,9 +26,9 @@ use Rattle.per_backup.specs.declared.exporting.Exported.{Exported}
 use Rattle.per_backup.specs.declared.exporting.Exported.TheVariants.{Octets, Refused}
 use Rattle.per_backup.specs.Backups.{importing, importing_into}
 
--- the application that a call saw: where the disk tells its bytes, the one that lies on it
-abbrev pub IsSeen : (told : Bool) → Image → ℕ → App → Type 0
-IsSeen told image app it = IsTrue told → it ≡ app_at image app
+-- the application that a call saw: where the disk's bytes are modelled, the one that is on it
+abbrev pub IsAppSeen : (told : Bool) → Image → ℕ → App → Type 0
+IsAppSeen told image app it = IsTrue told → it ≡ app_at image app
 
 -- the bytes of an export, or why it was refused
 abbrev pub exported_as : Exported → Result (List ℕ) PerError
@@ -36,9 +36,9 @@ exported_as (Octets bytes) = Ok bytes
 exported_as (Refused e) = Err e
 
 -- what was made of the elements of a view, as a list
-abbrev pub items_in : Result (Vec Fresh Global) PerError → Result (List Fresh) PerError
-items_in (Ok contents) = Ok contents.items
-items_in (Err e) = Err e
+abbrev pub fresh_items : Result (Vec Fresh Global) PerError → Result (List Fresh) PerError
+fresh_items (Ok contents) = Ok contents.items
+fresh_items (Err e) = Err e
 
 -- a view of a storage of this kind
 abbrev pub IsViewFor : StoreKind → View → Type 0
@@ -65,7 +65,7 @@ pub record ImportKeeps (app : ℕ) (name text : List ℕ) (old new : Medium) : T
   -- and where the import is refused nothing changes
   pub refused : IsErr (importing_into (app_at old.image app) name text) → LooksOnly old new
 
--- The same of the calls behind the sync with which an import begins, where nothing is pending.
+-- The same of the calls after the sync with which an import begins, where nothing is pending.
 pub record KeepsSettled (app : ℕ) (name text : List ℕ) (old new : Medium) : Type 0 where
   pub kept : (f : Found) → storage_in (app_at old.image app) name None ≡ Ok f
       → KeptThroughout (shape_in app f) (after_state f.state (importing f.config f.state text)) old new

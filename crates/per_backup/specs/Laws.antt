@@ -6,7 +6,7 @@ use Rattle.deployment_model.specs.Data.{StorageData}
 use Rattle.element_state.specs.States.{State, fresh_map, fresh_state, next_generation, salvage_of}
 use Rattle.update_plan.specs.Plans.{is_kind}
 use Rattle.deploy_laws.specs.Apps.{App}
-use Rattle.deploy_rows.specs.Recovering.{if_fits}
+use Rattle.deploy_rows.specs.Recovering.{if_contents_fit}
 use Rattle.export_text.specs.declared.exports.Export.{Export}
 use Rattle.export_text.specs.Exports.{IsExport, export_of, export_text}
 use Rattle.per_backup.specs.Backups.{exported_from, exporting, importing, importing_into, least_mismatch, unless}
@@ -22,7 +22,8 @@ ImportsLaw = (s : StorageData) (state : State) (text : List ℕ) (x : Export) (n
 abbrev pub ExportedLaw : Type 0
 ExportedLaw = (from into : StorageData) (old state : State) (x : Export) → exported_from from old ≡ Ok x → IsExport x
     → is_kind into.kind from.kind ≡ true
-    → importing into state (export_text x) ≡ unless (least_mismatch into x.contents) (if_fits into state x.contents)
+    → importing into state (export_text x) ≡ unless (least_mismatch into x.contents)
+    (if_contents_fit into state x.contents)
 
 -- what was imported is exported again as the same text, byte for byte
 abbrev pub AgainLaw : Type 0

@@ -2,8 +2,8 @@
 use Rattle.element_laws.specs.Phases.{UntouchedLaw}
 use Rattle.deploy_laws.specs.Laws.{BesideLaw, NumberLaw, StillAppLaw, StoredLaw, StoringLaw, VersionsLaw}
 
-pub record StorageLaws : Type 0 where
-  -- what a root names, where the storages of a version lie, and what stays where the files of one change
+pub record BackupLaws : Type 0 where
+  -- what a root names, where the storages of a version are stored, and what stays where the files of one change
   pub versions : VersionsLaw
   pub numbers : NumberLaw
   pub beside : BesideLaw

@@ -11,8 +11,8 @@ ghost use Rattle.element_state.specs.States.{State, store_at};
 ghost use Rattle.deploy_laws.specs.Apps.{App};
 ghost use Rattle.deploy_rows.specs.Recovering.{is_content};
 ghost use Rattle.run_model.specs.Lives.{LooksOnly};
-ghost use Rattle.per_backup.specs.Backups.{contents_of, exporting, fresh_of, text_from};
-ghost use Rattle.per_backup.specs.Clauses.{IsSeen, IsViewFor, exported_as, items_in};
+ghost use Rattle.per_backup.specs.Backups.{exported_contents, exporting, fresh_of, text_from};
+ghost use Rattle.per_backup.specs.Clauses.{IsAppSeen, IsViewFor, exported_as, fresh_items};
 
 use crate::finding::find;
 use deploy::Stop;
@@ -33,7 +33,7 @@ pub enum Exported {
     Refused(PerError),
 }
 
-/// The text of the storage of this name in the active version of an application, as it lies on the disk. Nothing is
+/// The text of the storage of this name in the active version of an application, as it is on the disk. Nothing is
 /// changed.
 ///
 /// Refusals, the first that holds: `IntegrityCorrupted` with the root where it is bad; `NotInstalled`;
@@ -45,7 +45,7 @@ pub enum Exported {
 /// `Device` where the disk fails, and `OutOfMemory`.
 pub fn export<D: Disk>(alloc: Global, disk: &mut D, app: u32, name: &Name) -> Result<Exported, Stop>
     requires { app < 8 }
-    ensures answer { IfOk result (λ x. (it : App) × IsSeen D.told (D.medium disk.old).image app it
+    ensures answer { IfOk result (λ x. (it : App) × IsAppSeen D.told (D.medium disk.old).image app it
         × (exported_as x ≡ exporting it name.now)) }
     ensures stays { LooksOnly (D.medium disk.old) (D.medium disk.new) }
     ensures quiet { OnOk result (Quiet (D.medium disk.new)) }
@@ -68,7 +68,7 @@ fn export_synced<D: Disk>(
     name: &Name,
 ) -> Result<Exported, Stop>
     requires { app < 8 }
-    ensures answer { IfOk result (λ x. (it : App) × IsSeen D.told (D.medium disk.old).image app it
+    ensures answer { IfOk result (λ x. (it : App) × IsAppSeen D.told (D.medium disk.old).image app it
         × (exported_as x ≡ exporting it name.now)) }
     ensures image { (D.medium disk.new).image ≡ (D.medium disk.old).image }
     ensures idle { Quiet (D.medium disk.old) → IsIdle (D.medium disk.old) (D.medium disk.new) }
@@ -142,7 +142,7 @@ fn contents_of(
     config: &StorageConfig,
     entries: &[Entry],
 ) -> Result<Result<Vec<Fresh>, PerError>, AllocError>
-    ensures { IfOk result (λ contents. items_in contents ≡ contents_of (storage_data config.now) entries.now) }
+    ensures { IfOk result (λ contents. fresh_items contents ≡ exported_contents (storage_data config.now) entries.now) }
 {
     let mut contents = Vec::new(alloc);
     for entry in entries {

@@ -7,7 +7,7 @@ ghost use Rattle.deployment_model.specs.Conditions.{IsDeployment};
 ghost use Rattle.deployment_model.specs.Data.{deployment_data};
 ghost use Rattle.deployment_model.specs.Lookups.{storage_number};
 ghost use Rattle.deploy.specs.Views.{ShowsVersions, root_seen};
-ghost use Rattle.per_backup.specs.Finding.{IsIn, IsLocated, IsMissing, IsOf, IsOut};
+ghost use Rattle.per_backup.specs.Finding.{IsIn, IsLocatedAs, IsMissingStorage, IsOut, IsStorageOf};
 
 use crate::laws::storages_stand;
 use deploy::{RootView, Stop, shape_of, view_root};
@@ -17,7 +17,7 @@ use element_state::Shape;
 use per_base::{Name, PerError, Unit};
 use std::alloc::{AllocError, Global};
 
-/// A storage of the active version: where it lies, and how it is configured.
+/// A storage of the active version: where it is stored, and how it is configured.
 #[derive(Drop)]
 pub(crate) struct Located {
     pub(crate) shape: Shape,
@@ -33,8 +33,9 @@ pub(crate) fn find<D: Disk>(
     name: &Name,
 ) -> Result<Result<Located, PerError>, Stop>
     requires { app < 8 }
-    ensures located { IfOk result (λ found. IfOk found (IsLocated D.told (D.medium disk.old).image app name.now)) }
-    ensures missing { IfOk result (λ found. IfErr found (IsMissing D.told (D.medium disk.old).image app name.now)) }
+    ensures located { IfOk result (λ found. IfOk found (IsLocatedAs D.told (D.medium disk.old).image app name.now)) }
+    ensures missing { IfOk result (λ found. IfErr found (IsMissingStorage D.told
+        (D.medium disk.old).image app name.now)) }
     ensures image { (D.medium disk.new).image ≡ (D.medium disk.old).image }
     ensures idle { Quiet (D.medium disk.old) → IsIdle (D.medium disk.old) (D.medium disk.new) }
     ensures written { (D.medium disk.new).written ≡ (D.medium disk.old).written }
@@ -64,7 +65,7 @@ fn find_in(app: u32, view: RootView, name: &Name) -> Result<Result<Located, PerE
     }
 }
 
-// The storage of this name in a version, and where it lies.
+// The storage of this name in a version, and where it is stored.
 fn find_storage(
     app: u32,
     bank: u32,
@@ -74,7 +75,7 @@ fn find_storage(
     requires app { app < 8 }
     requires bank { bank ≤ 1 }
     requires active { IsDeployment (deployment_data active) }
-    ensures found { IfOk result (λ found. IfOk found (IsOf app name.now
+    ensures found { IfOk result (λ found. IfOk found (IsStorageOf app name.now
         (record { bank = bank; deployment = deployment_data active }))) }
     ensures missing { IfOk result (λ found. IfErr found (λ e.
         (storage_number (deployment_data active) name.now ≡ None) × (e ≡ PerError.StorageNotFound))) }

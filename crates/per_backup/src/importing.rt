@@ -1,4 +1,4 @@
-//! A storage made anew of a text.
+//! A storage rebuilt from a text.
 
 ghost use Rattle.std.specs.Prelude.{◌≡◌, ◌<◌, Err, IfErr, IfOk, IsErrOf, IsSome, IsTrue, OnOk};
 ghost use Rattle.per_base.specs.Causes.{Rose};
@@ -8,13 +8,13 @@ ghost use Rattle.deployment_model.specs.Data.{storage_data};
 ghost use Rattle.element_state.specs.States.{State};
 ghost use Rattle.update_plan.specs.Plans.{is_kind};
 ghost use Rattle.deploy_laws.specs.Apps.{App};
-ghost use Rattle.deploy_rows.specs.Recovering.{if_fits};
-ghost use Rattle.deploy_rows.specs.Rows.{Answers};
+ghost use Rattle.deploy_rows.specs.Recovering.{if_contents_fit};
+ghost use Rattle.deploy_rows.specs.Rows.{AnswersRow};
 ghost use Rattle.deploy.specs.Clauses.{ChangesNothing};
 ghost use Rattle.deploy.specs.Recovered.{AreElements};
 ghost use Rattle.run_model.specs.Lives.{LooksOnly};
 ghost use Rattle.per_backup.specs.Backups.{importing, importing_into};
-ghost use Rattle.per_backup.specs.Clauses.{ImportKeeps, Imported, IsSeen, KeepsSettled};
+ghost use Rattle.per_backup.specs.Clauses.{ImportKeeps, Imported, IsAppSeen, KeepsSettled};
 
 use crate::finding::find;
 use crate::laws::storages_stand;
@@ -26,7 +26,7 @@ use export_text::{ExportError, read_export};
 use per_base::{Fresh, Name, PerError, StoreKind};
 use std::alloc::{AllocError, Global};
 
-/// Makes the storage of this name in the active version of an application anew with exactly the contents of an export,
+/// Rebuilds the storage of this name in the active version of an application with exactly the contents of an export,
 /// infos included, under the generation of a reset. It may be read-only, and it need not open.
 ///
 /// Refusals, the first that holds: `IntegrityCorrupted` with the root where it is bad; `NotInstalled`;
@@ -47,8 +47,8 @@ pub fn import<D: Disk>(
     bytes: &[u8],
 ) -> Result<Option<PerError>, Stop>
     requires { app < 8 }
-    ensures refused { IfOk result (λ refused. (it : App) × IsSeen D.told (D.medium disk.old).image app it
-        × Answers refused (importing_into it name.now bytes.now)) }
+    ensures refused { IfOk result (λ refused. (it : App) × IsAppSeen D.told (D.medium disk.old).image app it
+        × AnswersRow refused (importing_into it name.now bytes.now)) }
     ensures unchanged { IfOk result (λ refused. IsSome refused
         → LooksOnly (D.medium disk.old) (D.medium disk.new)) }
     ensures imported { IsTrue D.told → OnOk result (Imported app name.now bytes.now (D.medium disk.old)
@@ -75,8 +75,8 @@ fn import_synced<D: Disk>(
     bytes: &[u8],
 ) -> Result<Option<PerError>, Stop>
     requires { app < 8 }
-    ensures refused { IfOk result (λ refused. (it : App) × IsSeen D.told (D.medium disk.old).image app it
-        × Answers refused (importing_into it name.now bytes.now)) }
+    ensures refused { IfOk result (λ refused. (it : App) × IsAppSeen D.told (D.medium disk.old).image app it
+        × AnswersRow refused (importing_into it name.now bytes.now)) }
     ensures unchanged { IfOk result (λ refused. IsSome refused
         → ChangesNothing (D.medium disk.old) (D.medium disk.new)) }
     ensures imported { IsTrue D.told → OnOk result (Imported app name.now bytes.now (D.medium disk.old)
@@ -109,7 +109,7 @@ fn importable(
     requires { IsStorage (storage_data config.now) }
     ensures row { IfOk result (λ found. IfOk found (λ contents. (state : State)
         → importing (storage_data config.now) state bytes.now
-        ≡ if_fits (storage_data config.now) state contents.items)) }
+        ≡ if_contents_fit (storage_data config.now) state contents.items)) }
     ensures elements { IfOk result (λ found. IfOk found (λ contents. AreElements config.now.kind contents.items)) }
     ensures refused { IfOk result (λ found. IfErr found (λ e. (state : State)
         → importing (storage_data config.now) state bytes.now ≡ Err e)) }

@@ -1,7 +1,7 @@
 //! Laws, for the proofs of callers: none of these functions does anything when it runs.
 
 ghost use Rattle.per_backup.specs.Laws.{AgainLaw, ExportNumbersLaw, ExportedLaw, ImportNumbersLaw, ImportsLaw};
-ghost use Rattle.per_backup.specs.StorageLaws.{StorageLaws};
+ghost use Rattle.per_backup.specs.StorageLaws.{BackupLaws};
 
 use deploy_laws::{files_lie_apart, others_stand, roots_say, storing_stands, untouched_stands};
 use element_laws::untouched_is_kept;
@@ -23,10 +23,10 @@ pub fn refusals_are_numbered()
     ensures imports { ImportNumbersLaw }
 {}
 
-/// A storage's files lie apart from all others: what changes them alone changes that storage alone, also at every
+/// A storage's files are apart from all others: what changes them alone changes that storage alone, also at every
 /// moment.
 pub(crate) fn storages_stand()
-    ensures { StorageLaws }
+    ensures { BackupLaws }
 {
     roots_say();
     files_lie_apart();

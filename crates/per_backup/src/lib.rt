@@ -1,8 +1,8 @@
 //! One storage of an application, carried to another computer as one text.
 //!
-//! [`export`] gives the text of a storage of the active version, and changes nothing on the disk. [`import`] makes a
-//! storage anew with exactly what such a text says, infos included; also a storage that is read-only, and one that
-//! cannot be read. Both judge the application as it lies on the disk, open no storage and mend nothing.
+//! [`export`] gives the text of a storage of the active version, and changes nothing on the disk. [`import`] rebuilds a
+//! storage with exactly what such a text says, infos included; also a storage that is read-only, and one that
+//! cannot be read. Both judge the application as it is on the disk, open no storage and mend nothing.
 //!
 //! Each refuses exactly where its row of `specs/Backups` says so, with what the refusal carries, and then nothing is
 //! changed. A stop at any moment of an import leaves the storage as it was or as it is imported, and all else as it

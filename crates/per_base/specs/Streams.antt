@@ -32,5 +32,5 @@ is_failing failing call = list_any (λ n. nat_eq n call) failing
 abbrev pub FailsAsPlanned : SinkState → SinkState → Type 0
 FailsAsPlanned old new = IsTrue (is_failing old.failing old.calls) × (new.starved ≡ old.starved)
 
-abbrev pub FailsForWant : SinkState → SinkState → Type 0
-FailsForWant old new = IsFalse (is_failing old.failing old.calls) × (new.starved ≡ raised old.starved)
+abbrev pub RunsOutOfMemory : SinkState → SinkState → Type 0
+RunsOutOfMemory old new = IsFalse (is_failing old.failing old.calls) × (new.starved ≡ raised old.starved)

@@ -1,4 +1,4 @@
-//! Bytes and numbers at the front of a text, each with what follows it.
+//! Bytes and numbers at the start of a text, each with what follows it.
 
 ghost use Rattle.std.specs.Prelude.{◌≡◌, IfOk, length};
 ghost use Rattle.std.specs.Int.{w16, w32, w64};

@@ -2,7 +2,7 @@
 //!
 //! Names of storages, keys and files; the small types for bytes, texts and lists that contracts see as plain lists;
 //! elements with their contents and infos; errors, reports and modes of opening; readers of the bytes and numbers at
-//! the front of a text; and the two streams of the outside, a source of bytes and a sink for bytes, each with a count
+//! the start of a text; and the two streams of the outside, a source of bytes and a sink for bytes, each with a count
 //! of faults that never falls.
 //!
 //! Nothing here touches a disk. The promises are the grammar of names, sums that do not overflow within the limits,

@@ -23,7 +23,7 @@ impl Model for Bytes {
 }
 
 impl Bytes {
-    /// The list that a vector holds. Takes no memory.
+    /// The list that a vector holds. Does not allocate.
     pub fn new(bytes: Vec<u8>) -> Bytes
         ensures { result ≡ bytes.items }
     {
@@ -44,7 +44,7 @@ impl Bytes {
         self.bytes.len()
     }
 
-    /// The vector itself, handed back. Takes no memory.
+    /// The vector itself, handed back. Does not allocate.
     pub fn into_vec(self) -> Vec<u8>
         ensures { result.items ≡ self }
     {
@@ -78,7 +78,7 @@ impl Model for Numbers {
 }
 
 impl Numbers {
-    /// The list that a vector holds. Takes no memory.
+    /// The list that a vector holds. Does not allocate.
     pub fn new(numbers: Vec<u32>) -> Numbers
         ensures { result ≡ numbers.items }
     {
@@ -92,7 +92,7 @@ impl Numbers {
         self.numbers.as_slice()
     }
 
-    /// The vector itself, handed back. Takes no memory.
+    /// The vector itself, handed back. Does not allocate.
     pub fn into_vec(self) -> Vec<u32>
         ensures { result.items ≡ self }
     {
@@ -124,7 +124,7 @@ impl Model for ValueText {
 }
 
 impl ValueText {
-    /// The text that a string holds. Takes no memory.
+    /// The text that a string holds. Does not allocate.
     pub fn new(text: String) -> ValueText
         ensures { result ≡ string_bytes text }
     {
@@ -138,7 +138,7 @@ impl ValueText {
         self.text.as_str()
     }
 
-    /// The string itself, handed back. Takes no memory.
+    /// The string itself, handed back. Does not allocate.
     pub fn into_string(self) -> String
         ensures { string_bytes result ≡ self }
     {
@@ -170,7 +170,7 @@ impl<T> Model for Sequence<T> {
 }
 
 impl<T> Sequence<T> {
-    /// The list that a vector holds. Takes no memory.
+    /// The list that a vector holds. Does not allocate.
     pub fn new(items: Vec<T>) -> Sequence<T>
         ensures { result ≡ items.items }
     {
@@ -184,7 +184,7 @@ impl<T> Sequence<T> {
         self.items.as_slice()
     }
 
-    /// The vector itself, handed back. Takes no memory.
+    /// The vector itself, handed back. Does not allocate.
     pub fn into_vec(self) -> Vec<T>
         ensures { result.items ≡ self }
     {

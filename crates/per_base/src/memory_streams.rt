@@ -4,7 +4,7 @@ ghost use Rattle.std.specs.Prelude.{◌≡◌, ◌<◌, ◌≤◌, [], Some, IfO
 ghost use Rattle.std.specs.Prelude.{min, take};
 ghost use Rattle.std.specs.Io.KnownBytes.{ReadConsumes, WriteAppends};
 ghost use Rattle.per_base.specs.Causes.{HasCause, Rose, raised};
-ghost use Rattle.per_base.specs.Streams.{FailsAsPlanned, FailsForWant, is_failing};
+ghost use Rattle.per_base.specs.Streams.{FailsAsPlanned, RunsOutOfMemory, is_failing};
 
 use crate::streams::{Failed, Sink, Source};
 use std::alloc::Global;
@@ -40,7 +40,7 @@ impl Model for MemSource {
 }
 
 impl MemSource {
-    /// A source of these bytes. The calls of these numbers fail, counted from 0. Takes no memory.
+    /// A source of these bytes. The calls of these numbers fail, counted from 0. Does not allocate.
     pub fn new(bytes: Vec<u8>, piece: u64, failing: Vec<u64>) -> MemSource
         requires { 1 ≤ piece }
         ensures left { result.left ≡ bytes.items }
@@ -90,7 +90,7 @@ impl Source for MemSource {
     }
 }
 
-/// Copies the front of `left` to the front of `out`, at most `piece` bytes, and says how many they are.
+/// Copies the start of `left` to the start of `out`, at most `piece` bytes, and says how many they are.
 fn give(left: &[u8], piece: u64, out: &mut [u8]) -> usize
     ensures count { result ≡ min (min piece (length out.new)) (length left.now) }
     ensures bytes { take result out.new ≡ take result left.now }
@@ -129,7 +129,7 @@ impl Model for MemSink {
 }
 
 impl MemSink {
-    /// An empty sink. The calls of these numbers fail, counted from 0. Takes no memory.
+    /// An empty sink. The calls of these numbers fail, counted from 0. Does not allocate.
     pub fn new(alloc: Global, piece: u64, failing: Vec<u64>) -> MemSink
         ensures written { result.written ≡ [] }
         ensures plan { (result.piece ≡ piece) × (result.failing ≡ failing.items) }
@@ -145,14 +145,14 @@ impl MemSink {
         }
     }
 
-    /// The bytes that were taken. Takes no memory.
+    /// The bytes that were taken. Does not allocate.
     pub fn bytes(&self) -> &[u8]
         ensures { result.now ≡ self.now.written }
     {
         self.bytes.as_slice()
     }
 
-    /// How often memory ran out for the bytes. Takes no memory.
+    /// How often memory ran out for the bytes. Does not allocate.
     pub fn starved(&self) -> u64
         ensures { result ≡ self.now.starved }
     {
@@ -175,7 +175,7 @@ impl Sink for MemSink {
         // counted.
         ensures count { IfOk result (λ n. n ≡ min self.old.piece (length bytes.now)) }
         ensures planned { IsTrue (is_failing self.old.failing self.old.calls) → IsErr result }
-        ensures fails { OnErr result (FailsAsPlanned self.old self.new ⊎ FailsForWant self.old self.new) }
+        ensures fails { OnErr result (FailsAsPlanned self.old self.new ⊎ RunsOutOfMemory self.old self.new) }
         ensures counted { OnErr result (self.new.faults ≡ raised self.old.faults) }
         ensures stuck_once { IfOk result (λ n. n ≡ 0 → 0 < length bytes.now
             → self.new.faults ≡ raised self.old.faults) }

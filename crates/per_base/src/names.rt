@@ -40,6 +40,8 @@ impl Name {
         ensures grammar { OnOk result (IsName text.now) }
         ensures bad { IsErrOf result PerError.BadName → ¬ IsName text.now }
         ensures causes { IfErr result (λ e. (e ≡ PerError.BadName) ⊎ (e ≡ PerError.OutOfMemory)) }
+        // a text outside the grammar is refused however little memory there is
+        ensures memory { IsErrOf result PerError.OutOfMemory → IsName text.now }
     {
         if !has_name_form(text.as_bytes()) {
             return Err(PerError::BadName);

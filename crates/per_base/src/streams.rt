@@ -16,7 +16,7 @@ pub trait Source {
     /// How many calls failed. The count stops at the greatest `u64`.
     ghost faults: { Self → ℕ };
 
-    /// Puts the next bytes at the front of `out` and says how many they are: 0 only at the end of the input, where
+    /// Puts the next bytes at the start of `out` and says how many they are: 0 only at the end of the input, where
     /// there is room. The rest of `out` may hold anything.
     ///
     /// # Errors
@@ -37,7 +37,7 @@ pub trait Sink {
     /// How many calls failed. The count stops at the greatest `u64`.
     ghost faults: { Self → ℕ };
 
-    /// Takes bytes from the front of `bytes` and says how many they are. Where it takes none of some, its count of
+    /// Takes bytes from the start of `bytes` and says how many they are. Where it takes none of some, its count of
     /// faults rises too.
     ///
     /// # Errors

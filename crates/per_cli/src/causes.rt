@@ -4,7 +4,7 @@ use std::rt::Files;
 use std::{fmt, fs, io};
 use system_model::{Asked, Failure};
 
-/// The line where the words are refused.
+/// What is said of the words where they are refused.
 const USAGE: &str =
     "usage: per --dir DIR [--flash N] [--serve | --format | --generate N | --audit | --export A:S | --import A:S]";
 
@@ -34,6 +34,8 @@ impl fmt::Display for Fault {
 pub(crate) struct Ended<'a> {
     pub(crate) status: u8,
     pub(crate) dir: &'a str,
+    /// The first word that is none of a run's.
+    pub(crate) unknown: Option<&'a [u8]>,
     /// How many blocks the flash has, where the folder is to hold one.
     pub(crate) flash: Option<u32>,
     /// Whether the lines of the input were to be handled.
@@ -56,7 +58,7 @@ pub(crate) fn say_answered<R: Eprint>(rt: &R, dir: &str, fault: Option<Fault>) -
     )
 }
 
-/// Says that a folder is not formatted, since files of others lie in it.
+/// Says that a folder is not formatted, since files of others are in it.
 pub(crate) fn say_foreign<R: Eprint>(rt: &R, dir: &str, flash: Option<u32>) -> io::Result<()> {
     match flash {
         Some(blocks) => eprintln!(rt;
@@ -75,7 +77,7 @@ pub(crate) fn say<R: Files + Eprint>(rt: &R, ended: &Ended<'_>) -> io::Result<()
     let dir = ended.dir;
     match ended.status {
         0 => say_of_answers(rt, ended),
-        1 => rt.eprintln(USAGE),
+        1 => say_usage(rt, ended.unknown),
         2 => rt.eprintln(
             "per: a line is outside the grammar; the last reply has its number (./per --help lists the lines)",
         ),
@@ -103,6 +105,14 @@ pub(crate) fn say<R: Files + Eprint>(rt: &R, ended: &Ended<'_>) -> io::Result<()
         ),
         11 => say_of_size(rt, ended),
         _ => Ok(()),
+    }
+}
+
+/// Says which words there are, and which one is none of them.
+fn say_usage<R: Eprint>(rt: &R, unknown: Option<&[u8]>) -> io::Result<()> {
+    match str::from_utf8(unknown.unwrap_or(&[])) {
+        Ok("") | Err(_) => eprintln!(rt; "{USAGE} (per --help)"),
+        Ok(word) => eprintln!(rt; "{USAGE}, and not {word} (per --help)"),
     }
 }
 

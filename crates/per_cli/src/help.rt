@@ -1,93 +1,137 @@
 //! What a person gets who asks for help.
 
 use crate::NO_OUTPUT;
+use std::io;
 
-const HELP: &str =
-    "per keeps the data of up to eight applications in a folder, so that it outlives power loss, lost copies and updates.
+/// The version of the sources.
+const VERSION: &str = "0.11.0";
 
-  ./per --format --dir DIR        makes a folder ready; what was kept there is lost
-  ./per --dir DIR                 handles the lines of standard input
-  ./per --serve --dir DIR         the same for a program that stays: any number of lines, a bad one is answered and passed over, and
-                                  an empty folder is made ready first
-  ./per --generate N --dir DIR    formats, and handles a large input that is made from N, 1 to 100000
-  ./per --audit --dir DIR         lists what is kept, and what is damaged or lost; mends nothing
-  ./per --export A:S --dir DIR    writes storage S of application A, 0 to 7, as one text; mends nothing
-  ./per --import A:S --dir DIR    makes that storage anew of such a text on standard input, whole or not at all
-  ./per --flash N --dir DIR       the same as without --flash, in one file of the folder that stands for raw flash of N blocks, 4 to 4096;
-                                  beside --serve, --format, --generate, --audit, --export or --import too
-  ./per --demo                    shows a first session, in a folder of its own
-  ./per --help                    shows this
+/// The words of the program.
+const WORDS: &str = "per keeps the data of up to eight applications in a folder, so that it outlives
+power loss, lost copies and updates.
 
-Lines. Words are separated by one space. Empty lines and lines that begin with # are passed over. Examples:
-  now 1000                                 sets the moment, in seconds
-  end                                      ends the input
+  ./per --format --dir DIR      makes a folder ready; what it kept is lost
+  ./per --dir DIR               handles the lines of standard input
+  ./per --serve --dir DIR       the same for a program that stays: any number
+                                of lines; a bad one is answered and passed over;
+                                a last one without its line feed is dropped; an
+                                empty folder is made ready first
+  ./per --generate N --dir DIR  formats, and handles a large input that is made
+                                from N, 1 to 100000
+  ./per --audit --dir DIR       lists what is kept, and what is damaged or lost;
+                                mends nothing
+  ./per --export A:S --dir DIR  writes storage S of application A, 0 to 7, as
+                                one text; mends nothing
+  ./per --import A:S --dir DIR  makes that storage anew of such a text on
+                                standard input, whole or not at all
+  ./per --flash N --dir DIR     the same as without --flash, in one file of the
+                                folder that stands for raw flash of N blocks,
+                                4 to 4096; beside each of the words above
+  ./per --demo                  shows a first session, in a folder of its own
+  ./per --help                  shows this, also beside other words
+  ./per --version               shows the version
+
+Calls. One call by itself: its storage is opened before it, and what it changes
+is made durable after it. A value stands alone on standard output, an error on
+standard error, and then the status is 9. --flash N may stand beside --dir DIR.
+  ./per install 0 FILE --dir DIR     a manifest of any number of lines; makes
+                                     an empty folder ready first
+  ./per update 0 FILE --dir DIR      another version, likewise; - is standard
+                                     input
+  ./per status 0 --dir DIR           which version is active
+  ./per set 0:k a u16:513 --dir DIR  durable when it ends
+  ./per get 0:k a --dir DIR          writes u16:513
+  ./per keys 0:k --dir DIR           writes the names, one on a line
+  ./per ls 0:f --dir DIR             the same of files
+  ./per put 0:f a --dir DIR <A       the content is what standard input has
+  ./per cat 0:f a --dir DIR >B       writes the content, byte by byte
+ Likewise, with what they take in a line:
+  finish, rollback, wipe, exists, get-as, remove, remove-all, recover-key,
+  reset-key, files, file-exists, size-of, info, delete, recover-file,
+  reset-file, recover-storage, reset-storage
+";
+
+/// The lines of an input.
+const LINES: &str =
+    "Lines. Words are separated by one space. Empty lines and lines that begin with #
+are passed over. Examples:
+  now 1000                      sets the moment, in seconds
+  end                           ends the input
  The deployment of an application, 0 to 7
-  0 status                                 which version is active
-  0 install {\"version\":1,\"keyValueStorages\":[{\"name\":\"k\"}],\"fileStorages\":[{\"name\":\"f\"}]}
+  0 status                      which version is active
+  0 install {\"version\":1,\"keyValueStorages\":[{\"name\":\"k\"}]}
+                                a first version; storages of files stand in a
+                                list \"fileStorages\"
   0 update {\"version\":2,\"keyValueStorages\":[{\"name\":\"k\"}]}
-                                           another version; the one before stays until finish or rollback
-  0 finish                                 forgets the version before
-  0 rollback                               goes back to the version before
-  0 wipe                                   forgets all of the application
-  0 update-begin {\"version\":2}             an update in steps, beside other applications
-  0 update-next                            makes the next storage; answers how many remain
-  0 update-commit                          makes what remains, and goes over to the new version
-  0 update-abort                           gives the update up
+                                another version; the one before stays until
+                                finish or rollback
+  0 finish                      forgets the version before
+  0 rollback                    goes back to the version before
+  0 wipe                        forgets all of the application
+  0 update-begin {\"version\":2}  an update in steps, beside other applications
+  0 update-next                 makes the next storage; answers how many remain
+  0 update-commit               makes what remains, and goes over to the version
+  0 update-abort                gives the update up
  Storages
-  0 open-kvs k                             opens a storage of keys, and mends lost copies
-  0 open-files f                           opens a storage of files, and mends lost copies
-  0 close k                                closes either; files are made durable before
-  0 size k                                 the bytes of names and contents
-  0 recover-storage k                      keeps what can be read of a closed storage
-  0 reset-storage k                        gives a closed storage its initial contents
+  0 open-kvs k                  opens a storage of keys, and mends lost copies
+  0 open-files f                opens a storage of files, and mends lost copies
+  0 close k                     closes either; files are made durable before
+  0 size k                      the bytes of names and contents
+  0 recover-storage k           keeps what can be read of a closed storage
+  0 reset-storage k             gives a closed storage its initial contents
  Keys
-  0 keys k                                 the names
-  0 exists k a                             yes or no
-  0 get k a                                the value
-  0 get-as k a u16                         the value, if it has this type
-  0 set k a u16:513                        sets it, for this run
-  0 remove k a                             removes it, for this run
-  0 remove-all k                           removes all, for this run
-  0 recover-key k a                        takes one copy's value where too few agree, else the initial one
-  0 reset-key k a                          takes the initial value
-  0 sync k                                 makes durable what this run changed
-  0 discard k                              drops what is not synchronised
+  0 keys k                      the names
+  0 exists k a                  yes or no
+  0 get k a                     the value
+  0 get-as k a u16              the value, if it has this type
+  0 set k a u16:513             sets it, for this run
+  0 remove k a                  removes it, for this run
+  0 remove-all k                removes all, for this run
+  0 recover-key k a             takes one copy's value where too few agree, else
+                                the initial one
+  0 reset-key k a               takes the initial value
+  0 sync k                      makes durable what this run changed
+  0 discard k                   drops what is not synchronised
  Files
-  0 files f                                the names
-  0 file-exists f a                        yes or no
-  0 cat f a                                the content
-  0 put f a 00ff                           replaces the content
-  0 size-of f a                            the bytes of the content
-  0 info f a                               created, modified, accessed, and by what
-  0 delete f a                             deletes it
-  0 recover-file f a                       as recover-key
-  0 reset-file f a                         as reset-key
-  0 open-file f a rw append                answers a handle; r, w or rw; none, or begin, end, truncate, append joined by +
-  0 close-file f 1                         closes handle 1
-  0 peek f 1                               the next byte, which stays the next
-  0 byte f 1                               the next byte
-  0 read f 1 16                            the next bytes, at most 16
-  0 read-all f 1                           all that is left
-  0 line f 1 0a                            the bytes before the next 0a
-  0 write f 1 00ff                         writes
-  0 set-size f 1 2                         cuts the file
-  0 handle-size f 1                        its size
-  0 position f 1                           where the next byte is
-  0 seek f 1 2                             goes there
-  0 move f 1 current -2                    goes on from begin, current or end
-  0 eof f 1                                whether the end is reached
-  0 flush f 1                              makes the whole storage durable
- Values are bool:true, u8:1 to u64:1, i8:-1 to i64:-1, text:\"a\", bytes:00ff, list<u8>[u8:1,u8:2], {u8:1,text:\"a\"}.
+  0 files f                     the names
+  0 file-exists f a             yes or no
+  0 cat f a                     the content
+  0 put f a 00ff                replaces the content
+  0 size-of f a                 the bytes of the content
+  0 info f a                    created, modified, accessed, and by what
+  0 delete f a                  deletes it
+  0 recover-file f a            as recover-key
+  0 reset-file f a              as reset-key
+  0 open-file f a rw append     answers a handle; r, w or rw; none, or begin,
+                                end, truncate, append joined by +
+  0 close-file f 1              closes handle 1
+  0 peek f 1                    the next byte, which stays the next
+  0 byte f 1                    the next byte
+  0 read f 1 16                 the next bytes, at most 16
+  0 read-all f 1                all that is left
+  0 line f 1 0a                 the bytes before the next 0a
+  0 write f 1 00ff              writes
+  0 set-size f 1 2              cuts the file
+  0 handle-size f 1             its size
+  0 position f 1                where the next byte is
+  0 seek f 1 2                  goes there
+  0 move f 1 current -2         goes on from begin, current or end
+  0 eof f 1                     whether the end is reached
+  0 flush f 1                   makes the whole storage durable
+ Values are bool:true, u8:1 to u64:1, i8:-1 to i64:-1, text:\"a\", bytes:00ff,
+ list<u8>[u8:1,u8:2], {u8:1,text:\"a\"}.
+";
 
-Errors
+/// What an end may be.
+const ENDINGS: &str = "Errors
   1 StorageNotFound          no such storage of this kind
   2 KeyNotFound
   3 IllegalWriteAccess       the storage is read-only, or the handle reads
   4 PhysicalStorageFailure   the disk failed; standard error says where
-  5 IntegrityCorrupted       too few copies agree: root, a storage, or storage:element
+  5 IntegrityCorrupted       too few copies agree: root, a storage, an element
   7 DataTypeMismatch         the stored type and the one that was asked for
   8 InitValueNotAvailable
-  9 ResourceBusy             a storage that is open, a handle, or an update in progress
+  9 ResourceBusy             an open storage, a handle, or an update in progress
  10 OutOfStorageSpace        bytes needed, bytes allowed
  11 FileNotFound
  12 InvalidPosition
@@ -96,10 +140,11 @@ Errors
  15 InvalidSize
  20 NotInstalled
  21 AlreadyInstalled
- 22 ManifestRejected         the first broken rule; docs/FORMATS.md lists the rules
+ 22 ManifestRejected         the first broken rule; docs/FORMATS.md lists them
  23 NoPreviousVersion
  24 NotOpen
- 25 LimitReached             elements, handles, file-bytes, value-bytes, value-depth or generations
+ 25 LimitReached             elements, handles, file-bytes, value-bytes,
+                             value-depth or generations
  26 IllegalReadAccess        the handle writes
  27 UpdateNotFinished        the previous version, which is still kept
  28 VersionNotNewer          the active version, the offered one
@@ -108,24 +153,48 @@ Errors
 
 Status
   0 all lines were handled and answered, or the job was done
-  1 the words are refused
-  2 a line is outside the grammar; bad-line and its number are the last reply; not with --serve
-  3 the disk failed while the program started or formatted, or in an audit, an export or an import,
-    or another run holds the folder, or --serve found nothing but other files in it
+  1 the words are refused, also a number of blocks outside 4 to 4096
+  2 a line is outside the grammar; bad-line and its number are the last reply;
+    not with --serve
+  3 the disk failed while the program started or formatted, in an audit, an
+    export or an import, or in a call by itself; or another run holds the
+    folder; or --serve or install found nothing but other files in it
   4 memory ran out
-  5 the input failed
+  5 the input failed, or the file that a call by itself takes
   6 the output failed
-  7 the first 67108864 bytes of the input have neither the line `end` nor the input's end; with --serve no bytes are too many
+  7 the first 67108864 bytes of the input have neither the line `end` nor the
+    input's end; with --serve no bytes are too many
   8 the audit found something; its lines say what
-  9 the export or the import was refused; its line says why
+  9 the export, the import or the call by itself was refused; its line says why
  10 the flash cannot be opened: too many pages of files, or no spare block
- 11 the flash has fewer than 4 blocks, or more than 4096, or its file has more blocks than it
+ 11 the file of the flash has more blocks than N
  12 the system does not give the words
- 13 the program could not be built";
+ 13 the program could not be built
+";
 
 /// Writes the help, and gives the status.
 pub(crate) fn show(rt: &impl Print) -> u8 {
-    match rt.println(HELP) {
+    status_of(written(rt))
+}
+
+/// Writes the version, and gives the status.
+pub(crate) fn show_version(rt: &impl Print) -> u8 {
+    status_of(println!(rt; "per {VERSION}"))
+}
+
+/// Writes what the lines of an input are.
+pub(crate) fn show_lines(rt: &impl Print) -> io::Result<()> {
+    print!(rt; "{LINES}")
+}
+
+fn written(rt: &impl Print) -> io::Result<()> {
+    println!(rt; "{WORDS}")?;
+    println!(rt; "{LINES}")?;
+    print!(rt; "{ENDINGS}")
+}
+
+fn status_of(written: io::Result<()>) -> u8 {
+    match written {
         Ok(()) => 0,
         Err(_) => NO_OUTPUT,
     }

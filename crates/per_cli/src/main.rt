@@ -2,24 +2,37 @@
 //!
 //! `per --dir DIR` makes the folder a disk, standard input a source and standard output a sink, and ends with the
 //! status of [`per_run::per_run`] over them and the six converters of [`number_converters`]. `per --help` says what
-//! there is, and `per --demo` shows a first session.
+//! there is, and `per --demo` shows a first session. A call by itself, as `per get 0:cockpit volume --dir DIR`, is such
+//! a run too ([`call`]): of the lines that make the call, with its reply for a person.
 //!
 //! Where a run did not end well, one line on standard error says why ([`causes`]). Main itself ends with 4 where memory
 //! runs out before the top call, with 6 where a standard stream that was closed cannot be filled, and with 12 where the
 //! system does not give the words; help and the demo also with 6 where the output fails, and the demo with 3 where its
-//! folder cannot be made. The status is 3 or 11 too where the file of a flash cannot be looked at, or has more bytes
-//! than its blocks.
+//! folder cannot be made; a call by itself with 1 where its words are refused, with 3 where the device failed in it,
+//! with 5 where what it takes cannot be read, and with 9 where it was refused. The status is 3 or 11 too where the file
+//! of a flash cannot be looked at, or has more bytes than its blocks.
+//!
+//! At a terminal the lines of a run are asked for ([`asking`]).
 #![tactic(auto)]
 
+mod asking;
+mod call;
 mod causes;
 mod demo;
 mod help;
 mod program;
 mod telling;
 
+use asking::Asking;
+use per_run::{JobKind, read_words};
 use per_system::fill_streams;
+use per_words::{is_call, named_in};
+use std::io::IsTerminal;
 use std::process::{self, ExitCode};
 use std::{env, io};
+
+/// The status where the arguments are invalid.
+const REFUSED_WORDS: u8 = 1;
 
 /// The status where the disk failed.
 const NO_DISK: u8 = 3;
@@ -27,8 +40,14 @@ const NO_DISK: u8 = 3;
 /// The status where memory ran out before the top call.
 const NO_MEMORY: u8 = 4;
 
+/// The status where what a call takes cannot be read.
+const NO_INPUT: u8 = 5;
+
 /// The status where help cannot be written.
 const NO_OUTPUT: u8 = 6;
+
+/// The status where a call is refused.
+const REFUSED_CALL: u8 = 9;
 
 /// The status where the flash has another size.
 const WRONG_SIZE: u8 = 11;
@@ -40,7 +59,10 @@ const NO_WORDS: u8 = 12;
 #[derive(Clone, Copy)]
 enum Asked {
     Help,
+    Version,
     Demo,
+    /// One call, by itself.
+    Call,
     /// A run of the program, if the words are accepted.
     Run,
 }
@@ -60,9 +82,17 @@ fn main(rt: HostRuntime) -> ExitCode {
             return ExitCode::from(status_of(&error));
         }
     };
-    let status = match wish_of(&words) {
+    let Ok(named) = named_in(rt.alloc(), &words) else {
+        return ExitCode::from(program::no_memory(&rt));
+    };
+    let status = match wish_of(&words, named.as_slice()) {
         Asked::Help => help::show(&rt),
+        Asked::Version => help::show_version(&rt),
         Asked::Demo => demo::show(&rt, process::id(rt.process())),
+        Asked::Call => call::run(&rt, &words, named.as_slice()),
+        Asked::Run if is_asked(&rt, &words) => {
+            program::run(&rt, &words, Asking::new(&rt, rt.alloc()), rt.stdout())
+        }
         Asked::Run => program::run(&rt, &words, rt.stdin(), rt.stdout()),
     };
     ExitCode::from(status)
@@ -85,13 +115,32 @@ fn status_of(error: &io::Error) -> u8 {
     }
 }
 
-fn wish_of(words: &[String]) -> Asked {
+fn wish_of(words: &[String], named: &[&[u8]]) -> Asked {
+    if words.iter().any(|word| word.as_str() == "--help") {
+        return Asked::Help;
+    }
     match words {
         [word] => match word.as_str() {
-            "--help" | "-h" | "--version" => Asked::Help,
-            "--demo" => Asked::Demo,
-            _ => Asked::Run,
+            "-h" => return Asked::Help,
+            "--version" => return Asked::Version,
+            "--demo" => return Asked::Demo,
+            _ => {}
         },
+        _ => {}
+    }
+    match named {
+        [call, ..] if is_call(call) => Asked::Call,
         _ => Asked::Run,
+    }
+}
+
+/// Whether a person at a terminal is to be asked for lines.
+fn is_asked(rt: &HostRuntime, words: &[String]) -> bool {
+    if !rt.stdin().is_terminal() || !rt.stdout().is_terminal() {
+        return false;
+    }
+    match read_words(rt.alloc(), words) {
+        Ok(job) => matches!(job.kind, JobKind::Run | JobKind::Serve),
+        Err(_) => false,
     }
 }

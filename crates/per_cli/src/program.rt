@@ -14,6 +14,7 @@ use per_run::{FlashRun, JobKind, WordsError, per_flash, per_run, read_words};
 use per_system::{
     Access, Content, HostSystem, Noted, NotedFlash, Notes, StdSink, StdSource, holds_only_others,
 };
+use per_words::unknown_in;
 use std::alloc::{AllocError, Global};
 use std::fs::File;
 use std::io::{Read, Write};
@@ -152,6 +153,7 @@ fn run_noting<'a, R: Files<File = File> + Eprint, I: Read + Drop, O: Write + Dro
     let ended = Ended {
         status: outcome.status,
         dir: target.dir.as_str(),
+        unknown: unknown_in(words),
         flash: target.flash,
         takes_lines: target.takes_lines,
         has_files: outcome.has_files,
@@ -265,7 +267,7 @@ fn run_over_flash<'a, Y: System + Drop, S: Source, K: Sink>(
     }
 }
 
-/// Whether a flash of so many blocks is opened.
+/// Whether a flash of that many blocks is opened.
 fn is_right_size(blocks: u32) -> bool {
     blocks >= 4 && blocks <= 4096
 }
@@ -296,12 +298,12 @@ fn access_of(kind: &JobKind) -> Access {
 }
 
 /// Says that memory ran out before the top call, and gives the status.
-fn no_memory<R: Eprint>(rt: &R) -> u8 {
+pub(crate) fn no_memory<R: Eprint>(rt: &R) -> u8 {
     let _ = rt.eprintln("per: memory ran out");
     NO_MEMORY
 }
 
-/// What the words name, and the folder once more, for the disk; an empty name where the words are refused.
+/// What the words name, and the folder once more, for the disk; an empty name where the arguments are invalid.
 fn target_of(alloc: Global, words: &[String]) -> Result<(Target, String), AllocError> {
     match read_words(alloc, words) {
         Ok(job) => {

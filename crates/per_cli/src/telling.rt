@@ -32,7 +32,7 @@ impl<'a, R: Eprint, O: Write + Drop> Write for Telling<'a, R, O> {
     }
 }
 
-/// Whether the last line is this reply. Each reply is handed over at once, behind its reports.
+/// Whether the last line is this reply. Each reply is handed over at once, after its reports.
 fn answers_failure(bytes: &[u8]) -> bool {
     match bytes.strip_suffix(FAILED) {
         Some(before) => before.is_empty() || before.ends_with(b"\n"),

@@ -8,19 +8,20 @@ use Rattle.per_base.specs.Errors.{error_number}
 use Rattle.per_base.specs.declared.errors.PerError.{PerError}
 use Rattle.disk_model.specs.Medium.{IsLawful, Medium, Quiet}
 use Rattle.deploy_laws.specs.Apps.{App, app_at}
-use Rattle.deploy_rows.specs.Rows.{Answers}
+use Rattle.deploy_rows.specs.Rows.{AnswersRow}
 use Rattle.per_audit.specs.Audits.{elements_at, findings_at, is_sound}
 use Rattle.per_audit.specs.declared.findings.Finding.{Finding}
 use Rattle.per_backup.specs.Backups.{exporting, importing_into}
-use Rattle.per_backup.specs.Clauses.{ImportKeeps, Imported, IsSeen}
+use Rattle.per_backup.specs.Clauses.{ImportKeeps, Imported, IsAppSeen}
 use Rattle.per_run.specs.declared.endings.Ending.{Ending}
 use Rattle.per_run.specs.declared.endings.Ending.TheVariants.{AllRead, EndLine, BadLine, OutOfMemory, Source, Sink}
 use Rattle.per_run.specs.declared.endings.Ending.TheVariants.{TooLong}
-use Rattle.per_run.specs.Jobs.{AnswersOr, Audits, Exports, FailsAtThree, Imports, IsDone, IsTaken, IsUncalled}
-use Rattle.per_run.specs.Jobs.{Makes, Writes, answered_text, error_line}
+use Rattle.per_run.specs.Jobs.{AnswersOr, Audits, CameToOutput, Exports, FailsAtThree, Imports, IsInputTaken}
+use Rattle.per_run.specs.Jobs.{IsUncalled}
+use Rattle.per_run.specs.Jobs.{Makes, WritesOutput, answered_text, error_line}
 use Rattle.per_run.specs.Steps.{Breaks, IsCut, ending_of}
 use Rattle.per_run.proofs.Outputs.{not_cut, not_done, not_read, writes_as, writes_none}
-use Rattle.run_model.specs.Endings.{status_of}
+use Rattle.run_model.specs.Endings.{ending_status}
 use Rattle.run_model.specs.Lives.{LooksOnly, looks_none}
 
 -- ---- an audit
@@ -62,7 +63,7 @@ not_so status done other R (inr (inl four)) no_done no_4 no_6 so = no_4 (sym fou
 not_so status done other R (inr (inr six)) no_done no_4 no_6 so = no_6 (sym six.0 ∙ so)
 
 pub answers_ok : {A : Type 0} (text : A → List ℕ) (x : A) (status : ℕ) (before now : Option (List ℕ)) (R : Type 0)
-    → Writes status before now (text x) → (status ≡ 0) ⊎ ((status ≡ 6) × R)
+    → WritesOutput status before now (text x) → (status ≡ 0) ⊎ ((status ≡ 6) × R)
     → AnswersOr text (Ok x) status before now
 answers_ok text x status before now R writes is = record {
   output = writes;
@@ -75,7 +76,7 @@ answers_ok text x status before now R writes is = record {
     apart (inr six) nine = omega (arith, six.0, nine)
 
 pub answers_err : {A : Type 0} (text : A → List ℕ) (e : PerError) (status : ℕ) (before now : Option (List ℕ))
-    (R : Type 0) → Writes status before now (error_line e) → OrCut status 9 R
+    (R : Type 0) → WritesOutput status before now (error_line e) → OrCut status 9 R
     → AnswersOr text (Err e) status before now
 answers_err text e status before now R writes is = record {
   output = writes;
@@ -120,7 +121,7 @@ err_numbered {A} r row is numbered = subst (λ (x : Result A PerError). IfErr x 
 
 -- ---- an import
 
-pub some_numbered : {A : Type 0} (refused : Option PerError) (row : Result A PerError) → Answers refused row
+pub some_numbered : {A : Type 0} (refused : Option PerError) (row : Result A PerError) → AnswersRow refused row
     → IfErr row (λ e. IsSome (error_number e)) → IfSome refused (λ e. IsSome (error_number e))
 some_numbered None row answers numbered = tt
 some_numbered (Some e) (Ok x) answers numbered = absurd answers
@@ -128,13 +129,14 @@ some_numbered (Some e) (Err f) answers numbered = subst (λ (x : PerError). IsSo
 
 -- a row that answers no refusal is none, and one that answers one is it
 pub ok_answers : {A : Type 0} (bytes : List ℕ) (row : Result A PerError) (status : ℕ) (before now : Option (List ℕ))
-    (R : Type 0) → Answers None row → Writes status before now bytes → (status ≡ 0) ⊎ ((status ≡ 6) × R)
+    (R : Type 0) → AnswersRow None row → WritesOutput status before now bytes → (status ≡ 0) ⊎ ((status ≡ 6) × R)
     → AnswersOr (λ x. bytes) row status before now
 ok_answers bytes (Ok x) status before now R answers writes is = answers_ok (λ y. bytes) x status before now R writes is
 ok_answers bytes (Err e) status before now R answers writes is = absurd answers
 
 pub err_answers : {A : Type 0} (bytes : List ℕ) (e : PerError) (row : Result A PerError) (status : ℕ)
-    (before now : Option (List ℕ)) (R : Type 0) → Answers (Some e) row → Writes status before now (error_line e)
+    (before now : Option (List ℕ)) (R : Type 0) → AnswersRow (Some e) row
+    → WritesOutput status before now (error_line e)
     → OrCut status 9 R → AnswersOr (λ x. bytes) row status before now
 err_answers bytes e (Ok x) status before now R answers writes is = absurd answers
 err_answers bytes e (Err f) status before now R answers writes is =
@@ -142,7 +144,7 @@ err_answers bytes e (Err f) status before now R answers writes is =
     (writes_as status before now (error_line e) (error_line f) (ap error_line (sym answers)) writes) is
 
 -- where the row is a refusal, one was answered
-pub some_refused : {A : Type 0} (refused : Option PerError) (row : Result A PerError) → Answers refused row
+pub some_refused : {A : Type 0} (refused : Option PerError) (row : Result A PerError) → AnswersRow refused row
     → IsErr row → IsSome refused
 some_refused None (Ok x) answers is = is
 some_refused None (Err e) answers is = absurd answers
@@ -171,11 +173,11 @@ uncalled now lawful = record {
   faults = refl;
 }
 
--- by which status, after so many bytes
+-- by which status, after that many bytes
 abbrev CutAs : (status count : ℕ) → Type 0
 CutAs status count = (status ≡ 4) ⊎ (((status ≡ 5) × (count < 67108864)) ⊎ ((status ≡ 7) × (count ≡ 67108864)))
 
-pub cut_as : (ending : Ending) (status count : ℕ) → status ≡ status_of (ending_of ending) → IsCut ending count
+pub cut_as : (ending : Ending) (status count : ℕ) → status ≡ ending_status (ending_of ending) → IsCut ending count
     → CutAs status count
 cut_as AllRead status count is cut = absurd cut
 cut_as EndLine status count is cut = absurd cut
@@ -200,7 +202,7 @@ long_at status count (inl four) seven = absurd (omega (arith, four, seven))
 long_at status count (inr (inl five)) seven = absurd (omega (arith, five.0, seven))
 long_at status count (inr (inr cut)) seven = cut.1
 
-not_called : (status count : ℕ) → CutAs status count → IsDone status ⊎ (status ≡ 3) → ⊥
+not_called : (status count : ℕ) → CutAs status count → CameToOutput status ⊎ (status ≡ 3) → ⊥
 not_called status count as_is (inl done) = not_read status (unread_at status count as_is) done
 not_called status count (inl four) (inr three) = omega (arith, four, three)
 not_called status count (inr (inl five)) (inr three) = omega (arith, five.0, three)
@@ -211,7 +213,7 @@ untrue is = cc
 
 pub imports_cut : (told : Bool) (app : ℕ) (name : List ℕ) (ending : Ending) (status : ℕ)
     (left_before left_now now : Option (List ℕ)) (m : Medium) → IsLawful told m
-    → status ≡ status_of (ending_of ending) → Breaks left_before left_now ending
+    → status ≡ ending_status (ending_of ending) → Breaks left_before left_now ending
     → Imports told app name status left_before left_now now now m m
 imports_cut told app name ending status left_before left_now now m lawful is breaks =
     let as_is : CutAs status (length breaks.given) = cut_as ending status (length breaks.given) is breaks.cut in
@@ -243,7 +245,7 @@ by_status status R Q (inr (inr (inr six))) = inr (inr (inr six.0))
 
 pub imports_read : (told : Bool) (app : ℕ) (name text given : List ℕ) (status : ℕ)
     (left_before left_now before now : Option (List ℕ)) (old new : Medium) (R Q : Type 0) → text ≡ given
-    → IsTaken left_before left_now given true
+    → IsInputTaken left_before left_now given true
     → ((status ≡ 0) ⊎ (status ≡ 9)) ⊎ ((status ≡ 4) ⊎ (((status ≡ 3) × R) ⊎ ((status ≡ 6) × Q)))
     → Makes told app name text status before now old new
     → Imports told app name status left_before left_now before now old new

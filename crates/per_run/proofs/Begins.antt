@@ -12,15 +12,15 @@ use Rattle.deploy_laws.specs.Stands.{StandsCase, same_root}
 use Rattle.deploy_rows.specs.Rows.{reopened}
 use Rattle.run_model.specs.AppLaws.{AppLaws}
 use Rattle.run_model.specs.Endings as endings
-use Rattle.run_model.specs.Endings.{HasCauseOf, status_of}
+use Rattle.run_model.specs.Endings.{HasCauseOf, ending_status}
 use Rattle.run_model.specs.RunLaws.{start_disk}
 use Rattle.run_model.specs.Runs.{Run}
 use Rattle.run_model.specs.Runtimes.{Memory, Starts, StartKeeps}
 use Rattle.run_model.specs.Starting.{at_entry, at_start}
-use Rattle.run_model.specs.Worlds.{disks, disk_at, world_at, started}
+use Rattle.run_model.specs.Worlds.{disks, disk_at, world_at, after_start}
 use Rattle.per_run.specs.declared.endings.Ending.{Ending as Way}
 use Rattle.per_run.specs.declared.endings.Ending.TheVariants as ways
-use Rattle.per_run.specs.Steps.{Blamed, Handled, Ran, Reached, ending_of}
+use Rattle.per_run.specs.Steps.{Blamed, Handled, RanOverInput, Reached, ending_of}
 use Rattle.per_run.proofs.Goes.{goes_none}
 use Rattle.per_run.proofs.Inputs.{not_seen}
 
@@ -118,9 +118,10 @@ handled_as told rules answers start before lines now memory same medium is handl
 -- a run that came to its lines
 pub run_from : (told : Bool) (rules : List Rule) (answers : Answers) (ending : Way)
     (left_before left_now before now : Option (List ℕ)) (source_before source_now sink_before sink_now : ℕ)
-    (old new : Medium) (status : ℕ) → Elapses old new → status ≡ status_of (ending_of ending)
+    (old new : Medium) (status : ℕ) → Elapses old new → status ≡ ending_status (ending_of ending)
     → (ending ≡ ways.Source → Rose source_before source_now)
-    → Blamed ending sink_before sink_now → Ran told rules answers ending old left_before left_now before now new
+    → Blamed ending sink_before sink_now → RanOverInput told rules answers ending old left_before left_now before now
+    new
     → Run told rules answers status left_before left_now before now source_before source_now sink_before sink_now old
     new
 run_from told rules answers ending left_before left_now before now source_before source_now sink_before sink_now old new

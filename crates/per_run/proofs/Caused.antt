@@ -20,7 +20,7 @@ use Rattle.disk_model.specs.Medium.{Medium, IsLawful}
 use Rattle.migrate_fns.specs.Rules.{Rule, Answers}
 use Rattle.run_model.specs.AppLaws.{AppLaws}
 use Rattle.run_model.specs.Endings as endings
-use Rattle.run_model.specs.Endings.{Ending, Failed, HasCauseOf, status_of}
+use Rattle.run_model.specs.Endings.{Ending, Failed, HasCauseOf, ending_status}
 use Rattle.run_model.specs.Lines.{IsWellFormed}
 use Rattle.run_model.specs.Lives.{looks_none}
 use Rattle.run_model.specs.Runs as runs
@@ -32,8 +32,8 @@ use Rattle.per_run.specs.declared.words.JobKind.TheVariants.{Run, Serve, Format,
 use Rattle.per_run.specs.Jobs.{IsCaused, JobDone, by_disk, by_itself, by_sink, by_source, statuses_of}
 use Rattle.per_run.specs.Serves.{Heard, Serves, ServesBy, served, unprepared}
 use Rattle.per_run.specs.Steps.{IsCut, IsInRange, ending_of}
-use Rattle.per_run.specs.Words.{command, dir_of, export_of, flagged, flash_of, generate_of, has_matches, import_of}
-use Rattle.per_run.specs.Words.{is_application, is_set, job_in, job_of, kind_in, modes, only_mode, reads_input}
+use Rattle.per_run.specs.Words.{command, dir_of, export_job, flagged, flash_of, generate_of, has_matches, import_of}
+use Rattle.per_run.specs.Words.{is_application, is_set, job_in, job_kind_in, job_of, modes, only_mode, reads_input}
 use Rattle.per_run.specs.Words.{target_of, valued}
 use Rattle.per_run.proofs.Answered.{audits_none, exports_none, imports_cut}
 use Rattle.per_run.proofs.Begins.{run_short, unbegun}
@@ -47,7 +47,7 @@ use Rattle.per_run.proofs.Prepared.{earlier_start, serves_short}
 among : (status other : ℕ) (xs : List ℕ) → status ≡ other → Contains xs other → Contains xs status
 among status other xs is contains = subst (Contains xs) (sym is) contains
 
-ended_so : (ending : Ending) (status : ℕ) (b n : Failed) → status ≡ status_of ending → HasCauseOf ending b n
+ended_so : (ending : Ending) (status : ℕ) (b n : Failed) → status ≡ ending_status ending → HasCauseOf ending b n
     → IsCaused Run status b n
 ended_so endings.all_read status b n is cause = by_itself (among status 0 (statuses_of Run) is (0, omega arith, refl))
 ended_so endings.end_line status b n is cause = by_itself (among status 0 (statuses_of Run) is (0, omega arith, refl))
@@ -71,7 +71,7 @@ run_caused told rules answers status left_before left_now before now source_befo
 
 -- a run that stays
 stayed_so : (P : Type 0) (ending : Ending) (heard : List Heard) (all : List (List ℕ)) (before now : Option (List ℕ))
-    (status : ℕ) (b n : Failed) → ServesBy P ending heard all before now → status ≡ status_of ending
+    (status : ℕ) (b n : Failed) → ServesBy P ending heard all before now → status ≡ ending_status ending
     → HasCauseOf ending b n → IsCaused Serve status b n
 stayed_so P endings.all_read heard all before now status b n ends is cause =
     by_itself (among status 0 (statuses_of Serve) is (0, omega arith, refl))
@@ -178,7 +178,7 @@ import_caused app name status b n (inr (inr (inr sink))) = by_sink sink.0 sink.1
 
 -- and one whose input was not read whole
 pub cut_caused : (app : ℕ) (name : List ℕ) (ending : parts.Ending) (status count : ℕ) (b n : Failed)
-    → status ≡ status_of (ending_of ending) → IsCut ending count → (ending ≡ part.Source → Rose b.source n.source)
+    → status ≡ ending_status (ending_of ending) → IsCut ending count → (ending ≡ part.Source → Rose b.source n.source)
     → IsCaused (Import app name) status b n
 cut_caused app name part.AllRead status count b n is cut rose = absurd cut
 cut_caused app name part.EndLine status count b n is cut rose = absurd cut
@@ -409,16 +409,16 @@ modes_safe : (formats : Bool) (number : Option (List ℕ)) (audits : Bool) (expo
     (serves : Bool) → AreSafe (modes formats number audits exports imports serves)
 modes_safe formats number audits exports imports serves =
     both_safe ((((flagged Format formats ++ valued generate_of number) ++ flagged Audit audits)
-    ++ valued export_of exports) ++ valued import_of imports) (flagged Serve serves)
+    ++ valued export_job exports) ++ valued import_of imports) (flagged Serve serves)
     (both_safe (((flagged Format formats ++ valued generate_of number) ++ flagged Audit audits)
-    ++ valued export_of exports) (valued import_of imports)
+    ++ valued export_job exports) (valued import_of imports)
     (both_safe ((flagged Format formats ++ valued generate_of number) ++ flagged Audit audits)
-    (valued export_of exports)
+    (valued export_job exports)
     (both_safe (flagged Format formats ++ valued generate_of number) (flagged Audit audits)
     (both_safe (flagged Format formats) (valued generate_of number) (flagged_safe Format formats tt)
     (valued_safe generate_of number generate_safe))
     (flagged_safe Audit audits tt))
-    (valued_safe export_of exports (λ value. target_safe Export value (λ app name within. within))))
+    (valued_safe export_job exports (λ value. target_safe Export value (λ app name within. within))))
     (valued_safe import_of imports (λ value. target_safe Import value (λ app name within. within))))
     (flagged_safe Serve serves tt)
 
@@ -453,6 +453,7 @@ job_within ws job is = go (has_matches ws) is
         (is_set (first_of (codes "audit") rows)) (first_of (codes "export") rows) (first_of (codes "import") rows)
         (is_set (first_of (codes "serve") rows)))
         job.kind
-        (kind_of_job (kind_in rows) (flash_of (first_of (codes "flash") rows)) (dir_of (first_of (codes "dir") rows))
+        (kind_of_job (job_kind_in rows) (flash_of (first_of (codes "flash") rows))
+        (dir_of (first_of (codes "dir") rows))
         job says)
     go false says = let bad : ◌≡◌ {A = Option Job} None (Some job) = says in cc

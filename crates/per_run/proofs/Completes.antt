@@ -11,7 +11,7 @@ use Rattle.command_text.specs.declared.calls.Event.{Event}
 use Rattle.command_text.specs.declared.lines.Line.{Line}
 use Rattle.command_text.specs.declared.lines.Line.TheVariants as line
 use Rattle.command_text.specs.Grammar.{IsLine}
-use Rattle.run_model.specs.Endings.{Ending, Failed, HasCauseOf, EndsBy, IsInput, status_of}
+use Rattle.run_model.specs.Endings.{Ending, Failed, HasCauseOf, EndsBy, IsInput, ending_status}
 use Rattle.run_model.specs.Endings as endings
 use Rattle.run_model.specs.Lines.{Give, IsBad, IsWellFormed, all_read, end_last, end_line, last_line, lines_of}
 use Rattle.run_model.specs.Lines.{onto_first, split_lines}
@@ -113,7 +113,7 @@ first_is x y xs ys is = cc
 others_are : (x y : ℕ) (xs ys : List ℕ) → x ∷ xs ≡ y ∷ ys → xs ≡ ys
 others_are x y xs ys is = cc
 
--- of two fronts the longer one begins with the shorter
+-- of two prefixes the longer one begins with the shorter
 longer : (front rest given others : List ℕ) → front ++ rest ≡ given ++ others → length front ≤ length given
     → (middle : List ℕ) × (given ≡ front ++ middle)
 longer [] rest given others is le = (given, refl)
@@ -184,7 +184,7 @@ no_bad one (g ∷ gs) (l ∷ ls) rest others text is good fine bad ends =
 
 -- ---- what is left of the endings
 
--- the bytes that were taken are a front of what there was
+-- the bytes that were taken are a prefix of what there was
 abbrev IsFrontOf : (ended : Bool) → (given left : List ℕ) → Type 0
 IsFrontOf ended given left = (rest : List ℕ) × (left ≡ given ++ rest) × (ended ≡ true → rest ≡ [])
 
@@ -229,7 +229,7 @@ long_never one left (end_line front others lines' more events is_left few is_lin
 by_ending : OneLine → (left : List ℕ) → IsWellFormed left
     → (ending : Ending) (status : ℕ) (ended : Bool) (given : List ℕ) (lines : List (List ℕ)) (turns : List Turn)
     (before now : Option (List ℕ))
-    (b n : Failed) → status ≡ status_of ending → IsFrontOf ended given left → Give lines (events_of turns)
+    (b n : Failed) → status ≡ ending_status ending → IsFrontOf ended given left → Give lines (events_of turns)
     → EndsBy ending lines (lines_of ended given) turns before now
     → IsInput ending ended (length given) → HasCauseOf ending b n → (Rose b.disk n.disk → ⊥)
     → (Rose b.source n.source → ⊥) → (Rose b.sink n.sink → ⊥) → (status ≡ 0) ⊎ (status ≡ 4)

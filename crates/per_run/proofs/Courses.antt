@@ -1,4 +1,4 @@
--- What was handled stays handled, and how a run ends behind it.
+-- What was handled stays handled, and how a run ends after it.
 use Rattle.std.proofs.Common.{ℕ, List, [], ◌∷◌, ◌++◌, length, take, ◌≡◌, ◌≤◌, ◌<◌, ◌+◌, ◌⊎◌, inl, inr, refl, sym, ap}
 use Rattle.std.proofs.Common.{subst, le_refl, Option, Bool, IsTrue, Err, append-nil, append_assoc, codes}
 use Rattle.std.proofs.KnownBytes.{Appends-nil, Appends-trans}
@@ -21,16 +21,17 @@ use Rattle.run_model.specs.Worlds.{World}
 use Rattle.per_run.specs.declared.endings.Ending.{Ending}
 use Rattle.per_run.specs.declared.endings.Ending.TheVariants.{AllRead, EndLine, BadLine, OutOfMemory, Source, Sink}
 use Rattle.per_run.specs.declared.endings.Ending.TheVariants.{TooLong}
-use Rattle.per_run.specs.Jobs.{IsFront}
-use Rattle.per_run.specs.Steps.{Goes, IsGoing, Handled, Course, IsAnswered, IsStopped, Puts, Refuses, ending_of}
+use Rattle.per_run.specs.Jobs.{WroteProperPrefix}
+use Rattle.per_run.specs.Steps.{Goes, IsGoing, Handled, Course, IsLineAnswered, IsStopped, PutsOutput, IsBadLineAnswer}
+use Rattle.per_run.specs.Steps.{ending_of}
 use Rattle.per_run.proofs.Gives.{front_says, give_nothing, give_turn, has_end, text_on}
 use Rattle.per_run.proofs.Goes.{goes_on}
 
--- what the front of a line gave is what the line gave
+-- what the prefix of a line gave is what the line gave
 pub answered_front : {told : Bool} {rules : List Rule} {answers : Answers} {text : List ℕ} {memory after : Memory}
     {reply : Reply} {old new : Medium} (whole : List ℕ)
-    → text ≡ take 262145 whole → IsAnswered told rules answers text memory after reply old new
-    → IsAnswered told rules answers whole memory after reply old new
+    → text ≡ take 262145 whole → IsLineAnswered told rules answers text memory after reply old new
+    → IsLineAnswered told rules answers whole memory after reply old new
 answered_front whole front a = record {
   event = a.event;
   spelled = front_says _ whole (line.Event a.event) front a.spelled;
@@ -50,7 +51,7 @@ stopped_front whole front s = record {
   stopped = s.stopped;
 }
 
--- nothing failed behind the last command
+-- nothing failed after the last command
 pub counts_whole : {Whole : Type 0} {before : ℕ} {ts : List Turn} {after : ℕ} → AreBlamed before ts after
     → CountsFailures Whole before ts after
 counts_whole {after = after} blamed = record {
@@ -82,7 +83,7 @@ module _ (told : Bool) (rules : List Rule) (answers : Answers) (start : Medium) 
   pub handled_reply : (lines : List (List ℕ)) (now later : Option (List ℕ)) (memory after : Memory) (old new : Medium)
       (text : List ℕ) (reply : Reply) → IsLawful told new → Elapses old new
       → Handled told rules answers start before lines now memory old
-      → IsAnswered told rules answers text memory after reply old new → Appends now later (reply_text reply)
+      → IsLineAnswered told rules answers text memory after reply old new → Appends now later (reply_text reply)
       → Handled told rules answers start before (lines ++ text ∷ []) later after new
   handled_reply lines now later memory after old new text reply lawful time handled a wrote =
       let more : (w : World) × Goes told rules answers start (handled.turns ++ turn a.event reply new w ∷ [])
@@ -150,11 +151,11 @@ module _ (told : Bool) (rules : List Rule) (answers : Answers) (start : Medium) 
   course_in_bad : AppLaws → (lines others : List (List ℕ)) (now later : Option (List ℕ)) (memory : Memory)
       (medium : Medium) (text : List ℕ) (number : ℕ)
       → Handled told rules answers start before lines now memory medium → IsBad text → number ≡ length lines + 1
-      → IsFront now later (bad_line_text number)
+      → WroteProperPrefix now later (bad_line_text number)
       → Course told rules answers endings.sink start before (lines ++ text ∷ others) later medium
   course_in_bad laws lines others now later memory medium text number handled bad is cut =
-      let here : IsFront now later (bad_line_text (length lines + 1)) =
-      subst (λ (n : ℕ). IsFront now later (bad_line_text n)) is cut in
+      let here : WroteProperPrefix now later (bad_line_text (length lines + 1)) =
+      subst (λ (n : ℕ). WroteProperPrefix now later (bad_line_text n)) is cut in
       record {
         lines = lines;
         turns = handled.turns;
@@ -199,13 +200,13 @@ module _ (told : Bool) (rules : List Rule) (answers : Answers) (start : Medium) 
       → (ending : Ending) (lines others : List (List ℕ)) (now later : Option (List ℕ)) (memory : Memory) (old new : D)
       (text : List ℕ) (number : ℕ) → Handled told rules answers start before lines now memory (medium old) → IsBad text
       → number ≡ length lines + 1
-      → Refuses (bad_line_text number) now later ending → new ≡ old
+      → IsBadLineAnswer (bad_line_text number) now later ending → new ≡ old
       → Course told rules answers (ending_of ending) start before (lines ++ text ∷ others) later (medium new)
   course_refused {D} medium laws ending lines others now later memory old new text number handled bad is refuses same =
       subst (λ (d : D). Course told rules answers (ending_of ending) start before (lines ++ text ∷ others) later
       (medium d)) (sym same) (go ending refuses)
     where
-      go : (e : Ending) → Refuses (bad_line_text number) now later e
+      go : (e : Ending) → IsBadLineAnswer (bad_line_text number) now later e
           → Course told rules answers (ending_of e) start before (lines ++ text ∷ others) later (medium old)
       go AllRead r = absurd r
       go EndLine r = absurd r
@@ -254,7 +255,7 @@ module _ (told : Bool) (rules : List Rule) (answers : Answers) (start : Medium) 
 
   -- ---- how a run ends in a reply
 
-  -- so many bytes of the reply were written
+  -- that many bytes of the reply were written
   in_reply : (count : ℕ) (lines others : List (List ℕ)) (now later : Option (List ℕ)) (memory : Memory)
       (medium : Medium) (text : List ℕ) (t : Turn)
       → (handled : Handled told rules answers start before lines now memory medium)
@@ -273,8 +274,8 @@ module _ (told : Bool) (rules : List Rule) (answers : Answers) (start : Medium) 
   pub course_in_reply : AppLaws → (ending : Ending) (lines others : List (List ℕ)) (now later : Option (List ℕ))
       (memory after : Memory) (old new : Medium) (text : List ℕ) (reply : Reply)
       → IsLawful told new → Elapses old new → Handled told rules answers start before lines now memory old
-      → IsAnswered told rules answers text memory after reply old new
-      → Puts {T = Unit {0}} (reply_text reply) now later (Err ending)
+      → IsLineAnswered told rules answers text memory after reply old new
+      → PutsOutput {T = Unit {0}} (reply_text reply) now later (Err ending)
       → Course told rules answers (ending_of ending) start before (lines ++ text ∷ others) later new
   course_in_reply laws ending lines others now later memory after old new text reply lawful time handled a puts =
       go ending puts
@@ -287,7 +288,7 @@ module _ (told : Bool) (rules : List Rule) (answers : Answers) (start : Medium) 
       t : Turn
       t = turn a.event reply new more.0
 
-      go : (e : Ending) → Puts {T = Unit {0}} (reply_text reply) now later (Err e)
+      go : (e : Ending) → PutsOutput {T = Unit {0}} (reply_text reply) now later (Err e)
           → Course told rules answers (ending_of e) start before (lines ++ text ∷ others) later new
       go AllRead p = absurd p
       go EndLine p = absurd p
@@ -313,7 +314,7 @@ module _ (told : Bool) (rules : List Rule) (answers : Answers) (start : Medium) 
       }
       go TooLong p = absurd p
 
-  -- ---- how a run ends behind all lines
+  -- ---- how a run ends after all lines
 
   pub course_read : AppLaws → (lines all : List (List ℕ)) (now : Option (List ℕ)) (memory : Memory) (medium : Medium)
       → Handled told rules answers start before lines now memory medium → all ≡ lines

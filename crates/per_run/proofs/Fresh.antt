@@ -12,11 +12,11 @@ use Rattle.run_model.specs.Moments.{last_of}
 use Rattle.run_model.specs.RunLaws.{ends_settled}
 use Rattle.run_model.specs.Runs.{IsSettled}
 use Rattle.run_model.specs.Runtimes.{Memory}
-use Rattle.run_model.specs.Turns.{Turn, AreBlamed, Follow, bytes_of, replies_of, worlds_of}
-use Rattle.run_model.specs.Worlds.{Application, World, all_resting, formatted, resting, started, world_at}
+use Rattle.run_model.specs.Turns.{Turn, AreBlamed, Follow, bytes_now, replies_of, worlds_of}
+use Rattle.run_model.specs.Worlds.{Application, World, after_start, all_resting, formatted, resting, world_at}
 use Rattle.per_run.specs.declared.tally.Tally.{Tally}
-use Rattle.per_run.specs.Jobs.{FailsAtThree, Formats, Generates, Writes, summary}
-use Rattle.per_run.specs.Steps.{Counted, IsBegun, IsGoing, Tallies}
+use Rattle.per_run.specs.Jobs.{FailsAtThree, Formats, Generates, WritesOutput, summary}
+use Rattle.per_run.specs.Steps.{Counted, IsGoing, IsServeBegun, Tallies}
 use Rattle.per_run.proofs.Courses.{counts_whole}
 use Rattle.per_run.proofs.Goes.{goes_none}
 use Rattle.per_run.proofs.Outputs.{not_done, writes_none}
@@ -62,22 +62,22 @@ generates_none told rules answers n status now old new is later = record {
     passes = λ done. absurd (not_done status is done);
   };
   follow = λ tells. tt;
-  bounded = λ tells. (bytes_of new, tt);
+  bounded = λ tells. (bytes_now new, tt);
   settled = λ tells done. absurd (not_done status is done);
   clean = λ tells done. absurd (not_done status is done);
 }
 
--- ---- a made input that was handled
+-- ---- a synthetic workload that was handled
 
-begins_calm : (image : Image) → (started (world_at image)).doubt ≡ None
+begins_calm : (image : Image) → (after_start (world_at image)).doubt ≡ None
 unfolding world_at
 begins_calm image = refl
 
-start_formatted : started formatted ≡ formatted
+start_formatted : after_start formatted ≡ formatted
 start_formatted = refl
 
 pub counted_none : (told : Bool) (rules : List Rule) (answers : Answers) (memory : Memory) (tally : Tally)
-    (old middle new : Medium) → IsBegun told memory old middle new → Tallies [] tally
+    (old middle new : Medium) → IsServeBegun told memory old middle new → Tallies [] tally
     → Counted told rules answers middle [] memory tally new
 counted_none told rules answers memory tally old middle new begun none = record {
   turns = [];
@@ -92,23 +92,24 @@ follow_from : (rules : List Rule) (answers : Answers) (w v : World) (ts : List T
 follow_from rules answers w v ts is follow = subst (λ (x : World). Follow rules answers x ts) is follow
 
 pub counts_up : {told : Bool} {memory : Memory} {old middle new : Medium} {now : ℕ}
-    → IsBegun told memory old middle new → new.faults ≤ now → old.faults ≤ now
+    → IsServeBegun told memory old middle new → new.faults ≤ now → old.faults ≤ now
 counts_up {now = now} begun later = subst (λ (n : ℕ). n ≤ now) (begun.started ∙ begun.passes) later
 
 pub generates_all : (told : Bool) (rules : List Rule) (answers : Answers) (n status : ℕ) (before now : Option (List ℕ))
     (memory after : Memory) (tally : Tally) (old middle begun new : Medium)
-    → IsBegun told memory old middle begun → (counted : Counted told rules answers middle (generated n) after tally new)
-    → Writes status before now (summary (n + 5) (replies_of counted.turns))
+    → IsServeBegun told memory old middle begun → (counted : Counted told rules answers middle
+    (generated n) after tally new)
+    → WritesOutput status before now (summary (n + 5) (replies_of counted.turns))
     → Generates told rules answers n status before now old new
 generates_all told rules answers n status before now memory after tally old middle begun new b counted writes = record {
   turns = counted.turns;
   gives = λ done. counted.gives;
-  output = subst (λ (k : ℕ). Writes status before now (summary k (replies_of counted.turns))) (sym (length_all n))
+  output = subst (λ (k : ℕ). WritesOutput status before now (summary k (replies_of counted.turns))) (sym (length_all n))
       writes;
   failures = counts_whole (subst (λ (n : ℕ). AreBlamed n counted.turns new.faults) b.passes counted.goes.blamed);
   follow = λ tells.
       let g : IsGoing rules answers middle counted.turns after new = counted.goes.disk tells in
-      follow_from rules answers (started (world_at middle.image)) formatted counted.turns (here tells) g.2.follow;
+      follow_from rules answers (after_start (world_at middle.image)) formatted counted.turns (here tells) g.2.follow;
   bounded = λ tells.
       let g : IsGoing rules answers middle counted.turns after new = counted.goes.disk tells in (
         g.2.begun,
@@ -117,12 +118,13 @@ generates_all told rules answers n status before now memory after tally old midd
   settled = λ tells done.
       let g : IsGoing rules answers middle counted.turns after new = counted.goes.disk tells in
       subst (λ (w : World). IsSettled (last_of w (worlds_of counted.turns)) new) (here tells)
-      (ends_settled rules answers (world_at middle.image) (started (world_at middle.image)) (begins_calm middle.image)
+      (ends_settled rules answers (world_at middle.image) (after_start (world_at middle.image))
+      (begins_calm middle.image)
       counted.turns after g.0 middle new g.2);
   clean = λ tells done app lt sound.
       let g : IsGoing rules answers middle counted.turns after new = counted.goes.disk tells in
       (g.2.stayed app lt (b.clean tells app lt) sound).ready.clean;
 }
   where
-    here : IsTrue told → started (world_at middle.image) ≡ formatted
-    here tells = ap started (b.world tells) ∙ start_formatted
+    here : IsTrue told → after_start (world_at middle.image) ≡ formatted
+    here tells = ap after_start (b.world tells) ∙ start_formatted

@@ -1,4 +1,4 @@
--- Lines and their commands: one more line, one more command, and a line of which only a front is kept.
+-- Lines and their commands: one more line, one more command, and a line of which only a prefix is kept.
 use Rattle.std.proofs.Common.{ℕ, List, [], ◌∷◌, ◌++◌, length, take, ◌≡◌, ◌<◌, inl, inr, refl, sym, ◌∙◌, ap, subst}
 use Rattle.std.proofs.Common.{arith, append_assoc, append-nil, length-append, ◌+◌, codes}
 use Rattle.std.specs.List.{flat_map}
@@ -10,7 +10,7 @@ use Rattle.command_text.specs.declared.replies.Reply.{Reply}
 use Rattle.command_text.specs.Grammar.{IsLine}
 use Rattle.command_text.specs.Replies.{reply_text, report_line, answer_text}
 use Rattle.run_model.specs.Lines.{Give, IsBad}
-use Rattle.run_model.specs.Turns.{Turn, events_of, replies_of, text_of}
+use Rattle.run_model.specs.Turns.{Turn, events_of, replies_of, replies_text}
 
 -- ---- one more line
 
@@ -50,10 +50,10 @@ pub replies_on : (turns : List Turn) (t : Turn) → replies_of (turns ++ t ∷ [
 replies_on [] t = refl
 replies_on (u ∷ us) t = ap (λ (rs : List Reply). u.reply ∷ rs) (replies_on us t)
 
-pub text_on : (turns : List Turn) (t : Turn) → text_of (turns ++ t ∷ []) ≡ text_of turns ++ reply_text t.reply
+pub text_on : (turns : List Turn) (t : Turn) → replies_text (turns ++ t ∷ []) ≡ replies_text turns ++ reply_text t.reply
 text_on [] t = append-nil (reply_text t.reply)
 text_on (u ∷ us) t = ap (λ (l : List ℕ). reply_text u.reply ++ l) (text_on us t)
-    ∙ sym (append_assoc (reply_text u.reply) (text_of us) (reply_text t.reply))
+    ∙ sym (append_assoc (reply_text u.reply) (replies_text us) (reply_text t.reply))
 
 pub give_turn : (lines : List (List ℕ)) (turns : List Turn) (text : List ℕ) (t : Turn) → Give lines (events_of turns)
     → IsLine text (line.Event t.event)
@@ -62,7 +62,7 @@ give_turn lines turns text t gives is =
     subst (λ (es : List Event). Give (lines ++ text ∷ []) es) (sym (events_on turns t))
     (give_event lines (events_of turns) text t.event gives is)
 
--- ---- a line of which only a front is kept
+-- ---- a line of which only a prefix is kept
 
 pub short_whole : (n : ℕ) (whole : List ℕ) → length (take n whole) < n → take n whole ≡ whole
 short_whole n whole short = take_all n whole (omega (arith, length-take n whole))
@@ -77,7 +77,7 @@ bad_whole whole bad = λ l is.
     let same : take 262145 whole ≡ whole = take_all 262145 whole (omega (arith, is.short)) in
     let P : List ℕ → Type 0 = λ text. IsLine text l in bad l (subst P (sym same) is)
 
--- what the front of a line says is what the line says
+-- what the prefix of a line says is what the line says
 pub front_says : (text whole : List ℕ) (l : Line) → text ≡ take 262145 whole → IsLine text l → IsLine whole l
 front_says text whole l front is = line_whole whole l (subst (λ (t : List ℕ). IsLine t l) front is)
 

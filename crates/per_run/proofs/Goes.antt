@@ -11,7 +11,7 @@ use Rattle.run_model.specs.Worlds.{Doubt, World, formatted}
 use Rattle.per_run.specs.Steps.{Goes, IsGoing}
 
 module _ (rules : List Rule) (answers : Answers) (start : Medium) where
-  -- the doubt after a command whose disk tells its bytes
+  -- the doubt after a command whose disk has modelled bytes
   told_on : (turns : List Turn) (e : Event) (reply : Reply) (before after : Memory) (now new : Medium)
       → IsLawful true new → Elapses now new
       → (g : IsGoing rules answers start turns before now)

@@ -1,4 +1,4 @@
--- Lines that a run which stays handled: one more, and how it ends behind them.
+-- Lines that a run which stays handled: one more, and how it ends after them.
 use Rattle.std.proofs.Common.{ℕ, List, [], ◌∷◌, ◌++◌, length, map, take, ◌≡◌, ◌<◌, ◌+◌, ◌-◌, ◌^◌, min, inl, inr, refl}
 use Rattle.std.proofs.Common.{sym}
 use Rattle.std.proofs.Common.{◌∙◌, ap, subst, arith, Option, None, Bool, IsTrue, Result, Ok, Err, codes, append_assoc}
@@ -25,15 +25,15 @@ use Rattle.run_model.specs.RunLaws.{ends_settled, stops_disk}
 use Rattle.run_model.specs.Runs.{DiskSide, IsSettled}
 use Rattle.run_model.specs.Runtimes.{Memory}
 use Rattle.run_model.specs.Turns.{Turn, turn, worlds_of}
-use Rattle.run_model.specs.Worlds.{World, started, world_at}
+use Rattle.run_model.specs.Worlds.{World, after_start, world_at}
 use Rattle.per_run.specs.declared.endings.Ending.{Ending}
 use Rattle.per_run.specs.declared.endings.Ending.TheVariants.{AllRead, EndLine, BadLine, OutOfMemory, Source, Sink}
 use Rattle.per_run.specs.declared.endings.Ending.TheVariants.{TooLong}
-use Rattle.per_run.specs.Serves.{Heard, IsCutBehind, IsHeard, ServesBy, answered, line_in, lines_in, number_behind}
+use Rattle.per_run.specs.Serves.{Heard, IsCutBehind, IsHeard, ServesBy, answered, heard_line, lines_in, number_behind}
 use Rattle.per_run.specs.Serves.{passed, refused}
-use Rattle.per_run.specs.Serves.{text_in, texts_behind, texts_in, turn_in, turns_in}
+use Rattle.per_run.specs.Serves.{heard_text, heard_texts, texts_behind, turn_in, turns_in}
 use Rattle.per_run.specs.Serving.{Hearing, HearsOne, Service}
-use Rattle.per_run.specs.Steps.{Goes, IsAnswered, IsGoing, IsStopped, Puts, ending_of}
+use Rattle.per_run.specs.Steps.{Goes, IsGoing, IsLineAnswered, IsStopped, PutsOutput, ending_of}
 use Rattle.per_run.proofs.Courses as courses
 use Rattle.per_run.proofs.Courses.{counts_whole}
 use Rattle.per_run.proofs.Gives.{has_end}
@@ -41,8 +41,8 @@ use Rattle.per_run.proofs.Goes.{goes_on}
 
 -- ---- one more line
 
-pub lines_on : (heard : List Heard) (h : Heard) → lines_in (heard ++ h ∷ []) ≡ lines_in heard ++ line_in h ∷ []
-lines_on heard h = map-append line_in heard (h ∷ [])
+pub lines_on : (heard : List Heard) (h : Heard) → lines_in (heard ++ h ∷ []) ≡ lines_in heard ++ heard_line h ∷ []
+lines_on heard h = map-append heard_line heard (h ∷ [])
 
 turns_on : (heard : List Heard) (h : Heard) → turns_in (heard ++ h ∷ []) ≡ turns_in heard ++ turn_in h
 turns_on heard h = flat_map-append turn_in heard (h ∷ []) ∙ ap (λ (ts : List Turn). turns_in heard ++ ts)
@@ -53,17 +53,17 @@ turns_same heard h none = turns_on heard h ∙ ap (λ (ts : List Turn). turns_in
     ∙ append-nil (turns_in heard)
 
 texts_from : (count : ℕ) (heard : List Heard) (h : Heard) (number : ℕ) → number ≡ number_behind (count + length heard)
-    → texts_behind count (heard ++ h ∷ []) ≡ texts_behind count heard ++ text_in number h
+    → texts_behind count (heard ++ h ∷ []) ≡ texts_behind count heard ++ heard_text number h
 texts_from count [] h number is =
     let same : number_behind count ≡ number = omega (arith, is) in
-    append-nil (text_in (number_behind count) h) ∙ ap (λ (n : ℕ). text_in n h) same
+    append-nil (heard_text (number_behind count) h) ∙ ap (λ (n : ℕ). heard_text n h) same
 texts_from count (x ∷ heard) h number is =
-    ap (λ (l : List ℕ). text_in (number_behind count) x ++ l)
+    ap (λ (l : List ℕ). heard_text (number_behind count) x ++ l)
     (texts_from (count + 1) heard h number (omega (arith, is)))
-    ∙ sym (append_assoc (text_in (number_behind count) x) (texts_behind (count + 1) heard) (text_in number h))
+    ∙ sym (append_assoc (heard_text (number_behind count) x) (texts_behind (count + 1) heard) (heard_text number h))
 
 pub texts_on : (heard : List Heard) (h : Heard) (number : ℕ) → number ≡ number_behind (length heard)
-    → texts_in (heard ++ h ∷ []) ≡ texts_in heard ++ text_in number h
+    → heard_texts (heard ++ h ∷ []) ≡ heard_texts heard ++ heard_text number h
 texts_on heard h number is = texts_from 0 heard h number (omega (arith, is))
 
 are_on : (heard : List Heard) (h : Heard) → AllByRecursion IsHeard heard → IsHeard h
@@ -74,7 +74,7 @@ are_on (x ∷ heard) h are is = (are.0, are_on heard h are.1 is)
 some_text : (number : ℕ) → 0 < length (bad_line_text number)
 some_text number = omega (arith, length-append (codes "bad-line ") (decimal number ++ codes "\n"))
 
-begins_calm : (image : Image) → (started (world_at image)).doubt ≡ None
+begins_calm : (image : Image) → (after_start (world_at image)).doubt ≡ None
 unfolding world_at
 begins_calm image = refl
 
@@ -88,7 +88,7 @@ module _ (told : Bool) (rules : List Rule) (answers : Answers) (start : Medium) 
   hears : (heard : List Heard) (h : Heard) (number : ℕ) (now later : Option (List ℕ)) (memory after : Memory)
       (old new : Medium) → number ≡ number_behind (length heard)
       → Hearing told rules answers start before heard now memory old → IsHeard h
-      → Appends now later (text_in number h)
+      → Appends now later (heard_text number h)
       → Goes told rules answers start (turns_in heard ++ turn_in h) after new
       → Hearing told rules answers start before (heard ++ h ∷ []) later after new
   hears heard h number now later memory after old new counts hearing is wrote goes = record {
@@ -134,7 +134,7 @@ module _ (told : Bool) (rules : List Rule) (answers : Answers) (start : Medium) 
   turned : (heard : List Heard) (now : Option (List ℕ)) (memory after : Memory) (old new : Medium) (text : List ℕ)
       (reply : Reply) → IsLawful told new → Elapses old new
       → Hearing told rules answers start before heard now memory old
-      → (a : IsAnswered told rules answers text memory after reply old new)
+      → (a : IsLineAnswered told rules answers text memory after reply old new)
       → (w : World) × Goes told rules answers start (turns_in heard ++ turn a.event reply new w ∷ []) after new
   turned heard now memory after old new text reply lawful time hearing a =
       goes_on rules answers start told (turns_in heard) a.event reply memory after old new lawful time hearing.goes
@@ -144,7 +144,7 @@ module _ (told : Bool) (rules : List Rule) (answers : Answers) (start : Medium) 
       (old new : Medium) (text : List ℕ) (reply : Reply) → number ≡ number_behind (length heard)
       → IsLawful told new → Elapses old new
       → Hearing told rules answers start before heard now memory old
-      → IsAnswered told rules answers text memory after reply old new → Appends now later (reply_text reply)
+      → IsLineAnswered told rules answers text memory after reply old new → Appends now later (reply_text reply)
       → HearsOne told rules answers start before heard text later after new
   hears_reply heard number now later memory after old new text reply counts lawful time hearing a wrote =
       let more = turned heard now memory after old new text reply lawful time hearing a in
@@ -157,10 +157,10 @@ module _ (told : Bool) (rules : List Rule) (answers : Answers) (start : Medium) 
   -- ---- how it ends
 
   rests : (turns : List Turn) (memory : Memory) (now : Medium) → Goes told rules answers start turns memory now
-      → IsTrue told → IsSettled (last_of (started (world_at start.image)) (worlds_of turns)) now
+      → IsTrue told → IsSettled (last_of (after_start (world_at start.image)) (worlds_of turns)) now
   rests turns memory now goes tells =
       let g : IsGoing rules answers start turns memory now = goes.disk tells in
-      ends_settled rules answers (world_at start.image) (started (world_at start.image)) (begins_calm start.image)
+      ends_settled rules answers (world_at start.image) (after_start (world_at start.image)) (begins_calm start.image)
       turns memory g.0 start now g.2
 
   -- where no command is in progress
@@ -168,7 +168,7 @@ module _ (told : Bool) (rules : List Rule) (answers : Answers) (start : Medium) 
       (now : Option (List ℕ)) (memory : Memory) (medium : Medium) → AllByRecursion IsHeard heard
       → Goes told rules answers start (turns_in heard) memory medium
       → ServesBy (IsTrue told
-      → IsSettled (last_of (started (world_at start.image)) (worlds_of (turns_in heard))) medium) ending heard all
+      → IsSettled (last_of (after_start (world_at start.image)) (worlds_of (turns_in heard))) medium) ending heard all
       before now
       → Service told rules answers ending start before all now medium
   service laws ending begun heard all now memory medium are goes ends = record {
@@ -247,47 +247,49 @@ module _ (told : Bool) (rules : List Rule) (answers : Answers) (start : Medium) 
   service_short {D} medium laws heard others now memory old new text lawful time hearing (inr stopped) =
       service_stopped heard others now memory (medium old) (medium new) text lawful time hearing stopped
 
-  -- in the text of a line, of which the sink took a front, or for which there was no memory
+  -- in the text of a line, of which the sink took a prefix, or for which there was no memory
   service_cut : AppLaws → (ending : Ending) (heard : List Heard) (h : Heard) (number : ℕ) (others : List (List ℕ))
       (now later : Option (List ℕ)) (memory after : Memory) (old new : Medium) → number ≡ number_behind (length heard)
-      → 0 < length (text_in number h)
+      → 0 < length (heard_text number h)
       → Hearing told rules answers start before heard now memory old → IsHeard h
-      → Puts {T = Unit {0}} (text_in number h) now later (Err ending)
+      → PutsOutput {T = Unit {0}} (heard_text number h) now later (Err ending)
       → Goes told rules answers start (turns_in heard ++ turn_in h) after new
-      → Service told rules answers (ending_of ending) start before (lines_in heard ++ line_in h ∷ others) later new
+      → Service told rules answers (ending_of ending) start before (lines_in heard ++ heard_line h ∷ others) later new
   service_cut laws ending heard h number others now later memory after old new counts some hearing is puts goes =
       go ending puts
     where
-      next : lines_in heard ++ line_in h ∷ others ≡ lines_in (heard ++ h ∷ []) ++ others
-      next = sym (append_assoc (lines_in heard) (line_in h ∷ []) others)
+      next : lines_in heard ++ heard_line h ∷ others ≡ lines_in (heard ++ h ∷ []) ++ others
+      next = sym (append_assoc (lines_in heard) (heard_line h ∷ []) others)
           ∙ ap (λ (ls : List (List ℕ)). ls ++ others) (sym (lines_on heard h))
 
       there : Goes told rules answers start (turns_in (heard ++ h ∷ [])) after new
       there = goes_as _ _ after new (turns_on heard h) goes
 
-      cut : (count : ℕ) → count < length (text_in number h) → Appends now later (take count (text_in number h))
-          → IsCutBehind count (heard ++ h ∷ []) (lines_in heard ++ line_in h ∷ others) before later
+      cut : (count : ℕ) → count < length (heard_text number h) → Appends now later (take count (heard_text number h))
+          → IsCutBehind count (heard ++ h ∷ []) (lines_in heard ++ heard_line h ∷ others) before later
       cut count short wrote = record {
         others = others;
         next = next;
         earlier = heard;
         last = h;
         heard_are = refl;
-        short = subst (λ (n : ℕ). count < length (text_in n h)) counts short;
+        short = subst (λ (n : ℕ). count < length (heard_text n h)) counts short;
         wrote = Appends-trans before now later _ _ hearing.wrote
-            (subst (λ (n : ℕ). Appends now later (take count (text_in n h))) counts wrote);
+            (subst (λ (n : ℕ). Appends now later (take count (heard_text n h))) counts wrote);
       }
 
-      go : (e : Ending) → Puts {T = Unit {0}} (text_in number h) now later (Err e)
-          → Service told rules answers (ending_of e) start before (lines_in heard ++ line_in h ∷ others) later new
+      go : (e : Ending) → PutsOutput {T = Unit {0}} (heard_text number h) now later (Err e)
+          → Service told rules answers (ending_of e) start before (lines_in heard ++ heard_line h ∷ others) later new
       go AllRead p = absurd p
       go EndLine p = absurd p
       go BadLine p = absurd p
-      go OutOfMemory p = service laws endings.memory tt (heard ++ h ∷ []) (lines_in heard ++ line_in h ∷ others) later
+      go OutOfMemory p = service laws endings.memory tt (heard ++ h ∷ []) (lines_in heard
+          ++ heard_line h ∷ others) later
           after new (are_on heard h hearing.are is) there
           (inr (rests (turns_in (heard ++ h ∷ [])) after new there, cut 0 some p))
       go Source p = absurd p
-      go Sink p = service laws endings.sink tt (heard ++ h ∷ []) (lines_in heard ++ line_in h ∷ others) later after new
+      go Sink p = service laws endings.sink tt (heard ++ h ∷ []) (lines_in heard
+          ++ heard_line h ∷ others) later after new
           (are_on heard h hearing.are is) there (p.0, cut p.0 p.1 p.2)
       go TooLong p = absurd p
 
@@ -295,8 +297,8 @@ module _ (told : Bool) (rules : List Rule) (answers : Answers) (start : Medium) 
       (now later : Option (List ℕ)) (memory after : Memory) (old new : Medium) (text : List ℕ) (reply : Reply)
       → number ≡ number_behind (length heard) → IsLawful told new → Elapses old new
       → Hearing told rules answers start before heard now memory old
-      → IsAnswered told rules answers text memory after reply old new
-      → Puts {T = Unit {0}} (reply_text reply) now later (Err ending)
+      → IsLineAnswered told rules answers text memory after reply old new
+      → PutsOutput {T = Unit {0}} (reply_text reply) now later (Err ending)
       → Service told rules answers (ending_of ending) start before (lines_in heard ++ text ∷ others) later new
   service_in_reply laws ending heard number others now later memory after old new text reply counts lawful time hearing
       a puts =
@@ -308,7 +310,7 @@ module _ (told : Bool) (rules : List Rule) (answers : Answers) (start : Medium) 
       (number : ℕ) (others : List (List ℕ)) (now later : Option (List ℕ)) (memory : Memory) (old new : D)
       (text : List ℕ) → number ≡ number_behind (length heard)
       → Hearing told rules answers start before heard now memory (medium old) → IsBad text
-      → Puts {T = Unit {0}} (bad_line_text number) now later (Err ending) → new ≡ old
+      → PutsOutput {T = Unit {0}} (bad_line_text number) now later (Err ending) → new ≡ old
       → Service told rules answers (ending_of ending) start before (lines_in heard ++ text ∷ others) later (medium new)
   service_in_refusal {D} medium laws ending heard number others now later memory old new text counts hearing bad puts
       same =

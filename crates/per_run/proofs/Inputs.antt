@@ -13,7 +13,7 @@ use Rattle.run_model.specs.Runtimes.{Memory}
 use Rattle.per_run.specs.declared.endings.Ending.{Ending}
 use Rattle.per_run.specs.declared.endings.Ending.TheVariants.{AllRead, EndLine, BadLine, OutOfMemory, Source, Sink}
 use Rattle.per_run.specs.declared.endings.Ending.TheVariants.{TooLong}
-use Rattle.per_run.specs.Steps.{Course, Handled, IsBroken, Ran, Reached, ending_of}
+use Rattle.per_run.specs.Steps.{Course, Handled, IsBroken, RanOverInput, Reached, ending_of}
 use Rattle.per_run.proofs.Courses.{course_source, course_long, course_memory}
 use Rattle.per_run.proofs.Splits.{lines_whole}
 
@@ -50,7 +50,7 @@ unseen is = cc
 pub not_seen : {P : Type 0} → false ≡ true → P
 not_seen is = absurd (unseen is)
 
--- so many bytes were taken and handled
+-- that many bytes were taken and handled
 pub record Taken (told : Bool) (rules : List Rule) (answers : Answers) (start : Medium)
     (left_before left_now before now : Option (List ℕ)) (memory : Memory) (medium : Medium)
     (kept : List ℕ) (number taken : ℕ) : Type 0 where
@@ -104,7 +104,7 @@ module _ (told : Bool) (rules : List Rule) (answers : Answers) (start : Medium) 
       → ((given : List ℕ) → length given < 2 ^ 63 → Reached told rules answers start before given now memory old kept
       number
       → Course told rules answers (ending_of ending) start before (lines_of true given) later new)
-      → Ran told rules answers ending start left_before left_later before later new
+      → RanOverInput told rules answers ending start left_before left_later before later new
   ran_read ending left_now left_later now later memory old new kept number taken count buffer so_far within none takes
       at_end inner ends =
       let nothing : Consumes left_now left_later [] = subst (λ (n : ℕ). Consumes left_now left_later (take n buffer))
@@ -130,7 +130,7 @@ module _ (told : Bool) (rules : List Rule) (answers : Answers) (start : Medium) 
       → Reached told rules answers start before given now memory old kept number
       → Course told rules answers (ending_of ending) start before (lines_of false (given ++ take count buffer)) later
       new)
-      → Ran told rules answers ending start left_before left_later before later new
+      → RanOverInput told rules answers ending start left_before left_later before later new
   ran_fed ending left_now left_later now later memory old new kept number taken count buffer so_far within fits limit
       takes broken ends =
       let piece : length (take count buffer) ≡ count = length-take-le count buffer fits in
@@ -160,7 +160,7 @@ module _ (told : Bool) (rules : List Rule) (answers : Answers) (start : Medium) 
       (kept : List ℕ) (number taken : ℕ)
       → Taken told rules answers start left_before left_now before now memory medium kept number taken
       → taken < 67108864 → Keeps left_now left_later
-      → Ran told rules answers Source start left_before left_later before now medium
+      → RanOverInput told rules answers Source start left_before left_later before now medium
   ran_source laws left_now left_later now memory medium kept number taken so_far within keeps = record {
     given = so_far.given;
     taken = Consumes-kept left_before left_now left_later so_far.given so_far.takes keeps;
@@ -178,7 +178,7 @@ module _ (told : Bool) (rules : List Rule) (answers : Answers) (start : Medium) 
       (number taken : ℕ)
       → Taken told rules answers start left_before left_now before now memory medium kept number taken
       → taken ≤ 67108864 → 67108864 ≤ taken
-      → Ran told rules answers TooLong start left_before left_now before now medium
+      → RanOverInput told rules answers TooLong start left_before left_now before now medium
   ran_long laws left_now now memory medium kept number taken so_far within least = record {
     given = so_far.given;
     taken = so_far.takes;
@@ -194,7 +194,7 @@ module _ (told : Bool) (rules : List Rule) (answers : Answers) (start : Medium) 
   -- memory ran out before anything was taken
   pub ran_memory : AppLaws → (now : Option (List ℕ)) (memory : Memory) (medium : Medium)
       → Handled told rules answers start before [] now memory medium
-      → Ran told rules answers OutOfMemory start left_before left_before before now medium
+      → RanOverInput told rules answers OutOfMemory start left_before left_before before now medium
   ran_memory laws now memory medium handled = record {
     given = [];
     taken = Consumes-nil left_before;

@@ -8,7 +8,7 @@ use Rattle.std.specs.Io.KnownBytes.{Appends}
 use Rattle.per_run.specs.declared.endings.Ending.{Ending}
 use Rattle.per_run.specs.declared.endings.Ending.TheVariants.{AllRead, EndLine, BadLine, OutOfMemory, Source, Sink}
 use Rattle.per_run.specs.declared.endings.Ending.TheVariants.{TooLong}
-use Rattle.per_run.specs.Steps.{Puts, Refuses}
+use Rattle.per_run.specs.Steps.{IsBadLineAnswer, PutsOutput}
 
 rest_is : (text : List ℕ) (done : ℕ) → take (length text - done) (drop done text) ≡ drop done text
 rest_is text done = take_all (length text - done) (drop done text) (omega (arith, length-drop done text))
@@ -29,18 +29,18 @@ within_rest text done count within more = omega (
 -- ---- a text that was handed to the sink
 
 pub on_ok : {T : Type 0} (text : List ℕ) (before now : Option (List ℕ)) (r : Result T Ending) (P : Type 0)
-    → Puts text before now r → (Appends before now text → P) → OnOk r P
+    → PutsOutput text before now r → (Appends before now text → P) → OnOk r P
 on_ok text before now (Ok x) P puts then = then puts
 on_ok text before now (Err e) P puts then = tt
 
 pub if_err : {T : Type 0} (text : List ℕ) (before now : Option (List ℕ)) (r : Result T Ending) (P : Ending → Type 0)
-    → Puts text before now r
-    → ((e : Ending) → Puts {T = T} text before now (Err e) → P e) → IfErr r P
+    → PutsOutput text before now r
+    → ((e : Ending) → PutsOutput {T = T} text before now (Err e) → P e) → IfErr r P
 if_err text before now (Ok x) P puts then = tt
 if_err text before now (Err e) P puts then = then e puts
 
 pub refuses : (T : Type 0) (text : List ℕ) (before now : Option (List ℕ)) (e : Ending)
-    → Puts {T = T} text before now (Err e) → Refuses text before now e
+    → PutsOutput {T = T} text before now (Err e) → IsBadLineAnswer text before now e
 refuses T text before now AllRead puts = puts
 refuses T text before now EndLine puts = puts
 refuses T text before now BadLine puts = absurd puts

@@ -19,7 +19,7 @@ use Rattle.per_run.specs.declared.words.Job.{Job}
 use Rattle.per_run.specs.declared.words.JobKind.{JobKind}
 use Rattle.per_run.specs.declared.words.WordsError.{WordsError}
 use Rattle.per_run.specs.declared.words.WordsError.TheVariants as words_error
-use Rattle.per_run.specs.Words.{Reads, command, has_matches, job_in, job_of, modes, number_in, only_mode}
+use Rattle.per_run.specs.Words.{ReadsWord, command, has_matches, job_in, job_of, modes, number_in, only_mode}
 
 -- ---- the command
 
@@ -100,9 +100,9 @@ number_none least most text small none = ⊎_elim
     (cases_Bool (is_unsigned_in least most text))
 
 -- what was read, by other names for what is said
-pub reads_as : {T : Type 0} (result : Result T WordsError) (said same : Option T) → said ≡ same → Reads result said
-    → Reads result same
-reads_as result said same is reads = subst (Reads result) is reads
+pub reads_as : {T : Type 0} (result : Result T WordsError) (said same : Option T) → said ≡ same → ReadsWord result said
+    → ReadsWord result same
+reads_as result said same is reads = subst (ReadsWord result) is reads
 
 -- ---- the parts of a job
 
@@ -122,27 +122,27 @@ no_dir (Some k) (Some f) dir none = ap (λ (d : Option (List ℕ)). job_from (So
 
 -- a part that was refused, or that there was no memory for
 failed_as : {A B : Type 0} (e : WordsError) (part : Option A) (whole : Option B) → (part ≡ None → whole ≡ None)
-    → Reads {T = A} (Err e) part → Reads {T = B} (Err e) whole
+    → ReadsWord {T = A} (Err e) part → ReadsWord {T = B} (Err e) whole
 failed_as words_error.Refused part whole none reads = none reads
 failed_as words_error.OutOfMemory part whole none reads = tt
 
 handed_on : {A : Type 0} (result : Result Job WordsError) (e : WordsError) (part : Option A) (whole : Option Job)
     → IsErrAnd result (λ x. x ≡ e) → (part ≡ None → whole ≡ None)
-    → Reads {T = A} (Err e) part → Reads result whole
+    → ReadsWord {T = A} (Err e) part → ReadsWord result whole
 handed_on (Ok job) e part whole is none reads = absurd is
 handed_on (Err x) e part whole is none reads = failed_as x part whole none
-    (subst (λ (y : WordsError). Reads (Err y) part) (sym is) reads)
+    (subst (λ (y : WordsError). ReadsWord (Err y) part) (sym is) reads)
 
 pub flash_fails : (result : Result Job WordsError) (e : WordsError) (kind : Option JobKind)
     (flash same : Option (Option ℕ)) (dir : Option (List ℕ)) → IsErrAnd result (λ x. x ≡ e)
-    → flash ≡ same → Reads {T = Option ℕ} (Err e) flash → Reads result (job_from kind same dir)
+    → flash ≡ same → ReadsWord {T = Option ℕ} (Err e) flash → ReadsWord result (job_from kind same dir)
 flash_fails result e kind flash same dir is same_is reads =
     handed_on result e same (job_from kind same dir) is (no_flash kind same dir)
     (reads_as (Err e) flash same same_is reads)
 
 pub dir_fails : (result : Result Job WordsError) (e : WordsError) (kind : Option JobKind) (flash : Option (Option ℕ))
     (dir same : Option (List ℕ)) → IsErrAnd result (λ x. x ≡ e)
-    → dir ≡ same → Reads {T = List ℕ} (Err e) dir → Reads result (job_from kind flash same)
+    → dir ≡ same → ReadsWord {T = List ℕ} (Err e) dir → ReadsWord result (job_from kind flash same)
 dir_fails result e kind flash dir same is same_is reads =
     handed_on result e same (job_from kind flash same) is (no_dir kind flash same)
     (reads_as (Err e) dir same same_is reads)
@@ -154,14 +154,15 @@ job_is k f d kind flash dir kind_is flash_is dir_is = rw (kind_is, flash_is, dir
 
 -- ---- what was read of the matches is what the words say
 
-pub job_read : (result : Result Job WordsError) (said same : Option Job) → same ≡ said → Reads result said
+pub job_read : (result : Result Job WordsError) (said same : Option Job) → same ≡ said → ReadsWord result said
     → IfOk result (λ job. same ≡ Some job)
 job_read (Ok job) said same is reads = is ∙ reads
 job_read (Err e) said same is reads = tt
 
-pub job_refused : (result : Result Job WordsError) (said same : Option Job) → same ≡ said → Reads result said
+pub job_refused : (result : Result Job WordsError) (said same : Option Job) → same ≡ said → ReadsWord result said
     → result ≡ Err words_error.Refused → same ≡ None
-job_refused result said same is reads refused = is ∙ subst (λ (r : Result Job WordsError). Reads r said) refused reads
+job_refused result said same is reads refused = is ∙ subst (λ (r : Result Job WordsError). ReadsWord r said) refused
+    reads
 
 pub modes_as : {f g a b s t : Bool} {n m x y i j : Option (List ℕ)} → f ≡ g → n ≡ m → a ≡ b → x ≡ y → i ≡ j → s ≡ t
     → only_mode (modes f n a x i s) ≡ only_mode (modes g m b y j t)

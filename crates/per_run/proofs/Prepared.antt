@@ -12,23 +12,24 @@ use Rattle.migrate_fns.specs.Rules.{Rule, Answers}
 use Rattle.deploy.specs.declared.errors.Stop.{Stop}
 use Rattle.deploy_laws.specs.Apps.{IsCleanApp}
 use Rattle.run_model.specs.Endings as endings
-use Rattle.run_model.specs.Endings.{Failed, HasCauseOf, HasStarted, status_of}
+use Rattle.run_model.specs.Endings.{Failed, HasCauseOf, HasStarted, ending_status}
 use Rattle.run_model.specs.Moments.{Between, OrBefore}
 use Rattle.run_model.specs.RunLaws.{start_disk}
 use Rattle.run_model.specs.Runtimes.{Memory, StartKeeps, Starts}
-use Rattle.run_model.specs.Worlds.{Disks, disks, started, world_at}
+use Rattle.run_model.specs.Worlds.{Disks, after_start, disks, world_at}
 use Rattle.per_runtime.specs.Memories.{memory_of}
 use Rattle.per_runtime.specs.declared.runtime.Runtime.{Runtime}
 use Rattle.per_run.specs.declared.endings.Ending.{Ending as Way}
 use Rattle.per_run.specs.declared.endings.Ending.TheVariants as ways
-use Rattle.per_run.specs.Serves.{HadNothing, IsBlank, IsFresh, IsPrepared, Serve, Serves, as_it_was, formatted_first}
+use Rattle.per_run.specs.Serves.{HadNothing, HasNoBytes, IsFreshlyFormatted, IsPreparedDisk, Serve, Serves, as_it_was}
+use Rattle.per_run.specs.Serves.{formatted_first}
 use Rattle.per_run.specs.Serves.{served, unprepared}
-use Rattle.per_run.specs.Serving.{Hearing, IsReadied, IsUnready, Says, Served}
-use Rattle.per_run.specs.Steps.{Blamed, IsBegun, ending_of}
+use Rattle.per_run.specs.Serving.{Hearing, IsExactly, IsReadied, IsUnready, Served}
+use Rattle.per_run.specs.Steps.{Blamed, IsServeBegun, ending_of}
 use Rattle.per_run.proofs.Goes.{goes_none}
 use Rattle.per_run.proofs.Inputs.{not_seen}
 
--- ---- whether anything lies on the disk
+-- ---- whether anything is on the disk
 
 none_left : (bytes : List ℕ) → length bytes ≡ 0 → bytes ≡ []
 none_left [] none = refl
@@ -41,20 +42,20 @@ blank_on image file so_far none f lt = ⊎_elim
     (λ (less : f < file). so_far f less)
     (eq-or-lt_of_le (omega (arith, lt)))
 
-pub not_blank : (image : Image) (file : ℕ) → file < 32768 → 0 < length (image file) → IsBlank image → ⊥
+pub not_blank : (image : Image) (file : ℕ) → file < 32768 → 0 < length (image file) → HasNoBytes image → ⊥
 not_blank image file lt some blank = omega (arith, some, ap length (blank file lt))
 
-pub says_true : (blank : Bool) (P : Type 0) → blank ≡ true → Says blank P → P
+pub says_true : (blank : Bool) (P : Type 0) → blank ≡ true → IsExactly blank P → P
 says_true true P is p = p
 says_true false P is p = let bad : false ≡ true = is in cc
 
-pub says_false : (blank : Bool) (P : Type 0) → blank ≡ false → Says blank P → P → ⊥
+pub says_false : (blank : Bool) (P : Type 0) → blank ≡ false → IsExactly blank P → P → ⊥
 says_false false P is p = p
 says_false true P is p = let bad : true ≡ false = is in cc
 
 -- no count of failures fell
 pub earlier_start : {D : Type 0} (told : Bool) (medium : D → Medium) (old start : D)
-    → IsPrepared told medium old start → (medium old).faults ≤ (medium start).faults
+    → IsPreparedDisk told medium old start → (medium old).faults ≤ (medium start).faults
 earlier_start told medium old start (as_it_was some same) =
     subst (λ d. (medium old).faults ≤ (medium d).faults) (sym same) (le_refl _)
 earlier_start told medium old start (formatted_first blank fresh) = omega (arith, fresh.passes)
@@ -68,14 +69,14 @@ keeps_on {a} {b} {c} first reads later keeps = record {
       (λ seen. inl (reads.during x seen))
       (λ since. ⊎_elim
       (λ was. inl (reads.now x was))
-      (λ between. inr (subst (λ (i : Image). Between app (disks (world_at i)) (disks (started (world_at i))) x)
+      (λ between. inr (subst (λ (i : Image). Between app (disks (world_at i)) (disks (after_start (world_at i))) x)
       reads.image between))
       (keeps.always app lt (subst (IsCleanApp app) (sym reads.image) clean) x since))
       (cases_on first later x past);
   at_exit = ⊎_elim
       (λ only. inl (reads_on first reads later only))
       (λ each. inr (λ app lt clean x now.
-      subst (λ (i : Image). Between app (disks (world_at i)) (disks (started (world_at i))) x) reads.image
+      subst (λ (i : Image). Between app (disks (world_at i)) (disks (after_start (world_at i))) x) reads.image
       (each app lt (subst (IsCleanApp app) (sym reads.image) clean) x now)))
       keeps.at_exit;
   roots = λ f spared. keeps.roots f spared ∙ ap (λ (i : Image). i f) reads.image;
@@ -86,33 +87,36 @@ pub starts_on : {a b c : Medium} (memory : Memory) → Elapses a b → OnlyReads
 starts_on {a} {b} {c} memory first reads later s = record {
   eight = s.eight;
   sure = s.sure;
-  world = s.world ∙ ap (λ (i : Image). started (world_at i)) reads.image;
+  world = s.world ∙ ap (λ (i : Image). after_start (world_at i)) reads.image;
   quiet = s.quiet;
   clean = λ app lt clean. s.clean app lt (subst (IsCleanApp app) (sym reads.image) clean);
   keeps = keeps_on first reads later s.keeps;
 }
 
--- behind the formatting
+-- after the formatting
 pub readied_first : {D : Type 0} (told : Bool) (medium : D → Medium) (r : Result Runtime Stop) (old mid new : D)
-    → (IsTrue told → IsBlank (medium old).image) → (medium mid).faults ≡ (medium old).faults
-    → IfOk r (λ x. (m : D) × IsBegun told (memory_of x) (medium mid) (medium m) (medium new))
+    → (IsTrue told → HasNoBytes (medium old).image) → Elapses (medium old) (medium mid)
+    → (medium mid).faults ≡ (medium old).faults
+    → IfOk r (λ x. (m : D) × IsServeBegun told (memory_of x) (medium mid) (medium m) (medium new))
     → IfOk r (λ x. IsReadied told medium (memory_of x) old new)
-readied_first told medium (Ok x) old mid new blank same begun = record {
+readied_first told medium (Ok x) old mid new blank first same begun = record {
   start = begun.0;
   prepared = formatted_first blank (record {
     world = begun.1.world;
     clean = begun.1.clean;
+    quiet = begun.1.quiet;
     passes = begun.1.passes ∙ same;
+    time = elapses_on first begun.1.formats;
   });
   passes = begun.1.started;
   starts = begun.1.starts;
   time = begun.1.time;
 }
-readied_first told medium (Err e) old mid new blank same begun = tt
+readied_first told medium (Err e) old mid new blank first same begun = tt
 
 -- on the disk as it was
 pub readied_as : {D : Type 0} (told : Bool) (medium : D → Medium) (r : Result Runtime Stop) (old mid new : D)
-    → (IsTrue told → IsBlank (medium old).image → ⊥) → Elapses (medium old) (medium mid)
+    → (IsTrue told → HasNoBytes (medium old).image → ⊥) → Elapses (medium old) (medium mid)
     → OnlyReads (medium old) (medium mid) → (medium mid).faults ≡ (medium old).faults
     → Elapses (medium mid) (medium new) → OnOk r ((medium new).faults ≡ (medium mid).faults)
     → (IsTrue told → IfOk r (λ x. Starts (memory_of x) (medium mid) (medium new)))
@@ -144,7 +148,7 @@ hearing_none told rules answers now memory old new time passes starts = record {
 -- one that came to its lines
 pub serve_from : (told : Bool) (rules : List Rule) (answers : Answers) (ending : Way)
     (left_before left_now before now : Option (List ℕ)) (source_before source_now sink_before sink_now : ℕ)
-    (old new : Medium) (status : ℕ) → Elapses old new → status ≡ status_of (ending_of ending)
+    (old new : Medium) (status : ℕ) → Elapses old new → status ≡ ending_status (ending_of ending)
     → (ending ≡ ways.Source → Rose source_before source_now)
     → Blamed ending sink_before sink_now → Served told rules answers ending old left_before left_now before now new
     → Serve told rules answers status left_before left_now before now source_before source_now sink_before sink_now old
@@ -183,7 +187,7 @@ pub serves_from : {D : Type 0} (told : Bool) (medium : D → Medium) (rules : Li
     (ending : Way) (left_before left_now before now : Option (List ℕ))
     (source_before source_now sink_before sink_now : ℕ) (old middle new : D) (memory : Memory) (status : ℕ)
     → (r : IsReadied told medium memory old middle) → Elapses (medium middle) (medium new)
-    → status ≡ status_of (ending_of ending)
+    → status ≡ ending_status (ending_of ending)
     → (ending ≡ ways.Source → Rose source_before source_now) → Blamed ending sink_before sink_now
     → Served told rules answers ending (medium r.start) left_before left_now before now (medium new)
     → Serves told medium rules answers status left_before left_now before now source_before source_now sink_before
@@ -196,7 +200,7 @@ serves_from told medium rules answers ending left_before left_now before now sou
 -- one that did not
 serve_none : (told : Bool) (rules : List Rule) (answers : Answers) (ending : endings.Ending) (status : ℕ)
     (left before : Option (List ℕ)) (source sink : ℕ) (old new : Medium) → ¬ (HasStarted ending)
-    → IsLawful told new → Elapses old new → (IsTrue told → StartKeeps old new) → status ≡ status_of ending
+    → IsLawful told new → Elapses old new → (IsTrue told → StartKeeps old new) → status ≡ ending_status ending
     → HasCauseOf ending (record { disk = old.faults; source = source; sink = sink })
     (record { disk = new.faults; source = source; sink = sink })
     → Serve told rules answers status left left before before source source sink sink old new

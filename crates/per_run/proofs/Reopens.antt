@@ -10,7 +10,7 @@ use Rattle.flash_disk.specs.FlashDiskLaws.{told_files, told_moment}
 use Rattle.flash_disk.specs.FlashDiskMedium.{disk_case, disk_seen}
 use Rattle.flash_disk.specs.FlashFiles.{flash_files}
 use Rattle.flash_disk.specs.FlashView.{FlashView}
-use Rattle.flash_disk.specs.Looks.{Opens}
+use Rattle.flash_disk.specs.Looks.{OpensFlash}
 use Rattle.flash_disk.specs.Newest.{IsUnusable, IsUsable, places}
 use Rattle.flash_disk.specs.Standing.{IsAgreed}
 use Rattle.flash_disk.specs.Throughout.{AgreedSince, KeepsAgreed, KeepsUsable, UsableSince}
@@ -59,7 +59,7 @@ opened_files told medium flash opened blocks state tells =
 module _ {F : Type 0} (told : Bool) (medium : F → FlashMedium) (flash : F) (opened disk : FlashView F)
     (tells : IsTrue told)
     (blocks : (medium opened.flash).blocks ≡ (medium flash).blocks)
-    (meanwhile : Opens told (medium flash) (medium opened.flash))
+    (meanwhile : OpensFlash told (medium flash) (medium opened.flash))
     (time : Elapses (disk_seen told medium opened) (disk_seen told medium disk)) where
   earlier : (medium flash).moment ≤ (disk_seen told medium opened).moment
   earlier = subst (λ (m : ℕ). (medium flash).moment ≤ m) (sym (told_moment told (medium opened.flash).moment tells))

@@ -5,35 +5,38 @@ use Rattle.std.specs.List.{AllByRecursion, flat_map}
 use Rattle.std.proofs.lemmas.List.Concat.{flat_map-append}
 use Rattle.std.proofs.lemmas.List.Folds.{list_any-append}
 use Rattle.run_model.specs.Lines.{split_lines, last_line, lines_of}
-use Rattle.per_run.specs.Steps.{IsClean, with_feed}
+use Rattle.per_run.specs.Steps.{HasNoFeed, with_feed}
 
-not_feed : (b : ℕ) (bytes : List ℕ) → IsClean (b ∷ bytes) → nat_eq b 10 ≡ false
+not_feed : (b : ℕ) (bytes : List ℕ) → HasNoFeed (b ∷ bytes) → nat_eq b 10 ≡ false
 not_feed b bytes clean = grind arith
 
-clean_tail : (b : ℕ) (bytes : List ℕ) → IsClean (b ∷ bytes) → IsClean bytes
+clean_tail : (b : ℕ) (bytes : List ℕ) → HasNoFeed (b ∷ bytes) → HasNoFeed bytes
 clean_tail b bytes clean = grind arith
 
-pub clean_more : (bytes : List ℕ) (b : ℕ) → IsClean bytes → nat_eq b 10 ≡ false → IsClean (bytes ++ b ∷ [])
+pub clean_more : (bytes : List ℕ) (b : ℕ) → HasNoFeed bytes → nat_eq b 10 ≡ false → HasNoFeed (bytes ++ b ∷ [])
 clean_more bytes b clean apart = rw (list_any-append, clean, apart) refl
 
-pub all_clean_more : (lines : List (List ℕ)) (line : List ℕ) → AllByRecursion IsClean lines → IsClean line
-    → AllByRecursion IsClean (lines ++ line ∷ [])
+pub clean_append : (front rest : List ℕ) → HasNoFeed front → HasNoFeed rest → HasNoFeed (front ++ rest)
+clean_append front rest clean more = rw (list_any-append, clean, more) refl
+
+pub all_clean_more : (lines : List (List ℕ)) (line : List ℕ) → AllByRecursion HasNoFeed lines → HasNoFeed line
+    → AllByRecursion HasNoFeed (lines ++ line ∷ [])
 all_clean_more [] line all clean = (clean, tt)
 all_clean_more (l ∷ ls) line all clean = (all.0, all_clean_more ls line all.1 clean)
 
 -- the first line
-pub split-line : (line more : List ℕ) → IsClean line → split_lines (line ++ 10 ∷ more)
+pub split-line : (line more : List ℕ) → HasNoFeed line → split_lines (line ++ 10 ∷ more)
     ≡ (line ∷ (split_lines more).0, (split_lines more).1)
 split-line [] more clean = refl
 split-line (b ∷ bytes) more clean = rw (not_feed b bytes clean, split-line bytes more (clean_tail b bytes clean)) refl
 
 -- no line
-pub split-clean : (bytes : List ℕ) → IsClean bytes → split_lines bytes ≡ ([], bytes)
+pub split-clean : (bytes : List ℕ) → HasNoFeed bytes → split_lines bytes ≡ ([], bytes)
 split-clean [] clean = refl
 split-clean (b ∷ bytes) clean = rw (not_feed b bytes clean, split-clean bytes (clean_tail b bytes clean)) refl
 
 -- the first lines
-pub split-lines : (lines : List (List ℕ)) (more : List ℕ) → AllByRecursion IsClean lines
+pub split-lines : (lines : List (List ℕ)) (more : List ℕ) → AllByRecursion HasNoFeed lines
     → split_lines (flat_map with_feed lines ++ more) ≡ (lines ++ (split_lines more).0, (split_lines more).1)
 split-lines [] more all = refl
 split-lines (l ∷ ls) more all =
@@ -43,22 +46,22 @@ split-lines (l ∷ ls) more all =
 
 -- ---- of bytes that are whole lines and a rest
 
-pub lines_false : (lines : List (List ℕ)) (more : List ℕ) → AllByRecursion IsClean lines
+pub lines_false : (lines : List (List ℕ)) (more : List ℕ) → AllByRecursion HasNoFeed lines
     → lines_of false (flat_map with_feed lines ++ more) ≡ lines ++ (split_lines more).0
 lines_false lines more all = append-nil (split_lines (flat_map with_feed lines ++ more)).0
     ∙ ap (λ (p : List (List ℕ) × List ℕ). p.0) (split-lines lines more all)
 
-pub lines_whole : (lines : List (List ℕ)) (rest : List ℕ) → AllByRecursion IsClean lines → IsClean rest
+pub lines_whole : (lines : List (List ℕ)) (rest : List ℕ) → AllByRecursion HasNoFeed lines → HasNoFeed rest
     → lines_of false (flat_map with_feed lines ++ rest) ≡ lines
 lines_whole lines rest all clean = lines_false lines rest all
     ∙ ap (λ (p : List (List ℕ) × List ℕ). lines ++ p.0) (split-clean rest clean) ∙ append-nil lines
 
-pub lines_next : (lines : List (List ℕ)) (line more : List ℕ) → AllByRecursion IsClean lines → IsClean line
+pub lines_next : (lines : List (List ℕ)) (line more : List ℕ) → AllByRecursion HasNoFeed lines → HasNoFeed line
     → lines_of false (flat_map with_feed lines ++ (line ++ 10 ∷ more)) ≡ lines ++ line ∷ (split_lines more).0
 lines_next lines line more all clean = lines_false lines (line ++ 10 ∷ more) all
     ∙ ap (λ (p : List (List ℕ) × List ℕ). lines ++ p.0) (split-line line more clean)
 
-pub lines_true : (lines : List (List ℕ)) (rest : List ℕ) → AllByRecursion IsClean lines → IsClean rest
+pub lines_true : (lines : List (List ℕ)) (rest : List ℕ) → AllByRecursion HasNoFeed lines → HasNoFeed rest
     → lines_of true (flat_map with_feed lines ++ rest) ≡ lines ++ last_line rest
 lines_true lines rest all clean =
     ap (λ (p : List (List ℕ) × List ℕ). p.0 ++ last_line p.1)

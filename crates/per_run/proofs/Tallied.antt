@@ -19,7 +19,7 @@ use Rattle.run_model.specs.Worlds.{World}
 use Rattle.per_run.specs.declared.tally.Tally.{Tally}
 use Rattle.per_run.specs.Jobs.{done_in, error_in, number_in, is_done, is_error, is_other, size_given, summary}
 use Rattle.per_run.specs.Jobs.{summary_text}
-use Rattle.per_run.specs.Steps.{Counted, Goes, IsAnswered, Tallies}
+use Rattle.per_run.specs.Steps.{Counted, Goes, IsLineAnswered, Tallies}
 use Rattle.per_run.proofs.Gives.{give_turn, replies_on}
 use Rattle.per_run.proofs.Goes.{goes_on}
 
@@ -139,7 +139,7 @@ module _ (told : Bool) (rules : List Rule) (answers : Answers) (start : Medium) 
   pub counted_more : (lines : List (List ℕ)) (text : List ℕ) (reply : Reply) (memory after : Memory)
       (tally tally' : Tally) (old new : Medium) → IsLawful told new → Elapses old new
       → length lines < 2 ^ 32 → Counted told rules answers start lines memory tally old
-      → IsAnswered told rules answers text memory after reply old new
+      → IsLineAnswered told rules answers text memory after reply old new
       → ((replies : List Reply) → length replies < 2 ^ 32 → Tallies replies tally
       → Tallies (replies ++ reply ∷ []) tally')
       → Counted told rules answers start (lines ++ text ∷ []) after tally' new
@@ -168,7 +168,7 @@ module _ (told : Bool) (rules : List Rule) (answers : Answers) (start : Medium) 
 
 -- ---- the lines of a number
 
--- the number behind so many others
+-- the number after that many others
 abbrev pub number_behind : ℕ → ℕ → ℕ
 number_behind x zero = x
 number_behind x (suc n) = number_behind (next_number x) n

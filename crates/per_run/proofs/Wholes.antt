@@ -6,7 +6,7 @@ use Rattle.std.proofs.lemmas.List.{length-take-le}
 use Rattle.std.specs.Io.KnownBytes.{Consumes, IsAtEnd, Keeps}
 use Rattle.per_run.specs.declared.endings.Ending.{Ending}
 use Rattle.per_run.specs.declared.endings.Ending.TheVariants.{OutOfMemory, Source, TooLong}
-use Rattle.per_run.specs.Jobs.{IsTaken}
+use Rattle.per_run.specs.Jobs.{IsInputTaken}
 use Rattle.per_run.specs.Steps.{Breaks, IsCut}
 use Rattle.per_run.proofs.Inputs.{not_seen}
 
@@ -22,7 +22,7 @@ more_within whole next buffer count is fits = ap length is ∙ length-append who
     ∙ ap (λ (n : ℕ). length whole + n) (length-take-le count buffer fits)
 
 pub taken_whole : (a b c : Option (List ℕ)) (whole buffer : List ℕ) (count : ℕ) → Consumes a b whole
-    → length whole < 67108864 → count ≡ 0 → Consumes b c (take count buffer) → IsAtEnd c → IsTaken a c whole true
+    → length whole < 67108864 → count ≡ 0 → Consumes b c (take count buffer) → IsAtEnd c → IsInputTaken a c whole true
 taken_whole a b c whole buffer count so_far within none takes at_end =
     let nothing : Consumes b c [] = subst (λ (n : ℕ). Consumes b c (take n buffer)) none takes in
     record {

@@ -6,11 +6,11 @@ use Rattle.disk_model.specs.Medium.{Quiet, Elapses}
 use Rattle.flash_model.specs.FlashMedium.{FlashMedium}
 use Rattle.flash_model.specs.Pages.{IsPlain}
 use Rattle.flash_model.specs.State.{FlashCase, settle_pages}
-use Rattle.flash_disk.specs.FlashDiskMedium.{Begins, disk_case, disk_seen}
+use Rattle.flash_disk.specs.FlashDiskMedium.{IsJustOpened, disk_case, disk_seen}
 use Rattle.flash_disk.specs.FlashFiles.{flash_files}
 use Rattle.flash_disk.specs.FlashView.{FlashView}
 use Rattle.flash_disk.specs.Learnt.{IsTop}
-use Rattle.flash_disk.specs.Looks.{Looks, Opens}
+use Rattle.flash_disk.specs.Looks.{LeavesFlashAlone, OpensFlash}
 use Rattle.flash_disk.specs.Newest.{IsUnusable, IsUsable, places}
 use Rattle.flash_disk.specs.Standing.{IsAgreed}
 use Rattle.flash_disk.specs.Throughout.{AgreedSince, UsableSince}
@@ -28,7 +28,8 @@ abbrev pub IsWrongSize : (blocks : ℕ) → Type 0
 IsWrongSize blocks = (blocks < 4) ⊎ (4096 < blocks)
 
 -- A flash that can be a disk was opened as one: no page changed, what it held is settled, and the disk has its files.
-pub record IsOpened {F : Type 0} (told : Bool) (medium : F → FlashMedium) (flash : F) (opened : FlashView F) : Type 0
+pub record IsOpenedFlash {F : Type 0} (told : Bool) (medium : F → FlashMedium) (flash : F)
+    (opened : FlashView F) : Type 0
   where
     pub many : 4 ≤ (medium flash).blocks
     pub few : (medium flash).blocks ≤ 4096
@@ -42,22 +43,22 @@ pub record IsOpened {F : Type 0} (told : Bool) (medium : F → FlashMedium) (fla
     pub written : opened.written ≡ 0
     pub faults : (medium opened.flash).faults ≡ (medium flash).faults
     pub quiet : Quiet (disk_seen told medium opened)
-    pub begins : Begins told (medium flash) (disk_seen told medium opened)
+    pub begins : IsJustOpened told (medium flash) (disk_seen told medium opened)
     -- a stop meanwhile leaves what the flash held
-    pub meanwhile : Opens told (medium flash) (medium opened.flash)
+    pub meanwhile : OpensFlash told (medium flash) (medium opened.flash)
 
 -- Why a flash was not opened, and the status that says so; back is what is handed back.
-pub data IsRefused (told : Bool) (status : ℕ) (flash back : FlashMedium) : Type 0 where
-  wrong_size : IsWrongSize flash.blocks → status ≡ 11 → IsRefused told status flash back
+pub data IsNotOpened (told : Bool) (status : ℕ) (flash back : FlashMedium) : Type 0 where
+  wrong_size : IsWrongSize flash.blocks → status ≡ 11 → IsNotOpened told status flash back
   unusable : ¬ (IsWrongSize flash.blocks) → (IsTrue told → IsUnusable flash.state.pages flash.blocks)
-      → back.faults ≡ flash.faults → status ≡ 10 → IsRefused told status flash back
+      → back.faults ≡ flash.faults → status ≡ 10 → IsNotOpened told status flash back
   failed : ¬ (IsWrongSize flash.blocks) → Rose flash.faults back.faults → status ≡ 3
-      → IsRefused told status flash back
-  memory : ¬ (IsWrongSize flash.blocks) → status ≡ 4 → IsRefused told status flash back
+      → IsNotOpened told status flash back
+  memory : ¬ (IsWrongSize flash.blocks) → status ≡ 4 → IsNotOpened told status flash back
 
 -- no page of what is handed back changed, also at no moment, and no count fell
 pub record IsHandedBack (told : Bool) (flash back : FlashMedium) : Type 0 where
-  pub looks : Looks told flash back
+  pub looks : LeavesFlashAlone told flash back
   pub blocks : back.blocks ≡ flash.blocks
   pub faults : flash.faults ≤ back.faults
 
@@ -94,7 +95,7 @@ pub record FlashRan {F : Type 0} (told : Bool) (medium : F → FlashMedium) (kin
     (left_before left_now before now : Option (List ℕ)) (source_before source_now sink_before sink_now : ℕ) (flash : F)
     (disk : FlashView F) : Type 0 where
   pub opened : FlashView F
-  pub is_opened : IsOpened told medium flash opened
+  pub is_opened : IsOpenedFlash told medium flash opened
   pub done : JobDone told (disk_seen told medium) kind rules answers status left_before left_now before now
       (record { disk = (disk_seen told medium opened).faults; source = source_before; sink = sink_before })
       (record { disk = (disk_seen told medium disk).faults; source = source_now; sink = sink_now })
@@ -109,7 +110,7 @@ pub record FlashRan {F : Type 0} (told : Bool) (medium : F → FlashMedium) (kin
 pub data HasNotRun (told : Bool) (job : Option Job) (status : ℕ) (flash back : FlashMedium) : Type 0 where
   refused : job ≡ None → status ≡ 1 → HasNotRun told job status flash back
   short : status ≡ 4 → HasNotRun told job status flash back
-  unopened : (said : Job) → job ≡ Some said → IsRefused told status flash back → HasNotRun told job status flash back
+  unopened : (said : Job) → job ≡ Some said → IsNotOpened told status flash back → HasNotRun told job status flash back
 
 -- what is said of the disk or of the flash that is handed back
 abbrev pub IfRan : {F : Type 0} → FlashRun F → (ℕ → FlashView F → Type 0) → Type 0

@@ -30,7 +30,7 @@ use Rattle.per_audit.specs.AuditText.{audit_text}
 use Rattle.per_audit.specs.declared.findings.Finding.{Finding}
 use Rattle.per_audit.specs.declared.findings.Listed.{Listed}
 use Rattle.per_backup.specs.Backups.{exporting, importing_into}
-use Rattle.per_backup.specs.Clauses.{ImportKeeps, Imported, IsSeen}
+use Rattle.per_backup.specs.Clauses.{ImportKeeps, Imported, IsAppSeen}
 use Rattle.per_run.specs.declared.words.JobKind.{JobKind}
 use Rattle.per_run.specs.declared.words.JobKind.TheVariants.{Run, Serve, Format, Generate, Audit, Export, Import}
 use Rattle.per_run.specs.Serves.{Serves}
@@ -38,24 +38,24 @@ use Rattle.per_run.specs.Words.{reads_input}
 
 -- ---- the output of a job that writes once
 
--- a front of the text that is not all of it was written
-abbrev pub IsFront : (before now : Option (List ℕ)) → List ℕ → Type 0
-IsFront before now text = (count : ℕ) × (count < length text) × Appends before now (take count text)
+-- a proper prefix of the text was written
+abbrev pub WroteProperPrefix : (before now : Option (List ℕ)) → List ℕ → Type 0
+WroteProperPrefix before now text = (count : ℕ) × (count < length text) × Appends before now (take count text)
 
 -- the sink took all of the output: the job is done, its audit has findings, or its export or import is refused
-abbrev pub IsWritten : ℕ → Type 0
-IsWritten status = (status ≡ 0) ⊎ ((status ≡ 8) ⊎ (status ≡ 9))
+abbrev pub IsOutputWritten : ℕ → Type 0
+IsOutputWritten status = (status ≡ 0) ⊎ ((status ≡ 8) ⊎ (status ≡ 9))
 
 -- the job came to its output
-abbrev pub IsDone : ℕ → Type 0
-IsDone status = IsWritten status ⊎ (status ≡ 6)
+abbrev pub CameToOutput : ℕ → Type 0
+CameToOutput status = IsOutputWritten status ⊎ (status ≡ 6)
 
--- all of the text; where the sink failed a front of it that is not all; and nothing where the job did not come to its
+-- all of the text; where the sink failed a proper prefix of it; and nothing where the job did not come to its
 -- output
-pub record Writes (status : ℕ) (before now : Option (List ℕ)) (text : List ℕ) : Type 0 where
-  pub whole : IsWritten status → Appends before now text
-  pub front : status ≡ 6 → IsFront before now text
-  pub none : ¬ (IsDone status) → Keeps before now
+pub record WritesOutput (status : ℕ) (before now : Option (List ℕ)) (text : List ℕ) : Type 0 where
+  pub whole : IsOutputWritten status → Appends before now text
+  pub front : status ≡ 6 → WroteProperPrefix before now text
+  pub none : ¬ (CameToOutput status) → Keeps before now
 
 -- where the status is not 3, no call of the disk failed
 abbrev pub FailsAtThree : (status : ℕ) → (before now : ℕ) → Type 0
@@ -65,10 +65,10 @@ FailsAtThree status before now = status ≢ 3 → now ≡ before
 
 -- eight applications of which nothing is installed, in clean places, and nothing pending
 pub record Formats (told : Bool) (status : ℕ) (before now : Option (List ℕ)) (old new : Medium) : Type 0 where
-  pub output : Writes status before now (codes "ok\n")
-  pub world : IsTrue told → IsDone status → world_at new.image ≡ formatted
-  pub clean : IsTrue told → IsDone status → (app : ℕ) → app < 8 → IsCleanApp app new.image
-  pub quiet : IsDone status → Quiet new
+  pub output : WritesOutput status before now (codes "ok\n")
+  pub world : IsTrue told → CameToOutput status → world_at new.image ≡ formatted
+  pub clean : IsTrue told → CameToOutput status → (app : ℕ) → app < 8 → IsCleanApp app new.image
+  pub quiet : CameToOutput status → Quiet new
   pub failed : FailsAtThree status old.faults new.faults
 
 -- ---- an input that is made of a number
@@ -99,14 +99,14 @@ abbrev pub size_given : List Reply → Option ℕ
 size_given [] = None
 size_given (r ∷ rs) = option_or (number_in r.answer) (size_given rs)
 
-abbrev pub size_text : Option ℕ → List ℕ
-size_text None = codes "-"
-size_text (Some n) = decimal n
+abbrev pub size_or_dash : Option ℕ → List ℕ
+size_or_dash None = codes "-"
+size_or_dash (Some n) = decimal n
 
 abbrev pub summary_text : (lines done other errors : ℕ) → (size : Option ℕ) → List ℕ
 summary_text lines done other errors size = codes "lines "
     ++ (decimal lines ++ (codes " ok " ++ (decimal done ++ (codes " other " ++ (decimal other
-    ++ (codes " errors " ++ (decimal errors ++ (codes " size " ++ (size_text size ++ codes "\n")))))))))
+    ++ (codes " errors " ++ (decimal errors ++ (codes " size " ++ (size_or_dash size ++ codes "\n")))))))))
 
 -- how many lines there were, how many replies of each sort, and the size
 abbrev pub summary : (lines : ℕ) → List Reply → List ℕ
@@ -117,31 +117,31 @@ summary lines rs = summary_text lines (count_by is_done rs) (count_by is_other r
 pub record Generates (told : Bool) (rules : List Rule) (answers : Answers) (n status : ℕ) (before now : Option (List ℕ))
     (old new : Medium) : Type 0 where
   pub turns : List Turn
-  pub gives : IsDone status → Give (generated n) (events_of turns)
-  pub output : Writes status before now (summary (length (generated n)) (replies_of turns))
-  pub failures : CountsFailures (IsDone status) old.faults turns new.faults
+  pub gives : CameToOutput status → Give (generated n) (events_of turns)
+  pub output : WritesOutput status before now (summary (length (generated n)) (replies_of turns))
+  pub failures : CountsFailures (CameToOutput status) old.faults turns new.faults
   pub follow : IsTrue told → Follow rules answers formatted turns
   -- what each command wrote, from the bytes that the start left on
   pub bounded : IsTrue told → (begun : Bytes) × AreBounded formatted begun turns
-  pub settled : IsTrue told → IsDone status → IsSettled (last_of formatted (worlds_of turns)) new
-  pub clean : IsTrue told → IsDone status → (app : ℕ) → app < 8 → AreSoundDoubts app (worlds_of turns)
+  pub settled : IsTrue told → CameToOutput status → IsSettled (last_of formatted (worlds_of turns)) new
+  pub clean : IsTrue told → CameToOutput status → (app : ℕ) → app < 8 → AreSoundDoubts app (worlds_of turns)
       → IsCleanApp app new.image
 
 -- ---- an audit
 
--- what lies on the disk is listed, and what is found of it; over a disk that tells nothing the text is that of some
+-- what is on the disk is listed, and what is found of it; over a disk that models nothing the text is that of some
 -- lists
 pub record Audits (told : Bool) (status : ℕ) (before now : Option (List ℕ)) (old new : Medium) : Type 0 where
   pub elements : List Listed
   pub findings : List Finding
   pub elements_are : IsTrue told → elements ≡ elements_at old.image
   pub findings_are : IsTrue told → findings ≡ findings_at old.image
-  pub output : Writes status before now (audit_text elements findings)
+  pub output : WritesOutput status before now (audit_text elements findings)
   -- 8 and not 0 is the status where something is found
   pub sound : status ≡ 0 → findings ≡ []
   pub found : status ≡ 8 → findings ≢ []
   pub stays : LooksOnly old new
-  pub quiet : IsDone status → Quiet new
+  pub quiet : CameToOutput status → Quiet new
   pub failed : FailsAtThree status old.faults new.faults
 
 -- ---- an answer that may be a refusal
@@ -157,26 +157,26 @@ answered_text text (Err e) = error_line e
 -- the text of what was answered is written, or the line of the refusal; 9 and not 0 is the status of a refusal
 pub record AnswersOr {A : Type 0} (text : A → List ℕ) (row : Result A PerError) (status : ℕ)
     (before now : Option (List ℕ)) : Type 0 where
-  pub output : Writes status before now (answered_text text row)
+  pub output : WritesOutput status before now (answered_text text row)
   pub done : status ≡ 0 → IsOk row
   pub refused : status ≡ 9 → IsErr row
 
 -- ---- an export
 
--- the text of the storage alone is written; over a disk that tells nothing it is a storage of some application
+-- the text of the storage alone is written; over a disk that models nothing it is a storage of some application
 pub record Exports (told : Bool) (app : ℕ) (name : List ℕ) (status : ℕ) (before now : Option (List ℕ))
     (old new : Medium) : Type 0 where
   pub it : App
-  pub seen : IsSeen told old.image app it
+  pub seen : IsAppSeen told old.image app it
   pub answers : AnswersOr (λ text. text) (exporting it name) status before now
   pub stays : LooksOnly old new
-  pub quiet : IsDone status → Quiet new
+  pub quiet : CameToOutput status → Quiet new
   pub failed : FailsAtThree status old.faults new.faults
 
 -- ---- an import
 
--- these bytes were taken of the input, and its end was seen or not; behind as many as are allowed nobody looks for it
-pub record IsTaken (left_before left_now : Option (List ℕ)) (given : List ℕ) (ended : Bool) : Type 0 where
+-- these bytes were taken of the input, and its end was seen or not; after as many as are allowed nobody looks for it
+pub record IsInputTaken (left_before left_now : Option (List ℕ)) (given : List ℕ) (ended : Bool) : Type 0 where
   pub takes : Consumes left_before left_now given
   pub bound : length given ≤ 67108864
   pub end_seen : IsTrue ended → IsAtEnd left_now × (length given < 67108864)
@@ -188,29 +188,29 @@ pub record IsUncalled (before now : Option (List ℕ)) (old new : Medium) : Type
   pub moment : new.moment ≡ old.moment
   pub faults : new.faults ≡ old.faults
 
--- the storage was made anew of this text, or that was refused, or it was broken off on the way
+-- the storage was rebuilt from this text, or that was refused, or it was broken off on the way
 pub record Makes (told : Bool) (app : ℕ) (name text : List ℕ) (status : ℕ) (before now : Option (List ℕ))
     (old new : Medium) : Type 0 where
   pub it : App
-  pub seen : IsSeen told old.image app it
+  pub seen : IsAppSeen told old.image app it
   pub answers : AnswersOr (λ after. codes "ok\n") (importing_into it name text) status before now
-  pub refused : IsDone status → IsErr (importing_into it name text) → LooksOnly old new
-  pub imported : IsTrue told → IsDone status → Imported app name text old new
+  pub refused : CameToOutput status → IsErr (importing_into it name text) → LooksOnly old new
+  pub imported : IsTrue told → CameToOutput status → Imported app name text old new
   -- at every moment, however it ends
   pub keeps : IsTrue told → ImportKeeps app name text old new
-  pub quiet : IsDone status → Quiet new
+  pub quiet : CameToOutput status → Quiet new
   pub failed : FailsAtThree status old.faults new.faults
 
--- The input was read to its end, and then the storage made anew; or it was not, and nothing happened.
+-- The input was read to its end, and then the storage rebuilt; or it was not, and nothing happened.
 pub record Imports (told : Bool) (app : ℕ) (name : List ℕ) (status : ℕ)
     (left_before left_now before now : Option (List ℕ)) (old new : Medium) : Type 0 where
   pub given : List ℕ
   pub ended : Bool
-  pub taken : IsTaken left_before left_now given ended
+  pub taken : IsInputTaken left_before left_now given ended
   -- 5 is the status where the source failed, and 7 where the input is too long
   pub broken : status ≡ 5 → IsFalse ended × (length given < 67108864)
   pub too_long : status ≡ 7 → IsFalse ended × (length given ≡ 67108864)
-  pub called : IsDone status ⊎ (status ≡ 3) → IsTrue ended
+  pub called : CameToOutput status ⊎ (status ≡ 3) → IsTrue ended
   pub uncalled : IsFalse ended → IsUncalled before now old new
   pub made : IsTrue ended → Makes told app name given status before now old new
 

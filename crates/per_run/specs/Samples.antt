@@ -1,4 +1,4 @@
--- Samples, computed: words and the jobs that they say, and the summary of a made input.
+-- Samples, computed: words and the jobs that they say, and the summary of a synthetic workload.
 use Rattle.std.specs.Prelude.{◌≡◌, ℕ, [], ◌∷◌, Option, Some, None, codes}
 use Rattle.std.proofs.Common.{refl}
 use Rattle.std.specs.Fmt.{digits}
@@ -18,7 +18,7 @@ use Rattle.per_run.specs.Words.{job_of}
 abbrev job : JobKind → Option Job
 job kind = Some (record { dir = codes "d"; kind = kind; flash = None })
 
--- the same over a flash of so many blocks
+-- the same over a flash of that many blocks
 abbrev over_flash : ℕ → JobKind → Option Job
 over_flash blocks kind = Some (record { dir = codes "d"; kind = kind; flash = Some blocks })
 
@@ -135,7 +135,7 @@ more : job_of (codes "--dir" ∷ codes "d" ∷ codes "x" ∷ []) ≡ None
 unfolding job_of clap_on_literals
 more = refl
 
--- ---- a made input
+-- ---- a synthetic workload
 
 abbrev reply : Answer → Reply
 reply a = record { reports = []; answer = a }

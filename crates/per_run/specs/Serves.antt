@@ -1,24 +1,24 @@
 -- What a run that stays promises: its input has no bound, a line outside the grammar is answered and changes nothing,
--- and a disk on which nothing lies is formatted first.
+-- and an empty disk is formatted first.
 use Rattle.std.specs.Prelude.{◌≡◌, ◌⊎◌, ◌≤◌, ◌<◌, ◌+◌, ◌-◌, ◌^◌, min, ℕ, List, [], ◌∷◌, ◌++◌, length, map, take, Option}
 use Rattle.std.specs.Prelude.{None, Bool, false, IsTrue, IsFalse, codes, ⊤}
 use Rattle.std.specs.List.{AllByRecursion, flat_map}
 use Rattle.std.specs.Io.KnownBytes.{Appends, Consumes, IsAtEnd, Keeps}
 use Rattle.per_base.specs.Causes.{Rose}
 use Rattle.disk_model.specs.Image.{Image}
-use Rattle.disk_model.specs.Medium.{Medium, Elapses, OnlyReads}
+use Rattle.disk_model.specs.Medium.{Medium, Quiet, Elapses, OnlyReads}
 use Rattle.migrate_fns.specs.Rules.{Rule, Answers}
 use Rattle.command_text.specs.declared.lines.Line.TheVariants as line
 use Rattle.command_text.specs.Grammar.{IsLine}
 use Rattle.command_text.specs.Replies.{reply_text}
 use Rattle.deploy_laws.specs.Apps.{IsCleanApp}
 use Rattle.run_model.specs.Endings as endings
-use Rattle.run_model.specs.Endings.{Ending, HasCauseOf, HasEnded, bad_line_text, status_of}
+use Rattle.run_model.specs.Endings.{Ending, HasCauseOf, HasEnded, bad_line_text, ending_status}
 use Rattle.run_model.specs.Lines.{IsBad, lines_of}
 use Rattle.run_model.specs.Moments.{last_of}
 use Rattle.run_model.specs.Runs.{DiskSide, IsSettled}
 use Rattle.run_model.specs.Turns.{Turn, CountsFailures, worlds_of}
-use Rattle.run_model.specs.Worlds.{formatted, started, world_at}
+use Rattle.run_model.specs.Worlds.{after_start, formatted, world_at}
 
 -- ---- the lines that were handled
 
@@ -28,10 +28,10 @@ pub data Heard : Type 0 where
   answered : (text : List ℕ) → Turn → Heard
   refused : (text : List ℕ) → Heard
 
-abbrev pub line_in : Heard → List ℕ
-line_in (passed text) = text
-line_in (answered text t) = text
-line_in (refused text) = text
+abbrev pub heard_line : Heard → List ℕ
+heard_line (passed text) = text
+heard_line (answered text t) = text
+heard_line (refused text) = text
 
 abbrev pub IsHeard : Heard → Type 0
 IsHeard (passed text) = IsLine text line.Nothing
@@ -44,7 +44,7 @@ turn_in (answered text t) = t ∷ []
 turn_in (refused text) = []
 
 abbrev pub lines_in : List Heard → List (List ℕ)
-lines_in heard = map line_in heard
+lines_in heard = map heard_line heard
 
 -- the commands among them, which were answered in this order
 abbrev pub turns_in : List Heard → List Turn
@@ -52,49 +52,49 @@ turns_in heard = flat_map turn_in heard
 
 -- ---- what is written of them
 
--- the number of a line behind so many others, counted from 1: all behind the last number of 64 bits have that one
+-- the number of a line after that many others, counted from 1: all after the last number of 64 bits have that one
 abbrev pub number_behind : ℕ → ℕ
 number_behind count = min (count + 1) (2 ^ 64 - 1)
 
 -- of a line of this number: nothing, the reply of its command, or its number
-abbrev pub text_in : (number : ℕ) → Heard → List ℕ
-text_in number (passed text) = []
-text_in number (answered text t) = reply_text t.reply
-text_in number (refused text) = bad_line_text number
+abbrev pub heard_text : (number : ℕ) → Heard → List ℕ
+heard_text number (passed text) = []
+heard_text number (answered text t) = reply_text t.reply
+heard_text number (refused text) = bad_line_text number
 
--- of lines behind so many others
+-- of lines after that many others
 abbrev pub texts_behind : (count : ℕ) → List Heard → List ℕ
 texts_behind count [] = []
-texts_behind count (h ∷ hs) = text_in (number_behind count) h ++ texts_behind (count + 1) hs
+texts_behind count (h ∷ hs) = heard_text (number_behind count) h ++ texts_behind (count + 1) hs
 
-abbrev pub texts_in : List Heard → List ℕ
-texts_in heard = texts_behind 0 heard
+abbrev pub heard_texts : List Heard → List ℕ
+heard_texts heard = texts_behind 0 heard
 
 -- ---- how it ends: `heard` were handled, of the lines `all`
 
 -- all lines are handled
 pub record HasServedAll (heard : List Heard) (all : List (List ℕ)) (before now : Option (List ℕ)) : Type 0 where
   pub next : all ≡ lines_in heard
-  pub wrote : Appends before now (texts_in heard)
+  pub wrote : Appends before now (heard_texts heard)
 
 -- the next line is `end`
 pub record HasServedToEnd (heard : List Heard) (all : List (List ℕ)) (before now : Option (List ℕ)) : Type 0 where
   pub others : List (List ℕ)
   pub next : all ≡ lines_in heard ++ codes "end" ∷ others
-  pub wrote : Appends before now (texts_in heard)
+  pub wrote : Appends before now (heard_texts heard)
 
 -- the start did not end
 pub record HasServedNone (heard : List Heard) (before now : Option (List ℕ)) : Type 0 where
   pub no_line : heard ≡ []
   pub wrote : Appends before now []
 
--- the run was interrupted behind some line
+-- the run was interrupted after some line
 pub record HasServedSome (heard : List Heard) (all : List (List ℕ)) (before now : Option (List ℕ)) : Type 0 where
   pub others : List (List ℕ)
   pub next : all ≡ lines_in heard ++ others
-  pub wrote : Appends before now (texts_in heard)
+  pub wrote : Appends before now (heard_texts heard)
 
--- of the last line's text so many bytes were written, and fewer than all
+-- of the last line's text that many bytes were written, and fewer than all
 pub record IsCutBehind (count : ℕ) (heard : List Heard) (all : List (List ℕ)) (before now : Option (List ℕ)) : Type 0
   where
     pub others : List (List ℕ)
@@ -102,11 +102,11 @@ pub record IsCutBehind (count : ℕ) (heard : List Heard) (all : List (List ℕ)
     pub earlier : List Heard
     pub last : Heard
     pub heard_are : heard ≡ earlier ++ last ∷ []
-    pub short : count < length (text_in (number_behind (length earlier)) last)
-    pub wrote : Appends before now (texts_in earlier
-        ++ take count (text_in (number_behind (length earlier)) last))
+    pub short : count < length (heard_text (number_behind (length earlier)) last)
+    pub wrote : Appends before now (heard_texts earlier
+        ++ take count (heard_text (number_behind (length earlier)) last))
 
--- `Rests` is what holds where no command is in progress: memory ran out at the next line, behind the texts of all lines
+-- `Rests` is what holds where no command is in progress: memory ran out at the next line, after the texts of all lines
 -- before it; or for the text of the last one, whose command has ended
 abbrev pub ServesBy : (Rests : Type 0) → Ending → List Heard → (all : List (List ℕ)) → (before now : Option (List ℕ))
     → Type 0
@@ -138,7 +138,7 @@ pub record Serve (told : Bool) (rules : List Rule) (answers : Answers) (status :
     (left_before left_now before now : Option (List ℕ))
     (source_before source_now sink_before sink_now : ℕ) (old new : Medium) : Type 0 where
   pub ending : Ending
-  pub status_is : status ≡ status_of ending
+  pub status_is : status ≡ ending_status ending
   pub given : List ℕ
   pub taken : Consumes left_before left_now given
   pub ended : Bool
@@ -147,7 +147,7 @@ pub record Serve (told : Bool) (rules : List Rule) (answers : Answers) (status :
   pub heard : List Heard
   pub are : AllByRecursion IsHeard heard
   pub ends : ServesBy (IsTrue told
-      → IsSettled (last_of (started (world_at old.image)) (worlds_of (turns_in heard))) new)
+      → IsSettled (last_of (after_start (world_at old.image)) (worlds_of (turns_in heard))) new)
       ending heard (lines_of false given) before now
   pub cause : HasCauseOf ending (record { disk = old.faults; source = source_before; sink = sink_before })
       (record { disk = new.faults; source = source_now; sink = sink_now })
@@ -159,30 +159,32 @@ pub record Serve (told : Bool) (rules : List Rule) (answers : Answers) (status :
 -- ---- the disk that it starts on
 
 -- no file of an application has a byte
-abbrev pub IsBlank : Image → Type 0
-IsBlank image = (file : ℕ) → file < 32768 → image file ≡ []
+abbrev pub HasNoBytes : Image → Type 0
+HasNoBytes image = (file : ℕ) → file < 32768 → image file ≡ []
 
--- eight applications of which nothing is installed, in clean places
-pub record IsFresh (told : Bool) (old start : Medium) : Type 0 where
+-- eight applications of which nothing is installed, in clean places, and nothing pending
+pub record IsFreshlyFormatted (told : Bool) (old start : Medium) : Type 0 where
   pub world : IsTrue told → world_at start.image ≡ formatted
   pub clean : IsTrue told → (app : ℕ) → app < 8 → IsCleanApp app start.image
+  pub quiet : Quiet start
   pub passes : start.faults ≡ old.faults
+  pub time : Elapses old start
 
--- it starts on the disk as it was; or on one that it formatted, since nothing lay there
-pub data IsPrepared {D : Type 0} (told : Bool) (medium : D → Medium) (old start : D) : Type 0 where
-  as_it_was : (IsTrue told → IsBlank (medium old).image → ⊥) → start ≡ old → IsPrepared told medium old start
-  formatted_first : (IsTrue told → IsBlank (medium old).image) → IsFresh told (medium old) (medium start)
-      → IsPrepared told medium old start
+-- it starts on the disk as it was; or on one that it formatted, since it was empty
+pub data IsPreparedDisk {D : Type 0} (told : Bool) (medium : D → Medium) (old start : D) : Type 0 where
+  as_it_was : (IsTrue told → HasNoBytes (medium old).image → ⊥) → start ≡ old → IsPreparedDisk told medium old start
+  formatted_first : (IsTrue told → HasNoBytes (medium old).image) → IsFreshlyFormatted told (medium old) (medium start)
+      → IsPreparedDisk told medium old start
 
--- nothing lay there; or the disk failed while it was looked at, and nothing changed
+-- it was empty; or the disk failed while it was looked at, and nothing changed
 abbrev pub HadNothing : {D : Type 0} → (told : Bool) → (medium : D → Medium) → (old new : D) → Type 0
-HadNothing told medium old new = (IsTrue told → IsBlank (medium old).image) ⊎ OnlyReads (medium old) (medium new)
+HadNothing told medium old new = (IsTrue told → HasNoBytes (medium old).image) ⊎ OnlyReads (medium old) (medium new)
 
 -- It ran on the disk that was prepared; or no start on it has ended, and no line was taken.
 pub data Serves {D : Type 0} (told : Bool) (medium : D → Medium) (rules : List Rule) (answers : Answers) (status : ℕ)
     (left_before left_now before now : Option (List ℕ))
     (source_before source_now sink_before sink_now : ℕ) (old new : D) : Type 0 where
-  served : (start : D) → IsPrepared told medium old start
+  served : (start : D) → IsPreparedDisk told medium old start
       → Serve told rules answers status left_before left_now before now source_before source_now sink_before sink_now
       (medium start) (medium new)
       → Serves told medium rules answers status left_before left_now before now source_before source_now sink_before

@@ -11,30 +11,31 @@ use Rattle.run_model.specs.Moments.{last_of}
 use Rattle.run_model.specs.Runs.{DiskSide, IsSettled}
 use Rattle.run_model.specs.Runtimes.{Memory, StartKeeps, Starts}
 use Rattle.run_model.specs.Turns.{CountsFailures, worlds_of}
-use Rattle.run_model.specs.Worlds.{started, world_at}
+use Rattle.run_model.specs.Worlds.{after_start, world_at}
 use Rattle.per_run.specs.declared.endings.Ending.{Ending}
-use Rattle.per_run.specs.Serves.{HadNothing, Heard, IsBlank, IsHeard, IsPrepared, IsServedInput, ServesBy, line_in}
+use Rattle.per_run.specs.Serves.{HadNothing, HasNoBytes, Heard, IsHeard, IsPreparedDisk, IsServedInput, ServesBy}
+use Rattle.per_run.specs.Serves.{heard_line}
 use Rattle.per_run.specs.Serves.{lines_in}
-use Rattle.per_run.specs.Serves.{texts_in, turns_in}
-use Rattle.per_run.specs.Steps.{Goes, IsClean, ending_of, with_feed}
+use Rattle.per_run.specs.Serves.{heard_texts, turns_in}
+use Rattle.per_run.specs.Steps.{Goes, HasNoFeed, ending_of, with_feed}
 
 -- ---- the start
 
-abbrev pub Says : Bool → Type 0 → Type 0
-Says true P = P
-Says false P = P → ⊥
+abbrev pub IsExactly : Bool → Type 0 → Type 0
+IsExactly true P = P
+IsExactly false P = P → ⊥
 
 -- the runtime started on the disk that was prepared
 pub record IsReadied {D : Type 0} (told : Bool) (medium : D → Medium) (memory : Memory) (old new : D) : Type 0 where
   pub start : D
-  pub prepared : IsPrepared told medium old start
+  pub prepared : IsPreparedDisk told medium old start
   pub passes : (medium new).faults ≡ (medium start).faults
   pub starts : IsTrue told → Starts memory (medium start) (medium new)
   pub time : Elapses (medium start) (medium new)
 
--- it did not: on a disk on which something lies, or before it came so far
+-- it did not: on a disk that is not empty, or before it came so far
 abbrev pub IsUnready : {D : Type 0} → (told : Bool) → (medium : D → Medium) → (old new : D) → Type 0
-IsUnready told medium old new = ((IsTrue told → IsBlank (medium old).image → ⊥)
+IsUnready told medium old new = ((IsTrue told → HasNoBytes (medium old).image → ⊥)
     × (IsTrue told → StartKeeps (medium old) (medium new))) ⊎ HadNothing told medium old new
 
 -- ---- the run so far
@@ -43,13 +44,13 @@ IsUnready told medium old new = ((IsTrue told → IsBlank (medium old).image →
 pub record Hearing (told : Bool) (rules : List Rule) (answers : Answers) (start : Medium) (before : Option (List ℕ))
     (heard : List Heard) (now : Option (List ℕ)) (memory : Memory) (medium : Medium) : Type 0 where
   pub are : AllByRecursion IsHeard heard
-  pub wrote : Appends before now (texts_in heard)
+  pub wrote : Appends before now (heard_texts heard)
   pub goes : Goes told rules answers start (turns_in heard) memory medium
 
 -- the same with one line more
 abbrev pub HearsOne : (told : Bool) → List Rule → Answers → (start : Medium) → (before : Option (List ℕ))
     → (heard : List Heard) → (text : List ℕ) → (now : Option (List ℕ)) → Memory → Medium → Type 0
-HearsOne told rules answers start before heard text now memory medium = (h : Heard) × (line_in h ≡ text)
+HearsOne told rules answers start before heard text now memory medium = (h : Heard) × (heard_line h ≡ text)
     × Hearing told rules answers start before (heard ++ h ∷ []) now memory medium
 
 -- how the handling of lines ended, of the lines `all`
@@ -58,22 +59,22 @@ pub record Service (told : Bool) (rules : List Rule) (answers : Answers) (ending
   pub heard : List Heard
   pub are : AllByRecursion IsHeard heard
   pub ends : ServesBy (IsTrue told
-      → IsSettled (last_of (started (world_at start.image)) (worlds_of (turns_in heard))) medium)
+      → IsSettled (last_of (after_start (world_at start.image)) (worlds_of (turns_in heard))) medium)
       ending heard all before now
   pub failures : CountsFailures (endings.HasEnded ending) start.faults (turns_in heard) medium.faults
   pub disk : IsTrue told → DiskSide rules answers ending (lines_in heard) all (turns_in heard) None None start medium
 
 -- ---- bytes
 
--- These bytes were taken: all their whole lines are handled, and of the rest the front is kept.
+-- These bytes were taken: all their whole lines are handled, and of the rest a prefix is kept.
 pub record Listened (told : Bool) (rules : List Rule) (answers : Answers) (start : Medium) (before : Option (List ℕ))
     (given : List ℕ) (now : Option (List ℕ)) (memory : Memory) (medium : Medium) (kept : List ℕ) (number : ℕ) : Type 0
   where
     pub heard : List Heard
     pub rest : List ℕ
     pub split : given ≡ flat_map with_feed (lines_in heard) ++ rest
-    pub clean : AllByRecursion IsClean (lines_in heard)
-    pub clean_rest : IsClean rest
+    pub clean : AllByRecursion HasNoFeed (lines_in heard)
+    pub clean_rest : HasNoFeed rest
     pub kept_is : kept ≡ take 262145 rest
     pub number_is : number ≡ min (length heard) (2 ^ 64 - 1)
     pub hearing : Hearing told rules answers start before heard now memory medium

@@ -4,7 +4,7 @@ use Rattle.std.specs.Prelude.{Result, Ok, Err, IsErrOf, IfErr, nat_eq, count_by,
 use Rattle.std.specs.List.{AllByRecursion, flat_map, list_any}
 use Rattle.std.specs.Io.KnownBytes.{Appends, Consumes, IsAtEnd}
 use Rattle.per_base.specs.Causes.{Rose}
-use Rattle.disk_model.specs.Medium.{Medium, Elapses}
+use Rattle.disk_model.specs.Medium.{Medium, Quiet, Elapses}
 use Rattle.migrate_fns.specs.Rules.{Rule, Answers}
 use Rattle.deploy_laws.specs.Apps.{IsCleanApp}
 use Rattle.command_text.specs.declared.calls.Event.{Event}
@@ -18,8 +18,8 @@ use Rattle.run_model.specs.Lines.{Give, IsBad, lines_of}
 use Rattle.run_model.specs.RunLaws.{Going}
 use Rattle.run_model.specs.Runs.{DiskSide}
 use Rattle.run_model.specs.Runtimes.{Memory, IsDoubt, Starts, Stepped, Stopped}
-use Rattle.run_model.specs.Turns.{Turn, events_of, replies_of, text_of, IsBlamed, AreBlamed, CountsFailures}
-use Rattle.run_model.specs.Worlds.{Doubt, world_at, started, formatted}
+use Rattle.run_model.specs.Turns.{Turn, events_of, replies_of, replies_text, IsBlamed, AreBlamed, CountsFailures}
+use Rattle.run_model.specs.Worlds.{Doubt, world_at, after_start, formatted}
 use Rattle.per_run.specs.declared.answering.Outcome.{Outcome}
 use Rattle.per_run.specs.declared.answering.Outcome.TheVariants as outcome
 use Rattle.per_run.specs.declared.endings.Ending.{Ending}
@@ -28,7 +28,7 @@ use Rattle.per_run.specs.declared.endings.Ending.TheVariants.{TooLong}
 use Rattle.per_run.specs.declared.tally.Tally.{Tally}
 use Rattle.per_run.specs.declared.words.JobKind.{JobKind}
 use Rattle.per_run.specs.declared.words.JobKind.TheVariants.{Generate, Export, Import}
-use Rattle.per_run.specs.Jobs.{IsFront, IsTaken, is_done, is_other, is_error, size_given}
+use Rattle.per_run.specs.Jobs.{WroteProperPrefix, IsInputTaken, is_done, is_other, is_error, size_given}
 
 -- ---- endings
 
@@ -61,24 +61,24 @@ pub record Blames {T : Type 0} (before now : ℕ) (result : Result T Ending) : T
 
 -- ---- a text to the sink
 
--- all of it; or the sink failed and took a front that is not all; or memory ran out and it took nothing
-abbrev pub Puts : {T : Type 0} → (text : List ℕ) → (before now : Option (List ℕ)) → Result T Ending → Type 0
-Puts text before now (Ok x) = Appends before now text
-Puts text before now (Err Sink) = IsFront before now text
-Puts text before now (Err OutOfMemory) = Appends before now []
-Puts text before now (Err other) = ⊥
+-- all of it; or the sink failed and took a proper prefix; or memory ran out and it took nothing
+abbrev pub PutsOutput : {T : Type 0} → (text : List ℕ) → (before now : Option (List ℕ)) → Result T Ending → Type 0
+PutsOutput text before now (Ok x) = Appends before now text
+PutsOutput text before now (Err Sink) = WroteProperPrefix before now text
+PutsOutput text before now (Err OutOfMemory) = Appends before now []
+PutsOutput text before now (Err other) = ⊥
 
 -- the same of the answer to a line outside the grammar, which ends the handling
-abbrev pub Refuses : (text : List ℕ) → (before now : Option (List ℕ)) → Ending → Type 0
-Refuses text before now BadLine = Appends before now text
-Refuses text before now Sink = IsFront before now text
-Refuses text before now OutOfMemory = Appends before now []
-Refuses text before now other = ⊥
+abbrev pub IsBadLineAnswer : (text : List ℕ) → (before now : Option (List ℕ)) → Ending → Type 0
+IsBadLineAnswer text before now BadLine = Appends before now text
+IsBadLineAnswer text before now Sink = WroteProperPrefix before now text
+IsBadLineAnswer text before now OutOfMemory = Appends before now []
+IsBadLineAnswer text before now other = ⊥
 
 -- ---- one line
 
 -- the command of the line was answered
-pub record IsAnswered (told : Bool) (rules : List Rule) (answers : Answers) (text : List ℕ) (before after : Memory)
+pub record IsLineAnswered (told : Bool) (rules : List Rule) (answers : Answers) (text : List ℕ) (before after : Memory)
     (reply : Reply) (old new : Medium) : Type 0 where
   pub event : Event
   pub spelled : IsLine text (line.Event event)
@@ -104,16 +104,16 @@ Came told medium rules answers text before after old new outcome.End = IsLine te
 Came told medium rules answers text before after old new outcome.Bad =
     IsBad text × (after ≡ before) × (new ≡ old)
 Came told medium rules answers text before after old new (outcome.Answered reply) =
-    IsAnswered told rules answers text before after reply (medium old) (medium new)
+    IsLineAnswered told rules answers text before after reply (medium old) (medium new)
 Came told medium rules answers text before after old new outcome.OutOfMemory =
     (new ≡ old) ⊎ IsStopped told rules answers text before (medium old) (medium new)
 
 -- ---- the run so far
 
--- on a disk that tells its bytes: there is a doubt or none, and the run goes on from there
+-- on a disk whose bytes are modelled: there is a doubt or none, and the run goes on from there
 abbrev pub IsGoing : List Rule → Answers → (start : Medium) → List Turn → Memory → (now : Medium) → Type 0
 IsGoing rules answers start turns memory now = (doubt : Option Doubt) × IsDoubt memory doubt
-    × Going rules answers (world_at start.image) (started (world_at start.image)) turns memory doubt start now
+    × Going rules answers (world_at start.image) (after_start (world_at start.image)) turns memory doubt start now
 
 -- The commands were answered since the start of the run, each with its cause.
 pub record Goes (told : Bool) (rules : List Rule) (answers : Answers) (start : Medium) (turns : List Turn)
@@ -127,7 +127,7 @@ pub record Handled (told : Bool) (rules : List Rule) (answers : Answers) (start 
     (memory : Memory) (medium : Medium) : Type 0 where
   pub turns : List Turn
   pub gives : Give lines (events_of turns)
-  pub wrote : Appends before now (text_of turns)
+  pub wrote : Appends before now (replies_text turns)
   pub goes : Goes told rules answers start turns memory medium
 
 -- How the handling of lines ended, of the lines `all`.
@@ -151,24 +151,24 @@ abbrev pub with_feed : List ℕ → List ℕ
 with_feed line = line ++ 10 ∷ []
 
 -- no line feed is among the bytes
-abbrev pub IsClean : List ℕ → Type 0
-IsClean bytes = has_feed bytes ≡ false
+abbrev pub HasNoFeed : List ℕ → Type 0
+HasNoFeed bytes = has_feed bytes ≡ false
 
--- These bytes were taken: all their whole lines are handled, and of the rest the front is kept.
+-- These bytes were taken: all their whole lines are handled, and of the rest a prefix is kept.
 pub record Reached (told : Bool) (rules : List Rule) (answers : Answers) (start : Medium) (before : Option (List ℕ))
     (given : List ℕ) (now : Option (List ℕ))
     (memory : Memory) (medium : Medium) (kept : List ℕ) (number : ℕ) : Type 0 where
   pub lines : List (List ℕ)
   pub rest : List ℕ
   pub split : given ≡ flat_map with_feed lines ++ rest
-  pub clean : AllByRecursion IsClean lines
-  pub clean_rest : IsClean rest
+  pub clean : AllByRecursion HasNoFeed lines
+  pub clean_rest : HasNoFeed rest
   pub kept_is : kept ≡ take 262145 rest
   pub number_is : number ≡ length lines
   pub handled : Handled told rules answers start before lines now memory medium
 
 -- The input that was read, and what came of it.
-pub record Ran (told : Bool) (rules : List Rule) (answers : Answers) (ending : Ending) (start : Medium)
+pub record RanOverInput (told : Bool) (rules : List Rule) (answers : Answers) (ending : Ending) (start : Medium)
     (left_before left_now before now : Option (List ℕ)) (medium : Medium) : Type 0 where
   pub given : List ℕ
   pub taken : Consumes left_before left_now given
@@ -180,7 +180,7 @@ pub record Ran (told : Bool) (rules : List Rule) (answers : Answers) (ending : E
 
 -- ---- an input that is read whole
 
--- why it was not, after so many bytes
+-- why it was not, after that many bytes
 abbrev pub IsCut : Ending → (count : ℕ) → Type 0
 IsCut OutOfMemory count = ⊤
 IsCut Source count = count < 67108864
@@ -190,7 +190,7 @@ IsCut other count = ⊥
 -- some bytes were taken, and the end was not seen
 pub record Breaks (left_before left_now : Option (List ℕ)) (ending : Ending) : Type 0 where
   pub given : List ℕ
-  pub taken : IsTaken left_before left_now given false
+  pub taken : IsInputTaken left_before left_now given false
   pub cut : IsCut ending (length given)
 
 -- ---- an input that is made of a number
@@ -212,11 +212,13 @@ pub record Counted (told : Bool) (rules : List Rule) (answers : Answers) (start 
   pub tallies : Tallies (replies_of turns) tally
 
 -- A runtime that started on a disk which was formatted before.
-pub record IsBegun (told : Bool) (memory : Memory) (old middle new : Medium) : Type 0 where
+pub record IsServeBegun (told : Bool) (memory : Memory) (old middle new : Medium) : Type 0 where
   pub passes : middle.faults ≡ old.faults
   pub started : new.faults ≡ middle.faults
   pub world : IsTrue told → world_at middle.image ≡ formatted
   pub clean : IsTrue told → (app : ℕ) → app < 8 → IsCleanApp app middle.image
+  pub quiet : Quiet middle
+  pub formats : Elapses old middle
   pub starts : IsTrue told → Starts memory middle new
   pub time : Elapses middle new
 

@@ -45,7 +45,7 @@ abbrev pub is_set : Option (List ℕ) → Bool
 is_set None = false
 is_set (Some value) = bytes_eq value (codes "true")
 
--- a whole number in this range, in front of which a plus may stand
+-- a whole number in this range, before which a plus may stand
 abbrev pub number_in : (least most : ℕ) → List ℕ → Option ℕ
 number_in least most value = only_if (is_unsigned_in least most value) (digits_value 10 (without_leading_plus value))
 
@@ -81,8 +81,8 @@ valued mode None = []
 abbrev pub generate_of : List ℕ → Option JobKind
 generate_of value = option_map Generate (number_in 1 100000 value)
 
-abbrev pub export_of : List ℕ → Option JobKind
-export_of value = option_map (λ target. Export target.0 target.1) (target_of value)
+abbrev pub export_job : List ℕ → Option JobKind
+export_job value = option_map (λ target. Export target.0 target.1) (target_of value)
 
 abbrev pub import_of : List ℕ → Option JobKind
 import_of value = option_map (λ target. Import target.0 target.1) (target_of value)
@@ -91,7 +91,7 @@ import_of value = option_map (λ target. Import target.0 target.1) (target_of va
 abbrev pub modes : (formats : Bool) → (generates : Option (List ℕ)) → (audits : Bool)
     → (exports imports : Option (List ℕ)) → (serves : Bool) → List (Option JobKind)
 modes formats generates audits exports imports serves = flagged Format formats ++ valued generate_of generates
-    ++ flagged Audit audits ++ valued export_of exports ++ valued import_of imports
+    ++ flagged Audit audits ++ valued export_job exports ++ valued import_of imports
     ++ flagged Serve serves
 
 -- at most one is named, and where none is the lines of the input are handled
@@ -100,8 +100,8 @@ only_mode [] = Some Run
 only_mode (mode ∷ []) = mode
 only_mode (mode ∷ other ∷ others) = None
 
-abbrev pub kind_in : List Row → Option JobKind
-kind_in rows = only_mode (modes (is_set (first_of (codes "format") rows)) (first_of (codes "generate") rows)
+abbrev pub job_kind_in : List Row → Option JobKind
+job_kind_in rows = only_mode (modes (is_set (first_of (codes "format") rows)) (first_of (codes "generate") rows)
     (is_set (first_of (codes "audit") rows)) (first_of (codes "export") rows) (first_of (codes "import") rows)
     (is_set (first_of (codes "serve") rows)))
 
@@ -118,7 +118,7 @@ dir_of (Some (b ∷ dir)) = Some (b ∷ dir)
 
 abbrev pub job_in : List Row → Option Job
 job_in rows = do
-  kind ← kind_in rows
+  kind ← job_kind_in rows
   flash ← flash_of (first_of (codes "flash") rows)
   dir ← dir_of (first_of (codes "dir") rows)
   Some (record { dir = dir; kind = kind; flash = flash })
@@ -130,10 +130,10 @@ unfoldable pub job_of : List (List ℕ) → Option Job
 job_of words = if has_matches words then job_in (matches_of command words) else None
 
 -- what was read is what is said, and what was refused says nothing; where memory ran out it is left open
-abbrev pub Reads : {T : Type 0} → Result T WordsError → (said : Option T) → Type 0
-Reads (Ok x) said = said ≡ Some x
-Reads (Err words_error.Refused) said = said ≡ None
-Reads (Err words_error.OutOfMemory) said = ⊤
+abbrev pub ReadsWord : {T : Type 0} → Result T WordsError → (said : Option T) → Type 0
+ReadsWord (Ok x) said = said ≡ Some x
+ReadsWord (Err words_error.Refused) said = said ≡ None
+ReadsWord (Err words_error.OutOfMemory) said = ⊤
 
 -- whether the job reads the input
 abbrev pub reads_input : JobKind → Bool

@@ -4,7 +4,7 @@ ghost use Rattle.std.specs.Prelude.{◌≡◌, ◌≢◌, ◌⊎◌, [], ℕ};
 ghost use Rattle.disk_model.specs.Medium.{Elapses};
 ghost use Rattle.per_base.specs.Causes.{Rose};
 ghost use Rattle.per_audit.specs.AuditText.{audit_text};
-ghost use Rattle.per_run.specs.Jobs.{Audits, IsCaused, Writes};
+ghost use Rattle.per_run.specs.Jobs.{Audits, IsCaused, WritesOutput};
 ghost use Rattle.per_run.specs.declared.words.JobKind.{JobKind};
 
 use crate::endings::{DEVICE, DONE, FOUND, OUT_OF_MEMORY};
@@ -33,7 +33,7 @@ pub fn audit_disk<D: Disk, K: Sink>(alloc: Global, sink: &mut K, disk: &mut D) -
 
 /// Writes what is listed and found.
 fn write_audit<K: Sink>(alloc: Global, sink: &mut K, audit: &Audit) -> u8
-    ensures output { Writes result (K.written sink.old) (K.written sink.new)
+    ensures output { WritesOutput result (K.written sink.old) (K.written sink.new)
         (audit_text audit.now.elements audit.now.findings) }
     ensures sound { result ≡ 0 → audit.now.findings ≡ [] }
     ensures found { result ≡ 8 → audit.now.findings ≢ [] }

@@ -21,12 +21,12 @@ pub enum Ending {
 
 impl Ending {
     ghost use Rattle.std.specs.Prelude.{◌≡◌};
-    ghost use Rattle.run_model.specs.Endings.{status_of};
+    ghost use Rattle.run_model.specs.Endings.{ending_status};
     ghost use Rattle.per_run.specs.Steps.{ending_of};
 
     /// The status of the program.
     pub fn status(self) -> u8
-        ensures { result ≡ status_of (ending_of self) }
+        ensures { result ≡ ending_status (ending_of self) }
     {
         match self {
             Ending::AllRead | Ending::EndLine => DONE,
@@ -42,7 +42,7 @@ impl Ending {
 /// The status where all is done.
 pub const DONE: u8 = 0;
 
-/// The status where the words are refused.
+/// The status where the arguments are invalid.
 pub const REFUSED: u8 = 1;
 
 /// The status where a line is outside the grammar.

@@ -4,7 +4,7 @@ ghost use Rattle.std.specs.Prelude.{◌≡◌, ◌⊎◌, ◌+◌, IfSome, IsSom
 ghost use Rattle.migrate_fns.specs.Stored.{answers_of, rules_of};
 ghost use Rattle.per_base.specs.Causes.{Rose};
 ghost use Rattle.run_model.specs.Lines.{IsWellFormed};
-ghost use Rattle.per_run.specs.Flashes.{FlashRan, HasNotRun, IfRan, IfUnopened, IsHandedBack, IsRefused, IsWrongSize};
+ghost use Rattle.per_run.specs.Flashes.{FlashRan, HasNotRun, IfRan, IfUnopened, IsHandedBack, IsNotOpened, IsWrongSize};
 ghost use Rattle.per_run.specs.Steps.{IsInRange};
 ghost use Rattle.per_run.specs.Words.{job_of, reads_input};
 ghost use Rattle.per_run.specs.declared.words.JobKind.{JobKind};
@@ -36,7 +36,7 @@ pub enum FlashRun<F: Flash> {
 ///
 /// | status | comes |
 /// |---|---|
-/// | 1 | only where the words are refused |
+/// | 1 | only where the arguments are invalid |
 /// | 3 | a call of the flash failed |
 /// | 4 | memory ran out |
 /// | 10 | the flash holds more pages of files than a disk may have, or none of its blocks is spare |
@@ -98,7 +98,7 @@ fn run_over<F: Flash, S: Source, K: Sink>(
         (S.left source.old) (S.left source.new) (K.written sink.old) (K.written sink.new)
         (S.faults source.old) (S.faults source.new) (K.faults sink.old) (K.faults sink.new) flash disk) }
     ensures unread { IfRan result (λ status disk. reads_input kind ≡ false → source.new ≡ source.old) }
-    ensures unopened { IfUnopened result (λ status back. IsRefused F.told status (F.medium flash) (F.medium back)) }
+    ensures unopened { IfUnopened result (λ status back. IsNotOpened F.told status (F.medium flash) (F.medium back)) }
     ensures back { IfUnopened result (λ status back. IsHandedBack F.told (F.medium flash) (F.medium back)) }
     ensures untouched { IfUnopened result (λ status back. (source.new ≡ source.old) × (sink.new ≡ sink.old)) }
     ensures same { IfUnopened result (λ status back. (status ≡ 4) ⊎ (status ≡ 11) → back ≡ flash) }

@@ -8,8 +8,8 @@ ghost use Rattle.per_base.specs.Causes.{Rose};
 ghost use Rattle.command_text.specs.declared.replies.Reply.{Reply};
 ghost use Rattle.command_text.specs.Generated.{generated, generated_lines};
 ghost use Rattle.per_runtime.specs.Memories.{IsRuntime, memory_of};
-ghost use Rattle.per_run.specs.Jobs.{Generates, Writes, summary};
-ghost use Rattle.per_run.specs.Steps.{Counted, Goes, IsBegun, Tallies};
+ghost use Rattle.per_run.specs.Jobs.{Generates, WritesOutput, summary};
+ghost use Rattle.per_run.specs.Steps.{Counted, Goes, IsServeBegun, Tallies};
 
 use crate::answering::{Outcome, answer_line};
 use crate::endings::{DEVICE, DONE, OUT_OF_MEMORY};
@@ -49,7 +49,8 @@ pub fn generate<D: Disk, K: Sink>(
 /// The runtime on a disk that is formatted.
 pub fn start_formatted<D: Disk>(alloc: Global, disk: &mut D) -> Result<Runtime, Stop>
     ensures memory { IfOk result (IsRuntime D.told (D.medium disk.new)) }
-    ensures begun { IfOk result (λ r. (middle : D) × IsBegun D.told (memory_of r) (D.medium disk.old) (D.medium middle)
+    ensures begun { IfOk result (λ r. (middle : D) × IsServeBegun D.told (memory_of r) (D.medium disk.old)
+        (D.medium middle)
         (D.medium disk.new)) }
     ensures cause { IsErrOf result Stop.Device → Rose (D.medium disk.old).faults (D.medium disk.new).faults }
     ensures time { Elapses (D.medium disk.old) (D.medium disk.new) }
@@ -71,7 +72,7 @@ fn generate_on<D: Disk, K: Sink>(
 ) -> u8
     requires number { number ≤ 100000 }
     requires memory { IsRuntime D.told (D.medium disk.old) runtime }
-    ensures job { (old middle : D) → IsBegun D.told (memory_of runtime) (D.medium old) (D.medium middle)
+    ensures job { (old middle : D) → IsServeBegun D.told (memory_of runtime) (D.medium old) (D.medium middle)
         (D.medium disk.old)
         → Generates D.told (rules_of migrations.now) (answers_of migrations.now) number result (K.written sink.old)
         (K.written sink.new) (D.medium old) (D.medium disk.new) }
@@ -91,7 +92,7 @@ fn generate_on<D: Disk, K: Sink>(
 /// Writes what came of the lines that the number gives.
 fn write_summary<K: Sink>(alloc: Global, number: u32, tally: &Tally, sink: &mut K) -> u8
     ensures output { (replies : List Reply) → Tallies replies tally.now
-        → Writes result (K.written sink.old) (K.written sink.new) (summary (number + 5) replies) }
+        → WritesOutput result (K.written sink.old) (K.written sink.new) (summary (number + 5) replies) }
     ensures status { (result ≡ 0) ⊎ ((result ≡ 4) ⊎ ((result ≡ 6) × Rose (K.faults sink.old) (K.faults sink.new))) }
 {
     match tally.summary(alloc, u64::from(number) + 5) {
@@ -100,7 +101,7 @@ fn write_summary<K: Sink>(alloc: Global, number: u32, tally: &Tally, sink: &mut 
     }
 }
 
-/// The runtime behind some of the lines, and what their replies come to.
+/// The runtime after some of the lines, and what their replies come to.
 #[derive(Drop)]
 struct Batch {
     runtime: Runtime,

@@ -1,4 +1,4 @@
-//! The job that makes a storage anew of a text.
+//! The job that rebuilds a storage from a text.
 
 ghost use Rattle.std.specs.Prelude.{◌≡◌, ◌⊎◌, ◌<◌, Result, IfSome, IsSome, codes};
 ghost use Rattle.disk_model.specs.Medium.{Elapses};
@@ -6,7 +6,7 @@ ghost use Rattle.per_base.specs.Causes.{Rose};
 ghost use Rattle.per_base.specs.Errors.{error_number};
 ghost use Rattle.per_base.specs.declared.errors.PerError.{PerError};
 ghost use Rattle.deploy_laws.specs.Apps.{App};
-ghost use Rattle.deploy_rows.specs.Rows.{Answers};
+ghost use Rattle.deploy_rows.specs.Rows.{AnswersRow};
 ghost use Rattle.per_run.specs.Jobs.{AnswersOr, Imports, IsCaused, Makes};
 ghost use Rattle.per_run.specs.declared.words.JobKind.{JobKind};
 
@@ -20,7 +20,7 @@ use per_backup::{import, refusals_are_numbered};
 use per_base::{Name, PerError, Sink, Source};
 use std::alloc::Global;
 
-/// Reads the input to its end, makes the storage of this name of an application anew of it, and says so. Where the
+/// Reads the input to its end, rebuilds the storage of this name of an application from it, and says so. Where the
 /// input is not read to its end, the disk is not touched.
 pub fn import_storage<D: Disk, S: Source, K: Sink>(
     alloc: Global,
@@ -44,7 +44,7 @@ pub fn import_storage<D: Disk, S: Source, K: Sink>(
     }
 }
 
-/// Makes the storage anew of a text, and says so.
+/// Rebuilds the storage from a text, and says so.
 fn import_text<D: Disk, K: Sink>(
     alloc: Global,
     application: u32,
@@ -72,7 +72,7 @@ fn import_text<D: Disk, K: Sink>(
 /// Says that it is done, or writes the line of the refusal.
 fn write_imported<K: Sink>(alloc: Global, sink: &mut K, refused: Option<PerError>) -> u8
     requires { IfSome refused (λ e. IsSome (error_number e)) }
-    ensures answers { (row : Result App PerError) → Answers refused row
+    ensures answers { (row : Result App PerError) → AnswersRow refused row
         → AnswersOr (λ after. codes "ok\n") row result (K.written sink.old) (K.written sink.new) }
     ensures status { ((result ≡ 0) ⊎ (result ≡ 9)) ⊎ ((result ≡ 4)
         ⊎ ((result ≡ 6) × Rose (K.faults sink.old) (K.faults sink.new))) }

@@ -3,7 +3,7 @@
 ghost use Rattle.std.specs.Prelude.{◌≡◌, ◌<◌, ◌≤◌, MatchResult, IfOk, IsErrOf, length, take, true, vec_len};
 ghost use Rattle.std.specs.Io.KnownBytes.{Consumes, IsAtEnd, Keeps};
 ghost use Rattle.per_base.specs.Causes.{HasCause, Rose};
-ghost use Rattle.per_run.specs.Jobs.{IsTaken};
+ghost use Rattle.per_run.specs.Jobs.{IsInputTaken};
 ghost use Rattle.per_run.specs.Steps.{Breaks};
 
 use crate::endings::Ending;
@@ -36,7 +36,7 @@ pub fn read_piece<S: Source>(
     }
 }
 
-/// So many zero bytes.
+/// A buffer of `count` zeros.
 pub fn zeros(alloc: Global, count: usize) -> Result<Vec<u8>, AllocError>
     ensures { IfOk result (λ bytes. vec_len bytes ≡ count) }
 {
@@ -48,7 +48,7 @@ pub fn zeros(alloc: Global, count: usize) -> Result<Vec<u8>, AllocError>
 /// Errors: `Source` where it failed; `TooLong` where it gave [`INPUT_BYTES`] bytes, and its end was not seen;
 /// `OutOfMemory`.
 pub fn read_whole<S: Source>(alloc: Global, source: &mut S) -> Result<Vec<u8>, Ending>
-    ensures read { MatchResult result (λ whole. IsTaken (S.left source.old) (S.left source.new) whole.items true)
+    ensures read { MatchResult result (λ whole. IsInputTaken (S.left source.old) (S.left source.new) whole.items true)
         (λ ending. Breaks (S.left source.old) (S.left source.new) ending) }
     ensures failed { IsErrOf result Ending.Source → Rose (S.faults source.old) (S.faults source.new) }
 {
@@ -65,7 +65,7 @@ fn read_to_end<S: Source>(
     buffer: &mut [u8],
 ) -> Result<Vec<u8>, Ending>
     requires { 0 < length buffer.old }
-    ensures read { MatchResult result (λ whole. IsTaken (S.left source.old) (S.left source.new) whole.items true)
+    ensures read { MatchResult result (λ whole. IsInputTaken (S.left source.old) (S.left source.new) whole.items true)
         (λ ending. Breaks (S.left source.old) (S.left source.new) ending) }
     ensures failed { IsErrOf result Ending.Source → Rose (S.faults source.old) (S.faults source.new) }
 {

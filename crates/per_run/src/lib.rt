@@ -3,11 +3,11 @@
 //! [`per_run`] reads the words of the command line and does the job that they say. The job of plain words starts the
 //! runtime and handles the lines of a source one by one, each with its reply to a sink, until the input ends, a line is
 //! outside the grammar, or something fails. With `--serve` the input has no bound, a line outside the grammar is
-//! answered and ends nothing, and a disk on which nothing lies is formatted first. `--format` formats the disk, and
-//! `--generate N` does that and then handles a large input that is made of a number. `--audit` lists what lies on the
-//! disk and finds what is damaged or lost, and mends nothing. `--export A:S` writes a storage as one text, and
-//! `--import A:S` makes it anew of such a text. The contract says what every status means: which lines were handled,
-//! what was written, what the disk then stands for, what a stop at any moment leaves, and that a failure of the disk,
+//! answered and ends nothing, and an empty disk is formatted first. `--format` formats the disk, and
+//! `--generate N` does that and then handles a synthetic workload, generated from a number. `--audit` lists what is on
+//! the disk and finds what is damaged or lost, and mends nothing. `--export A:S` writes a storage as one text, and
+//! `--import A:S` rebuilds it from such a text. The contract says what every status means: which lines were handled,
+//! what was written, what the disk then denotes, what a stop at any moment leaves, and that a failure of the disk,
 //! the source or the sink ends the program only where its count of faults rose.
 //!
 //! Statuses: the table above [`per_run`] says when 0 to 9 come, and that above [`per_flash`] which come where a flash

@@ -1,11 +1,11 @@
-//! The disk that a run which stays starts on: where nothing lies on it, it is formatted first.
+//! The disk that a run which stays starts on: where it is empty, it is formatted first.
 
 ghost use Rattle.std.specs.Prelude.{◌≡◌, IfOk, IsErrOf, IsTrue, OnErr, OnOk, true, false};
 ghost use Rattle.disk_model.specs.Medium.{Elapses, OnlyReads};
 ghost use Rattle.per_base.specs.Causes.{Rose};
 ghost use Rattle.per_runtime.specs.Memories.{IsRuntime, memory_of};
-ghost use Rattle.per_run.specs.Serves.{IsBlank};
-ghost use Rattle.per_run.specs.Serving.{IsReadied, IsUnready, Says};
+ghost use Rattle.per_run.specs.Serves.{HasNoBytes};
+ghost use Rattle.per_run.specs.Serving.{IsExactly, IsReadied, IsUnready};
 
 use crate::generating::start_formatted;
 use deploy::Stop;
@@ -37,7 +37,7 @@ pub fn prepare<D: Disk>(alloc: Global, disk: &mut D) -> Result<Runtime, Stop>
 
 /// Whether no file of an application has a byte.
 fn is_blank<D: Disk>(disk: &mut D) -> Result<bool, DiskFailed>
-    ensures says { IsTrue D.told → IfOk result (λ blank. Says blank (IsBlank (D.medium disk.old).image)) }
+    ensures says { IsTrue D.told → IfOk result (λ blank. IsExactly blank (HasNoBytes (D.medium disk.old).image)) }
     ensures reads { OnlyReads (D.medium disk.old) (D.medium disk.new) }
     ensures cause { OnErr result (Rose (D.medium disk.old).faults (D.medium disk.new).faults) }
     ensures passes { OnOk result ((D.medium disk.new).faults ≡ (D.medium disk.old).faults) }

@@ -3,7 +3,7 @@
 ghost use Rattle.std.specs.Prelude.{◌≡◌, ◌⊎◌, IsSome};
 ghost use Rattle.per_base.specs.Causes.{Rose};
 ghost use Rattle.per_base.specs.Errors.{error_number};
-ghost use Rattle.per_run.specs.Jobs.{Writes, error_line};
+ghost use Rattle.per_run.specs.Jobs.{WritesOutput, error_line};
 
 use crate::endings::CALL_REFUSED;
 use crate::writing::write_made_output;
@@ -14,7 +14,7 @@ use std::alloc::Global;
 /// Writes the line of an error, and gives the status of a refused call where the sink took all.
 pub fn write_refusal<K: Sink>(alloc: Global, sink: &mut K, error: PerError) -> u8
     requires { IsSome (error_number error) }
-    ensures output { Writes result (K.written sink.old) (K.written sink.new) (error_line error) }
+    ensures output { WritesOutput result (K.written sink.old) (K.written sink.new) (error_line error) }
     ensures status { (result ≡ 9) ⊎ ((result ≡ 4) ⊎ ((result ≡ 6) × Rose (K.faults sink.old) (K.faults sink.new))) }
 {
     let reply = Reply {

@@ -7,7 +7,7 @@ ghost use Rattle.per_base.specs.Causes.{Rose};
 ghost use Rattle.run_model.specs.AppLaws.{AppLaws};
 ghost use Rattle.run_model.specs.Runs.{Run};
 ghost use Rattle.per_runtime.specs.Memories.{IsRuntime, memory_of};
-ghost use Rattle.per_run.specs.Steps.{Blamed, Handled, Ran, Reached};
+ghost use Rattle.per_run.specs.Steps.{Blamed, Handled, RanOverInput, Reached};
 
 use crate::endings::{DEVICE, Ending, OUT_OF_MEMORY};
 use crate::input::{INPUT_BYTES, PIECE_BYTES, read_piece, zeros};
@@ -55,7 +55,8 @@ fn handle_input<D: Disk, S: Source, K: Sink>(
     ensures ran { AppLaws → (start : D)
         → Handled D.told (rules_of migrations.now) (answers_of migrations.now) (D.medium start) (K.written sink.old) []
         (K.written sink.old) (memory_of runtime) (D.medium disk.old)
-        → Ran D.told (rules_of migrations.now) (answers_of migrations.now) result (D.medium start) (S.left source.old)
+        → RanOverInput D.told (rules_of migrations.now) (answers_of migrations.now) result (D.medium start)
+        (S.left source.old)
         (S.left source.new) (K.written sink.old) (K.written sink.new) (D.medium disk.new) }
     ensures blamed { Blamed result (K.faults sink.old) (K.faults sink.new) }
     ensures source_failed { result ≡ Ending.Source → Rose (S.faults source.old) (S.faults source.new) }
@@ -92,7 +93,8 @@ fn read_all<D: Disk, S: Source, K: Sink>(
         → Reached D.told (rules_of migrations.now) (answers_of migrations.now) (D.medium start) before []
         (K.written sink.old) (memory_of reader.old.runtime) (D.medium disk.old) reader.old.kept.items
         reader.old.number
-        → Ran D.told (rules_of migrations.now) (answers_of migrations.now) result (D.medium start) (S.left source.old)
+        → RanOverInput D.told (rules_of migrations.now) (answers_of migrations.now) result (D.medium start)
+        (S.left source.old)
         (S.left source.new) before (K.written sink.new) (D.medium disk.new) }
     ensures blamed { Blamed result (K.faults sink.old) (K.faults sink.new) }
     ensures source_failed { result ≡ Ending.Source → Rose (S.faults source.old) (S.faults source.new) }

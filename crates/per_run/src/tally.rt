@@ -2,7 +2,7 @@
 
 ghost use Rattle.std.specs.Prelude.{◌≡◌, ◌<◌, ◌++◌, ◌^◌, List, [], ◌∷◌, IfOk, length, string_bytes};
 ghost use Rattle.command_text.specs.declared.replies.Reply.{Reply};
-ghost use Rattle.per_run.specs.Jobs.{done_in, error_in, number_in, size_text, summary_text};
+ghost use Rattle.per_run.specs.Jobs.{done_in, error_in, number_in, size_or_dash, summary_text};
 ghost use Rattle.per_run.specs.Steps.{Tallies};
 
 use command_text::{Answer, Reply};
@@ -46,7 +46,7 @@ impl Tally {
         }
     }
 
-    /// The text of what so many lines came to.
+    /// The text of what that many lines came to.
     pub fn summary(&self, alloc: Global, lines: u64) -> Result<String, AllocError>
         ensures { IfOk result (λ text. string_bytes text ≡ summary_text lines self.now.done self.now.other
             self.now.errors self.now.size) }
@@ -61,7 +61,7 @@ impl Tally {
 
 /// The text of the size; a dash where no reply gave one.
 fn print_size(alloc: Global, size: Option<u64>) -> Result<String, AllocError>
-    ensures { IfOk result (λ text. string_bytes text ≡ size_text size) }
+    ensures { IfOk result (λ text. string_bytes text ≡ size_or_dash size) }
 {
     match size {
         Some(number) => format!(in alloc; "{number}"),

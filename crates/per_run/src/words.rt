@@ -4,8 +4,8 @@ ghost use Rattle.std.specs.Prelude.{◌≡◌, ◌≢◌, Some, None, IfOk, fals
 ghost use Rattle.clap.specs.Words.{app_of, found_of, kind_of, rows_of, rule_of};
 ghost use Rattle.clap.specs.declared.error.kind.ErrorKind.{ErrorKind};
 ghost use Rattle.clap.specs.declared.builder.action.ArgAction.TheVariants.{Set, SetTrue};
-ghost use Rattle.per_run.specs.Words.{Reads, application_of, command, dir_of, export_of, flash_of, generate_of};
-ghost use Rattle.per_run.specs.Words.{import_of, is_set, job_in, job_of, kind_in, modes, name_of, named_rule};
+ghost use Rattle.per_run.specs.Words.{ReadsWord, application_of, command, dir_of, export_job, flash_of, generate_of};
+ghost use Rattle.per_run.specs.Words.{import_of, is_set, job_in, job_kind_in, job_of, modes, name_of, named_rule};
 ghost use Rattle.per_run.specs.Words.{number_in, only_mode, target_of};
 
 use clap::error::ErrorKind;
@@ -29,8 +29,8 @@ pub struct Job {
 pub enum JobKind {
     /// The lines of the input are handled.
     Run,
-    /// The same without a bound on the input, where a line outside the grammar is answered and ends nothing, and a disk
-    /// on which nothing lies is formatted first.
+    /// The same without a bound on the input, where a line outside the grammar is answered and ends nothing, and an
+    /// empty disk is formatted first.
     Serve,
     /// The disk is formatted for all applications.
     Format,
@@ -40,7 +40,7 @@ pub enum JobKind {
     Audit,
     /// The storage of this name of an application, 0 to 7, is written as one text, and nothing is mended.
     Export(u8, Name),
-    /// The storage of this name of an application, 0 to 7, is made anew of the text that the input is.
+    /// The storage of this name of an application, 0 to 7, is rebuilt from the text that the input is.
     Import(u8, Name),
 }
 
@@ -126,7 +126,7 @@ fn error_of(error: &Error) -> WordsError
 
 /// The job that the matches say.
 fn job_in(alloc: Global, matches: &ArgMatches<'_>) -> Result<Job, WordsError>
-    ensures { Reads result (job_in (rows_of (found_of matches.now))) }
+    ensures { ReadsWord result (job_in (rows_of (found_of matches.now))) }
 {
     Ok(Job {
         kind: kind_in(alloc, matches)?,
@@ -137,7 +137,7 @@ fn job_in(alloc: Global, matches: &ArgMatches<'_>) -> Result<Job, WordsError>
 
 /// The kind of job that the matches say.
 fn kind_in(alloc: Global, matches: &ArgMatches<'_>) -> Result<JobKind, WordsError>
-    ensures { Reads result (kind_in (rows_of (found_of matches.now))) }
+    ensures { ReadsWord result (job_kind_in (rows_of (found_of matches.now))) }
 {
     only_mode(
         alloc,
@@ -160,7 +160,7 @@ fn only_mode(
     imports: Option<&str>,
     serves: bool,
 ) -> Result<JobKind, WordsError>
-    ensures { Reads result (only_mode (modes formats (option_map (λ text. text.now) generates.entry) audits
+    ensures { ReadsWord result (only_mode (modes formats (option_map (λ text. text.now) generates.entry) audits
         (option_map (λ text. text.now) exports.entry) (option_map (λ text. text.now) imports.entry) serves)) }
 {
     match (formats, generates, audits, exports, imports, serves) {
@@ -187,22 +187,22 @@ fn is_set(value: Option<&str>) -> bool
 
 /// The number is a whole one from 1 to 100,000.
 fn generate_of(text: &str) -> Result<JobKind, WordsError>
-    ensures { Reads result (generate_of text.now) }
+    ensures { ReadsWord result (generate_of text.now) }
 {
     Ok(JobKind::Generate(number_in(1, 100_000, text)?))
 }
 
-/// The storage is named behind its application.
+/// The storage is named after its application.
 fn export_of(alloc: Global, text: &str) -> Result<JobKind, WordsError>
-    ensures { Reads result (export_of text.now) }
+    ensures { ReadsWord result (export_job text.now) }
 {
     let (application, name) = target_of(alloc, text)?;
     Ok(JobKind::Export(application, name))
 }
 
-/// The storage is named behind its application.
+/// The storage is named after its application.
 fn import_of(alloc: Global, text: &str) -> Result<JobKind, WordsError>
-    ensures { Reads result (import_of text.now) }
+    ensures { ReadsWord result (import_of text.now) }
 {
     let (application, name) = target_of(alloc, text)?;
     Ok(JobKind::Import(application, name))
@@ -210,7 +210,7 @@ fn import_of(alloc: Global, text: &str) -> Result<JobKind, WordsError>
 
 /// How many blocks the flash has, where one is named: 4 to 4096.
 fn flash_of(value: Option<&str>) -> Result<Option<u32>, WordsError>
-    ensures { Reads result (flash_of (option_map (λ text. text.now) value.entry)) }
+    ensures { ReadsWord result (flash_of (option_map (λ text. text.now) value.entry)) }
 {
     match value {
         Some(text) => Ok(Some(number_in(4, 4096, text)?)),
@@ -220,7 +220,7 @@ fn flash_of(value: Option<&str>) -> Result<Option<u32>, WordsError>
 
 /// The word that names a folder; it is not empty.
 fn dir_of(alloc: Global, value: Option<&str>) -> Result<ValueText, WordsError>
-    ensures { Reads result (dir_of (option_map (λ text. text.now) value.entry)) }
+    ensures { ReadsWord result (dir_of (option_map (λ text. text.now) value.entry)) }
 {
     match value {
         Some("") | None => Err(WordsError::Refused),
@@ -230,7 +230,7 @@ fn dir_of(alloc: Global, value: Option<&str>) -> Result<ValueText, WordsError>
 
 /// A whole number in this range.
 fn number_in(least: u32, most: u32, text: &str) -> Result<u32, WordsError>
-    ensures { Reads result (number_in least most text.now) }
+    ensures { ReadsWord result (number_in least most text.now) }
 {
     match text.parse::<u32>() {
         Ok(number) if least <= number && number <= most => Ok(number),
@@ -240,7 +240,7 @@ fn number_in(least: u32, most: u32, text: &str) -> Result<u32, WordsError>
 
 /// An application and the name of a storage, as `3:fav`.
 fn target_of(alloc: Global, text: &str) -> Result<(u8, Name), WordsError>
-    ensures { Reads result (target_of text.now) }
+    ensures { ReadsWord result (target_of text.now) }
 {
     match text.split_once(':') {
         Some((application, name)) => Ok((application_of(application)?, name_of(alloc, name)?)),
@@ -250,7 +250,7 @@ fn target_of(alloc: Global, text: &str) -> Result<(u8, Name), WordsError>
 
 /// The digit of an application.
 fn application_of(text: &str) -> Result<u8, WordsError>
-    ensures { Reads result (application_of text.now) }
+    ensures { ReadsWord result (application_of text.now) }
 {
     match text.as_bytes() {
         [digit @ b'0'..=b'7'] => Ok(*digit - b'0'),
@@ -260,7 +260,7 @@ fn application_of(text: &str) -> Result<u8, WordsError>
 
 /// A name in the grammar of names.
 fn name_of(alloc: Global, text: &str) -> Result<Name, WordsError>
-    ensures { Reads result (name_of text.now) }
+    ensures { ReadsWord result (name_of text.now) }
 {
     match Name::new(alloc, text) {
         Ok(name) => Ok(name),

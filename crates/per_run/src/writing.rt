@@ -3,8 +3,8 @@
 ghost use Rattle.std.specs.Prelude.{◌≡◌, ◌⊎◌, ◌≤◌, ℕ, List, OnOk, OnErr, IfOk};
 ghost use Rattle.std.specs.Io.KnownBytes.{Appends};
 ghost use Rattle.per_base.specs.Causes.{HasCause, Rose};
-ghost use Rattle.per_run.specs.Jobs.{IsFront, IsWritten, Writes};
-ghost use Rattle.per_run.specs.Steps.{Blames, Puts};
+ghost use Rattle.per_run.specs.Jobs.{IsOutputWritten, WritesOutput, WroteProperPrefix};
+ghost use Rattle.per_run.specs.Steps.{Blames, PutsOutput};
 
 use crate::endings::{Ending, OUT_OF_MEMORY, SINK};
 use per_base::{Failed, Sink};
@@ -13,7 +13,7 @@ use std::alloc::AllocError;
 /// Hands the whole text to the sink; where the sink fails, it has taken less than the whole.
 pub fn write_all<K: Sink>(sink: &mut K, text: &[u8]) -> Result<(), Failed>
     ensures whole { OnOk result (Appends (K.written sink.old) (K.written sink.new) text.now) }
-    ensures cut { OnErr result (IsFront (K.written sink.old) (K.written sink.new) text.now) }
+    ensures cut { OnErr result (WroteProperPrefix (K.written sink.old) (K.written sink.new) text.now) }
     ensures cause { HasCause (K.faults sink.old) (K.faults sink.new) result }
 {
     let mut done = 0;
@@ -30,7 +30,7 @@ pub fn write_all<K: Sink>(sink: &mut K, text: &[u8]) -> Result<(), Failed>
 /// Hands a text that was made to the sink, where there was memory for it.
 pub fn write_made<K: Sink>(sink: &mut K, made: Result<Vec<u8>, AllocError>) -> Result<(), Ending>
     ensures puts { (text : List ℕ) → IfOk made (λ bytes. bytes.items ≡ text)
-        → Puts text (K.written sink.old) (K.written sink.new) result }
+        → PutsOutput text (K.written sink.old) (K.written sink.new) result }
     ensures blames { Blames (K.faults sink.old) (K.faults sink.new) result }
 {
     match made {
@@ -45,8 +45,8 @@ pub fn write_made<K: Sink>(sink: &mut K, made: Result<Vec<u8>, AllocError>) -> R
 /// Hands the whole output of a job to the sink, and gives the status of the program, which is `done` where the sink
 /// took all.
 pub fn write_output<K: Sink>(sink: &mut K, text: &[u8], done: u8) -> u8
-    requires { IsWritten done }
-    ensures output { Writes result (K.written sink.old) (K.written sink.new) text.now }
+    requires { IsOutputWritten done }
+    ensures output { WritesOutput result (K.written sink.old) (K.written sink.new) text.now }
     ensures status { (result ≡ done) ⊎ ((result ≡ 6) × Rose (K.faults sink.old) (K.faults sink.new)) }
     ensures later { K.faults sink.old ≤ K.faults sink.new }
 {
@@ -58,9 +58,9 @@ pub fn write_output<K: Sink>(sink: &mut K, text: &[u8], done: u8) -> u8
 
 /// The same of an output that was made, where there was memory for it.
 pub fn write_made_output<K: Sink>(sink: &mut K, made: Result<Vec<u8>, AllocError>, done: u8) -> u8
-    requires { IsWritten done }
+    requires { IsOutputWritten done }
     ensures output { (text : List ℕ) → IfOk made (λ bytes. bytes.items ≡ text)
-        → Writes result (K.written sink.old) (K.written sink.new) text }
+        → WritesOutput result (K.written sink.old) (K.written sink.new) text }
     ensures status { (result ≡ done) ⊎ ((result ≡ 4) ⊎ ((result ≡ 6) × Rose (K.faults sink.old) (K.faults sink.new))) }
 {
     match made {

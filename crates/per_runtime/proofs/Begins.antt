@@ -20,8 +20,8 @@ use Rattle.deploy_rows.specs.Rows.{reopened}
 use Rattle.run_model.specs.AppLaws.{AppLaws, OpensRoot}
 use Rattle.run_model.specs.Runtimes.{StartKeeps, Starts, with_disk}
 use Rattle.run_model.specs.Runtimes as memory
-use Rattle.run_model.specs.Starting.{Opened, keeps_worlds, open_next, open_none, opened_keeps, which}
-use Rattle.run_model.specs.Worlds.{Application, all_resting, disk_at, disks, started, world_at}
+use Rattle.run_model.specs.Starting.{OpenedUpTo, keeps_worlds, open_next, open_none, opened_keeps, which}
+use Rattle.run_model.specs.Worlds.{Application, after_start, all_resting, disk_at, disks, world_at}
 use Rattle.app_storages.specs.Answers.{CallsTo}
 use Rattle.app_runtime.specs.declared.running.Running.{Running}
 use Rattle.app_runtime.specs.Running.{IsRunning, running_in}
@@ -56,7 +56,7 @@ pub root_at : (k a : ℕ) (old new : Medium) → k ≡ a → OpensRoot k old new
 root_at k a old new is opens = subst (λ (n : ℕ). OpensRoot n old new) is opens
 
 -- the opening of one root failed, or memory ran out in it
-pub stops_at : AppLaws → (told : Bool) (a : ℕ) (old now new : Medium) → a < 8 → IsLawful told new → Opened a old now
+pub stops_at : AppLaws → (told : Bool) (a : ℕ) (old now new : Medium) → a < 8 → IsLawful told new → OpenedUpTo a old now
     → Elapses now new → IsOnTheWay a now new → Spares (IsNoSlot (root_place a)) now.image new.image → StartKeeps old new
 stops_at laws told a old now new lta lawful o time way slots = keeps_worlds old new
     (λ b lt clean c s. ⊎_elim

@@ -21,7 +21,7 @@ use Rattle.run_model.specs.Lasting.{IsWorld}
 use Rattle.run_model.specs.Worlds.{Application, Doubt, app_of}
 use Rattle.app_runtime.specs.declared.running.Running.{Running}
 use Rattle.app_runtime.specs.Running.{IsRunning, application}
-use Rattle.per_runtime.specs.Handled.{IfEnded, IsAnswered, IsFailed, IsHandled, IsInProgress}
+use Rattle.per_runtime.specs.Handled.{IfEnded, IsCallInProgress, IsCommandAnswered, IsFailed, IsHandled}
 use Rattle.per_runtime.specs.Memories.{AreRunning}
 use Rattle.per_runtime.proofs.Lifted.{answered_doubtful, answered_sure, failed_sure, is_no, kept, never_fails}
 use Rattle.per_runtime.proofs.Lifted.{stopped_doubtful, stopped_sure}
@@ -37,7 +37,7 @@ found [] n less = absurd (omega (arith, less))
 found (a ∷ apps) zero less = (a, refl)
 found (a ∷ apps) (suc n) less = found apps n (omega (arith, less))
 
--- what is so of the application that lies there is so of each that does
+-- what is so of the application that is there is so of each that does
 pub device_is : (image : Image) (apps : List Running) (n : ℕ) (x : Running) (c : Call) (b : Bool)
     → slice_get apps n ≡ Some x → calls_device (application image x) c ≡ b
     → (a : Running) → slice_get apps n ≡ Some a → calls_device (application image a) c ≡ b
@@ -85,11 +85,11 @@ module _ (laws : AppLaws) (makes : MakesOne) (stays : StaysInUse) (rules : List 
 
   -- answered
 
-  pub answered_use : (reply : Reply) → IsAnswered told rules answers now c a a' old new reply
+  pub answered_use : (reply : Reply) → IsCommandAnswered told rules answers now c a a' old new reply
       → AreRunning told new.image (slice_set apps n a')
   answered_use reply is = in_use is.app is.memory (λ tells. (is.done tells).calls.elsewhere)
 
-  pub answered_steps : (reply : Reply) → IsAnswered told rules answers now c a a' old new reply → IsTrue told
+  pub answered_steps : (reply : Reply) → IsCommandAnswered told rules answers now c a a' old new reply → IsTrue told
       → (doubt : Option Doubt) → IsDoubt (kept now apps b) doubt
       → Stepped rules answers (event.App n c) reply (kept now apps b) (kept now (slice_set apps n a') b) doubt old new
   answered_steps reply is tells None sure = answered_sure laws rules answers told tells old new now n c apps a a' below
@@ -119,7 +119,7 @@ module _ (laws : AppLaws) (makes : MakesOne) (stays : StaysInUse) (rules : List 
 
   -- out of memory
 
-  pub stopped_steps : (IsTrue told → IsInProgress rules answers a.app now c (application old.image a) old new)
+  pub stopped_steps : (IsTrue told → IsCallInProgress rules answers a.app now c (application old.image a) old new)
       → IsTrue told → (doubt : Option Doubt) → IsDoubt (kept now apps b) doubt
       → Stopped rules answers (event.App n c) (kept now apps b) doubt old new
   stopped_steps is tells None sure = stopped_sure laws rules answers told tells old new now n c apps a a' below

@@ -28,7 +28,8 @@ use Rattle.run_model.specs.Runtimes.{WrittenBy, calls_none, is_durable, is_refus
 use Rattle.run_model.specs.Runtimes.{writes_none}
 use Rattle.run_model.specs.Sessions.{Session}
 use Rattle.run_model.specs.Starting.{which}
-use Rattle.run_model.specs.Steps.{AppStep, FailsAs, Leads, calls_device, doubt_after, failure, found_named, goes_on}
+use Rattle.run_model.specs.Steps.{AppStep, FailsAs, Leads, calls_device, doubt_after, failure, found_named}
+use Rattle.run_model.specs.Steps.{passes_refusals}
 use Rattle.run_model.specs.Steps.{root_opened, uses_device}
 use Rattle.run_model.specs.Turns.{IsBlamed}
 use Rattle.run_model.specs.Worlds.{Application, Disks, Doubt, World, app_of, disk_at, disks, is_to_open, update_in}
@@ -37,7 +38,7 @@ use Rattle.app_storages.specs.Answers.{CallsTo}
 use Rattle.app_storages.specs.Handled.{StaysInPlace}
 use Rattle.app_runtime.specs.declared.running.Running.{Running}
 use Rattle.app_runtime.specs.Running.{application, running_in, stage_in}
-use Rattle.per_runtime.specs.Handled.{IsAnswered, IsFailed, IsInProgress, IsLedTo}
+use Rattle.per_runtime.specs.Handled.{IsCallInProgress, IsCommandAnswered, IsFailed, IsLedTo}
 use Rattle.per_runtime.specs.Memories.{AreRunning}
 use Rattle.per_runtime.proofs.Places.{none_some, set_same, some_is}
 use Rattle.per_runtime.proofs.Single.{not_opened}
@@ -83,7 +84,7 @@ never_fails app now a r c r' calm (inr fails) = not_both (uses_device r.disk c)
     (not_opened r (neither (is_to_open r.stage) (uses_device r.disk c) calm).0)
     (both (uses_device (root_opened r).disk c) (is_none (beside_update (update_in (root_opened r).stage) c))
     (both (uses_device (root_opened r).disk c && is_none (beside_update (update_in (root_opened r).stage) c))
-    (goes_on app (root_opened r) now c) fails.0).0).0)
+    (passes_refusals app (root_opened r) now c) fails.0).0).0)
     (neither (is_to_open r.stage) (uses_device r.disk c) calm).1
 
 -- ---- the moment is set
@@ -125,7 +126,7 @@ module _ (laws : AppLaws) (rules : List Rule) (answers : Answers) (told : Bool) 
     (looks : only_plans c ≡ true → is_to_open (stage_in a.stage) ≡ false → IsUnwritten old new)
     (place : is_to_open (stage_in a.stage) ≡ false
     → StaysInPlace a.app c (application old.image a) old.image new.image) where
-  -- the world before, and what lies on the disk then
+  -- the world before, and what is on the disk then
   before : Option Doubt → World
   before doubt = world old.image now apps doubt
 
@@ -245,18 +246,18 @@ module _ (laws : AppLaws) (rules : List Rule) (answers : Answers) (told : Bool) 
 
   -- ---- it was answered, without a doubt before it
 
-  done_calls : (reply : Reply) → IsAnswered told rules answers now c a a' old new reply
+  done_calls : (reply : Reply) → IsCommandAnswered told rules answers now c a a' old new reply
       → CallsTo n (app_at new.image n) old new
   done_calls reply h = subst (λ k. CallsTo k (app_at new.image k) old new) number (h.done tells).calls
 
-  done_step : (reply : Reply) (doubt : Option Doubt) → IsAnswered told rules answers now c a a' old new reply
+  done_step : (reply : Reply) (doubt : Option Doubt) → IsCommandAnswered told rules answers now c a a' old new reply
       → AppStep rules answers n now (app_of (before doubt) n) c (reply, application new.image a')
   done_step reply doubt h = subst (λ (r : Application).
       AppStep rules answers n now r c (reply, application new.image a')) (sym (it_is doubt))
       (subst (λ k. AppStep rules answers k now (application old.image a) c (reply, application new.image a')) number
       (h.done tells).step)
 
-  blamed_on : (reply : Reply) → IsAnswered told rules answers now c a a' old new reply
+  blamed_on : (reply : Reply) → IsCommandAnswered told rules answers now c a a' old new reply
       → IsBlamed old.faults new.faults reply
   blamed_on reply h = record {
     later = time.faults;
@@ -281,7 +282,8 @@ module _ (laws : AppLaws) (rules : List Rule) (answers : Answers) (told : Bool) 
       ∙ disks_set (before None) n (application new.image a') doubt'
       ∙ ap (λ (k : ℕ). slice_set (disks (before None)) n (app_at new.image k)) number'
 
-  pub answered_sure : (reply : Reply) (b : Bool) → false ≡ b → IsAnswered told rules answers now c a a' old new reply
+  pub answered_sure : (reply : Reply) (b : Bool) → false ≡ b → IsCommandAnswered told rules answers now c a a' old new
+      reply
       → Quiet old
       → ((doubt : Option Doubt) → IsWorld (world new.image now (slice_set apps n a') doubt))
       → Stepped rules answers (event.App n c) reply (kept now apps b) (kept now (slice_set apps n a') b) None old new
@@ -337,7 +339,7 @@ module _ (laws : AppLaws) (rules : List Rule) (answers : Answers) (told : Bool) 
   }
 
   pub answered_doubtful : (reply : Reply) (d : Doubt) (b : Bool) → true ≡ b
-      → IsAnswered told rules answers now c a a' old new reply → calls_device (application old.image a) c ≡ false
+      → IsCommandAnswered told rules answers now c a a' old new reply → calls_device (application old.image a) c ≡ false
       → ((doubt : Option Doubt) → IsWorld (world new.image now (slice_set apps n a') doubt))
       → Stepped rules answers (event.App n c) reply (kept now apps b) (kept now (slice_set apps n a') b) (Some d) old
       new
@@ -429,7 +431,8 @@ module _ (laws : AppLaws) (rules : List Rule) (answers : Answers) (told : Bool) 
 
   -- ---- memory ran out
 
-  pub stopped_sure : (b : Bool) → false ≡ b → IsInProgress rules answers a.app now c (application old.image a) old new
+  pub stopped_sure : (b : Bool) → false ≡ b → IsCallInProgress rules answers a.app now c
+      (application old.image a) old new
       → Quiet old
       → Stopped rules answers (event.App n c) (kept now apps b) None old new
   unfolding before after was e

@@ -1,4 +1,4 @@
--- Things that lie under numbers, one of them set; and a result that was tested.
+-- Things stored under numbers, one of them set; and a result that was tested.
 use Rattle.std.specs.Prelude.{◌≡◌, ◌≢◌, ◌⊎◌, ◌<◌, ℕ, zero, suc, List, [], ◌∷◌, length, true, false, Some, None, Result}
 use Rattle.std.specs.Prelude.{Ok, Err, is_err, OnErr, OnOk, slice_get, slice_set}
 use Rattle.std.proofs.Common.{refl, sym, ap, inl, inr, ⊎_elim, arith, true≢false}
@@ -19,7 +19,7 @@ get_set_other (y ∷ ys) zero (suc k) x differs = refl
 get_set_other (y ∷ ys) (suc n) zero x differs = refl
 get_set_other (y ∷ ys) (suc n) (suc k) x differs = get_set_other ys n k x (λ e. differs (ap suc e))
 
--- what lies there, set again, changes nothing
+-- what is there, set again, changes nothing
 pub set_same : {A : Type 0} → (xs : List A) (n : ℕ) (x : A) → slice_get xs n ≡ Some x → slice_set xs n x ≡ xs
 set_same [] n x e = refl
 set_same {A} (y ∷ ys) zero x e = let it : x ≡ y = cc in ap (λ (z : A). z ∷ ys) it

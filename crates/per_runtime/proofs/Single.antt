@@ -1,4 +1,4 @@
--- A call of one application: as its row says where its root is in use, and behind the opening of a root that is marked.
+-- A call of one application: as its row says where its root is in use, and after the opening of a root that is marked.
 use Rattle.std.specs.Prelude.{◌≡◌, ◌≢◌, ◌⊎◌, ℕ, List, Bool, true, false, cond, ◌||◌, IsTrue, Some, None, Result, Ok}
 use Rattle.std.specs.Prelude.{Err, IfOk, IsErrOf, OnOk, slice_get}
 use Rattle.std.proofs.Common.{refl, sym, ap, ◌∙◌, subst, inl, inr, ⊎_elim, true≢false}
@@ -37,7 +37,7 @@ use Rattle.app_runtime.specs.declared.running.Running.{Running}
 use Rattle.app_runtime.specs.Running.{IsRunning, application, running_in, stage_in}
 use Rattle.per_runtime.proofs.Places.{none_some}
 use Rattle.per_runtime.proofs.Worlds.{MakesOne}
-use Rattle.per_runtime.specs.Handled.{IfEnded, IsAnswered, IsFailed, IsInProgress, IsLedTo}
+use Rattle.per_runtime.specs.Handled.{IfEnded, IsCallInProgress, IsCommandAnswered, IsFailed, IsLedTo}
 
 -- ---- a root that is in use
 
@@ -84,8 +84,9 @@ pub called : (told : Bool) (rules : List Rule) (answers : Answers) (now : ℕ) (
     → (IsErrOf result Device → Rose old.faults new.faults) → OnOk result (new.faults ≡ old.faults)
     → IfOk result (λ reply. reply.answer ≢ answer.Error error.PhysicalStorageFailure)
     → IfOk result (λ reply. HasText reply.answer)
-    → IfEnded result (IsAnswered told rules answers now c a a' old new) (IsFailed told rules answers now c a a' old new)
-    (IsTrue told → IsInProgress rules answers a.app now c (application old.image a) old new)
+    → IfEnded result (IsCommandAnswered told rules answers now c a a' old new)
+    (IsFailed told rules answers now c a a' old new)
+    (IsTrue told → IsCallInProgress rules answers a.app now c (application old.image a) old new)
 called told rules answers now c a a' old new (Ok reply) rests app memory answered failed stopped quiet unwritten cause
     passes unfailed text = record {
       app = app;
@@ -233,7 +234,7 @@ module _ (mend : RootMendLaw) (told : Bool) (rules : List Rule) (answers : Answe
   -- ---- the opening failed
 
   unopened : (mid : Medium) → IsTrue told → ((next : App) → IsLater (app_at old.image a.app) next
-      → CallsTo a.app next old mid) → IsInProgress rules answers a.app now c (application old.image a) old mid
+      → CallsTo a.app next old mid) → IsCallInProgress rules answers a.app now c (application old.image a) old mid
   unopened mid tells way = record {
     next = app_at old.image a.app;
     leads = inl refl;
@@ -245,9 +246,9 @@ module _ (mend : RootMendLaw) (told : Bool) (rules : List Rule) (answers : Answe
   pub opening_failed : (stop : Stop) → IsRunning told mid.image b → running_in b ≡ running_in a
       → (IsTrue told → (next : App) → IsLater (app_at old.image a.app) next → CallsTo a.app next old mid)
       → (stop ≡ Device → Rose old.faults mid.faults)
-      → IfEnded (Err stop) (IsAnswered told rules answers now c a b old mid)
+      → IfEnded (Err stop) (IsCommandAnswered told rules answers now c a b old mid)
       (IsFailed told rules answers now c a b old mid)
-      (IsTrue told → IsInProgress rules answers a.app now c (application old.image a) old mid)
+      (IsTrue told → IsCallInProgress rules answers a.app now c (application old.image a) old mid)
   opening_failed Device memory kept way cause = record {
     app = same;
     memory = memory;
@@ -291,10 +292,10 @@ module _ (mend : RootMendLaw) (told : Bool) (rules : List Rule) (answers : Answe
         (subst (λ (k : ℕ). IsLater (app_at mid.image k) next) same later)
         (subst (λ (k : ℕ). CallsTo k next mid new) same calls)
 
-    -- what lay there before is what lies there with its root opened, but for the copies that lacked it
+    -- what was there before is what is there with its root opened, but for the copies that lacked it
     progress_by : IsTrue told → (next : App) → IsLedTo rules answers b.app now c (application mid.image b) next
         → IsLater (app_at mid.image b.app) next → CallsTo b.app next mid new
-        → IsInProgress rules answers a.app now c (application old.image a) old new
+        → IsCallInProgress rules answers a.app now c (application old.image a) old new
     progress_by tells next (inl is) later calls = record {
       next = app_at old.image a.app;
       leads = inl refl;
@@ -310,8 +311,8 @@ module _ (mend : RootMendLaw) (told : Bool) (rules : List Rule) (answers : Answe
       calls = calls_on next tells later calls;
     }
 
-    progress_on : IsTrue told → IsInProgress rules answers b.app now c (application mid.image b) mid new
-        → IsInProgress rules answers a.app now c (application old.image a) old new
+    progress_on : IsTrue told → IsCallInProgress rules answers b.app now c (application mid.image b) mid new
+        → IsCallInProgress rules answers a.app now c (application old.image a) old new
     progress_on tells p = progress_by tells p.next p.leads p.later p.calls
 
     fails_on : IsTrue told → FailsAs b.app now (app_at new.image b.app) (application mid.image b) c
@@ -326,12 +327,12 @@ module _ (mend : RootMendLaw) (told : Bool) (rules : List Rule) (answers : Answe
         (found_named (root_opened (application mid.image b)) c))) same call))
 
     pub opened_first : (result : Result Reply Stop) → Elapses old mid
-        → IfEnded result (IsAnswered told rules answers now c b a' mid new)
+        → IfEnded result (IsCommandAnswered told rules answers now c b a' mid new)
         (IsFailed told rules answers now c b a' mid new)
-        (IsTrue told → IsInProgress rules answers b.app now c (application mid.image b) mid new)
-        → IfEnded result (IsAnswered told rules answers now c a a' old new)
+        (IsTrue told → IsCallInProgress rules answers b.app now c (application mid.image b) mid new)
+        → IfEnded result (IsCommandAnswered told rules answers now c a a' old new)
         (IsFailed told rules answers now c a a' old new)
-        (IsTrue told → IsInProgress rules answers a.app now c (application old.image a) old new)
+        (IsTrue told → IsCallInProgress rules answers a.app now c (application old.image a) old new)
     opened_first (Ok reply) first h = record {
       app = h.app ∙ same;
       memory = h.memory;

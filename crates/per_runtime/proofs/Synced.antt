@@ -9,11 +9,11 @@ use Rattle.disk_model.specs.Image.{Image}
 use Rattle.disk_model.specs.Laws.{cases_on, elapses_on, rose_before}
 use Rattle.disk_model.specs.Medium.{Medium, Quiet, Elapses, EachCase, IsLawful, OnlyReads, WritesNothing}
 use Rattle.disk_model.specs.lemmas.Frames.{settled_on}
-use Rattle.element_maps.specs.Sessions.{synced_view}
+use Rattle.element_maps.specs.Sessions.{view_once_synced}
 use Rattle.element_state.specs.Written.{IsWithin, map_cost}
 use Rattle.element_store.specs.Committing.{index_length}
 use Rattle.run_model.specs.Found.{shape_in}
-use Rattle.run_model.specs.Sessions.{seen_of, synced_of}
+use Rattle.run_model.specs.Sessions.{seen_of, synced_in_session}
 use Rattle.per_base.specs.Causes.{Rose}
 use Rattle.migrate_fns.specs.Rules.{Rule, Answers}
 use Rattle.command_text.specs.declared.calls.Call.{Call}
@@ -61,7 +61,7 @@ more : (copies contents index before before' after : ℕ) → before ≡ before'
 more copies contents index before before' after same bound =
     subst (λ (k : ℕ). after ≤ k + copies * (contents + index + 88)) same bound
 
--- a command behind a sync that did not fail
+-- a command after a sync that did not fail
 blamed_behind : (reply : Reply) (old mid new : Medium) → old.faults ≤ mid.faults → mid.faults ≡ old.faults
     → IsBlamed mid.faults new.faults reply → IsBlamed old.faults new.faults reply
 blamed_behind reply old mid new earlier same blamed = record {
@@ -78,14 +78,14 @@ module _ (rules : List Rule) (answers : Answers) (told : Bool) (n : ℕ) (c : Ca
   before : World
   before = world_of old.image m (Some d)
 
-  -- the world behind the sync is the same but for the doubt
+  -- the world after the sync is the same but for the doubt
   synced_is : world_of mid.image (sure m) None ≡ without_doubt before
   unfolding before
   synced_is = ap (λ (i : Image). world_of i (sure m) None) nothing.image
 
   module _ (lawful : IsLawful told mid) (quiet : Quiet mid) (passes : mid.faults ≡ old.faults)
       (later : Elapses mid new) where
-    -- a case of the sync, or one behind it: it might have come before the command, or leaves all as it was
+    -- a case of the sync, or one after it: it might have come before the command, or leaves all as it was
     settled_case : (files : ℕ → Type 0) (x : Case) → mid.now x → IsSettledOn files old.image x
     settled_case files x at = settled_on files
         (subst (λ (i : Image). IsSettledAt i x) nothing.image (quiet x at))
@@ -120,8 +120,9 @@ module _ (rules : List Rule) (answers : Answers) (told : Bool) (n : ℕ) (c : Ca
         record {
           same = λ same. within.same same ∙ nothing.written;
           at_most = λ v others opens. more (shape_in n f).place.copies
-              (map_cost f.config.kind (synced_of s) (seen_of s))
-              (index_length f.config.kind (synced_view (shape_in n f) v (synced_of s) (seen_of s)).entries) mid.written
+              (map_cost f.config.kind (synced_in_session s) (seen_of s))
+              (index_length f.config.kind (view_once_synced (shape_in n f) v (synced_in_session s)
+              (seen_of s)).entries) mid.written
               old.written new.written nothing.written (within.at_most v others opens);
         }
 
@@ -228,8 +229,9 @@ module _ (rules : List Rule) (answers : Answers) (told : Bool) (n : ℕ) (c : Ca
         written = λ durable f s found there. record {
           same = λ same. reads.written;
           at_most = λ v others opens. within (shape_in n f).place.copies
-              (map_cost f.config.kind (synced_of s) (seen_of s))
-              (index_length f.config.kind (synced_view (shape_in n f) v (synced_of s) (seen_of s)).entries) old.written
+              (map_cost f.config.kind (synced_in_session s) (seen_of s))
+              (index_length f.config.kind (view_once_synced (shape_in n f) v (synced_in_session s)
+              (seen_of s)).entries) old.written
               mid.written reads.written;
         };
         blamed = record { later = time.faults; cause = λ four. rose; passes = λ other. absurd (other refl) };
@@ -277,7 +279,7 @@ module _ (rules : List Rule) (answers : Answers) (told : Bool) (n : ℕ) (c : Ca
         (calls_in told old.image r n c (Some d) tells below used.apps calls)
         nothing time lawful quiet passes later (stops tells None refl)
 
-    -- behind the sync the command went on without a doubt
+    -- after the sync the command went on without a doubt
     pub resumed : (Behind Whole : Type 0) (result : Result Reply Stop)
         → IsCommand told rules answers (event.App n c) (record r { in_doubt = false }) r' Behind mid new result
         → IsCommand told rules answers (event.App n c) r r' Whole old new result

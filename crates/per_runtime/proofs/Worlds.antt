@@ -16,7 +16,7 @@ use Rattle.run_model.specs.Runtimes.{with_disk}
 use Rattle.run_model.specs.Runtimes as memory
 use Rattle.run_model.specs.Starting.{which}
 use Rattle.run_model.specs.Worlds.{Application, World, Disks, Doubt, disks, disk_at, or_none, or_idle, resting, app_of}
-use Rattle.run_model.specs.Worlds.{with_app, all_resting, world_at, closed}
+use Rattle.run_model.specs.Worlds.{with_app, all_resting, world_at, after_run}
 use Rattle.app_runtime.specs.declared.running.Running.{Running}
 use Rattle.app_runtime.specs.Running.{IsRunning, application, running_in}
 use Rattle.per_runtime.specs.Memories.{AreRunning}
@@ -106,14 +106,14 @@ app_is image now apps doubt n a there number = ap or_idle (there_in image apps n
 length_in : (apps : List Running) → length apps ≡ 8 → length (map running_in apps) ≡ 8
 length_in apps eight = length-map apps running_in ∙ eight
 
--- the image stands for what the world says of each application
+-- the image denotes what the world says of each application
 pub disk_is : (image : Image) (now : ℕ) (apps : List Running) (doubt : Option Doubt) → length apps ≡ 8 → (b : ℕ) → b < 8
     → app_at image b ≡ disk_at (disks (world image now apps doubt)) b
 disk_is image now apps doubt eight b lt = let less : b < length (map running_in apps) =
     omega (arith, lt, length_in apps eight) in
     sym (disk_there (app_at image) 0 (map running_in apps) b less ∙ ap (app_at image) (from_none b))
 
--- and what lies on the disk of it is among what lies on the disk
+-- and what is on the disk of it is among what is on the disk
 pub disk_in : (image : Image) (now : ℕ) (apps : List Running) (doubt : Option Doubt) (n : ℕ) (a : Running)
     → slice_get apps n ≡ Some a → a.app ≡ n
     → slice_get (disks (world image now apps doubt)) n ≡ Some (app_at image n)
@@ -150,7 +150,7 @@ world_is old new now n apps a' doubt doubt' eight number same =
     ∙ ap (λ (k : ℕ). slice_set (with_disk (app_at old) 0 (map running_in apps)) n
     (as_app (app_at new k) (running_in a'))) (from_none n ∙ sym number))
 
--- what lies on the disk then
+-- what is on the disk then
 pub disks_set : (w : World) (n : ℕ) (x : Application) (doubt : Option Doubt)
     → disks (record (with_app w n x) { doubt = doubt }) ≡ slice_set (disks w) n x.disk
 disks_set w n x doubt = map-set (λ (a : Application). a.disk) w.apps n x
@@ -226,9 +226,9 @@ pub are_same : (told : Bool) (old new : Image) (apps : List Running) → new ≡
     → AreRunning told new apps
 are_same told old new apps same are = subst (λ (i : Image). AreRunning told i apps) (sym same) are
 
--- what is left of the world at the end is what the image stands for
+-- what is left of the world at the end is what the image denotes
 pub closed_is : (image : Image) (now : ℕ) (apps : List Running) (doubt : Option Doubt) → length apps ≡ 8
-    → world_at image ≡ closed (world image now apps doubt)
+    → world_at image ≡ after_run (world image now apps doubt)
 unfolding world_at
 closed_is image now apps doubt eight = ap (λ (xs : List Application). record { now = 0; apps = xs; doubt = None })
     (subst (λ (n : ℕ). all_resting (app_at image) 0 n ≡ map (λ (a : Application). resting a.disk)

@@ -8,7 +8,7 @@ use Rattle.deploy.specs.declared.errors.Stop.{Stop}
 use Rattle.deploy.specs.declared.errors.Stop.TheVariants.{Device, OutOfMemory}
 use Rattle.run_model.specs.Runtimes.{StartKeeps}
 use Rattle.run_model.specs.Runtimes as memory
-use Rattle.run_model.specs.Starting.{Opened}
+use Rattle.run_model.specs.Starting.{OpenedUpTo}
 use Rattle.run_model.specs.Worlds.{at_rest, none_open}
 use Rattle.app_runtime.specs.declared.running.Running.{Running}
 use Rattle.app_runtime.specs.Running.{IsRunning, running_in}
@@ -25,7 +25,7 @@ pub record AreOpened (told : Bool) (count : ℕ) (apps : List Running) (old now 
   pub many : length apps ≡ count
   pub each : (app : ℕ) (a : Running) → slice_get apps app ≡ Some a
       → (a.app ≡ app) × IsRunning told now.image a × (running_in a ≡ idle)
-  pub opened : IsTrue told → Opened count old now
+  pub opened : IsTrue told → OpenedUpTo count old now
   pub quiet : Quiet now
   pub passes : now.faults ≡ old.faults
   pub time : Elapses old now

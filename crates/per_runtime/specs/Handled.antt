@@ -30,26 +30,26 @@ IfEnded (Err Device) answered failed stopped = failed
 IfEnded (Err OutOfMemory) answered failed stopped = stopped
 
 -- the application is as the step leads to
-pub record IsDone (rules : List Rule) (answers : Answers) (app now : ℕ) (c : Call) (before after : Application)
+pub record IsStepDone (rules : List Rule) (answers : Answers) (app now : ℕ) (c : Call) (before after : Application)
     (reply : Reply) (old new : Medium) : Type 0 where
   pub step : AppStep rules answers app now before c (reply, after)
   pub later : IsLater before.disk after.disk
   pub calls : CallsTo app (app_at new.image app) old new
   pub clean : IsCleanApp app old.image → IsCleanApp app new.image
 
--- what lies on the disk after a call that is in progress: what its step leads to, or what lay there before
+-- what is on the disk after a call that is in progress: what its step leads to, or what was there before
 abbrev pub IsLedTo : List Rule → Answers → (app now : ℕ) → Call → (before : Application) → App → Type 0
 IsLedTo rules answers app now c before next = (next ≡ before.disk)
     ⊎ ((outcome : Outcome) × AppStep rules answers app now before c outcome × (next ≡ outcome.1.disk))
 
-pub record IsInProgress (rules : List Rule) (answers : Answers) (app now : ℕ) (c : Call) (before : Application)
+pub record IsCallInProgress (rules : List Rule) (answers : Answers) (app now : ℕ) (c : Call) (before : Application)
     (old new : Medium) : Type 0 where
   pub next : App
   pub leads : IsLedTo rules answers app now c before next
   pub later : IsLater before.disk next
   pub calls : CallsTo app next old new
 
-pub record IsAnswered (told : Bool) (rules : List Rule) (answers : Answers) (now : ℕ) (c : Call) (a a' : Running)
+pub record IsCommandAnswered (told : Bool) (rules : List Rule) (answers : Answers) (now : ℕ) (c : Call) (a a' : Running)
     (old new : Medium) (reply : Reply) : Type 0 where
   pub app : a'.app ≡ a.app
   pub memory : IsRunning told new.image a'
@@ -58,7 +58,8 @@ pub record IsAnswered (told : Bool) (rules : List Rule) (answers : Answers) (now
   pub unfailed : reply.answer ≢ answer.Error error.PhysicalStorageFailure
   pub quiet : Quiet old → Quiet new
   pub unwritten : is_refusal reply.answer ≡ true → is_to_open (stage_in a.stage) ≡ false → IsUnwritten old new
-  pub done : IsTrue told → IsDone rules answers a.app now c (application old.image a) (application new.image a') reply
+  pub done : IsTrue told → IsStepDone rules answers a.app now c (application old.image a)
+      (application new.image a') reply
       old new
 
 pub record IsFailed (told : Bool) (rules : List Rule) (answers : Answers) (now : ℕ) (c : Call) (a a' : Running)
@@ -68,14 +69,14 @@ pub record IsFailed (told : Bool) (rules : List Rule) (answers : Answers) (now :
   pub cause : Rose old.faults new.faults
   pub fails : IsTrue told → FailsAs a.app now (app_at new.image a.app) (application old.image a) c
       (application new.image a')
-  pub progress : IsTrue told → IsInProgress rules answers a.app now c (application old.image a) old new
+  pub progress : IsTrue told → IsCallInProgress rules answers a.app now c (application old.image a) old new
 
 -- `Untouched` says that the disk is as it was
 pub record IsHandled (told : Bool) (rules : List Rule) (answers : Answers) (now : ℕ) (c : Call) (a a' : Running)
     (Untouched : Type 0) (old new : Medium) (result : Result Reply Stop) : Type 0 where
-  pub end : IfEnded result (IsAnswered told rules answers now c a a' old new)
+  pub end : IfEnded result (IsCommandAnswered told rules answers now c a a' old new)
       (IsFailed told rules answers now c a a' old new)
-      (IsTrue told → IsInProgress rules answers a.app now c (application old.image a) old new)
+      (IsTrue told → IsCallInProgress rules answers a.app now c (application old.image a) old new)
   -- a call that begins an update only plans, however it ends
   pub looks : only_plans c ≡ true → is_to_open (stage_in a.stage) ≡ false → IsUnwritten old new
   -- a call that needs no device calls none

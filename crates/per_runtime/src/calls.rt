@@ -1,4 +1,4 @@
-//! One application's call, behind the opening of its root where it is marked.
+//! One application's call, after the opening of its root where it is marked.
 
 ghost use Rattle.std.specs.Prelude.{◌≡◌, false};
 ghost use Rattle.migrate_fns.specs.Stored.{answers_of, rules_of};

@@ -116,7 +116,7 @@ impl Runtime {
         }
     }
 
-    // Answers a call that calls the device, in a doubt behind a sync.
+    // Answers a call that calls the device, in a doubt after a sync.
     fn call_device<D: Disk>(
         &mut self,
         disk: &mut D,
@@ -193,7 +193,7 @@ impl Runtime {
     }
 }
 
-// An answer without reports. Takes no memory.
+// An answer without reports. Does not allocate.
 fn reply_of(alloc: Global, answer: Answer) -> Reply
     ensures { result ≡ record { reports = []; answer = answer } }
 {

@@ -42,7 +42,7 @@ pub fn start<D: Disk>(alloc: Global, disk: &mut D) -> Result<Runtime, Stop>
     })
 }
 
-// The applications, with their roots opened behind a sync.
+// The applications, with their roots opened after a sync.
 fn open_all<D: Disk>(alloc: Global, disk: &mut D) -> Result<Vec<Running>, Stop>
     ensures { IsBegun D.told (D.medium disk.old) (D.medium disk.new) result }
 {

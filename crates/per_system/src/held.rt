@@ -35,12 +35,12 @@ impl Content {
 
     fn number_of(self, name: &str) -> Option<u32> {
         match self {
-            Content::Disk => name.strip_prefix("f")?.parse().ok(),
+            Content::Disk => number_of(name.strip_prefix("f")?),
             Content::Flash => (name == "flash").then_some(0),
         }
     }
 
-    /// Where a file of this number lies.
+    /// Where a file of this number is stored.
     pub(crate) fn path_of(
         self,
         alloc: Global,
@@ -54,7 +54,15 @@ impl Content {
     }
 }
 
-/// The files of a folder, or none where it is not there. It tells nothing of their bytes: what [`System`] says of them
+/// The number that these digits spell as the disk spells it: without a sign, and without zeros before it.
+fn number_of(digits: &str) -> Option<u32> {
+    match digits.as_bytes() {
+        [b'0'] | [b'1'..=b'9', ..] => digits.parse().ok(),
+        _ => None,
+    }
+}
+
+/// The files of a folder, or none where it is not there. Their bytes are not modelled: what [`System`] says of them
 /// is what is believed of the operating system.
 #[derive(Drop)]
 pub struct HostSystem<'a, R: Files<File = File>> {

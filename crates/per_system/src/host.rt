@@ -1,6 +1,6 @@
 //! The files of a folder, as the operating system has them: a call of the trait is a call of std.
 
-ghost use Rattle.std.specs.Prelude.{◌≡◌, IfOk};
+ghost use Rattle.std.specs.Prelude.{◌≡◌, IfOk, IfSome};
 
 use crate::held::{Access, HostSystem};
 use std::alloc::Global;
@@ -48,10 +48,9 @@ impl<'a, R: Files<File = File>> System for HostSystem<'a, R> {
     }
 
     fn open(&mut self, file: u32) -> io::Result<Option<HostFile>> {
-        let can_write = self.access == Access::Write;
-        match self.opened(file, OpenOptions::new().read(true).write(can_write)) {
-            Ok(file) => Ok(Some(file)),
-            Err(error) if is_want(error) => Err(error),
+        match self.found(file) {
+            Ok(found) => Ok(found),
+            Err(error) if is_failure(error) => Err(error),
             Err(_) => Ok(None),
         }
     }
@@ -73,7 +72,7 @@ impl<'a, R: Files<File = File>> System for HostSystem<'a, R> {
     fn read(&mut self, file: &HostFile, at: u64, out: &mut [u8]) -> io::Result<Reading> {
         match file.file.read_at(out, at) {
             Ok(count) => Ok(Reading::Bytes(count)),
-            Err(error) if is_want(error) => Err(error),
+            Err(error) if is_failure(error) => Err(error),
             Err(_) => Ok(Reading::Unreadable((PAGE_BYTES - at % PAGE_BYTES) as usize)),
         }
     }
@@ -104,6 +103,20 @@ impl<'a, R: Files<File = File>> System for HostSystem<'a, R> {
 }
 
 impl<'a, R: Files<File = File>> HostSystem<'a, R> {
+    /// Opens what stands in the place of a file, if it is one. What is none stays closed: a FIFO or a device may hold
+    /// up whoever opens it.
+    fn found(&self, number: u32) -> io::Result<Option<HostFile>>
+        ensures { IfOk result (λ found. IfSome found (λ file. file.number ≡ number)) }
+    {
+        let path = self.content.path_of(self.alloc, self.dir.as_str(), number)?;
+        if !fs::metadata(self.rt, path.as_str())?.is_file() {
+            return Ok(None);
+        }
+        let can_write = self.access == Access::Write;
+        let file = self.opened(number, OpenOptions::new().read(true).write(can_write))?;
+        Ok(Some(file))
+    }
+
     fn opened(&self, number: u32, options: &OpenOptions) -> io::Result<HostFile>
         ensures { IfOk result (λ file. file.number ≡ number) }
     {
@@ -123,11 +136,15 @@ impl<'a, R: Files<File = File>> HostSystem<'a, R> {
     }
 }
 
-/// Whether the system lacks descriptors or memory, or was interrupted. A file that cannot be opened for another reason
-/// counts as one that is not there, and a place that cannot be read for another one as one of zeros.
-fn is_want(error: io::Error) -> bool {
+/// Whether a call failed for a reason outside the file: the system lacks descriptors or memory, was interrupted, or
+/// does not allow it. A file that cannot be opened for another reason counts as one that is not there, and a place that
+/// cannot be read for another one as one of zeros.
+fn is_failure(error: io::Error) -> bool {
     match error.kind() {
-        io::ErrorKind::Interrupted | io::ErrorKind::OutOfMemory => true,
+        io::ErrorKind::Interrupted
+        | io::ErrorKind::OutOfMemory
+        | io::ErrorKind::PermissionDenied
+        | io::ErrorKind::ReadOnlyFilesystem => true,
         _ => matches!(error.raw_os_error(), Some(ENFILE | EMFILE)),
     }
 }

@@ -1,8 +1,8 @@
-//! The ends that tie the engine to a system: the files of a folder, a reader as a source, a writer as a sink.
+//! OS backends: the files of a folder, a reader as a source, a writer as a sink.
 //!
 //! [`HostSystem`] has the calls of the operating system for the files of a folder, each as it is: what it says of bytes
 //! is believed, and all that stands above it is proved. [`Noted`] is a device over them that notes why a call failed,
-//! for the one who is told of it. [`StdSource`] and [`StdSink`] fail only where their counts of failures rise, and tell
+//! for error reporting. [`StdSource`] and [`StdSink`] fail only where their counts of failures rise, and tell
 //! nothing of what they hold.
 #![tactic(auto)]
 

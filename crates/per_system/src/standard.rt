@@ -5,7 +5,7 @@ ghost use Rattle.std.specs.Prelude.{◌≤◌, IfOk, length};
 use per_base::{Failed, Sink, Source};
 use std::io::{self, Read, Write};
 
-/// A reader as a source. It counts its failures and tells nothing of what is left.
+/// A reader as a source. It counts its failures and does not model what is left.
 #[derive(Drop)]
 pub struct StdSource<T: Read + Drop> {
     reader: T,
@@ -24,7 +24,7 @@ impl<T: Read + Drop> StdSource<T> {
         }
     }
 
-    /// The last failure, for the one who is told of it.
+    /// The last failure, for error reporting.
     pub fn failure(&self) -> Option<io::Error> {
         self.failure
     }
@@ -50,7 +50,7 @@ impl<T: Read + Drop> Source for StdSource<T> {
 }
 
 /// A writer as a sink. Each write goes to the system at once, so that what was taken is out. It counts its failures and
-/// tells nothing of what it took.
+/// does not model what it took.
 #[derive(Drop)]
 pub struct StdSink<T: Write + Drop> {
     writer: T,
@@ -69,7 +69,7 @@ impl<T: Write + Drop> StdSink<T> {
         }
     }
 
-    /// The last failure, for the one who is told of it.
+    /// The last failure, for error reporting.
     pub fn failure(&self) -> Option<io::Error> {
         self.failure
     }

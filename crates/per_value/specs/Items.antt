@@ -5,8 +5,8 @@ use Rattle.value_model.specs.Trees.{Tree, Trees, list_tree, type_of}
 use Rattle.value_model.specs.Validity.{AllOf, AllTyped, IsTyped}
 use Rattle.value_model.specs.Views.{trees_of}
 
-abbrev pub trees_by : {T : Type 0} → (T → Tree) → List T → Trees
-trees_by tree things = trees_of (map tree things)
+abbrev pub trees_each : {T : Type 0} → (T → Tree) → List T → Trees
+trees_each tree things = trees_of (map tree things)
 
 -- two lists are as long, and each item of one is the same as that of the other
 abbrev pub AllSame : {T : Type 0} → (T → T → Type 0) → List T → List T → Type 0
@@ -16,21 +16,21 @@ AllSame same (x ∷ xs) [] = ⊥
 AllSame same (x ∷ xs) (y ∷ ys) = same x y × AllSame same xs ys
 
 items_of_kind : {T : Type 0} (tree : T → Tree) (k : Kind) → ((x : T) → type_of (tree x) ≡ k) → (xs : List T)
-    → AllOf k (trees_by tree xs)
+    → AllOf k (trees_each tree xs)
 items_of_kind tree k has_type [] = tt
 items_of_kind tree k has_type (x ∷ xs) = (has_type x, items_of_kind tree k has_type xs)
 
 items_typed : {T : Type 0} (tree : T → Tree) → ((x : T) → IsTyped (tree x)) → (xs : List T)
-    → AllTyped (trees_by tree xs)
+    → AllTyped (trees_each tree xs)
 items_typed tree typed [] = tt
 items_typed tree typed (x ∷ xs) = (typed x, items_typed tree typed xs)
 
 pub list_typed : {T : Type 0} (tree : T → Tree) (k : Kind) → IsTrue (kind_fits k) → ((x : T) → type_of (tree x) ≡ k)
-    → ((x : T) → IsTyped (tree x)) → (xs : List T) → IsTyped (list_tree k (trees_by tree xs))
+    → ((x : T) → IsTyped (tree x)) → (xs : List T) → IsTyped (list_tree k (trees_each tree xs))
 list_typed tree k proper has_type typed xs = (proper, (items_of_kind tree k has_type xs, items_typed tree typed xs))
 
 pub items_same : {T : Type 0} (tree : T → Tree) (same : T → T → Type 0) → ((x y : T) → tree x ≡ tree y → same x y)
-    → (xs ys : List T) → trees_by tree xs ≡ trees_by tree ys → AllSame same xs ys
+    → (xs ys : List T) → trees_each tree xs ≡ trees_each tree ys → AllSame same xs ys
 items_same tree same faithful [] [] e = tt
 items_same tree same faithful [] (y ∷ ys) e = cc
 items_same tree same faithful (x ∷ xs) [] e = cc

@@ -1,4 +1,4 @@
--- The types of the members of a group of fields, taken from the front.
+-- The types of the members of a group of fields, taken from the start.
 use Rattle.std.specs.Prelude.{Option, None, Some}
 use Rattle.value_model.specs.Kinds.{Kind, Kinds, no_kinds, kind_then}
 

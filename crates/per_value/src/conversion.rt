@@ -25,20 +25,23 @@ pub trait PerValue: Sized {
     /// When two things are the same: lists, bytes and texts by their items.
     ghost same: { Self → Self → Type 0 };
 
-    /// The value type of all things of this type.
+    /// The value type of all things of this type. Does not allocate for a truth value or a number.
     fn type_of(alloc: Global) -> Result<ValueType, AllocError>
-        ensures { IfOk result (λ t. kind_of t ≡ kind) };
+        ensures of_kind { IfOk result (λ t. kind_of t ≡ kind) }
+        ensures memory { OnErr result (TakesMemory kind) };
 
-    /// The node that this thing is. Takes no memory for a truth value or a number.
+    /// The node that this thing is. Does not allocate for a truth value or a number.
     fn to_node(&self, alloc: Global) -> Result<Node, AllocError>
         ensures node { IfOk result (λ node. tree_of node ≡ tree self.now) }
         ensures memory { OnErr result (TakesMemory kind) };
 
-    /// The thing that this node is, which must be well typed and have this type.
+    /// The thing that this node is, which must be well typed and have this type. Does not allocate for a truth value or
+    /// a number.
     fn from_node(alloc: Global, node: &Node) -> Result<Self, AllocError>
         requires of_type { type_of (tree_of node.now) ≡ kind }
         requires typed { IsTyped (tree_of node.now) }
-        ensures { IfOk result (λ thing. tree thing ≡ tree_of node.now) };
+        ensures thing { IfOk result (λ thing. tree thing ≡ tree_of node.now) }
+        ensures memory { OnErr result (TakesMemory kind) };
 
     /// The value that this thing is.
     ///
@@ -59,7 +62,7 @@ pub trait PerValue: Sized {
         Value::new(self.to_node(alloc)?)
     }
 
-    /// The thing that this value is, which must have this type.
+    /// The thing that this value is, which must have this type. Does not allocate for a truth value or a number.
     final fn from_value(alloc: Global, value: &Value) -> Result<Self, AllocError>
         requires of_type { type_of value.now ≡ kind }
         ensures valid { IsValue value.now }
@@ -67,6 +70,7 @@ pub trait PerValue: Sized {
 
         // whichever thing the value was made from, this is the same one
         ensures back { IfOk result (λ thing. (origin : Self) → tree origin ≡ value.now → same origin thing) }
+        ensures memory { OnErr result (TakesMemory kind) }
     {
         Self::from_node(alloc, value.node())
     }

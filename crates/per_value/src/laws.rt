@@ -1,7 +1,7 @@
 //! Which kind and which tree each type has. The functions do nothing: their contracts are the table.
 
 ghost use Rattle.std.specs.Prelude.{◌≡◌, [], ◌∷◌};
-ghost use Rattle.per_value.specs.Items.{trees_by};
+ghost use Rattle.per_value.specs.Items.{trees_each};
 ghost use Rattle.value_model.specs.Kinds.{bool_kind, bytes_kind, eight, fields_kind, four, list_kind, one, signed_kind};
 ghost use Rattle.value_model.specs.Kinds.{text_kind, two, unsigned_kind};
 ghost use Rattle.value_model.specs.Trees.{bool_tree, bytes_tree, fields_tree, list_tree, signed_tree, text_tree};
@@ -30,7 +30,7 @@ pub fn scalars_have_trees()
 /// A list is a list of its items, in their order.
 pub fn lists_have_trees<T: PerValue + Drop>()
     ensures kind { ⟦<Vec<T> as PerValue>⟧.kind ≡ list_kind T.kind }
-    ensures tree { ⟦<Vec<T> as PerValue>⟧.tree ≡ (λ list. list_tree T.kind (trees_by T.tree list.items)) }
+    ensures tree { ⟦<Vec<T> as PerValue>⟧.tree ≡ (λ list. list_tree T.kind (trees_each T.tree list.items)) }
 {}
 
 /// The example is a group of its fields, in their order.

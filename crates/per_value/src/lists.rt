@@ -1,7 +1,7 @@
 //! Lists: a `Vec` of things whose type has values.
 
 ghost use Rattle.std.specs.Prelude.{◌≡◌, IfOk};
-ghost use Rattle.per_value.specs.Items.{trees_by};
+ghost use Rattle.per_value.specs.Items.{trees_each};
 ghost use Rattle.value_model.specs.Validity.{AllOf, AllTyped};
 ghost use Rattle.value_model.specs.Views.{trees_view};
 
@@ -10,14 +10,14 @@ use std::alloc::{AllocError, Global};
 use value_model::{Node, ValueType};
 
 impl<T: PerValue + Drop> PerValue for Vec<T> {
-    ghost use Rattle.per_value.specs.Items.{AllSame, items_same, list_typed, trees_by};
+    ghost use Rattle.per_value.specs.Items.{AllSame, items_same, list_typed, trees_each};
     ghost use Rattle.std.proofs.Common.{refl};
     ghost use Rattle.value_model.specs.Kinds.{list_kind};
     ghost use Rattle.value_model.specs.Trees.{list_tree};
 
     ghost kind = { list_kind T.kind };
 
-    ghost tree = { λ list. list_tree T.kind (trees_by T.tree list.items) };
+    ghost tree = { λ list. list_tree T.kind (trees_each T.tree list.items) };
 
     ghost same = { λ list other. AllSame T.same list.items other.items };
 
@@ -48,7 +48,7 @@ impl<T: PerValue + Drop> PerValue for Vec<T> {
 
 /// The nodes of all these things.
 fn nodes_of<T: PerValue>(alloc: Global, things: &[T]) -> Result<Vec<Node>, AllocError>
-    ensures { IfOk result (λ nodes. trees_view nodes.items ≡ trees_by T.tree things.now) }
+    ensures { IfOk result (λ nodes. trees_view nodes.items ≡ trees_each T.tree things.now) }
 {
     let mut nodes = Vec::new(alloc);
     for thing in things {
@@ -61,7 +61,7 @@ fn nodes_of<T: PerValue>(alloc: Global, things: &[T]) -> Result<Vec<Node>, Alloc
 fn things_of<T: PerValue + Drop>(alloc: Global, nodes: &[Node]) -> Result<Vec<T>, AllocError>
     requires of_type { AllOf T.kind (trees_view nodes.now) }
     requires typed { AllTyped (trees_view nodes.now) }
-    ensures { IfOk result (λ things. trees_by T.tree things.items ≡ trees_view nodes.now) }
+    ensures { IfOk result (λ things. trees_each T.tree things.items ≡ trees_view nodes.now) }
 {
     let mut things = Vec::new(alloc);
     for node in nodes {

@@ -11,7 +11,8 @@ use Rattle.per_base.specs.FieldLaws.{IsBytes, IsReader, Takes, Takes-then, bind_
 use Rattle.per_base.specs.FieldLaws.{number_reader, only_some, moved, wide_32}
 use Rattle.deployment_model.specs.Data.{DeploymentData}
 use Rattle.manifest.specs.Reading.{deployment_in}
-use Rattle.root_text.specs.RootText.{Version, Root, Parts, absent, installed, text_of, parts_of, long_text, flag_of}
+use Rattle.root_text.specs.RootText.{Version, Root, Parts, absent, installed, version_text, parts_of, long_text}
+use Rattle.root_text.specs.RootText.{flag_of}
 use Rattle.root_text.specs.RootText.{previous_text, parts_text, root_text, IsVersion, IfVersion, IsRoot, text_at}
 use Rattle.root_text.specs.RootText.{some_text_at, previous_at, parts_at, parts_in, version_in, previous_in}
 use Rattle.root_text.specs.RootText.{installed_in, some_root_in, root_in, root_of}
@@ -167,7 +168,7 @@ unfolding version_in
 version_again v is = rw is refl
 
 record ArePrevious (text : Option (List ℕ)) (previous : Option Version) : Type 0 where
-  pub text_is : text ≡ option_map text_of previous
+  pub text_is : text ≡ option_map version_text previous
   pub says : IfVersion previous
 
 previous_is : (text : Option (List ℕ)) (previous : Option Version) → previous_in text ≡ Some previous
@@ -181,7 +182,7 @@ previous_is (Some text) previous e =
     (record { text_is = ap Some is.text_is; says = is.says })
 
 previous_version_again : (previous : Option Version) → IfVersion previous
-    → previous_in (option_map text_of previous) ≡ Some previous
+    → previous_in (option_map version_text previous) ≡ Some previous
 unfolding previous_in
 previous_version_again None is = refl
 previous_version_again (Some v) is = rw (version_again v is) refl
@@ -284,7 +285,7 @@ module _ (short : ShortLaw) where
   long : (v : Version) → IsVersion v → IsLong v.text
   long v is = let le = short v.text v.deployment is in omega (arith, le)
 
-  if_long : (previous : Option Version) → IfVersion previous → IfLong (option_map text_of previous)
+  if_long : (previous : Option Version) → IfVersion previous → IfLong (option_map version_text previous)
   if_long None is = tt
   if_long (Some v) is = long v is
 

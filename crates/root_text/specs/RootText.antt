@@ -24,11 +24,15 @@ pub record Parts : Type 0 where
   pub active : List ℕ
   pub previous : Option (List ℕ)
 
-abbrev pub text_of : Version → List ℕ
-text_of v = v.text
+abbrev pub version_text : Version → List ℕ
+version_text v = v.text
 
 abbrev pub parts_of : ℕ → Version → Option Version → Parts
-parts_of bank active previous = record { bank = bank; active = active.text; previous = option_map text_of previous }
+parts_of bank active previous = record {
+  bank = bank;
+  active = active.text;
+  previous = option_map version_text previous;
+}
 
 -- four bytes of length, lowest first, and the text
 abbrev pub long_text : List ℕ → List ℕ
@@ -70,7 +74,7 @@ abbrev pub IsRoot : Root → Type 0
 IsRoot absent = ⊤
 IsRoot (installed bank active previous) = IsInstalled bank active previous
 
--- ---- the parts of a text, each read from the front of what is left
+-- ---- the parts of a text, each read from the start of what is left
 
 unfoldable pub text_at : List ℕ → Option (List ℕ × List ℕ)
 text_at bytes = do

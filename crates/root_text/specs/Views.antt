@@ -17,22 +17,22 @@ abbrev pub root_said : RootSays → Root
 root_said Absent = absent
 root_said (Installed bank active previous) = installed bank (version_said active) (option_map version_said previous)
 
-abbrev pub bytes_behind : Bor (List ℕ) → List ℕ
-bytes_behind bytes = bytes.now
+abbrev pub borrowed_bytes : Bor (List ℕ) → List ℕ
+borrowed_bytes bytes = bytes.now
 
 abbrev pub parts_seen : Fields → Parts
 parts_seen fields = record {
   bank = fields.bank;
   active = fields.active.now;
   previous =
-      option_map bytes_behind fields.previous;
+      option_map borrowed_bytes fields.previous;
 }
 
 -- what a function returned, seen by view, is what reading gives, unless memory ran out
-abbrev pub Refuses : {Y : Type 0} → RootError → Option Y → Type 0
-Refuses errors.NotARoot read = read ≡ None
-Refuses errors.OutOfMemory read = ⊤
+abbrev pub FailsToRead : {Y : Type 0} → RootError → Option Y → Type 0
+FailsToRead errors.NotARoot read = read ≡ None
+FailsToRead errors.OutOfMemory read = ⊤
 
 abbrev pub Gives : {X Y : Type 0} → (X → Y) → Result X RootError → Option Y → Type 0
 Gives view (Ok x) read = read ≡ Some (view x)
-Gives view (Err e) read = Refuses e read
+Gives view (Err e) read = FailsToRead e read

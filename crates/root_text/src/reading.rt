@@ -5,7 +5,7 @@ ghost use Rattle.per_base.specs.Fields.{only_if};
 ghost use Rattle.root_text.specs.RootText.{IsRoot, Root, absent, installed_in, parts_at, parts_in, previous_at};
 ghost use Rattle.root_text.specs.RootText.{previous_in, root_in, root_of, root_text, some_root_in, some_text_at};
 ghost use Rattle.root_text.specs.RootText.{text_at, version_in};
-ghost use Rattle.root_text.specs.Views.{Gives, bytes_behind, parts_seen, root_said, version_said};
+ghost use Rattle.root_text.specs.Views.{Gives, borrowed_bytes, parts_seen, root_said, version_said};
 
 use crate::errors::RootError;
 use crate::laws::one_root;
@@ -86,7 +86,7 @@ fn root_by(alloc: Global, fields: Fields) -> Result<RootSays, RootError>
 #[tactic(auto, unfolding(crate::specs::RootText::previous_in))]
 fn previous_of(alloc: Global, text: Option<&[u8]>) -> Result<Option<VersionText>, RootError>
     ensures { Gives (λ previous. option_map version_said previous) result
-        (previous_in (option_map bytes_behind text.entry)) }
+        (previous_in (option_map borrowed_bytes text.entry)) }
 {
     match text {
         None => Ok(None),
@@ -161,7 +161,7 @@ fn text_of(bytes: &[u8]) -> Result<(&[u8], &[u8]), RootError>
 
 #[tactic(auto, unfolding(crate::specs::RootText::previous_at, crate::specs::RootText::some_text_at))]
 fn previous_text_of(flag: u8, bytes: &[u8]) -> Result<(Option<&[u8]>, &[u8]), RootError>
-    ensures { Gives (λ x. (option_map bytes_behind x.0, x.1.now)) result (previous_at flag bytes.now) }
+    ensures { Gives (λ x. (option_map borrowed_bytes x.0, x.1.now)) result (previous_at flag bytes.now) }
 {
     match flag {
         0 => Ok((None, bytes)),

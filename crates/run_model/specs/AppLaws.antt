@@ -6,7 +6,8 @@ use Rattle.disk_model.specs.Place.{IsNoSlot}
 use Rattle.deploy_laws.specs.Places.{IsNoFileOf, root_place}
 use Rattle.deploy_laws.specs.Apps.{App, app_at, IsCleanApp}
 use Rattle.deploy_laws.specs.Stands.{StandsCase, IsLater}
-use Rattle.deploy_laws.specs.Laws.{UntouchedAppLaw, StillAppLaw, OthersLaw, OthersCaseLaw, StandsCleanLaw, RootMendLaw}
+use Rattle.deploy_laws.specs.Laws.{UntouchedAppLaw, StillAppLaw, OtherApplicationsLaw, OthersCaseLaw, StandsCleanLaw}
+use Rattle.deploy_laws.specs.Laws.{RootMendLaw}
 use Rattle.deploy_rows.specs.Rows.{reopened}
 use Rattle.run_model.specs.Worlds.{Disks, disk_at}
 
@@ -14,12 +15,12 @@ use Rattle.run_model.specs.Worlds.{Disks, disk_at}
 pub record AppLaws : Type 0 where
   pub untouched : UntouchedAppLaw
   pub still : StillAppLaw
-  pub others : OthersLaw
+  pub others : OtherApplicationsLaw
   pub others_case : OthersCaseLaw
   pub clean : StandsCleanLaw
   pub mend : RootMendLaw
 
--- the image stands for what the world says of an application
+-- the image denotes what the world says of an application
 abbrev pub IsDiskOf : ℕ → Disks → Medium → Type 0
 IsDiskOf app ds m = app_at m.image app ≡ disk_at ds app
 

@@ -27,10 +27,10 @@ AreBounded w old [] = ⊤
 AreBounded w old (t ∷ ts) = IsBounded w t.event (writes_none w t.event t.reply) old t.bytes
     × AreBounded t.world t.bytes ts
 
--- the bytes behind the last of them
-abbrev pub bytes_behind : Bytes → List Turn → Bytes
-bytes_behind old [] = old
-bytes_behind old (t ∷ ts) = bytes_behind t.bytes ts
+-- the bytes after the last of them
+abbrev pub bytes_after : Bytes → List Turn → Bytes
+bytes_after old [] = old
+bytes_after old (t ∷ ts) = bytes_after t.bytes ts
 
 -- a command in progress, of which no reply is known
 abbrev pub IsBegunWithin : World → Event → (old new : Bytes) → Type 0

@@ -11,7 +11,7 @@ use Rattle.per_base.specs.declared.errors.Unit.TheVariants as unit
 use Rattle.deployment_model.specs.Data.{StorageData}
 use Rattle.element_state.specs.States.{State, Opens, Corrupt, mended_view, is_worn}
 use Rattle.element_state.specs.Reports.{reports, failed_report}
-use Rattle.element_maps.specs.Sessions.{same_map, synced_view}
+use Rattle.element_maps.specs.Sessions.{same_map, view_once_synced}
 use Rattle.file_core.specs.Places.{writes}
 use Rattle.file_core.specs.Refusals.{refuse}
 use Rattle.file_handles.specs.Sessions.{lowest}
@@ -25,10 +25,12 @@ use Rattle.command_text.specs.declared.replies.AppStatus.TheVariants as status
 use Rattle.command_text.specs.declared.replies.Reply.{Reply}
 use Rattle.deploy_laws.specs.Places.{Named}
 use Rattle.deploy_laws.specs.Apps.{Says, nothing, absent, installed, App}
-use Rattle.deploy_rows.specs.Rows.{◌>>=◌, InProgress, Begins, installing, finishing, rolling_back, wiping, updated_app}
+use Rattle.deploy_rows.specs.Rows.{◌>>=◌, InProgress, BeginsUpdate, installing, finishing, rolling_back, wiping}
+use Rattle.deploy_rows.specs.Rows.{updated_app}
 use Rattle.deploy_rows.specs.Recovering.{is_content, recovering, resetting}
-use Rattle.run_model.specs.Found.{Found, storage_in, shape_in, with_state}
-use Rattle.run_model.specs.Sessions.{Session, keys, files, in_session, session_of, synced_of, seen_of, made_durable}
+use Rattle.run_model.specs.Found.{Found, storage_in, shape_in, with_storage_state}
+use Rattle.run_model.specs.Sessions.{Session, keys, files, in_session, session_of, synced_in_session, seen_of}
+use Rattle.run_model.specs.Sessions.{made_durable}
 use Rattle.run_model.specs.Worlds.{Application, Sessions, at_rest, updating, update_in}
 
 -- a reply, and what an application is afterwards
@@ -73,13 +75,13 @@ opened_session r f = found_or (session_at r f.number) error.NotOpen
 
 -- what was seen is reported, what can be mended is mended, and both maps are what was seen; a corrupt storage stays as
 -- it is
-abbrev pub opened : ℕ → Application → Found → State → Outcome
-opened app r f (Opens v others) = (
+abbrev pub storage_opened : ℕ → Application → Found → State → Outcome
+storage_opened app r f (Opens v others) = (
   record { reports = reports (is_content f.config.kind) (shape_in app f) v; answer = answer.Done },
-  with_session (record r { disk = with_state r.disk f (Opens (mended_view (shape_in app f) v) []) }) f.number
+  with_session (record r { disk = with_storage_state r.disk f (Opens (mended_view (shape_in app f) v) []) }) f.number
       (session_of f.config.kind v),
 )
-opened app r f (Corrupt salvage others) = (
+storage_opened app r f (Corrupt salvage others) = (
   record {
     reports = failed_report (shape_in app f) ∷ [];
     answer =
@@ -89,22 +91,23 @@ opened app r f (Corrupt salvage others) = (
 )
 
 unfoldable pub open_step : ℕ → Application → List ℕ → StoreKind → Result Outcome PerError
-open_step app r name kind = storage_in r.disk name (Some kind) >>= λ f. unless_open r f (Ok (opened app r f f.state))
+open_step app r name kind = storage_in r.disk name (Some kind) >>= λ f. unless_open r f
+    (Ok (storage_opened app r f f.state))
 
 -- ---- making a session durable
 
 -- The state of an open storage once it holds what the calls see: that of before where nothing differs, and else the
 -- next generation's.
 abbrev pub durable_state : ℕ → Found → State → Session → Result State PerError
-durable_state app f (Opens v others) s = refuse (not (same_map (synced_of s) (seen_of s)) && is_worn v)
+durable_state app f (Opens v others) s = refuse (not (same_map (synced_in_session s) (seen_of s)) && is_worn v)
     (error.LimitReached limit.Generations)
-    (Ok (Opens (synced_view (shape_in app f) v (synced_of s) (seen_of s)) []))
+    (Ok (Opens (view_once_synced (shape_in app f) v (synced_in_session s) (seen_of s)) []))
 -- no open storage is corrupt
 durable_state app f (Corrupt salvage others) s = Ok f.state
 
 unfoldable pub durable : ℕ → Application → Found → Session → Result Application PerError
 durable app r f s = durable_state app f f.state s >>= λ state.
-    Ok (with_session (record r { disk = with_state r.disk f state }) f.number (made_durable s))
+    Ok (with_session (record r { disk = with_storage_state r.disk f state }) f.number (made_durable s))
 
 abbrev pub sync_step : ℕ → Application → List ℕ → Result Outcome PerError
 sync_step app r name = storage_in r.disk name (Some kinds.Keys) >>= λ f. opened_session r f >>= λ s.
@@ -125,9 +128,9 @@ abbrev pub lowest_handle : Session → Option ℕ
 lowest_handle (keys s) = None
 lowest_handle (files s) = lowest s.working.handles
 
-abbrev pub unless_held : {A : Type 0} → Option ℕ → Result A PerError → Result A PerError
-unless_held None rest = rest
-unless_held (Some h) rest = Err (error.ResourceBusy (holder.Handle h))
+abbrev pub unless_busy : {A : Type 0} → Option ℕ → Result A PerError → Result A PerError
+unless_busy None rest = rest
+unless_busy (Some h) rest = Err (error.ResourceBusy (holder.Handle h))
 
 -- what is pending of keys is dropped, and the working files are made durable
 abbrev pub closing : ℕ → Application → Found → Session → Result Application PerError
@@ -136,14 +139,14 @@ closing app r f (files s) = durable app r f (files s)
 
 abbrev pub close_step : ℕ → Application → List ℕ → Result Outcome PerError
 close_step app r name = storage_in r.disk name None >>= λ f. opened_session r f >>= λ s.
-    unless_held (lowest_handle s) (closing app r f s >>= λ after.
+    unless_busy (lowest_handle s) (closing app r f s >>= λ after.
     Ok (answered answer.Done (without_session after f.number)))
 
--- ---- a closed storage is made anew
+-- ---- a closed storage is rebuilt
 
 abbrev pub rebuild_step : Application → List ℕ → (Found → Result State PerError) → Result Outcome PerError
 rebuild_step r name state_of = storage_in r.disk name None >>= λ f. unless_open r f (state_of f >>= λ state.
-    Ok (answered answer.Done (record r { disk = with_state r.disk f state })))
+    Ok (answered answer.Done (record r { disk = with_storage_state r.disk f state })))
 
 -- ---- calls on an open storage that touch no disk
 
@@ -284,21 +287,22 @@ app_step app r now (call.ResetStorage n) = rebuild_step r n (λ f. resetting f.c
 app_step app r now other = local_step r now (local_on other) other
 
 -- an update in one call, and one that goes on in steps
-abbrev pub updated : Application → InProgress → Result Outcome PerError
-updated r p = Ok (answered answer.Done (record r { disk = updated_app p r.disk }))
+abbrev pub with_update : Application → InProgress → Result Outcome PerError
+with_update r p = Ok (answered answer.Done (record r { disk = updated_app p r.disk }))
 
-abbrev pub begun : Application → InProgress → Result Outcome PerError
-begun r p = Ok (answered answer.Done (record r { stage = updating p }))
+abbrev pub with_update_begun : Application → InProgress → Result Outcome PerError
+with_update_begun r p = Ok (answered answer.Done (record r { stage = updating p }))
 
 -- an update begins by one plan, or is refused
 abbrev pub BeginsBy : List Rule → Answers → (now : ℕ) → Application → (text : List ℕ)
     → (InProgress → Result Outcome PerError) → Outcome → Type 0
 BeginsBy rules answers now r text after outcome = (row : Result InProgress PerError)
-    × Begins rules answers now (least_open r) text r.disk row × (outcome ≡ concluded r (row >>= after))
+    × BeginsUpdate rules answers now (least_open r) text r.disk row × (outcome ≡ concluded r (row >>= after))
 
 abbrev pub CallStep : List Rule → Answers → (app now : ℕ) → Application → Call → Outcome → Type 0
-CallStep rules answers app now r (call.Update text) outcome = BeginsBy rules answers now r text (updated r) outcome
-CallStep rules answers app now r (call.UpdateBegin text) outcome = BeginsBy rules answers now r text (begun r) outcome
+CallStep rules answers app now r (call.Update text) outcome = BeginsBy rules answers now r text (with_update r) outcome
+CallStep rules answers app now r (call.UpdateBegin text) outcome = BeginsBy rules answers now r text
+    (with_update_begun r) outcome
 CallStep rules answers app now r other outcome = outcome ≡ concluded r (app_step app r now other)
 
 abbrev pub StepBeside : List Rule → Answers → (app now : ℕ) → Application → Call → Option PerError → Outcome → Type 0

@@ -10,7 +10,7 @@ use Rattle.element_state.specs.declared.shapes.Shape.{Shape}
 use Rattle.element_state.specs.declared.shapes.View.{View}
 use Rattle.element_state.specs.Kept.{SameHeadings, HasEnough, StaysAs}
 use Rattle.element_state.specs.States.{State, Opens, store_at}
-use Rattle.deploy_laws.specs.Places.{shape_of}
+use Rattle.deploy_laws.specs.Places.{storage_shape}
 use Rattle.deploy_laws.specs.Apps.{Says, nothing, absent, installed, App, says_at, shapes_named}
 use Rattle.deploy_laws.specs.Pieces.{IsSoundApp, DecaysApp}
 use Rattle.deploy_laws.specs.Stands.{Stands, IsRootSpared, AreKept}
@@ -35,7 +35,7 @@ stands : (app : ℕ) (before after : Disks) (c : Case) → IsSoundApp app c → 
     → Stands app c.left [] (disk_at before app) (disk_at after app)
 stands app before after c sound between = between sound [] c.left (undamaged app c.left)
 
--- Behind the last command the root says what it said then, or what the command in progress leads to: nothing from
+-- After the last command the root says what it said then, or what the command in progress leads to: nothing from
 -- further back.
 pub not_further_back : (app : ℕ) (w : World) (next : Disks) (c : Case) → IsSoundApp app c → w.doubt ≡ None
     → ¬ ((disk_at (disks w) app).says ≡ nothing)
@@ -80,8 +80,8 @@ pub opens_as_either : (app g bank version : ℕ) (s : StorageData) (v : View) (o
     (d : Doubt)
     → disk_at d.before app ≡ one_storage g bank version s (Opens v others)
     → disk_at d.after app ≡ one_storage g bank version s after
-    → IsSoundApp app d.case → HasEnough (shape_of app bank 0 s) [] v.lacking → IsDecided app (Some d)
-    → OpensAsEither (store_at d.case.left (shape_of app bank 0 s)) v after
+    → IsSoundApp app d.case → HasEnough (storage_shape app bank 0 s) [] v.lacking → IsDecided app (Some d)
+    → OpensAsEither (store_at d.case.left (storage_shape app bank 0 s)) v after
 unfolding shapes_named
 opens_as_either app g bank version s v others after d before_is after_is sound enough decided =
     let st : Stands app d.case.left [] (one_storage g bank version s (Opens v others))
@@ -94,4 +94,4 @@ opens_as_either app g bank version s v others after d before_is after_is sound e
     let kept : AreKept d.case.left [] (shapes_named app (one_storage g bank version s after).says) (Opens v others ∷ [])
     (after ∷ []) = st.same says refl in
     let here = kept.0.stays enough in
-    (here.0, here.1, here.2, headings (shape_of app bank 0 s) here.0 v after here.3)
+    (here.0, here.1, here.2, headings (storage_shape app bank 0 s) here.0 v after here.3)

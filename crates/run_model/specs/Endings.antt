@@ -6,10 +6,10 @@ use Rattle.std.specs.Io.KnownBytes.{Appends}
 use Rattle.per_base.specs.Causes.{Rose}
 use Rattle.command_text.specs.Replies.{reply_text}
 use Rattle.run_model.specs.Lines.{IsBad}
-use Rattle.run_model.specs.Turns.{Turn, text_of}
+use Rattle.run_model.specs.Turns.{Turn, replies_text}
 
 -- all lines are handled; the next is `end`; the next is outside the grammar; the start failed at the device; memory ran
--- out in the start; memory ran out behind a start that ended; the source failed; the sink failed; the input is too long
+-- out in the start; memory ran out after a start that ended; the source failed; the sink failed; the input is too long
 pub data Ending : Type 0 where
   all_read : Ending
   end_line : Ending
@@ -21,17 +21,17 @@ pub data Ending : Type 0 where
   sink : Ending
   too_long : Ending
 
--- status 1 is that of refused words
-abbrev pub status_of : Ending → ℕ
-status_of all_read = 0
-status_of end_line = 0
-status_of bad_line = 2
-status_of device = 3
-status_of start_memory = 4
-status_of memory = 4
-status_of source = 5
-status_of sink = 6
-status_of too_long = 7
+-- status 1 is that of invalid arguments
+abbrev pub ending_status : Ending → ℕ
+ending_status all_read = 0
+ending_status end_line = 0
+ending_status bad_line = 2
+ending_status device = 3
+ending_status start_memory = 4
+ending_status memory = 4
+ending_status source = 5
+ending_status sink = 6
+ending_status too_long = 7
 
 -- the start has ended: no ending is common to a run that came to its lines and one that did not
 abbrev pub HasStarted : Ending → Type 0
@@ -75,13 +75,13 @@ HasCauseOf other before now = ⊤
 -- all lines are handled
 pub record AtTheEnd (lines all : List (List ℕ)) (turns : List Turn) (before now : Option (List ℕ)) : Type 0 where
   pub next : all ≡ lines
-  pub wrote : Appends before now (text_of turns)
+  pub wrote : Appends before now (replies_text turns)
 
 -- the next line is `end`
 pub record AtEndLine (lines all : List (List ℕ)) (turns : List Turn) (before now : Option (List ℕ)) : Type 0 where
   pub others : List (List ℕ)
   pub next : all ≡ lines ++ codes "end" ∷ others
-  pub wrote : Appends before now (text_of turns)
+  pub wrote : Appends before now (replies_text turns)
 
 -- the next line is outside the grammar, and was answered with its number, counted from 1
 pub record AtBadLine (lines all : List (List ℕ)) (turns : List Turn) (before now : Option (List ℕ)) : Type 0 where
@@ -89,7 +89,7 @@ pub record AtBadLine (lines all : List (List ℕ)) (turns : List Turn) (before n
   pub others : List (List ℕ)
   pub next : all ≡ lines ++ text ∷ others
   pub bad : IsBad text
-  pub wrote : Appends before now (text_of turns ++ bad_line_text (length lines + 1))
+  pub wrote : Appends before now (replies_text turns ++ bad_line_text (length lines + 1))
 
 -- the start did not end: nothing was handled and nothing written
 pub record AtTheStart (lines : List (List ℕ)) (turns : List Turn) (before now : Option (List ℕ)) : Type 0 where
@@ -97,13 +97,13 @@ pub record AtTheStart (lines : List (List ℕ)) (turns : List Turn) (before now 
   pub no_turn : turns ≡ []
   pub wrote : Appends before now []
 
--- the run was interrupted behind some line
+-- the run was interrupted after some line
 pub record AfterSome (lines all : List (List ℕ)) (turns : List Turn) (before now : Option (List ℕ)) : Type 0 where
   pub others : List (List ℕ)
   pub next : all ≡ lines ++ others
-  pub wrote : Appends before now (text_of turns)
+  pub wrote : Appends before now (replies_text turns)
 
--- the sink took so many bytes of the last reply, and fewer than all
+-- the sink took that many bytes of the last reply, and fewer than all
 pub record InReply (count : ℕ) (lines all : List (List ℕ)) (turns : List Turn) (before now : Option (List ℕ)) : Type 0
   where
     pub others : List (List ℕ)
@@ -112,9 +112,9 @@ pub record InReply (count : ℕ) (lines all : List (List ℕ)) (turns : List Tur
     pub last : Turn
     pub turns_are : turns ≡ earlier ++ last ∷ []
     pub short : count < length (reply_text last.reply)
-    pub wrote : Appends before now (text_of earlier ++ take count (reply_text last.reply))
+    pub wrote : Appends before now (replies_text earlier ++ take count (reply_text last.reply))
 
--- so many of the answer to a line outside the grammar
+-- that many of the answer to a line outside the grammar
 pub record InBadLine (count : ℕ) (lines all : List (List ℕ)) (turns : List Turn) (before now : Option (List ℕ)) : Type 0
   where
     pub text : List ℕ
@@ -122,7 +122,7 @@ pub record InBadLine (count : ℕ) (lines all : List (List ℕ)) (turns : List T
     pub next : all ≡ lines ++ text ∷ others
     pub bad : IsBad text
     pub short : count < length (bad_line_text (length lines + 1))
-    pub wrote : Appends before now (text_of turns ++ take count (bad_line_text (length lines + 1)))
+    pub wrote : Appends before now (replies_text turns ++ take count (bad_line_text (length lines + 1)))
 
 abbrev pub EndsBy : Ending → (lines all : List (List ℕ)) → List Turn → (before now : Option (List ℕ)) → Type 0
 EndsBy all_read lines all turns before now = AtTheEnd lines all turns before now
@@ -130,7 +130,7 @@ EndsBy end_line lines all turns before now = AtEndLine lines all turns before no
 EndsBy bad_line lines all turns before now = AtBadLine lines all turns before now
 EndsBy device lines all turns before now = AtTheStart lines turns before now
 EndsBy start_memory lines all turns before now = AtTheStart lines turns before now
--- where memory ran out behind the start, all replies are written or all but the last
+-- where memory ran out after the start, all replies are written or all but the last
 EndsBy memory lines all turns before now = AfterSome lines all turns before now ⊎ InReply 0 lines all turns before now
 EndsBy source lines all turns before now = AtTheEnd lines all turns before now
 EndsBy sink lines all turns before now = (count : ℕ) × (InReply count lines all turns before now

@@ -9,7 +9,7 @@ use Rattle.deployment_model.specs.Lookups.{storage_number}
 use Rattle.element_state.specs.States.{State}
 use Rattle.element_state.specs.declared.shapes.Shape.{Shape}
 use Rattle.update_plan.specs.Plans.{is_kind}
-use Rattle.deploy_laws.specs.Places.{Named, shape_of}
+use Rattle.deploy_laws.specs.Places.{Named, storage_shape}
 use Rattle.deploy_laws.specs.Apps.{Says, nothing, absent, installed, App}
 
 -- a storage of the active version: its bank and number, how it is configured, and its state
@@ -46,10 +46,10 @@ found_in (installed g active previous) states name kind =
 abbrev pub storage_in : App → List ℕ → Option StoreKind → Result Found PerError
 storage_in a name kind = found_in a.says a.states name kind
 
--- where it lies, and what it is allowed
+-- where it is stored, and what it is allowed
 abbrev pub shape_in : ℕ → Found → Shape
-shape_in app f = shape_of app f.bank f.number f.config
+shape_in app f = storage_shape app f.bank f.number f.config
 
 -- the application with this state of that storage
-abbrev pub with_state : App → Found → State → App
-with_state a f state = record a { states = slice_set a.states f.number state }
+abbrev pub with_storage_state : App → Found → State → App
+with_storage_state a f state = record a { states = slice_set a.states f.number state }

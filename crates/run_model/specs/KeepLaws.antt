@@ -87,14 +87,14 @@ after_sync_keeps app w w' d told old now new doubt lawful time nothing quiet lat
 -- ---- the root of an application is opened before the command
 
 -- the application stands on its way to whatever may come of it
-abbrev pub StandsOnTheWay : ℕ → (before : Disks) → (old new : Medium) → Type 0
-StandsOnTheWay app before old new = (after : Disks) → IsLater (disk_at before app) (disk_at after app)
+abbrev pub StaysOnTheWay : ℕ → (before : Disks) → (old new : Medium) → Type 0
+StaysOnTheWay app before old new = (after : Disks) → IsLater (disk_at before app) (disk_at after app)
     → EachCase (Between app before after) old new
 
 -- the opening of one application's root, for each application
 pub opens_on_the_way : AppLaws → (a b : ℕ) → b < 8 → (ds : Disks) (old new : Medium) → IsDiskOf b ds old → Quiet old
     → IsCleanApp b old.image → OpensRoot a old new
-    → (a ≡ b) ⊎ (a ≢ b) → StandsOnTheWay b ds old new
+    → (a ≡ b) ⊎ (a ≢ b) → StaysOnTheWay b ds old new
 opens_on_the_way laws a b lt ds old new is quiet clean opens (inl e) after later c s =
     subst (λ x. StandsCase b x (disk_at after b) c) is
     (subst (λ (n : ℕ). StandsCase n (app_at old.image n) (disk_at after b) c) e
@@ -111,7 +111,7 @@ opens_on_the_way laws a b lt ds old new is quiet clean opens (inr differs) after
 pub root_then : AppLaws → (app : ℕ) (before opened after : Disks) (old now new : Medium)
     → IsLater (disk_at before app) (disk_at after app)
     → (disk_at opened app ≡ disk_at before app) ⊎ (disk_at opened app ≡ reopened (disk_at before app))
-    → Elapses old now → Elapses now new → StandsOnTheWay app before old now
+    → Elapses old now → Elapses now new → StaysOnTheWay app before old now
     → EachCase (Between app opened after) now new → EachCase (Between app before after) old new
 root_then laws app before opened after old now new to_come disk time later opens follows c s = ⊎_elim
     (λ was. opens after to_come c was)
@@ -126,7 +126,7 @@ pub after_root_keeps : AppLaws → (app : ℕ) (w v w' : World) (old now new : M
     → IsLater (disk_at (disks w) app) (disk_at (disks w') app) → w.doubt ≡ None
     → v.doubt ≡ None → (disk_at (disks v) app ≡ disk_at (disks w) app)
     ⊎ (disk_at (disks v) app ≡ reopened (disk_at (disks w) app))
-    → Elapses old now → Elapses now new → StandsOnTheWay app (disks w) old now → IsReady app v now
+    → Elapses old now → Elapses now new → StaysOnTheWay app (disks w) old now → IsReady app v now
     → StepKeeps app v w' now new → w'.doubt ≡ None
     → StepKeeps app w w' old new
 after_root_keeps laws app w v w' old now new to_come none none' disk time later opens ready_now keeps calm' ready =
@@ -145,7 +145,7 @@ after_root_keeps laws app w v w' old now new to_come none none' disk time later 
 no_decay : (app : ℕ) (image : Image) → DecaysApp app [] image image
 no_decay app image place of_app = record { others = λ f outside. refl; pieces = λ x piece. piece }
 
--- the new doubt: its sides are what lay there before and what the command leads to, and its case is one now, whose
+-- the new doubt: its sides are what was there before and what the command leads to, and its case is one now, whose
 -- image is what reads give
 pub failed_call_keeps : AppLaws → (app : ℕ) (w w' : World) (d : Doubt) (told : Bool) (old new : Medium)
     → w'.doubt ≡ Some d → d.before ≡ disks w
@@ -201,7 +201,7 @@ call_keeps laws a w w' old new calls same none none' clean b lt is which ready =
   calm = λ some c at. absurd (subst (λ d. IsInDoubt d) none' some);
 }
 
--- a call whose device failed, without a doubt before it: the world behind it is in doubt between what was and what the
+-- a call whose device failed, without a doubt before it: the world after it is in doubt between what was and what the
 -- call leads to
 pub call_fails : AppLaws → (a : ℕ) (w w' : World) (d : Doubt) (told : Bool) (old new : Medium) → IsLawful told new
     → Elapses old new → Calls a d.after old new

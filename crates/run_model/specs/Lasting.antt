@@ -12,7 +12,7 @@ use Rattle.deploy_rows.specs.Rows.{reopened}
 use Rattle.run_model.specs.Calls.{active_storages}
 use Rattle.run_model.specs.Sessions.{Session, keys, files, seen_in}
 use Rattle.run_model.specs.Worlds.{Application, Stage, to_open, at_rest, updating, Sessions, none_open, World, resting}
-use Rattle.run_model.specs.Worlds.{all_resting, world_at, started}
+use Rattle.run_model.specs.Worlds.{all_resting, world_at, after_start}
 
 -- Where a storage is open, its synchronised map is what is seen of the state, which opens and beside which no other
 -- text is held.
@@ -66,6 +66,6 @@ all_rest_so : (disk : ℕ → App) (app count : ℕ)
 all_rest_so disk app zero = tt
 all_rest_so disk app (suc count) = (rests_so (reopened (disk app)), all_rest_so disk (app + 1) count)
 
-pub starts_so : (image : Image) → IsWorld (started (world_at image))
+pub starts_so : (image : Image) → IsWorld (after_start (world_at image))
 unfolding world_at
 starts_so image = record { eight = refl; each = all_rest_so (app_at image) 0 8 }

@@ -31,7 +31,8 @@ use Rattle.command_text.specs.declared.replies.Answer.TheVariants as answer
 use Rattle.command_text.specs.declared.replies.Reply.{Reply}
 use Rattle.deploy_laws.specs.Apps.{Says, nothing, absent, installed, App, app_at}
 use Rattle.deploy_rows.specs.Rows.{◌>>=◌}
-use Rattle.run_model.specs.Found.{Found, of_kind, found_with, found_at, found_in, storage_in, shape_in, with_state}
+use Rattle.run_model.specs.Found.{Found, of_kind, found_with, found_at, found_in, storage_in, shape_in}
+use Rattle.run_model.specs.Found.{with_storage_state}
 use Rattle.run_model.specs.Sessions.{Session, keys, files, KeySession, shows, changes, seen_in, session_of, on_keys}
 use Rattle.run_model.specs.Sessions.{on_working, in_session, made_durable}
 use Rattle.run_model.specs.Worlds.{Application, Stage, to_open, at_rest, updating, is_to_open, Sessions, Doubt, World}
@@ -40,10 +41,12 @@ use Rattle.run_model.specs.Lasting.{IsSessionOn, AreSessionsOn, IsStageOn, IsApp
 use Rattle.run_model.specs.Later.{set_length}
 use Rattle.run_model.specs.OneApp.{none_there}
 use Rattle.run_model.specs.Calls.{Outcome, answered, concluded, found_or, if_open, session_at, with_session}
-use Rattle.run_model.specs.Calls.{without_session, unless_open, opened_session, opened, open_step, durable_state}
-use Rattle.run_model.specs.Calls.{durable, lowest_handle, unless_held, closing, close_step, rebuild_step, local_step}
+use Rattle.run_model.specs.Calls.{without_session, unless_open, opened_session, storage_opened, open_step}
+use Rattle.run_model.specs.Calls.{durable_state}
+use Rattle.run_model.specs.Calls.{durable, lowest_handle, unless_busy, closing, close_step, rebuild_step, local_step}
 use Rattle.run_model.specs.Calls.{active_storages}
-use Rattle.run_model.specs.Steps.{root_opened, SyncFails, Fails, FailsAs, StepsTo, storage_named, after_failure}
+use Rattle.run_model.specs.Steps.{root_opened, SyncFails, FailsElsewhere, FailsAs, StepsTo, device_storage}
+use Rattle.run_model.specs.Steps.{after_failure}
 
 -- ---- applications in a row
 
@@ -227,13 +230,13 @@ keys_stay c s (call.ResetKey n k) = changes_stays s (kvs.reset_key c s.visible k
 keys_stay c s (call.Discard n) = refl
 keys_stay c s other = tt
 
-abbrev pub Stays : Session → Answer × Session → Type 0
-Stays s a = SameSynced s a.1
+abbrev pub KeepsSynced : Session → Answer × Session → Type 0
+KeepsSynced s a = SameSynced s a.1
 
-session_stays : (c : StorageData) (now : ℕ) (s : Session) (l : Call) → IfOk (in_session c now s l) (Stays s)
-session_stays c now (keys s) l = on_ok (KeysStay s) (Stays (keys s)) (on_keys c s l) (λ a. Ok (a.0, keys a.1))
+session_stays : (c : StorageData) (now : ℕ) (s : Session) (l : Call) → IfOk (in_session c now s l) (KeepsSynced s)
+session_stays c now (keys s) l = on_ok (KeysStay s) (KeepsSynced (keys s)) (on_keys c s l) (λ a. Ok (a.0, keys a.1))
     (keys_stay c s l) (λ a same. same)
-session_stays c now (files s) l = on_ok (λ a. ⊤) (Stays (files s)) (on_working c now s.working l)
+session_stays c now (files s) l = on_ok (λ a. ⊤) (KeepsSynced (files s)) (on_working c now s.working l)
     (λ a. Ok (a.0, files (record s { working = a.1 }))) (any_ok (on_working c now s.working l)) (λ a any. refl)
 
 same_on : (s t : Session) (kind : StoreKind) (state : State) → SameSynced s t → IsSessionOn (Some s) kind state
@@ -268,7 +271,7 @@ local_row r now on c is = on_ok (λ f. ⊤) Lasts (storage_in r.disk on.0 on.1)
     (λ f any. on_ok (λ s. session_at r f.number ≡ Some s) Lasts (opened_session r f)
     (λ s. in_session f.config now s c >>= λ a. Ok (answered a.0 (with_session r f.number a.1)))
     (open_is (session_at r f.number) error.NotOpen)
-    (λ s open_there. on_ok (Stays s) Lasts (in_session f.config now s c)
+    (λ s open_there. on_ok (KeepsSynced s) Lasts (in_session f.config now s c)
     (λ a. Ok (answered a.0 (with_session r f.number a.1))) (session_stays f.config now s c)
     (λ a same. changed_so r f.number s a.1 is open_there same)))
 
@@ -296,8 +299,8 @@ marked_so a r = record { room = refl; sessions = none_on 16 (active_storages a.s
 
 -- a command that names no storage
 pub failure_lasts : (rules : List Rule) (answers : Answers) (w w' : World) (app : ℕ) (c : Call) (reply : Reply)
-    → storage_named c ≡ None → IsWorld w
-    → Fails rules answers w (event.App app c) reply w' → IsWorld w'
+    → device_storage c ≡ None → IsWorld w
+    → FailsElsewhere rules answers w (event.App app c) reply w' → IsWorld w'
 failure_lasts rules answers w w' app c reply none world fails = with_so w w' app fails.0 _ world (by fails.3) fails.6
   where
     by : FailsAs app w.now (app_at fails.2.left app) (app_of w app) c fails.0 → IsApplication fails.0
@@ -311,13 +314,13 @@ failure_lasts rules answers w w' app c reply none world fails = with_so w w' app
 
 -- ---- the storage that a call names
 
-pub record IsFound (says : Says) (states : List State) (kind : Option StoreKind) (f : Found) : Type 0 where
+pub record IsFoundStorage (says : Says) (states : List State) (kind : Option StoreKind) (f : Found) : Type 0 where
   pub config : slice_get (active_storages says) f.number ≡ Some f.config
   pub state : slice_get states f.number ≡ Some f.state
   pub kind_is : of_kind kind f.config.kind ≡ true
 
 found_so : (says : Says) (states : List State) (name : List ℕ) (kind : Option StoreKind)
-    → IfOk (found_in says states name kind) (IsFound says states kind)
+    → IfOk (found_in says states name kind) (IsFoundStorage says states kind)
 found_so nothing states name kind = tt
 found_so (absent g) states name kind = tt
 found_so (installed g active previous) states name kind = at (storage_number active.deployment name)
@@ -326,26 +329,27 @@ found_so (installed g active previous) states name kind = at (storage_number act
         → slice_get active.deployment.storages number ≡ Some config → slice_get states number ≡ Some state
         → of_kind kind config.kind ≡ agree
         → IfOk (cond agree (Ok (record { bank = active.bank; number = number; config = config; state = state }))
-        (Err error.StorageNotFound)) (IsFound (installed g active previous) states kind)
+        (Err error.StorageNotFound)) (IsFoundStorage (installed g active previous) states kind)
     kinds_agree number config state true config_is state_is kind_is =
         record { config = config_is; state = state_is; kind_is = kind_is }
     kinds_agree number config state false config_is state_is kind_is = tt
 
     both : (number : ℕ) (config : Option StorageData) (state : Option State)
         → slice_get active.deployment.storages number ≡ config → slice_get states number ≡ state
-        → IfOk (found_with active.bank number kind config state) (IsFound (installed g active previous) states kind)
+        → IfOk (found_with active.bank number kind config state)
+        (IsFoundStorage (installed g active previous) states kind)
     both number (Some config) (Some state) config_is state_is =
         kinds_agree number config state (of_kind kind config.kind) config_is state_is refl
     both number (Some config) None config_is state_is = tt
     both number None state config_is state_is = tt
 
     at : (number : Option ℕ) → IfOk (found_at active states kind number)
-        (IsFound (installed g active previous) states kind)
+        (IsFoundStorage (installed g active previous) states kind)
     at None = tt
     at (Some number) = both number (slice_get active.deployment.storages number) (slice_get states number) refl refl
 
 abbrev pub IsFoundIn : Application → Option StoreKind → Found → Type 0
-IsFoundIn r kind f = IsFound r.disk.says r.disk.states kind f
+IsFoundIn r kind f = IsFoundStorage r.disk.says r.disk.states kind f
 
 pub stored_so : (r : Application) (name : List ℕ) (kind : Option StoreKind)
     → IfOk (storage_in r.disk name kind) (IsFoundIn r kind)
@@ -389,7 +393,7 @@ pub rest_so : (stage : Stage) (says : Says) (ss : Sessions) → stage ≡ at_res
 rest_so stage says ss rests = subst (λ at. IsStageOn at says ss) (sym rests) tt
 
 opened_so : (app : ℕ) (r : Application) (kind : Option StoreKind) (f : Found) (state : State) → IsApplication r
-    → r.stage ≡ at_rest → IsFoundIn r kind f → Lasts (opened app r f state)
+    → r.stage ≡ at_rest → IsFoundIn r kind f → Lasts (storage_opened app r f state)
 opened_so app r kind f (Opens v others) is rests found = record {
   room = set_length r.sessions f.number (Some (session_of f.config.kind v)) ∙ is.room;
   sessions = both_set r.sessions (active_storages r.disk.says) r.disk.states f.number f.config f.state
@@ -403,9 +407,9 @@ pub open_row : (app : ℕ) (r : Application) (name : List ℕ) (kind : StoreKind
     → IfOk (open_step app r name kind) Lasts
 unfolding open_step
 open_row app r name kind is rests = on_ok (IsFoundIn r (Some kind)) Lasts (storage_in r.disk name (Some kind))
-    (λ f. unless_open r f (Ok (opened app r f f.state))) (stored_so r name (Some kind))
+    (λ f. unless_open r f (Ok (storage_opened app r f f.state))) (stored_so r name (Some kind))
     (λ f found. unless_so Lasts (is_some (session_at r f.number)) (error.ResourceBusy (holder.Storage f.config.name))
-    (Ok (opened app r f f.state))
+    (Ok (storage_opened app r f f.state))
     (λ closed. opened_so app r (Some kind) f f.state is rests found))
 
 -- ---- recovering and resetting
@@ -414,11 +418,11 @@ pub rebuild_row : (r : Application) (name : List ℕ) (state_of : Found → Resu
     → IfOk (rebuild_step r name state_of) Lasts
 rebuild_row r name state_of is = on_ok (λ f. ⊤) Lasts (storage_in r.disk name None)
     (λ f. unless_open r f (state_of f >>= λ state. Ok (answered answer.Done
-    (record r { disk = with_state r.disk f state })))) (any_ok (storage_in r.disk name None))
+    (record r { disk = with_storage_state r.disk f state })))) (any_ok (storage_in r.disk name None))
     (λ f any. unless_so Lasts (is_some (session_at r f.number)) (error.ResourceBusy (holder.Storage f.config.name))
-    (state_of f >>= λ state. Ok (answered answer.Done (record r { disk = with_state r.disk f state })))
+    (state_of f >>= λ state. Ok (answered answer.Done (record r { disk = with_storage_state r.disk f state })))
     (λ closed. on_ok (λ state. ⊤) Lasts (state_of f) (λ state.
-    Ok (answered answer.Done (record r { disk = with_state r.disk f state }))) (any_ok (state_of f))
+    Ok (answered answer.Done (record r { disk = with_storage_state r.disk f state }))) (any_ok (state_of f))
     (λ state any_state. record {
       room = is.room;
       sessions = state_set r.sessions (active_storages r.disk.says) r.disk.states f.number state is.sessions
@@ -428,14 +432,15 @@ rebuild_row r name state_of is = on_ok (λ f. ⊤) Lasts (storage_in r.disk name
 
 -- ---- closing
 
-unless_held_so : (held : Option ℕ) (row : Result Outcome PerError) → IfOk row Lasts → IfOk (unless_held held row) Lasts
+unless_held_so : (held : Option ℕ) (row : Result Outcome PerError) → IfOk row Lasts → IfOk (unless_busy held row) Lasts
 unless_held_so None row has = has
 unless_held_so (Some h) row has = tt
 
 -- a session that is made durable and ends
 ended_so : (r : Application) (f : Found) (s t : Session) (state : State) → IsApplication r
     → session_at r f.number ≡ Some s → IsFoundIn r None f
-    → IsApplication (without_session (with_session (record r { disk = with_state r.disk f state }) f.number t) f.number)
+    → IsApplication (without_session (with_session (record r { disk = with_storage_state r.disk f state }) f.number t)
+    f.number)
 ended_so r f s t state is open_there found = record {
   room = set_length (slice_set r.sessions f.number (Some t)) f.number None
       ∙ (set_length r.sessions f.number (Some t) ∙ is.room);
@@ -464,7 +469,7 @@ closing_so app r f (keys s) is open_there found = dropped_so r f (keys s) is ope
 closing_so app r f (files s) is open_there found = by (durable_state app f f.state (files s))
   where
     by : (row : Result State PerError)
-        → IfOk ((row >>= λ state. Ok (with_session (record r { disk = with_state r.disk f state }) f.number
+        → IfOk ((row >>= λ state. Ok (with_session (record r { disk = with_storage_state r.disk f state }) f.number
         (made_durable (files s)))) >>= λ after. Ok (answered answer.Done (without_session after f.number)))
         Lasts
     by (Ok state) = ended_so r f (files s) (made_durable (files s)) state is open_there found
@@ -472,11 +477,11 @@ closing_so app r f (files s) is open_there found = by (durable_state app f f.sta
 
 pub close_row : (app : ℕ) (r : Application) (name : List ℕ) → IsApplication r → IfOk (close_step app r name) Lasts
 close_row app r name is = on_ok (IsFoundIn r None) Lasts (storage_in r.disk name None)
-    (λ f. opened_session r f >>= λ s. unless_held (lowest_handle s)
+    (λ f. opened_session r f >>= λ s. unless_busy (lowest_handle s)
     (closing app r f s >>= λ after. Ok (answered answer.Done (without_session after f.number))))
     (stored_so r name None)
     (λ f found. on_ok (λ s. session_at r f.number ≡ Some s) Lasts (opened_session r f)
-    (λ s. unless_held (lowest_handle s) (closing app r f s >>= λ after.
+    (λ s. unless_busy (lowest_handle s) (closing app r f s >>= λ after.
     Ok (answered answer.Done (without_session after f.number)))) (open_is (session_at r f.number) error.NotOpen)
     (λ s open_there. unless_held_so (lowest_handle s) (closing app r f s >>= λ after.
     Ok (answered answer.Done (without_session after f.number))) (closing_so app r f s is open_there found)))

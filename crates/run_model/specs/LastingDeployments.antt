@@ -17,14 +17,16 @@ use Rattle.command_text.specs.declared.replies.Answer.TheVariants as answer
 use Rattle.deploy_laws.specs.Places.{Named}
 use Rattle.deploy_laws.specs.Apps.{Says, nothing, absent, installed, App}
 use Rattle.deploy_rows.specs.Rows.{◌>>=◌, not_worn, not_busy, deployment_of, installed_app, installing, finishing}
-use Rattle.deploy_rows.specs.Rows.{rolling_back, wiping, empty_app, storage_count, stored_in, Offer, offered, newer}
+use Rattle.deploy_rows.specs.Rows.{rolling_back, wiping, empty_app, storage_count, contents_stored, Offer, offered}
+use Rattle.deploy_rows.specs.Rows.{newer_version}
 use Rattle.deploy_rows.specs.Rows.{offer_over, InProgress, begun as begun_by, BeginsWith, updated_app}
 use Rattle.run_model.specs.Sessions.{Session}
 use Rattle.run_model.specs.Worlds.{Application, Stage, to_open, at_rest, updating, update_in, Sessions}
 use Rattle.run_model.specs.Lasting.{AreSessionsOn, IsStageOn, IsApplication, none_on}
 use Rattle.run_model.specs.LastingCalls.{Lasts, rest_so, some_none}
 use Rattle.run_model.specs.Calls.{Outcome, answered, status_step, first_open, active_storages, least_open, done_with}
-use Rattle.run_model.specs.Calls.{progress_in, next_step, commit_step, abort_step, updated, begun, BeginsBy}
+use Rattle.run_model.specs.Calls.{progress_in, next_step, commit_step, abort_step, with_update, with_update_begun}
+use Rattle.run_model.specs.Calls.{BeginsBy}
 
 -- ---- no storage is open
 
@@ -152,7 +154,7 @@ busy_so : (r : Application) (busy : Option (List ℕ)) (row : Result App PerErro
 busy_so r None row has = has refl
 busy_so r (Some name) row has = tt
 
--- at rest, with no storage open, whatever lies on the disk
+-- at rest, with no storage open, whatever is on the disk
 closed_so : (r : Application) (a : App) → r.stage ≡ at_rest → IsApplication r → least_open r ≡ None
     → IsApplication (record r { disk = a })
 closed_so r a rests is least = record {
@@ -286,7 +288,7 @@ plan_length rules answers now stored (s ∷ ss) plan is =
 
 -- an update in one call, where no storage is open
 updated_so : (r : Application) (row : Result InProgress PerError) → r.stage ≡ at_rest → IsApplication r
-    → least_open r ≡ None → IfOk (row >>= updated r) Lasts
+    → least_open r ≡ None → IfOk (row >>= with_update r) Lasts
 updated_so r (Ok p) rests is least = closed_so r (updated_app p r.disk) rests is least
 updated_so r (Err e) rests is least = tt
 
@@ -309,7 +311,8 @@ begun_plan rules answers now stored o (Err e) plans = tt
 -- the same of one that goes on in steps, with contents for each storage
 stepwise_so : (r : Application) (g : ℕ) (active : Named) (row : Result InProgress PerError) → IsApplication r
     → r.disk.says ≡ installed g active None → NoneOpen r.sessions
-    → IfOk row (λ p. (length p.contents ≡ length p.deployment.storages) × (p.built ≡ 0)) → IfOk (row >>= begun r) Lasts
+    → IfOk row (λ p. (length p.contents ≡ length p.deployment.storages) × (p.built ≡ 0))
+    → IfOk (row >>= with_update_begun r) Lasts
 stepwise_so r g active (Ok p) is says none planned = record {
   room = is.room;
   sessions = is.sessions;
@@ -330,13 +333,14 @@ offered_so : (rules : List Rule) (answers : Answers) (now : ℕ) (busy : Option 
     → IfOk (row >>= f) Lasts) → IfOk (row >>= f) Lasts
 offered_so rules answers now (Some name) text states g active row f begins go = refused_so f row _ begins
 offered_so rules answers now None text states g active row f begins go =
-    by (deployment_of text >>= newer active g) begins
+    by (deployment_of text >>= newer_version active g) begins
   where
     by : (offer : Result Offer PerError) → BeginsWith rules answers now states offer row → IfOk (row >>= f) Lasts
     by (Err e) is = refused_so f row e is
     by (Ok o) is = go refl (subst (λ (x : Result InProgress PerError).
         IfOk x (λ p. (length p.contents ≡ length p.deployment.storages) × (p.built ≡ 0))) (sym is.2)
-        (begun_plan rules answers now (stored_for o.active.deployment (stored_in o.active.deployment.storages states)) o
+        (begun_plan rules answers now (stored_for o.active.deployment
+        (contents_stored o.active.deployment.storages states)) o
         is.0 is.1))
 
 begins_parts : (rules : List Rule) (answers : Answers) (now : ℕ) (text : List ℕ) (says : Says) (lacking : List ℕ)
@@ -357,17 +361,20 @@ begins_parts rules answers now text (installed g active None) lacking states bus
 
 pub update_row : (rules : List Rule) (answers : Answers) (now : ℕ) (r : Application) (text : List ℕ) (outcome : Outcome)
     → r.stage ≡ at_rest → IsApplication r
-    → (by_plan : BeginsBy rules answers now r text (updated r) outcome) → IfOk (by_plan.0 >>= updated r) Lasts
+    → (by_plan : BeginsBy rules answers now r text (with_update r) outcome) → IfOk (by_plan.0 >>= with_update r) Lasts
 update_row rules answers now r text outcome rests is by_plan =
-    begins_parts rules answers now text r.disk.says r.disk.lacking r.disk.states (least_open r) by_plan.0 (updated r)
+    begins_parts rules answers now text r.disk.says r.disk.lacking r.disk.states (least_open r) by_plan.0
+    (with_update r)
     by_plan.1
     (λ g active says least planned. updated_so r by_plan.0 rests is least)
 
 pub begin_row : (rules : List Rule) (answers : Answers) (now : ℕ) (r : Application) (text : List ℕ) (outcome : Outcome)
     → IsApplication r
-    → (by_plan : BeginsBy rules answers now r text (begun r) outcome) → IfOk (by_plan.0 >>= begun r) Lasts
+    → (by_plan : BeginsBy rules answers now r text (with_update_begun r) outcome)
+    → IfOk (by_plan.0 >>= with_update_begun r) Lasts
 begin_row rules answers now r text outcome is by_plan =
-    begins_parts rules answers now text r.disk.says r.disk.lacking r.disk.states (least_open r) by_plan.0 (begun r)
+    begins_parts rules answers now text r.disk.says r.disk.lacking r.disk.states (least_open r) by_plan.0
+    (with_update_begun r)
     by_plan.1
     (λ g active says least planned. stepwise_so r g active by_plan.0 is says
     (none_least r.sessions (active_storages r.disk.says) r.disk.states least is.sessions) planned)

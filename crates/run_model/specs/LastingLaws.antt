@@ -11,7 +11,7 @@ use Rattle.per_base.specs.declared.errors.PerError.TheVariants as error
 use Rattle.deployment_model.specs.Data.{StorageData}
 use Rattle.element_state.specs.declared.shapes.View.{View}
 use Rattle.element_state.specs.States.{State, Opens, Corrupt, is_worn}
-use Rattle.element_maps.specs.Sessions.{same_map, synced_view}
+use Rattle.element_maps.specs.Sessions.{same_map, view_once_synced}
 use Rattle.migrate_fns.specs.Rules.{Rule, Answers}
 use Rattle.command_text.specs.declared.calls.Call.{Call}
 use Rattle.command_text.specs.declared.calls.Call.TheVariants as call
@@ -21,8 +21,8 @@ use Rattle.command_text.specs.declared.replies.Reply.{Reply}
 use Rattle.deploy_laws.specs.Apps.{Says, nothing, absent, installed, App, app_at}
 use Rattle.deploy_rows.specs.Rows.{◌>>=◌, installing, finishing, rolling_back, wiping}
 use Rattle.deploy_rows.specs.Recovering.{recovering, resetting}
-use Rattle.run_model.specs.Found.{Found, storage_in, shape_in, with_state}
-use Rattle.run_model.specs.Sessions.{Session, keys, files, seen_in, synced_of, seen_of, made_durable}
+use Rattle.run_model.specs.Found.{Found, storage_in, shape_in, with_storage_state}
+use Rattle.run_model.specs.Sessions.{Session, keys, files, seen_in, synced_in_session, seen_of, made_durable}
 use Rattle.run_model.specs.Worlds.{Application, Stage, to_open, at_rest, updating, is_to_open, update_in, Sessions}
 use Rattle.run_model.specs.Worlds.{World, app_of}
 use Rattle.run_model.specs.Lasting.{IsSessionOn, AreSessionsOn, IsStageOn, IsApplication, IsWorld}
@@ -35,17 +35,19 @@ use Rattle.run_model.specs.LastingDeployments.{commit_row, abort_row, update_row
 use Rattle.run_model.specs.Calls.{Outcome, answered, if_open, session_at, with_session, without_session, opened_session}
 use Rattle.run_model.specs.Calls.{durable_state, durable, sync_step, may_flush, flush_step, close_step, open_step}
 use Rattle.run_model.specs.Calls.{rebuild_step, local_on, local_step, status_step, least_open, done_with, next_step}
-use Rattle.run_model.specs.Calls.{commit_step, abort_step, updated, begun, active_storages, goes_beside, beside_update}
+use Rattle.run_model.specs.Calls.{commit_step, abort_step, with_update, with_update_begun, active_storages, goes_beside}
+use Rattle.run_model.specs.Calls.{beside_update}
 use Rattle.run_model.specs.Calls.{app_step, CallStep, StepBeside}
-use Rattle.run_model.specs.Steps.{root_opened, Step, Fails, FailsAs, storage_named, after_failure}
+use Rattle.run_model.specs.Steps.{root_opened, Step, FailsElsewhere, FailsAs, device_storage, after_failure}
 
 -- ---- a session that is made durable
 
--- what is open shows, once it lies on the disk, what it shows now
+-- what is open shows, once it is on the disk, what it shows now
 abbrev pub AreSeenAgain : ℕ → Application → Type 0
 AreSeenAgain app r = (f : Found) (s : Session) (v : View) (others : List View)
     → slice_get (active_storages r.disk.says) f.number ≡ Some f.config → f.state ≡ Opens v others
-    → session_at r f.number ≡ Some s → seen_in f.config.kind (synced_view (shape_in app f) v (synced_of s) (seen_of s))
+    → session_at r f.number ≡ Some s → seen_in f.config.kind (view_once_synced (shape_in app f) v (synced_in_session s)
+    (seen_of s))
     ≡ seen_of s
 
 on_there : (ss : Sessions) (cs : List StorageData) (states : List State) (n : ℕ) (config : StorageData) (state : State)
@@ -74,19 +76,19 @@ on_there (s ∷ ss) (c ∷ cs) (x ∷ states) (suc n) config state are config_is
 -- what a sync makes of the state and of the session of one storage
 durable_on : (app : ℕ) (f : Found) (s : Session) (kind : StoreKind) (state : State) → IsSessionOn (Some s) kind state
     → ((v : View) (others : List View) → state ≡ Opens v others
-    → seen_in kind (synced_view (shape_in app f) v (synced_of s) (seen_of s)) ≡ seen_of s)
+    → seen_in kind (view_once_synced (shape_in app f) v (synced_in_session s) (seen_of s)) ≡ seen_of s)
     → IfOk (durable_state app f state s) (λ new. IsSessionOn (Some (made_durable s)) kind new)
 durable_on app f (keys s) kinds.Keys (Opens v []) on again =
     unless_so (λ new. IsSessionOn (Some (made_durable (keys s))) kinds.Keys new)
     (not (same_map s.synced s.visible) && is_worn v) (error.LimitReached limit.Generations)
-    (Ok (Opens (synced_view (shape_in app f) v s.synced s.visible) [])) (λ left. sym (again v [] refl))
+    (Ok (Opens (view_once_synced (shape_in app f) v s.synced s.visible) [])) (λ left. sym (again v [] refl))
 durable_on app f (keys s) kinds.Keys (Opens v (x ∷ xs)) on again = absurd on
 durable_on app f (keys s) kinds.Keys (Corrupt salvage others) on again = absurd on
 durable_on app f (keys s) kinds.Files state on again = absurd on
 durable_on app f (files s) kinds.Files (Opens v []) on again =
     unless_so (λ new. IsSessionOn (Some (made_durable (files s))) kinds.Files new)
     (not (same_map s.synced s.working.files) && is_worn v) (error.LimitReached limit.Generations)
-    (Ok (Opens (synced_view (shape_in app f) v s.synced s.working.files) [])) (λ left. sym (again v [] refl))
+    (Ok (Opens (view_once_synced (shape_in app f) v s.synced s.working.files) [])) (λ left. sym (again v [] refl))
 durable_on app f (files s) kinds.Files (Opens v (x ∷ xs)) on again = absurd on
 durable_on app f (files s) kinds.Files (Corrupt salvage others) on again = absurd on
 durable_on app f (files s) kinds.Keys state on again = absurd on
@@ -103,7 +105,7 @@ durable_so app r kind f s is again found open_there = by (durable_state app f f.
     (λ v others opens. again f s v others found.config opens open_there))
   where
     by : (row : Result State PerError) → IfOk row (λ new. IsSessionOn (Some (made_durable s)) f.config.kind new)
-        → IfOk ((row >>= λ state. Ok (with_session (record r { disk = with_state r.disk f state }) f.number
+        → IfOk ((row >>= λ state. Ok (with_session (record r { disk = with_storage_state r.disk f state }) f.number
         (made_durable s))) >>= λ after. Ok (answered answer.Done after)) Lasts
     by (Err e) on = tt
     by (Ok state) on = record {
@@ -153,7 +155,7 @@ call_so rules answers app now r call.Status outcome again is rests step =
 call_so rules answers app now r (call.Install text) outcome again is rests step =
     subst Lasts (sym step) (lasts_on r (done_with r (installing now text r.disk)) is (install_row r now text is))
 call_so rules answers app now r (call.Update text) outcome again is rests step =
-    subst Lasts (sym step.2) (lasts_on r (step.0 >>= updated r) is
+    subst Lasts (sym step.2) (lasts_on r (step.0 >>= with_update r) is
     (update_row rules answers now r text outcome (rests refl) is step))
 call_so rules answers app now r call.Finish outcome again is rests step =
     subst Lasts (sym step) (lasts_on r (done_with r (finishing r.disk)) is (finish_row r (rests refl) is))
@@ -163,7 +165,8 @@ call_so rules answers app now r call.Rollback outcome again is rests step =
 call_so rules answers app now r call.Wipe outcome again is rests step =
     subst Lasts (sym step) (lasts_on r (done_with r (wiping (least_open r) r.disk)) is (wipe_row r (rests refl) is))
 call_so rules answers app now r (call.UpdateBegin text) outcome again is rests step =
-    subst Lasts (sym step.2) (lasts_on r (step.0 >>= begun r) is (begin_row rules answers now r text outcome is step))
+    subst Lasts (sym step.2) (lasts_on r (step.0 >>= with_update_begun r) is
+    (begin_row rules answers now r text outcome is step))
 call_so rules answers app now r call.UpdateNext outcome again is rests step =
     subst Lasts (sym step) (lasts_on r (next_step r) is (next_row r is))
 call_so rules answers app now r call.UpdateCommit outcome again is rests step =
@@ -234,9 +237,9 @@ stage_ends (updating p) (installed g active None) ss n on =
     (ap (λ (xs : Sessions). slice_set xs n None) on.0 ∙ set_none 16 n, on.1, on.2)
 stage_ends (updating p) (installed g active (Some previous)) ss n on = absurd on
 
--- what was read is what lay there, but for the state of one storage
+-- what was read is what was there, but for the state of one storage
 abbrev pub IsReadBeside : Application → Found → App → Type 0
-IsReadBeside r f a = (state : State) × (a ≡ with_state r.disk f state)
+IsReadBeside r f a = (state : State) × (a ≡ with_storage_state r.disk f state)
 
 ends_so : (r : Application) (f : Found) (a : App) → IsApplication r → IsFoundIn r None f → IsReadBeside r f a
     → IsApplication (after_failure a r (Some (Ok f)))
@@ -251,9 +254,9 @@ ends_so r f a is found read = subst (λ (b : App). IsApplication (record (withou
 -- a command on a storage: the root's failure ends all, and its own the session, where the other storages are as they
 -- were
 pub named_failure_lasts : (rules : List Rule) (answers : Answers) (w w' : World) (app : ℕ) (c : Call) (reply : Reply)
-    (name : List ℕ) (f : Found) → storage_named c ≡ Some name
+    (name : List ℕ) (f : Found) → device_storage c ≡ Some name
     → storage_in (root_opened (app_of w app)).disk name None ≡ Ok f
-    → (fails : Fails rules answers w (event.App app c) reply w')
+    → (fails : FailsElsewhere rules answers w (event.App app c) reply w')
     → IsReadBeside (root_opened (app_of w app)) f (app_at fails.2.left app) → IsWorld w → IsWorld w'
 named_failure_lasts rules answers w w' app c reply name f named found fails read world =
     with_so w w' app fails.0 _ world (by fails.3) fails.6

@@ -15,7 +15,7 @@ use Rattle.command_text.specs.declared.calls.Event.TheVariants as event
 use Rattle.command_text.specs.declared.lines.Line.TheVariants as line
 use Rattle.command_text.specs.declared.replies.Reply.{Reply}
 use Rattle.command_text.specs.Grammar.{IsLine}
-use Rattle.deploy_laws.specs.Places.{shape_of}
+use Rattle.deploy_laws.specs.Places.{storage_shape}
 use Rattle.deploy_laws.specs.Apps.{nothing, App, app_at, says_at, IsCleanApp}
 use Rattle.deploy_laws.specs.Pieces.{IsSoundApp}
 use Rattle.deploy_laws.specs.Stands.{IsLater, Stands}
@@ -23,20 +23,20 @@ use Rattle.deploy_rows.specs.Rows.{reopened}
 use Rattle.run_model.specs.AppLaws.{IsDiskOf, Calls, OpensRoot}
 use Rattle.run_model.specs.Decided.{one_storage, OpensAsEither}
 use Rattle.run_model.specs.Moments.{Between, IsReady, StepKeeps, IsMomentOf, IsDecided}
-use Rattle.run_model.specs.KeepLaws.{StandsOnTheWay}
-use Rattle.run_model.specs.Starting.{Opened}
-use Rattle.run_model.specs.Found.{Found, storage_in, with_state}
+use Rattle.run_model.specs.KeepLaws.{StaysOnTheWay}
+use Rattle.run_model.specs.Starting.{OpenedUpTo}
+use Rattle.run_model.specs.Found.{Found, storage_in, with_storage_state}
 use Rattle.run_model.specs.Calls.{session_at}
-use Rattle.run_model.specs.Worlds.{Disks, Doubt, World, disks, disk_at, app_of, world_at, started, without_doubt}
-use Rattle.run_model.specs.Steps.{Step, StepsTo, SyncFails, Fails, calls_device, root_opened, storage_named}
+use Rattle.run_model.specs.Worlds.{Disks, Doubt, World, disks, disk_at, app_of, world_at, after_start, without_doubt}
+use Rattle.run_model.specs.Steps.{Step, StepsTo, SyncFails, FailsElsewhere, calls_device, root_opened, device_storage}
 use Rattle.run_model.specs.Lasting.{IsWorld}
 use Rattle.run_model.specs.LastingLaws.{AreSeenAgain, synchronises, IsReadBeside}
 use Rattle.run_model.specs.Runtimes.{Memory, world_of, Stepped, Stopped, Starts, StartKeeps}
 use Rattle.run_model.specs.Endings.{Ending, HasStarted, HasEnded}
-use Rattle.run_model.specs.Turns.{Turn, turn, text_of, IsBlamed, AreBlamed}
+use Rattle.run_model.specs.Turns.{Turn, turn, replies_text, IsBlamed, AreBlamed}
 use Rattle.run_model.specs.Runs.{DiskSide}
 use Rattle.run_model.specs.RunLaws.{Going}
-use Rattle.run_model.specs.Lives.{BeginsAfterStop, IsAmong, Job, Known, Leaves, Life, Pair, pairs_of}
+use Rattle.run_model.specs.Lives.{BeginsAfterStop, IsAmong, Job, JobMayLeave, Known, Life, Pair, pairs_of}
 
 -- ---- single commands
 
@@ -63,13 +63,13 @@ DoubtStaysLaw rules answers = (w w' : World) (app : ℕ) (c : Call) (reply : Rep
 -- A command on a storage that failed at the device ends its session.
 abbrev pub SessionEndsLaw : List Rule → Answers → Type 0
 SessionEndsLaw rules answers = (w w' : World) (app : ℕ) (c : Call) (reply : Reply) (name : List ℕ) (f : Found)
-    → app < length w.apps → storage_named c ≡ Some name
-    → storage_in (app_of w app).disk name None ≡ Ok f → Fails rules answers w (event.App app c) reply w'
+    → app < length w.apps → device_storage c ≡ Some name
+    → storage_in (app_of w app).disk name None ≡ Ok f → FailsElsewhere rules answers w (event.App app c) reply w'
     → session_at (app_of w' app) f.number ≡ None
 
 -- A storage in another state comes later, as each row of a deployment does.
 abbrev pub StorageLaterLaw : Type 0
-StorageLaterLaw = (a : App) (f : Found) (state : State) → IsLater a (with_state a f state)
+StorageLaterLaw = (a : App) (f : Found) (state : State) → IsLater a (with_storage_state a f state)
 
 -- ---- what is so of every world
 
@@ -79,7 +79,7 @@ NowLastsLaw rules answers = (w w' : World) (t : ℕ) (reply : Reply) → IsWorld
     → StepsTo rules answers w (event.Now t) reply w' → IsWorld w'
 
 -- A command that was answered keeps it. Of one that makes a session durable it takes that the session shows, once it
--- lies on the disk, what it shows now.
+-- is on the disk, what it shows now.
 abbrev pub AnswersLastLaw : List Rule → Answers → Type 0
 AnswersLastLaw rules answers = (w w' : World) (app : ℕ) (c : Call) (reply : Reply)
     → (synchronises c ≡ true → AreSeenAgain app (root_opened (app_of w app))) → IsWorld w
@@ -92,20 +92,21 @@ FailedSyncLastsLaw = (w w' : World) (app : ℕ) (c : Call) (reply : Reply) → I
 
 -- a command that names no storage and whose device failed, whatever was read then;
 abbrev pub FailureLastsLaw : List Rule → Answers → Type 0
-FailureLastsLaw rules answers = (w w' : World) (app : ℕ) (c : Call) (reply : Reply) → storage_named c ≡ None → IsWorld w
-    → Fails rules answers w (event.App app c) reply w' → IsWorld w'
+FailureLastsLaw rules answers = (w w' : World) (app : ℕ) (c : Call) (reply : Reply) → device_storage c ≡ None
+    → IsWorld w
+    → FailsElsewhere rules answers w (event.App app c) reply w' → IsWorld w'
 
--- and one on a storage, where what was read is what lay there but for that storage.
+-- and one on a storage, where what was read is what was there but for that storage.
 abbrev pub StorageFailureLastsLaw : List Rule → Answers → Type 0
 StorageFailureLastsLaw rules answers = (w w' : World) (app : ℕ) (c : Call) (reply : Reply) (name : List ℕ) (f : Found)
-    → storage_named c ≡ Some name
+    → device_storage c ≡ Some name
     → storage_in (root_opened (app_of w app)).disk name None ≡ Ok f
-    → (fails : Fails rules answers w (event.App app c) reply w')
+    → (fails : FailsElsewhere rules answers w (event.App app c) reply w')
     → IsReadBeside (root_opened (app_of w app)) f (app_at fails.2.left app) → IsWorld w → IsWorld w'
 
 -- ---- moments
 
--- Behind the last command the root says what it said then, or what the command in progress leads to: nothing from
+-- After the last command the root says what it said then, or what the command in progress leads to: nothing from
 -- further back.
 abbrev pub NotFurtherBackLaw : Type 0
 NotFurtherBackLaw = (app : ℕ) (w : World) (next : Disks) (c : Case) → IsSoundApp app c → w.doubt ≡ None
@@ -120,8 +121,8 @@ OpensAsEitherLaw = (app g bank version : ℕ) (s : StorageData) (v : View) (othe
     (d : Doubt)
     → disk_at d.before app ≡ one_storage g bank version s (Opens v others)
     → disk_at d.after app ≡ one_storage g bank version s after
-    → IsSoundApp app d.case → HasEnough (shape_of app bank 0 s) [] v.lacking → IsDecided app (Some d)
-    → OpensAsEither (store_at d.case.left (shape_of app bank 0 s)) v after
+    → IsSoundApp app d.case → HasEnough (storage_shape app bank 0 s) [] v.lacking → IsDecided app (Some d)
+    → OpensAsEither (store_at d.case.left (storage_shape app bank 0 s)) v after
 
 -- ---- how each kind of command keeps each application
 
@@ -144,14 +145,14 @@ SyncedKeepsLaw old now new = (app : ℕ) (w w' : World) (d : Doubt) → w.doubt 
 -- the opening of a root, for each application
 abbrev pub OnTheWayLaw : (old new : Medium) → Type 0
 OnTheWayLaw old new = (a app : ℕ) (ds : Disks) → app < 8 → IsDiskOf app ds old → Quiet old → IsCleanApp app old.image
-    → OpensRoot a old new → StandsOnTheWay app ds old new
+    → OpensRoot a old new → StaysOnTheWay app ds old new
 
 -- one whose application's root was opened first
 abbrev pub RootKeepsLaw : (old now new : Medium) → Type 0
 RootKeepsLaw old now new = (app : ℕ) (w v w' : World) → IsLater (disk_at (disks w) app) (disk_at (disks w') app)
     → w.doubt ≡ None → v.doubt ≡ None
     → (disk_at (disks v) app ≡ disk_at (disks w) app) ⊎ (disk_at (disks v) app ≡ reopened (disk_at (disks w) app))
-    → Elapses old now → Elapses now new → StandsOnTheWay app (disks w) old now → IsReady app v now
+    → Elapses old now → Elapses now new → StaysOnTheWay app (disks w) old now → IsReady app v now
     → StepKeeps app v w' now new → w'.doubt ≡ None
     → StepKeeps app w w' old new
 
@@ -159,7 +160,7 @@ RootKeepsLaw old now new = (app : ℕ) (w v w' : World) → IsLater (disk_at (di
 abbrev pub RootThenLaw : (old now new : Medium) → Type 0
 RootThenLaw old now new = (app : ℕ) (before opened after : Disks) → IsLater (disk_at before app) (disk_at after app)
     → (disk_at opened app ≡ disk_at before app) ⊎ (disk_at opened app ≡ reopened (disk_at before app))
-    → Elapses old now → Elapses now new → StandsOnTheWay app before old now
+    → Elapses old now → Elapses now new → StaysOnTheWay app before old now
     → EachCase (Between app opened after) now new → EachCase (Between app before after) old new
 
 -- one on an application that was answered
@@ -169,7 +170,7 @@ CallKeepsLaw old new = (a app : ℕ) (w w' : World) → app < 8 → Calls a (dis
     → w.doubt ≡ None → w'.doubt ≡ None → (IsCleanApp a old.image → IsCleanApp a new.image) → IsDiskOf app (disks w) old
     → StepKeeps app w w' old new
 
--- one whose device failed: the world behind it is in doubt between what was and what it leads to, with a case whose
+-- one whose device failed: the world after it is in doubt between what was and what it leads to, with a case whose
 -- image is what reads give
 abbrev pub CallFailsLaw : (old new : Medium) → Type 0
 CallFailsLaw old new = (a app : ℕ) (w w' : World) (d : Doubt) → app < 8 → Elapses old new → Calls a d.after old new
@@ -186,17 +187,17 @@ FailureKeepsLaw old new = (app : ℕ) (w w' : World) (d : Doubt) → w'.doubt �
 
 -- ---- the start
 
--- before any root is opened, behind a sync
+-- before any root is opened, after a sync
 abbrev pub NoneOpenedLaw : (old now : Medium) → Type 0
-NoneOpenedLaw old now = Elapses old now → WritesNothing old now → Quiet now → Opened 0 old now
+NoneOpenedLaw old now = Elapses old now → WritesNothing old now → Quiet now → OpenedUpTo 0 old now
 
 -- one root more
 abbrev pub OneOpenedLaw : (old now new : Medium) → Type 0
-OneOpenedLaw old now new = (a : ℕ) → a < 8 → Opened a old now → OpensRoot a now new → Opened (a + 1) old new
+OneOpenedLaw old now new = (a : ℕ) → a < 8 → OpenedUpTo a old now → OpensRoot a now new → OpenedUpTo (a + 1) old new
 
 -- all eight
 abbrev pub AllOpenedLaw : (old now : Medium) → Type 0
-AllOpenedLaw old now = Opened 8 old now → StartKeeps old now
+AllOpenedLaw old now = OpenedUpTo 8 old now → StartKeeps old now
 
 -- ---- a life
 
@@ -210,7 +211,7 @@ LifeLaw {D} medium rules answers = (app : ℕ) → app < 8 → (m : D) (pairs : 
 abbrev pub LifeStopsLaw : {D : Type 0} → (medium : D → Medium) → List Rule → Answers → Type 0
 LifeStopsLaw {D} medium rules answers = (app : ℕ) → app < 8 → (old new m : D) (pairs : List Pair)
     → Life medium rules answers app old pairs → (job : Job rules answers app (medium old) (medium new))
-    → (stop : BeginsAfterStop app (Leaves (medium old) (medium new) job)
+    → (stop : BeginsAfterStop app (JobMayLeave (medium old) (medium new) job)
     (pairs_of app (medium old) (medium new) job pairs) (medium m))
     → (p : Pair) × IsAmong (pairs_of app (medium old) (medium new) job pairs) p
     × Stands app (medium m).image (p.damaged ++ stop.damaged) p.before p.after
@@ -225,7 +226,7 @@ BlamedLaw = (before : ℕ) (ts : List Turn) (t : Turn) (after : ℕ) → AreBlam
 -- a start that ended is a run without a command
 abbrev pub RunBeginsLaw : List Rule → Answers → (old new : Medium) → Type 0
 RunBeginsLaw rules answers old new = (memory : Memory) → Elapses old new → Starts memory old new
-    → Going rules answers (world_at old.image) (started (world_at old.image)) [] memory None old new
+    → Going rules answers (world_at old.image) (after_start (world_at old.image)) [] memory None old new
 
 -- and one that did not is a run that ended there, before any line was taken
 abbrev pub StartStopsLaw : List Rule → Answers → (old new : Medium) → Type 0
@@ -237,25 +238,26 @@ StartStopsLaw rules answers old new = (ending : Ending) (before after : Option (
 abbrev pub RunGoesOnLaw : List Rule → Answers → (old now new : Medium) → Type 0
 RunGoesOnLaw rules answers old now new = (turns : List Turn) (e : Event) (reply : Reply) (memory memory' : Memory)
     (doubt : Option Doubt) → Elapses now new
-    → Going rules answers (world_at old.image) (started (world_at old.image)) turns memory doubt old now
+    → Going rules answers (world_at old.image) (after_start (world_at old.image)) turns memory doubt old now
     → (s : Stepped rules answers e reply memory memory' doubt now new)
-    → Going rules answers (world_at old.image) (started (world_at old.image))
+    → Going rules answers (world_at old.image) (after_start (world_at old.image))
     (turns ++ turn e reply new (world_of new.image memory' s.doubt') ∷ []) memory' s.doubt' old new
 
 -- where every command has ended, all that is promised follows
 abbrev pub RunEndsLaw : List Rule → Answers → (old now : Medium) → Type 0
 RunEndsLaw rules answers old now = (ending : Ending) (lines all : List (List ℕ)) (turns : List Turn)
     (before after : Option (List ℕ)) (memory : Memory) (doubt : Option Doubt)
-    → HasStarted ending → Going rules answers (world_at old.image) (started (world_at old.image)) turns memory doubt old
+    → HasStarted ending → Going rules answers (world_at old.image)
+    (after_start (world_at old.image)) turns memory doubt old
     now
     → DiskSide rules answers ending lines all turns before after old now
 
--- and so it does where the command of the next line is in progress, behind the text of every reply
+-- and so it does where the command of the next line is in progress, after the text of every reply
 abbrev pub RunStopsLaw : List Rule → Answers → (old now new : Medium) → Type 0
 RunStopsLaw rules answers old now new = (ending : Ending) (lines all others : List (List ℕ)) (text : List ℕ)
     (turns : List Turn) (before after : Option (List ℕ)) (e : Event)
     (memory : Memory) (doubt : Option Doubt) → Elapses now new → HasStarted ending → ¬ (HasEnded ending)
-    → Appends before after (text_of turns) → all ≡ lines ++ text ∷ others → IsLine text (line.Event e)
-    → Going rules answers (world_at old.image) (started (world_at old.image)) turns memory doubt old now
+    → Appends before after (replies_text turns) → all ≡ lines ++ text ∷ others → IsLine text (line.Event e)
+    → Going rules answers (world_at old.image) (after_start (world_at old.image)) turns memory doubt old now
     → Stopped rules answers e memory doubt now new
     → DiskSide rules answers ending lines all turns before after old new

@@ -10,7 +10,7 @@ abbrev pub onto_first : ℕ → List (List ℕ) × List ℕ → List (List ℕ) 
 onto_first byte ([], rest) = ([], byte ∷ rest)
 onto_first byte ((l ∷ ls), rest) = ((byte ∷ l) ∷ ls, rest)
 
--- the lines that end with a line feed, and what stands behind the last of them
+-- the lines that end with a line feed, and what stands after the last of them
 abbrev pub split_lines : List ℕ → List (List ℕ) × List ℕ
 split_lines [] = ([], [])
 split_lines (byte ∷ bytes) = if byte == 10 then ([] ∷ (split_lines bytes).0, (split_lines bytes).1) else onto_first byte

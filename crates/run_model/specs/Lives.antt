@@ -36,8 +36,8 @@ use Rattle.run_model.specs.RunLaws.{imaged_last}
 use Rattle.run_model.specs.Starting.{at_entry, between_worlds}
 use Rattle.run_model.specs.Lines.{lines_of}
 use Rattle.run_model.specs.Runs.{DiskSide, Run, Progress, starting, between, within}
-use Rattle.run_model.specs.Turns.{Bytes, Turn, bytes_of, worlds_of}
-use Rattle.run_model.specs.Worlds.{Disks, Doubt, World, disk_at, disks, started, world_at}
+use Rattle.run_model.specs.Turns.{Bytes, Turn, bytes_now, worlds_of}
+use Rattle.run_model.specs.Worlds.{Disks, Doubt, World, after_start, disk_at, disks, world_at}
 
 -- ---- the pairs between which an application may stand
 
@@ -67,7 +67,7 @@ doubt_pairs app (Some d) = fresh_pair (disk_at d.before app) (disk_at d.after ap
 abbrev pub last_pairs : ℕ → World → (next : Disks) → List Pair
 last_pairs app w next = fresh_pair (disk_at (disks w) app) (disk_at next app) ∷ doubt_pairs app w.doubt
 
--- behind a run; one that did not start may have left those of before it
+-- after a run; one that did not start may have left those of before it
 abbrev pub pairs_behind : ℕ → (entry : World) → (reached : List World) → (next : Disks) → (earlier : List Pair)
     → List Pair
 pairs_behind app entry [] next earlier = fresh_pair (disk_at (disks entry) app) (disk_at next app)
@@ -82,7 +82,7 @@ abbrev pub all_aged : (damaged : List ℕ) → List Pair → List Pair
 all_aged damaged [] = []
 all_aged damaged (p ∷ ps) = aged damaged p ∷ all_aged damaged ps
 
--- what each was before is what some image stands for
+-- what each was before is what some image denotes
 abbrev pub BeginImaged : ℕ → List Pair → Type 0
 BeginImaged app [] = ⊤
 BeginImaged app (p ∷ ps) = ((start : Image) × (p.before ≡ app_at start app)) × BeginImaged app ps
@@ -108,7 +108,7 @@ pub record LooksOnly (old new : Medium) : Type 0 where
   pub written : new.written ≡ old.written
   pub during : EachCase (OrBefore old (IsSettledAt old.image)) old new
 
--- a run on a disk that tells its bytes
+-- a run on a disk whose bytes are modelled
 pub record Ran (rules : List Rule) (answers : Answers) (app : ℕ) (old new : Medium) : Type 0 where
   pub ending : Ending
   pub lines : List (List ℕ)
@@ -154,10 +154,10 @@ pub data Job (rules : List Rule) (answers : Answers) (app : ℕ) (old new : Medi
       → EachCase (OrBefore old (IsSettledOn (IsNoFileOf other) old.image)) old new → Job rules answers app old new
 
 -- what a crash at its end may leave; of a job that is no run, at any moment of it
-abbrev pub Leaves : {rules : List Rule} → {answers : Answers} → {app : ℕ} → (old new : Medium)
+abbrev pub JobMayLeave : {rules : List Rule} → {answers : Answers} → {app : ℕ} → (old new : Medium)
     → Job rules answers app old new → Case → Type 0
-Leaves old new (runs run) c = new.now c
-Leaves old new other c = new.since old.moment c
+JobMayLeave old new (runs run) c = new.now c
+JobMayLeave old new other c = new.since old.moment c
 
 abbrev pub pairs_of : {rules : List Rule} → {answers : Answers} → (app : ℕ) → (old new : Medium)
     → Job rules answers app old new → (earlier : List Pair) → List Pair
@@ -210,23 +210,23 @@ pub record BeginsAfterStop (app : ℕ) (pending : Case → Type 0) (pairs : List
 
 -- A disk that was formatted once, and then job after job. A job ends by itself, by a process that is killed, or by
 -- power that is lost: as over a disk that fails from then on. The next begins with some of what is pending, over what
--- reads then give, where files may be damaged; or behind a stop, with nothing pending and some files damaged.
+-- reads then give, where files may be damaged; or after a stop, with nothing pending and some files damaged.
 pub data Life {D : Type 0} (medium : D → Medium) (rules : List Rule) (answers : Answers) (app : ℕ)
     : D → List Pair → Type 0 where
   formatted : (m : D) → Quiet (medium m) → IsCleanApp app (medium m).image
       → Life medium rules answers app m (resting_pairs (medium m).image app)
   goes_on : (old new m : D) (pairs : List Pair) → Life medium rules answers app old pairs
       → (job : Job rules answers app (medium old) (medium new))
-      → BeginsOver app (Leaves (medium old) (medium new) job) (medium m)
+      → BeginsOver app (JobMayLeave (medium old) (medium new) job) (medium m)
       → Life medium rules answers app m (pairs_of app (medium old) (medium new) job pairs)
   goes_on_damaged : (old new m : D) (pairs : List Pair) → Life medium rules answers app old pairs
       → (job : Job rules answers app (medium old) (medium new))
-      → (begins : BeginsDamaged app (Leaves (medium old) (medium new) job)
+      → (begins : BeginsDamaged app (JobMayLeave (medium old) (medium new) job)
       (pairs_of app (medium old) (medium new) job pairs) (medium m))
       → Life medium rules answers app m (all_aged begins.damaged (pairs_of app (medium old) (medium new) job pairs))
   stops : (old new m : D) (pairs : List Pair) → Life medium rules answers app old pairs
       → (job : Job rules answers app (medium old) (medium new))
-      → BeginsAfterStop app (Leaves (medium old) (medium new) job)
+      → BeginsAfterStop app (JobMayLeave (medium old) (medium new) job)
       (pairs_of app (medium old) (medium new) job pairs) (medium m)
       → Life medium rules answers app m (resting_pairs (medium m).image app)
 
@@ -394,9 +394,9 @@ still_there laws app image pairs c lt clean settled = (
   freshly app (app_at image app) (app_at image app) c (laws.untouched app image c lt clean settled),
 )
 
--- behind a job each case stands between two of its pairs
+-- after a job each case stands between two of its pairs
 pub behind : {rules : List Rule} {answers : Answers} → AppLaws → (app : ℕ) (old new : Medium) (earlier : List Pair)
-    → app < 8 → (job : Job rules answers app old new) → Known app old earlier → (c : Case) → Leaves old new job c
+    → app < 8 → (job : Job rules answers app old new) → Known app old earlier → (c : Case) → JobMayLeave old new job c
     → StandsAmong app (pairs_of app old new job earlier) c
 behind laws app old new earlier lt (runs run) known c at =
     moment_behind app (world_at old.image) run.disk.reached run.disk.next earlier c
@@ -534,7 +534,7 @@ begun_damaged app pending pairs m imaged stands over =
       ),
     )
 
--- behind each stop, with its damage, it stands between two of the pairs
+-- after each stop, with its damage, it stands between two of the pairs
 stopped_so : (app : ℕ) (pending : Case → Type 0) (pairs : List Pair) (m : Medium)
     → ((c : Case) → pending c → StandsAmong app pairs c) → (stop : BeginsAfterStop app pending pairs m)
     → (p : Pair) × IsAmong pairs p × Stands app m.image (p.damaged ++ stop.damaged) p.before p.after
@@ -548,36 +548,37 @@ stopped_so app pending pairs m stands stop =
     )
 
 -- Each job of a life begins with clean places, whatever ends came before, and in each case the application stands
--- between what it was behind the last command and what was then in progress.
+-- between what it was after the last command and what was then in progress.
 pub lives_go_on : {D : Type 0} → AppLaws → (medium : D → Medium) (rules : List Rule) (answers : Answers) (app : ℕ)
     → app < 8 → (m : D) (pairs : List Pair) → Life medium rules answers app m pairs → Known app (medium m) pairs
 lives_go_on laws medium rules answers app lt _ _ (formatted m quiet clean) = rests laws app lt (medium m) quiet clean
 lives_go_on laws medium rules answers app lt _ _ (goes_on old new m pairs life job over) =
     let known : Known app (medium old) pairs = lives_go_on laws medium rules answers app lt old pairs life in
-    begun laws app (Leaves (medium old) (medium new) job) (pairs_of app (medium old) (medium new) job pairs) (medium m)
+    begun laws app (JobMayLeave (medium old) (medium new) job) (pairs_of app (medium old) (medium new) job pairs)
+    (medium m)
     (job_imaged app (medium old) (medium new) pairs lt job known.imaged)
     (job_rooted app (medium old) (medium new) pairs job known.rooted)
     (behind laws app (medium old) (medium new) pairs lt job known) over
 lives_go_on laws medium rules answers app lt _ _ (goes_on_damaged old new m pairs life job over) =
     let known : Known app (medium old) pairs = lives_go_on laws medium rules answers app lt old pairs life in
-    begun_damaged app (Leaves (medium old) (medium new) job) (pairs_of app (medium old) (medium new) job pairs)
+    begun_damaged app (JobMayLeave (medium old) (medium new) job) (pairs_of app (medium old) (medium new) job pairs)
     (medium m) (job_imaged app (medium old) (medium new) pairs lt job known.imaged)
     (behind laws app (medium old) (medium new) pairs lt job known) over
 lives_go_on laws medium rules answers app lt _ _ (stops old new m pairs life job stop) =
     let known : Known app (medium old) pairs = lives_go_on laws medium rules answers app lt old pairs life in
-    let (p, at, stands) = stopped_so app (Leaves (medium old) (medium new) job)
+    let (p, at, stands) = stopped_so app (JobMayLeave (medium old) (medium new) job)
     (pairs_of app (medium old) (medium new) job pairs) (medium m)
     (behind laws app (medium old) (medium new) pairs lt job known) stop in
     rests laws app lt (medium m) stop.quiet (damaged_clean app (medium m).image (p.damaged ++ stop.damaged) p.before
     p.after (root_at app stop.damaged (pairs_of app (medium old) (medium new) job pairs) p stop.enough at) stands)
 
--- and behind each stop, with its damage, it stands so between two of the pairs
+-- and after each stop, with its damage, it stands so between two of the pairs
 pub stops_keep : {rules : List Rule} {answers : Answers} → AppLaws → (app : ℕ) → app < 8 → (old new m : Medium)
     (pairs : List Pair) → Known app old pairs → (job : Job rules answers app old new)
-    → (stop : BeginsAfterStop app (Leaves old new job) (pairs_of app old new job pairs) m)
+    → (stop : BeginsAfterStop app (JobMayLeave old new job) (pairs_of app old new job pairs) m)
     → (p : Pair) × IsAmong (pairs_of app old new job pairs) p
     × Stands app m.image (p.damaged ++ stop.damaged) p.before p.after
-stops_keep laws app lt old new m pairs known job stop = stopped_so app (Leaves old new job)
+stops_keep laws app lt old new m pairs known job stop = stopped_so app (JobMayLeave old new job)
     (pairs_of app old new job pairs) m (behind laws app old new pairs lt job known) stop
 
 -- ---- where nothing was pending before the run
@@ -606,7 +607,7 @@ first_moment app entry start reached next c none stands (inr first) =
     subst (λ ws. IsMomentOf app entry ws next c) (sym first.1)
     (inl (subst (λ d. AtMoment app (disks entry) (disks start) d c) (sym none) stands))
 
-start_calm : (image : Image) → (started (world_at image)).doubt ≡ None
+start_calm : (image : Image) → (after_start (world_at image)).doubt ≡ None
 unfolding world_at
 start_calm image = refl
 
@@ -616,12 +617,13 @@ pub quiet_always : AppLaws → (rules : List Rule) (answers : Answers) (app : �
     → (run : DiskSide rules answers how lines all turns before now old new) → Quiet old → IsCleanApp app old.image
     → AreSoundDoubts app run.reached → EachCase (IsMomentOf app (world_at old.image) run.reached run.next) old new
 quiet_always laws rules answers app lt _ lines all turns before now old new run quiet clean sound c s = ⊎_elim
-    (λ was. first_moment app (world_at old.image) (started (world_at old.image)) run.reached run.next c
+    (λ was. first_moment app (world_at old.image) (after_start (world_at old.image)) run.reached run.next c
     (start_calm old.image)
     (between_worlds old.image app lt c (laws.still app old.image (reopened (app_at old.image app)) c lt clean
     (settled_on (IsFileOf app) (quiet c was)) (same_root refl refl)))
-    (first_of rules answers _ (started (world_at old.image)) lines all turns before now run.reached run.next run.begun
-    (bytes_of new) run.progress))
+    (first_of rules answers _ (after_start (world_at old.image)) lines all turns before now run.reached run.next
+    run.begun
+    (bytes_now new) run.progress))
     (λ moment. moment)
     (run.everywhen.always app lt clean sound c s)
 
@@ -672,7 +674,7 @@ looks_idle told old new lawful time look quiet = record {
     here : (c : Case) → new.since old.moment c → IsSettledAt old.image c
     here c s = ⊎_elim (λ was. quiet c was) (λ settled. settled) (look.during c s)
 
--- Behind a sync that succeeded each moment is one that might have come before it, or one of those after it.
+-- After a sync that succeeded each moment is one that might have come before it, or one of those after it.
 pub behind_sync : {told : Bool} {old mid new : Medium} (P : Case → Type 0) → IsLawful told mid → Elapses old mid
     → WritesNothing old mid → Elapses mid new → EachCase P mid new → EachCase (OrBefore old P) old new
 behind_sync {mid = mid} P lawful time calls later each c s = ⊎_elim

@@ -11,7 +11,7 @@ use Rattle.run_model.specs.Moments.{KeepsApplication, OrBefore}
 use Rattle.run_model.specs.Moments.{StepKeeps, StopKeeps, Stayed, IsSoundDoubt, AreSoundDoubts, IsDecided, AreDecided}
 use Rattle.run_model.specs.Moments.{last_of}
 
--- ---- worlds behind one another
+-- ---- one world after another
 
 pub last_is : (w : World) (worlds : List World) (v : World) → last_of w (worlds ++ v ∷ []) ≡ v
 last_is w [] v = refl
@@ -45,7 +45,7 @@ decided_end : (app : ℕ) (worlds : List World) (v : World) → AreDecided app w
 decided_end app [] v all is = (is, tt)
 decided_end app (u ∷ us) v all is = (all.0, decided_end app us v all.1 is)
 
--- a doubt that is new has a case of now, which lies between its two sides; one that stays was decided before
+-- a doubt that is new has a case of now, which is between its two sides; one that stays was decided before
 decided_new : (app : ℕ) (last doubt : Option Doubt) (was now : Case → Type 0) → IsDecided app last
     → ((d : Doubt) → doubt ≡ Some d → (last ≡ Some d) ⊎ now d.case)
     → (IsInDoubt doubt → (c : Case) → now c → ((doubt ≡ last) × was c) ⊎ InDoubt app doubt c) → IsDecided app doubt

@@ -11,7 +11,7 @@ use Rattle.run_model.specs.Worlds.{Disks, Doubt, World, disks, disk_at}
 
 -- ---- one moment
 
--- in this case, where it is sound, the application stands after each damage between what lies on the disk before and
+-- in this case, where it is sound, the application stands after each damage between what is on the disk before and
 -- after
 abbrev pub Between : ℕ → (before after : Disks) → Case → Type 0
 Between app before after c = StandsCase app (disk_at before app) (disk_at after app) c
@@ -25,12 +25,12 @@ abbrev pub IsInDoubt : Option Doubt → Type 0
 IsInDoubt None = ⊥
 IsInDoubt (Some d) = Unit {0}
 
--- what reads gave behind a command that failed has nothing of the application that passes its hash by chance
+-- what reads gave after a command that failed has nothing of the application that passes its hash by chance
 abbrev pub IsSoundDoubt : ℕ → Option Doubt → Type 0
 IsSoundDoubt app None = Unit {0}
 IsSoundDoubt app (Some d) = IsSoundApp app d.case
 
--- what reads gave behind a command that failed stands between the two sides of its doubt
+-- what reads gave after a command that failed stands between the two sides of its doubt
 abbrev pub IsDecided : ℕ → Option Doubt → Type 0
 IsDecided app None = Unit {0}
 IsDecided app (Some d) = Between app d.before d.after d.case
@@ -48,7 +48,7 @@ pub record IsReady (app : ℕ) (w : World) (m : Medium) : Type 0 where
   pub clean : IsCleanApp app m.image
   pub quiet : w.doubt ≡ None → Quiet m
 
--- a crash at some moment of a command: between what lay there before it and after it; where its device failed, between
+-- a crash at some moment of a command: between what was there before it and after it; where its device failed, between
 -- the sides of the doubt
 abbrev pub AtMoment : ℕ → (before after : Disks) → (doubt : Option Doubt) → Case → Type 0
 AtMoment app before after None c = Between app before after c
@@ -62,7 +62,7 @@ IsMoment app w after doubt old c = (IsInDoubt w.doubt × old.now c) ⊎ AtMoment
 pub record KeepsApplication (app : ℕ) (w w' : World) (old new : Medium) : Type 0 where
   pub any_moment : EachCase (IsMoment app w (disks w') w'.doubt old) old new
   pub clean : IsSoundDoubt app w'.doubt → IsCleanApp app new.image
-  -- behind it, in a doubt: one that stays has no new crash, and in one that is new each stands between its two sides
+  -- after it, in a doubt: one that stays has no new crash, and in one that is new each stands between its two sides
   pub calm : IsInDoubt w'.doubt → (c : Case) → new.now c → ((w'.doubt ≡ w.doubt) × old.now c) ⊎ InDoubt app w'.doubt c
 
 abbrev pub StepKeeps : ℕ → (w w' : World) → (old new : Medium) → Type 0
@@ -74,13 +74,13 @@ StopKeeps app w after old new = IsReady app w old → EachCase (IsMoment app w a
 
 -- ---- a run
 
--- A crash at some moment of a run through these worlds, from w on, with `next` in progress behind the last: the
+-- A crash at some moment of a run through these worlds, from w on, with `next` in progress after the last: the
 -- application stands between two worlds that follow each other, or in the doubt of one of them.
 abbrev pub IsMomentOf : ℕ → (w : World) → List World → (next : Disks) → Case → Type 0
 IsMomentOf app w [] next c = Between app (disks w) next c ⊎ InDoubt app w.doubt c
 IsMomentOf app w (v ∷ vs) next c = AtMoment app (disks w) (disks v) v.doubt c ⊎ IsMomentOf app v vs next c
 
--- the same of the commands that were answered, with none in progress behind them
+-- the same of the commands that were answered, with none in progress after them
 abbrev pub IsPast : ℕ → (w : World) → List World → Case → Type 0
 IsPast app w [] c = ⊥
 IsPast app w (v ∷ vs) c = AtMoment app (disks w) (disks v) v.doubt c ⊎ IsPast app v vs c
@@ -97,7 +97,7 @@ AreDecided app worlds = AllByRecursion (λ (w : World). IsDecided app w.doubt) w
 
 -- ---- what applications came from
 
--- the application is what some image stands for
+-- the application is what some image denotes
 abbrev pub IsImaged : ℕ → Disks → Type 0
 IsImaged app ds = (start : Image) × (disk_at ds app ≡ app_at start app)
 
@@ -105,7 +105,7 @@ abbrev pub IsSideImaged : ℕ → Option Doubt → Type 0
 IsSideImaged app None = Unit {0}
 IsSideImaged app (Some d) = IsImaged app d.before
 
--- of a world, and of what lay there before the command that left its doubt
+-- of a world, and of what was there before the command that left its doubt
 abbrev pub IsWorldImaged : ℕ → World → Type 0
 IsWorldImaged app w = IsImaged app (disks w) × IsSideImaged app w.doubt
 

@@ -16,8 +16,9 @@ use Rattle.run_model.specs.Worlds.{Application, World, Stage, to_open, at_rest, 
 use Rattle.run_model.specs.Worlds.{or_idle, app_of, with_app}
 use Rattle.run_model.specs.Runtimes.{Running, with_disk}
 use Rattle.run_model.specs.Calls.{Outcome, if_open, session_at, beside_update}
-use Rattle.run_model.specs.Steps.{Step, StepsTo, Fails, FailsAs, AppStep, doubt_after, calls_device, uses_device}
-use Rattle.run_model.specs.Steps.{root_opened, goes_on, reaches_device, after_failure, storage_named}
+use Rattle.run_model.specs.Steps.{Step, StepsTo, FailsElsewhere, FailsAs, AppStep, doubt_after, calls_device}
+use Rattle.run_model.specs.Steps.{uses_device}
+use Rattle.run_model.specs.Steps.{root_opened, passes_refusals, reaches_device, after_failure, device_storage}
 
 -- ---- lists
 
@@ -126,7 +127,8 @@ not_opened r rests = ap (λ (b : Bool). cond b (record r { disk = reopened r.dis
 reaches_uses : (app now : ℕ) (r : Application) (c : Call) → IsTrue (reaches_device app r now c)
     → uses_device r.disk c ≡ true
 reaches_uses app now r c reaches = and_true (uses_device r.disk c) (is_none (beside_update (update_in r.stage) c))
-    (and_true (uses_device r.disk c && is_none (beside_update (update_in r.stage) c)) (goes_on app r now c) reaches)
+    (and_true (uses_device r.disk c && is_none (beside_update (update_in r.stage) c))
+    (passes_refusals app r now c) reaches)
 
 -- a command that calls no device does not fail at it
 never_fails : (app now : ℕ) (a : App) (r : Application) (c : Call) (r' : Application) → calls_device r c ≡ false
@@ -175,8 +177,8 @@ found_reopened r name = found_by r.disk r.stage r.sessions name
 
 pub session_ends : (rules : List Rule) (answers : Answers) (w w' : World) (app : ℕ) (c : Call) (reply : Reply)
     (name : List ℕ) (f : Found) → app < length w.apps
-    → storage_named c ≡ Some name → storage_in (app_of w app).disk name None ≡ Ok f
-    → Fails rules answers w (event.App app c) reply w'
+    → device_storage c ≡ Some name → storage_in (app_of w app).disk name None ≡ Ok f
+    → FailsElsewhere rules answers w (event.App app c) reply w'
     → session_at (app_of w' app) f.number ≡ None
 session_ends rules answers w w' app c reply name f less named found fails =
     ap (λ (u : World). session_at (app_of u app) f.number) fails.6

@@ -7,19 +7,8 @@ use Rattle.per_base.specs.declared.elements.Content.TheVariants.{Good, Bad}
 use Rattle.disk_model.specs.Image.{Image}
 use Rattle.element_state.specs.declared.shapes.Shape.{Shape}
 use Rattle.element_state.specs.declared.shapes.View.{View}
-use Rattle.element_state.specs.Kept.{
-  CostsNoCopy,
-  IsFrom,
-  IsFromOneOf,
-  IsLeftAs,
-  IsLeftOf,
-  KeepsEach,
-  KeepsGood,
-  Kept,
-  SameHeadings,
-  all_views,
-  listed,
-}
+use Rattle.element_state.specs.Kept.{CostsNoCopy, IsFrom, IsFromOneOf, IsLeftAs, IsLeftOf, KeepsEach, KeepsGood, Kept}
+use Rattle.element_state.specs.Kept.{SameHeadings, all_views, views_in}
 use Rattle.element_state.specs.States.{State, Opens, Corrupt, salvage_of, store_at}
 use Rattle.deploy_laws.specs.Apps.{app_at, says_at, shapes_named, IsCleanApp}
 use Rattle.deploy_laws.specs.Stands.{AreKept, Stands}
@@ -69,7 +58,7 @@ no_open salvage others rest w is = let no : 1 ≡ 0 = ap code is in omega (arith
 
 kept_itself : (shape : Shape) (damaged : List ℕ) (state : State) → Kept shape damaged state state state
 kept_itself shape damaged (Opens v others) = record {
-  known = each_from (all_views (Opens v others)) (listed (Some v));
+  known = each_from (all_views (Opens v others)) (views_in (Some v));
   stays = λ enough. (v, others, refl, inl (same_headings v, keeps_good shape damaged v));
   copies = λ same. costs_none shape damaged v;
   salvage = tt;
@@ -81,7 +70,7 @@ kept_itself shape damaged (Corrupt None others) = record {
   salvage = tt;
 }
 kept_itself shape damaged (Corrupt (Some v) others) = record {
-  known = each_from (all_views (Corrupt (Some v) others)) (listed (Some v));
+  known = each_from (all_views (Corrupt (Some v) others)) (views_in (Some v));
   stays = λ w rest is. absurd (no_open (Some v) others rest w is);
   copies = tt;
   salvage = λ one. (

@@ -15,8 +15,8 @@ use Rattle.command_text.specs.declared.lines.Line.TheVariants as line
 use Rattle.command_text.specs.Grammar.{IsLine}
 use Rattle.deploy_laws.specs.Apps.{App, app_at, IsCleanApp}
 use Rattle.run_model.specs.AppLaws.{AppLaws}
-use Rattle.run_model.specs.Worlds.{Application, started, Disks, Doubt, World, disks, disk_at, resting, all_resting}
-use Rattle.run_model.specs.Worlds.{world_at, closed}
+use Rattle.run_model.specs.Worlds.{Application, after_start, Disks, Doubt, World, disks, disk_at, resting, all_resting}
+use Rattle.run_model.specs.Worlds.{world_at, after_run}
 use Rattle.run_model.specs.Lasting.{IsWorld, starts_so}
 use Rattle.run_model.specs.Steps.{StepsTo, Leads}
 use Rattle.run_model.specs.Moments.{AtMoment, Between, InDoubt, IsInDoubt, IsMomentOf, StepKeeps, StopKeeps, Stayed}
@@ -38,9 +38,9 @@ use Rattle.run_model.specs.MomentLaws.{last_is, start_stays, step_stays, end_sta
 use Rattle.run_model.specs.KeepLaws.{rests}
 use Rattle.run_model.specs.Runtimes.{Running, Memory, with_disk, world_of, StepsOn, Stepped, Stopped, Starts}
 use Rattle.run_model.specs.Runtimes.{StartKeeps, IsUnwritten, writes_none}
-use Rattle.run_model.specs.Bounds.{AreBounded, IsBounded, IsBegunWithin, StartsWithin, bytes_behind}
+use Rattle.run_model.specs.Bounds.{AreBounded, IsBounded, IsBegunWithin, StartsWithin, bytes_after}
 use Rattle.run_model.specs.Endings.{Ending, HasStarted, HasEnded, has_started}
-use Rattle.run_model.specs.Turns.{Bytes, Turn, Follow, bytes_of, turn, worlds_of, text_of, IsBlamed, AreBlamed}
+use Rattle.run_model.specs.Turns.{Bytes, Turn, Follow, bytes_now, turn, worlds_of, replies_text, IsBlamed, AreBlamed}
 use Rattle.run_model.specs.Runs.{AreCases, IsCaseOfDoubt, IsReadSince, Everywhen, IsSettled, starting, between, within}
 use Rattle.run_model.specs.Runs.{DiskSide}
 
@@ -81,9 +81,9 @@ pub record Going (rules : List Rule) (answers : Answers) (entry start : World) (
       → Stayed app entry start (worlds_of turns) old now
   -- what each command wrote, from the bytes that the start left on
   pub begun : Bytes
-  pub starts : StartsWithin (bytes_of old) begun
+  pub starts : StartsWithin (bytes_now old) begun
   pub bounded : AreBounded start begun turns
-  pub held : bytes_of now ≡ bytes_behind begun turns
+  pub held : bytes_now now ≡ bytes_after begun turns
   pub time : Elapses old now
 
 -- ---- what applications came from
@@ -192,18 +192,18 @@ read_now told old now new tells lawful time later c at left =
 
 -- ---- what was written
 
-behind_on : (b : Bytes) (ts : List Turn) (t : Turn) → bytes_behind b (ts ++ t ∷ []) ≡ t.bytes
+behind_on : (b : Bytes) (ts : List Turn) (t : Turn) → bytes_after b (ts ++ t ∷ []) ≡ t.bytes
 behind_on b [] t = refl
 behind_on b (u ∷ us) t = behind_on u.bytes us t
 
 bounded_on : (w : World) (b : Bytes) (ts : List Turn) (t : Turn) → AreBounded w b ts
     → IsBounded (last_of w (worlds_of ts)) t.event
-    (writes_none (last_of w (worlds_of ts)) t.event t.reply) (bytes_behind b ts) t.bytes
+    (writes_none (last_of w (worlds_of ts)) t.event t.reply) (bytes_after b ts) t.bytes
     → AreBounded w b (ts ++ t ∷ [])
 bounded_on w b [] t are is = (is, tt)
 bounded_on w b (u ∷ us) t are is = (are.0, bounded_on u.world u.bytes us t are.1 is)
 
-same_bytes : (old new : Medium) → IsUnwritten old new → bytes_of new ≡ bytes_of old
+same_bytes : (old new : Medium) → IsUnwritten old new → bytes_now new ≡ bytes_now old
 same_bytes old new is = ap₂ (λ (i : Image) (n : ℕ). record { image = i; written = n }) is.0 is.1
 
 module _ (rules : List Rule) (answers : Answers) (entry start : World) (calm : start.doubt ≡ None) where
@@ -213,12 +213,12 @@ module _ (rules : List Rule) (answers : Answers) (entry start : World) (calm : s
       → (going : Going rules answers entry start turns memory doubt old now)
       → Stepped rules answers e reply memory memory' doubt now new
       → IsBounded (last_of start (worlds_of turns)) e (writes_none (last_of start (worlds_of turns)) e reply)
-      (bytes_behind going.begun turns) (bytes_of new)
+      (bytes_after going.begun turns) (bytes_now new)
   bounded_here turns e reply memory memory' doubt old now new time going s =
-      subst (λ (w : World). IsBounded w e (writes_none w e reply) (bytes_behind going.begun turns) (bytes_of new))
+      subst (λ (w : World). IsBounded w e (writes_none w e reply) (bytes_after going.begun turns) (bytes_now new))
       (sym going.last)
       (subst (λ (b : Bytes). IsBounded (world_of now.image memory doubt) e
-      (writes_none (world_of now.image memory doubt) e reply) b (bytes_of new)) going.held (record {
+      (writes_none (world_of now.image memory doubt) e reply) b (bytes_now new)) going.held (record {
         elsewhere = s.aside.elsewhere;
         place = s.place;
         unwritten = λ none. same_bytes now new (s.unwritten none);
@@ -230,10 +230,10 @@ module _ (rules : List Rule) (answers : Answers) (entry start : World) (calm : s
   begun_here : (turns : List Turn) (e : Event) (memory : Memory) (doubt : Option Doubt) (old now new : Medium)
       → Elapses now new → (going : Going rules answers entry start turns memory doubt old now)
       → Stopped rules answers e memory doubt now new
-      → IsBegunWithin (last_of start (worlds_of turns)) e (bytes_behind going.begun turns) (bytes_of new)
+      → IsBegunWithin (last_of start (worlds_of turns)) e (bytes_after going.begun turns) (bytes_now new)
   begun_here turns e memory doubt old now new time going s =
-      subst (λ (w : World). IsBegunWithin w e (bytes_behind going.begun turns) (bytes_of new)) (sym going.last)
-      (subst (λ (b : Bytes). IsBegunWithin (world_of now.image memory doubt) e b (bytes_of new)) going.held (record {
+      subst (λ (w : World). IsBegunWithin w e (bytes_after going.begun turns) (bytes_now new)) (sym going.last)
+      (subst (λ (b : Bytes). IsBegunWithin (world_of now.image memory doubt) e b (bytes_now new)) going.held (record {
         elsewhere = s.aside.elsewhere;
         place = s.place;
         unwritten = λ none. same_bytes now new (s.unwritten none);
@@ -355,7 +355,7 @@ module _ (rules : List Rule) (answers : Answers) (entry start : World) (calm : s
     world = ap (λ (apps : List Application). record { now = 0; apps = apps; doubt = None })
         (subst (λ n. all_resting (app_at now.image) 0 n ≡ map (λ (a : Application). resting a.disk)
         (with_disk (app_at now.image) 0 memory.apps)) going.eight (rest_there (app_at now.image) 0 memory.apps))
-        ∙ ap closed (sym going.last);
+        ∙ ap after_run (sym going.last);
     quiet = λ none. going.quiet (sym (ap (λ (w : World). w.doubt) going.last) ∙ none);
   }
 
@@ -385,14 +385,14 @@ module _ (rules : List Rule) (answers : Answers) (entry start : World) (calm : s
 
 -- ---- what a run promises of the disk
 
-start_calm : (m : Medium) → (started (world_at m.image)).doubt ≡ None
+start_calm : (m : Medium) → (after_start (world_at m.image)).doubt ≡ None
 unfolding world_at
 start_calm m = refl
 
 -- the start is a run without a command
 pub starts_going : (rules : List Rule) (answers : Answers) (memory : Memory) (old new : Medium) → Elapses old new
     → Starts memory old new
-    → Going rules answers (world_at old.image) (started (world_at old.image)) [] memory None old new
+    → Going rules answers (world_at old.image) (after_start (world_at old.image)) [] memory None old new
 starts_going rules answers memory old new time s = record {
   eight = s.eight;
   follow = tt;
@@ -407,10 +407,10 @@ starts_going rules answers memory old new time s = record {
     ),
     tt,
   );
-  stayed = λ app lt clean sound. start_stays app (world_at old.image) (started (world_at old.image)) old new
+  stayed = λ app lt clean sound. start_stays app (world_at old.image) (after_start (world_at old.image)) old new
       (start_calm old) (s.keeps.always app lt clean)
       (record { clean = s.clean app lt clean; quiet = λ none. s.quiet });
-  begun = bytes_of new;
+  begun = bytes_now new;
   starts = record { roots = s.keeps.roots; later = time.written };
   bounded = tt;
   held = refl;
@@ -421,12 +421,12 @@ starts_going rules answers memory old new time s = record {
 pub steps_going : (rules : List Rule) (answers : Answers) (turns : List Turn) (e : Event) (reply : Reply)
     (memory memory' : Memory) (doubt : Option Doubt) (told : Bool)
     (old now new : Medium) → IsTrue told → IsLawful told new → Elapses now new
-    → Going rules answers (world_at old.image) (started (world_at old.image)) turns memory doubt old now
+    → Going rules answers (world_at old.image) (after_start (world_at old.image)) turns memory doubt old now
     → (s : Stepped rules answers e reply memory memory' doubt now new)
-    → Going rules answers (world_at old.image) (started (world_at old.image))
+    → Going rules answers (world_at old.image) (after_start (world_at old.image))
     (turns ++ turn e reply new (world_of new.image memory' s.doubt') ∷ []) memory' s.doubt' old new
 steps_going rules answers turns e reply memory memory' doubt told old now new tells lawful time going s =
-    goes_on rules answers (world_at old.image) (started (world_at old.image)) (start_calm old) turns e reply memory
+    goes_on rules answers (world_at old.image) (after_start (world_at old.image)) (start_calm old) turns e reply memory
     memory' doubt told old now new tells lawful time going s
 
 -- a run that ended in its start
@@ -440,8 +440,8 @@ start_disk rules answers how before after told old new lawful time open_end keep
   imaged = λ app lt. tt;
   settled = λ over. absurd (open_end (has_started how over));
   reached = [];
-  next = disks (started (world_at old.image));
-  begun = bytes_of new;
+  next = disks (after_start (world_at old.image));
+  begun = bytes_now new;
   starts = record { roots = keeps.roots; later = time.written };
   bounded = tt;
   progress = starting open_end refl refl refl refl refl refl;
@@ -458,23 +458,23 @@ start_disk rules answers how before after told old new lawful time open_end keep
 pub ends_disk : AppLaws → (rules : List Rule) (answers : Answers) (ending : Ending) (lines all : List (List ℕ))
     (turns : List Turn) (before after : Option (List ℕ))
     (memory : Memory) (doubt : Option Doubt) (old now : Medium) → HasStarted ending
-    → Going rules answers (world_at old.image) (started (world_at old.image)) turns memory doubt old now
+    → Going rules answers (world_at old.image) (after_start (world_at old.image)) turns memory doubt old now
     → DiskSide rules answers ending lines all turns before after old now
 ends_disk laws rules answers _ lines all turns before after memory doubt old now started_well going = record {
   follow = going.follow;
   worlds = going.worlds;
   cases = going.cases;
   imaged = going.imaged;
-  settled = λ over. ends_settled rules answers (world_at old.image) (started (world_at old.image)) (start_calm old)
+  settled = λ over. ends_settled rules answers (world_at old.image) (after_start (world_at old.image)) (start_calm old)
       turns memory doubt old now going;
-  reached = started (world_at old.image) ∷ worlds_of turns;
-  next = disks (last_of (started (world_at old.image)) (worlds_of turns));
+  reached = after_start (world_at old.image) ∷ worlds_of turns;
+  next = disks (last_of (after_start (world_at old.image)) (worlds_of turns));
   begun = going.begun;
   starts = going.starts;
   bounded = going.bounded;
   progress = between started_well refl refl going.held;
   clean = λ over app lt clean sound. (going.stayed app lt clean sound).ready.clean;
-  everywhen = ends_everywhen rules answers (world_at old.image) (started (world_at old.image)) (start_calm old) laws
+  everywhen = ends_everywhen rules answers (world_at old.image) (after_start (world_at old.image)) (start_calm old) laws
       turns memory doubt old now going;
 }
 
@@ -483,8 +483,8 @@ pub stops_disk : (rules : List Rule) (answers : Answers) (ending : Ending) (line
     (text : List ℕ) (turns : List Turn) (before after : Option (List ℕ))
     (e : Event) (memory : Memory) (doubt : Option Doubt) (told : Bool) (old now new : Medium) → IsLawful told new
     → Elapses now new → HasStarted ending
-    → ¬ (HasEnded ending) → Appends before after (text_of turns) → all ≡ lines ++ text ∷ others
-    → IsLine text (line.Event e) → Going rules answers (world_at old.image) (started (world_at old.image)) turns
+    → ¬ (HasEnded ending) → Appends before after (replies_text turns) → all ≡ lines ++ text ∷ others
+    → IsLine text (line.Event e) → Going rules answers (world_at old.image) (after_start (world_at old.image)) turns
     memory doubt old now
     → Stopped rules answers e memory doubt now new → DiskSide rules answers ending lines all turns before after old new
 stops_disk rules answers _ lines all others text turns before after e memory doubt told old now new lawful time
@@ -496,7 +496,7 @@ stops_disk rules answers _ lines all others text turns before after e memory dou
           going.cases;
       imaged = going.imaged;
       settled = λ over. absurd (open_end over);
-      reached = started (world_at old.image) ∷ worlds_of turns;
+      reached = after_start (world_at old.image) ∷ worlds_of turns;
       next = s.after;
       begun = going.begun;
       starts = going.starts;
@@ -508,11 +508,12 @@ stops_disk rules answers _ lines all others text turns before after e memory dou
         is_next = is_next;
         spelled = spelled;
         leads = subst (λ w. Leads rules answers w e s.after) (sym going.last) s.leads;
-        bounded = begun_here rules answers (world_at old.image) (started (world_at old.image)) (start_calm old) turns e
+        bounded = begun_here rules answers (world_at old.image) (after_start (world_at old.image))
+            (start_calm old) turns e
             memory doubt old now new time going s;
       });
       clean = λ over. absurd (open_end over);
-      everywhen = stops_everywhen rules answers (world_at old.image) (started (world_at old.image)) (start_calm old)
+      everywhen = stops_everywhen rules answers (world_at old.image) (after_start (world_at old.image)) (start_calm old)
           turns e
           memory doubt told old now new lawful time going s;
     }

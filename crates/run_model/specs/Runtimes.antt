@@ -1,4 +1,4 @@
--- The runtime in memory, the world that it makes with what lies on the disk, and what its start and each of its
+-- The runtime in memory, the world that it makes with what is on the disk, and what its start and each of its
 -- commands promise.
 use Rattle.std.specs.Prelude.{◌≡◌, ◌⊎◌, ◌<◌, ◌+◌, ◌||◌, ◌&&◌, ℕ, List, [], ◌∷◌, length, not, Bool, true, false, Option}
 use Rattle.std.specs.Prelude.{Some, None, Ok, is_some, ⊤}
@@ -11,7 +11,7 @@ use Rattle.disk_model.specs.Place.{IsNoSlot}
 use Rattle.element_state.specs.declared.shapes.View.{View}
 use Rattle.element_state.specs.States.{Opens}
 use Rattle.element_state.specs.Written.{IsWithin, map_cost}
-use Rattle.element_maps.specs.Sessions.{same_map, synced_view}
+use Rattle.element_maps.specs.Sessions.{same_map, view_once_synced}
 use Rattle.element_store.specs.Committing.{index_length}
 use Rattle.migrate_fns.specs.Rules.{Rule, Answers}
 use Rattle.command_text.specs.declared.calls.Call.{Call}
@@ -26,10 +26,10 @@ use Rattle.deploy_laws.specs.Places.{IsBeside, IsNoFileOf, root_place}
 use Rattle.run_model.specs.Calls.{session_at}
 use Rattle.run_model.specs.Found.{Found, shape_in}
 use Rattle.run_model.specs.Lasting.{IsWorld}
-use Rattle.run_model.specs.Sessions.{Session, synced_of, seen_of}
+use Rattle.run_model.specs.Sessions.{Session, synced_in_session, seen_of}
 use Rattle.run_model.specs.Worlds.{Application, Stage, is_to_open, Sessions, Disks, Doubt, World, app_of, disks}
-use Rattle.run_model.specs.Worlds.{world_at, started}
-use Rattle.run_model.specs.Steps.{Step, SyncFails, Fails, Leads, calls_device, found_named}
+use Rattle.run_model.specs.Worlds.{world_at, after_start}
+use Rattle.run_model.specs.Steps.{Step, SyncFails, FailsElsewhere, Leads, calls_device, found_named}
 use Rattle.run_model.specs.Moments.{Between, OrBefore, StepKeeps, StopKeeps}
 use Rattle.run_model.specs.Turns.{IsBlamed}
 
@@ -53,7 +53,7 @@ with_disk disk app [] = []
 with_disk disk app (r ∷ rs) = record { disk = disk app; stage = r.stage; sessions = r.sessions }
     ∷ with_disk disk (app + 1) rs
 
--- what lies on the disk is what its image stands for, and all else is in memory; only the sides of a doubt are in
+-- what is on the disk is what its image denotes, and all else is in memory; only the sides of a doubt are in
 -- neither
 abbrev pub world_of : Image → Memory → Option Doubt → World
 world_of image memory doubt = record { now = memory.now; apps = with_disk (app_at image) 0 memory.apps; doubt = doubt }
@@ -72,11 +72,12 @@ IsNoRoot file = (app : ℕ) → app < 8 → IsNoSlot (root_place app) file
 -- not end; until the start has synchronised the disk, a crash may also leave what one before the start might have left
 pub record StartKeeps (old new : Medium) : Type 0 where
   pub always : (app : ℕ) → app < 8 → IsCleanApp app old.image
-      → EachCase (OrBefore old (Between app (disks (world_at old.image)) (disks (started (world_at old.image))))) old
+      → EachCase (OrBefore old (Between app (disks (world_at old.image)) (disks (after_start (world_at old.image)))))
+      old
       new
-  -- one that ended before it had synchronised the disk did nothing; behind any other nothing from before it is left
+  -- one that ended before it had synchronised the disk did nothing; after any other nothing from before it is left
   pub at_exit : OnlyReads old new ⊎ ((app : ℕ) → app < 8 → IsCleanApp app old.image → (c : Case) → new.now c
-      → Between app (disks (world_at old.image)) (disks (started (world_at old.image))) c)
+      → Between app (disks (world_at old.image)) (disks (after_start (world_at old.image))) c)
   -- only slots of roots change
   pub roots : Spares IsNoRoot old.image new.image
 
@@ -84,7 +85,7 @@ pub record StartKeeps (old new : Medium) : Type 0 where
 pub record Starts (memory : Memory) (old new : Medium) : Type 0 where
   pub eight : length memory.apps ≡ 8
   pub sure : memory.in_doubt ≡ false
-  pub world : world_of new.image memory None ≡ started (world_at old.image)
+  pub world : world_of new.image memory None ≡ after_start (world_at old.image)
   pub quiet : Quiet new
   pub clean : (app : ℕ) → app < 8 → IsCleanApp app old.image → IsCleanApp app new.image
   pub keeps : StartKeeps old new
@@ -156,10 +157,11 @@ is_durable other = false
 -- nothing where both maps are the same; and never more, in each copy, than the contents that are new or differ and the
 -- next index
 pub record CostsWithin (app : ℕ) (f : Found) (s : Session) (before now : ℕ) : Type 0 where
-  pub same : same_map (synced_of s) (seen_of s) ≡ true → now ≡ before
+  pub same : same_map (synced_in_session s) (seen_of s) ≡ true → now ≡ before
   pub at_most : (v : View) (others : List View) → f.state ≡ Opens v others
-      → IsWithin (shape_in app f).place.copies (map_cost f.config.kind (synced_of s) (seen_of s))
-      (index_length f.config.kind (synced_view (shape_in app f) v (synced_of s) (seen_of s)).entries) before now
+      → IsWithin (shape_in app f).place.copies (map_cost f.config.kind (synced_in_session s) (seen_of s))
+      (index_length f.config.kind (view_once_synced (shape_in app f) v (synced_in_session s) (seen_of s)).entries)
+      before now
 
 abbrev pub WritesWithin : (app : ℕ) → Found → Session → (old new : Medium) → Type 0
 WritesWithin app f s old new = CostsWithin app f s old.written new.written
@@ -180,7 +182,7 @@ WrittenBy w e old new = CostsBy w e old.written new.written
 -- failed only read.
 abbrev pub StepsOn : List Rule → Answers → World → Event → Reply → World → (old new : Medium) → Type 0
 StepsOn rules answers w e reply w' old new = Step rules answers w e reply w'
-    ⊎ ((SyncFails w e reply w' × OnlyReads old new) ⊎ Fails rules answers w e reply w')
+    ⊎ ((SyncFails w e reply w' × OnlyReads old new) ⊎ FailsElsewhere rules answers w e reply w')
 
 -- A command that was answered: it leads from the world before it to one after it, and keeps each application at every
 -- moment. A doubt that is new has a case of the disk, whose image is what reads now give.

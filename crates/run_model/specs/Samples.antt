@@ -39,24 +39,25 @@ use Rattle.command_text.specs.declared.replies.Answer.TheVariants as answer
 use Rattle.command_text.specs.declared.replies.Reply.{Reply}
 use Rattle.command_text.specs.Replies.{reply_text}
 use Rattle.deploy_laws.specs.Apps.{App, app_at}
-use Rattle.deploy_laws.specs.Places.{shape_of}
+use Rattle.deploy_laws.specs.Places.{storage_shape}
 use Rattle.deploy_rows.specs.Rows.{InProgress, installing, installed_app, finishing, rolling_back, wiping, offered}
 use Rattle.deploy_rows.specs.Rows.{updated_app}
 use Rattle.deploy_rows.specs.Recovering.{recovering, resetting}
 use Rattle.run_model.specs.Sessions.{on_keys, on_working}
 use Rattle.run_model.specs.Worlds.{Application, World, world_at, update_in, disks, no_app, resting, app_of, with_app}
-use Rattle.run_model.specs.Worlds.{formatted, closed, started}
-use Rattle.run_model.specs.Calls.{Outcome, answered, concluded, app_step, updated, begun, open_step, durable}
+use Rattle.run_model.specs.Worlds.{formatted, after_run, after_start}
+use Rattle.run_model.specs.Calls.{Outcome, answered, concluded, app_step, with_update, with_update_begun, open_step}
+use Rattle.run_model.specs.Calls.{durable}
 use Rattle.run_model.specs.Calls.{beside_update, CallStep, StepBeside}
-use Rattle.run_model.specs.Steps.{Step, Fails, failure, root_opened, doubt_after, calls_device, reaches_device}
+use Rattle.run_model.specs.Steps.{Step, FailsElsewhere, failure, root_opened, doubt_after, calls_device, reaches_device}
 use Rattle.run_model.specs.Steps.{after_failure, found_named}
 
 -- ---- a course of commands, where the device does not fail
 
 -- what a call gives by itself; one that begins an update is given the plan
 abbrev pub given_step : (app now : ℕ) → Application → InProgress → Call → Outcome
-given_step app now r p (call.Update text) = concluded r (updated r p)
-given_step app now r p (call.UpdateBegin text) = concluded r (begun r p)
+given_step app now r p (call.Update text) = concluded r (with_update r p)
+given_step app now r p (call.UpdateBegin text) = concluded r (with_update_begun r p)
 given_step app now r p other = concluded r (app_step app r now other)
 
 -- and beside an update in progress
@@ -140,7 +141,7 @@ with_installed w app now d = with_app w app (resting (installed_app 1 now d))
 -- all that is to be computed
 unfoldable pub computed : ℕ
 unfolding digits chars is_utf8 decoded kind_at counted_at kinds_by list_kind_by group_kind_by trees_by committed reports
-    fresh_state mended_view shape_of installing installed_app finishing rolling_back wiping offered updated_app
+    fresh_state mended_view storage_shape installing installed_app finishing rolling_back wiping offered updated_app
     recovering resetting on_keys on_working app_step open_step durable
 computed = 0
 
@@ -203,14 +204,14 @@ unfolding computed
 changing = refl
 
 -- a second run, after a sync and after none
-second_run : replies (started (closed (world_after at_first
+second_run : replies (after_start (after_run (world_after at_first
     (on (call.OpenKvs fav) ∷ set_home 9 ∷ on (call.Sync fav) ∷ []))))
     (on (call.OpenKvs fav) ∷ on (call.Get fav home) ∷ [])
     ≡ codes "ok\nvalue u16:9\n"
 unfolding computed
 second_run = refl
 
-second_run_unsynced : replies (started (closed (world_after at_first (on (call.OpenKvs fav) ∷ set_home 9 ∷ []))))
+second_run_unsynced : replies (after_start (after_run (world_after at_first (on (call.OpenKvs fav) ∷ set_home 9 ∷ []))))
     (on (call.OpenKvs fav) ∷ on (call.Get fav home) ∷ [])
     ≡ codes "ok\nvalue u16:513\n"
 unfolding computed
@@ -388,7 +389,7 @@ abbrev pub nothing_read : Case
 nothing_read = record { base = λ f. []; full = λ f. []; left = λ f. [] }
 
 -- The world after a command whose device failed before it wrote anything, with what reads then gave. The courses below
--- compute what `after_failure` leaves, whatever that was; where it is what lay on the disk, the device's failure leads
+-- compute what `after_failure` leaves, whatever that was; where it is what was on the disk, the device's failure leads
 -- there.
 abbrev pub failing : World → Call → (read : Case) → World
 failing w c read = record (with_app w 0 (after_failure (app_of w 0).disk (root_opened (app_of w 0))
@@ -398,8 +399,8 @@ failing w c read = record (with_app w 0 (after_failure (app_of w 0).disk (root_o
 
 failing_is : (rules : List Rule) (answers : Answers) (w : World) (c : Call) (read : Case)
     → IsTrue (reaches_device 0 (root_opened (app_of w 0)) w.now c)
-    → app_at read.left 0 ≡ (app_of w 0).disk → world_at read.left ≡ closed (failing w c read)
-    → Fails rules answers w (on c) failure (failing w c read)
+    → app_at read.left 0 ≡ (app_of w 0).disk → world_at read.left ≡ after_run (failing w c read)
+    → FailsElsewhere rules answers w (on c) failure (failing w c read)
 failing_is rules answers w c read reaches same there = (
   after_failure (app_of w 0).disk (root_opened (app_of w 0)) (found_named (root_opened (app_of w 0)) c),
   disks w,
@@ -555,7 +556,7 @@ unfolding computed
 update_given_up = refl
 
 -- the end of a run forgets an update in progress
-update_forgotten : replies (started (closed (course the_plan two_applications
+update_forgotten : replies (after_start (after_run (course the_plan two_applications
     (on (call.UpdateBegin []) ∷ on call.UpdateNext ∷ [])).1)) (on call.Status ∷ []) ≡ codes "status version 1\n"
 unfolding computed
 update_forgotten = refl

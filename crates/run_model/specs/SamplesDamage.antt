@@ -12,13 +12,13 @@ use Rattle.command_text.specs.declared.calls.Call.TheVariants as call
 use Rattle.deploy_rows.specs.Rows.{installed_app}
 use Rattle.run_model.specs.Samples.{computed, replies, world_after, on, fav, home, home_key, key_storage, set_home}
 use Rattle.run_model.specs.Samples.{in_copies, with_installed}
-use Rattle.run_model.specs.Worlds.{World, resting, app_of, with_app, formatted, closed, started}
+use Rattle.run_model.specs.Worlds.{World, resting, app_of, with_app, formatted, after_run, after_start}
 
 -- a deployment of one storage
 abbrev pub of_one : StorageData → DeploymentData
 of_one s = record { version = 1; storages = s ∷ [] }
 
--- what lies on the disk of the storages
+-- what is on the disk of the storages
 abbrev pub states_in : World → List State
 states_in w = (app_of w 0).disk.states
 
@@ -29,7 +29,7 @@ found_so d state = with_app formatted 0 (resting (record (installed_app 1 0 d) {
 -- ---- one key of which two copies are left out
 
 -- what was recovered and synchronised is there in the next run, and nothing is reported
-salvaged_key_stays : replies (started (closed (world_after (in_copies (Bad (Some (3 ∷ 9 ∷ 0 ∷ []))) (1 ∷ 2 ∷ []))
+salvaged_key_stays : replies (after_start (after_run (world_after (in_copies (Bad (Some (3 ∷ 9 ∷ 0 ∷ []))) (1 ∷ 2 ∷ []))
     (on (call.OpenKvs fav) ∷ on (call.RecoverKey fav home) ∷ on (call.Sync fav) ∷ []))))
     (on (call.OpenKvs fav) ∷ on (call.Get fav home) ∷ [])
     ≡ codes "ok\nvalue u16:9\n"
@@ -75,8 +75,8 @@ abbrev pub as_a_whole : DeploymentData
 as_a_whole = of_one (record (key_storage fav 1048576 2 3 (home_key ∷ [])) { scope = scope.Storage })
 
 -- `home` of the second generation with this content, where these copies lack it, and with it the storage
-abbrev pub whole_view : Content → (lacking : List ℕ) → View
-whole_view content lacking = record {
+abbrev pub home_view : Content → (lacking : List ℕ) → View
+home_view content lacking = record {
   generation = 2;
   lacking = lacking;
   sole = true;
@@ -85,18 +85,18 @@ whole_view content lacking = record {
 
 whole_synced : states_in (world_after (with_installed formatted 0 0 as_a_whole)
     (on (call.OpenKvs fav) ∷ set_home 9 ∷ on (call.Sync fav) ∷ []))
-    ≡ Opens (whole_view (Good (3 ∷ 9 ∷ 0 ∷ [])) []) [] ∷ []
+    ≡ Opens (home_view (Good (3 ∷ 9 ∷ 0 ∷ [])) []) [] ∷ []
 unfolding computed
 whole_synced = refl
 
-one_whole_copy_mended : replies (found_so as_a_whole (Opens (whole_view (Good (3 ∷ 9 ∷ 0 ∷ [])) (1 ∷ [])) []))
+one_whole_copy_mended : replies (found_so as_a_whole (Opens (home_view (Good (3 ∷ 9 ∷ 0 ∷ [])) (1 ∷ [])) []))
     (on (call.OpenKvs fav) ∷ []) ≡ codes "report kvs-recovered fav 1\nok\n"
 unfolding computed
 one_whole_copy_mended = refl
 
 -- with two copies lost the storage is corrupt, and the third is its salvage
 one_whole_copy_left : replies (found_so as_a_whole (Corrupt
-    (Some (whole_view (Bad (Some (3 ∷ 9 ∷ 0 ∷ []))) (1 ∷ 2 ∷ []))) []))
+    (Some (home_view (Bad (Some (3 ∷ 9 ∷ 0 ∷ []))) (1 ∷ 2 ∷ []))) []))
     (on (call.OpenKvs fav) ∷ on (call.RecoverStorage fav) ∷ on (call.OpenKvs fav) ∷ on (call.Get fav home) ∷ [])
     ≡ codes "report kvs-failed fav 1,2,3\nerror 5 IntegrityCorrupted fav\nok\nok\nvalue u16:9\n"
 unfolding computed

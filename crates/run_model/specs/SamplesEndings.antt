@@ -4,7 +4,7 @@ use Rattle.std.proofs.Common.{ap, ◌∙◌, inl, arith}
 use Rattle.command_text.specs.declared.calls.Call.TheVariants as call
 use Rattle.command_text.specs.declared.lines.Line.TheVariants as line
 use Rattle.command_text.specs.Grammar.{IsLine}
-use Rattle.run_model.specs.Endings.{status_of, EndsBy, InReply, device, start_memory, source, too_long}
+use Rattle.run_model.specs.Endings.{ending_status, EndsBy, InReply, device, start_memory, source, too_long}
 use Rattle.run_model.specs.Lines.{split_lines, lines_of, Give}
 use Rattle.run_model.specs.Samples.{computed, no_plan, stepped, at_first, on, fav}
 use Rattle.run_model.specs.Turns.{Turn}
@@ -13,16 +13,16 @@ use Rattle.run_model.specs.Turns.{Turn}
 
 -- at the device: no line is handled, and nothing is written
 device_writes_nothing : (lines all : List (List ℕ)) (turns : List Turn) (now : List ℕ)
-    → EndsBy device lines all turns (Some []) (Some now) → (status_of device ≡ 3) × (lines ≡ []) × (now ≡ [])
+    → EndsBy device lines all turns (Some []) (Some now) → (ending_status device ≡ 3) × (lines ≡ []) × (now ≡ [])
 device_writes_nothing lines all turns now ends = (refl, ends.no_line, ends.wrote)
 
 device_in_the_start : EndsBy device [] [] [] (Some []) (Some [])
 device_in_the_start = record { no_line = refl; no_turn = refl; wrote = refl }
 
--- for want of memory, by the status of a run that came to its lines
+-- where memory ran out, by the status of a run that came to its lines
 memory_in_the_start : (lines all : List (List ℕ)) (turns : List Turn) (now : List ℕ)
     → EndsBy start_memory lines all turns (Some []) (Some now)
-    → (status_of start_memory ≡ 4) × (turns ≡ []) × (now ≡ [])
+    → (ending_status start_memory ≡ 4) × (turns ≡ []) × (now ≡ [])
 memory_in_the_start lines all turns now ends = (refl, ends.no_turn, ends.wrote)
 
 -- ---- the source and the sink fail
@@ -49,7 +49,7 @@ open_line = codes "0 open-kvs fav"
 abbrev pub get_line : List ℕ
 get_line = codes "0 get fav home"
 
--- so many bytes of its text were taken, and not all
+-- that many bytes of its text were taken, and not all
 abbrev pub InFirstReply : ℕ → Type 0
 InFirstReply count = InReply count (open_line ∷ []) (open_line ∷ get_line ∷ []) (opened_first ∷ []) (Some [])
     (Some (take count (codes "ok\n")))
@@ -103,6 +103,6 @@ feeds_give_nothing zero = refl
 feeds_give_nothing (suc count) = inl (empty_line, feeds_give_nothing count)
 
 -- however many there are, all are handled and nothing is written
-feeds_too_many : (count : ℕ) → (status_of too_long ≡ 7)
+feeds_too_many : (count : ℕ) → (ending_status too_long ≡ 7)
     × EndsBy too_long (replicate count []) (lines_of false (replicate count 10)) [] (Some []) (Some [])
 feeds_too_many count = (refl, record { next = feeds_are_lines count; wrote = refl })

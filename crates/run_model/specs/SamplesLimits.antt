@@ -21,16 +21,16 @@ handles_run_out = refl
 
 -- ---- elements
 
-abbrev pub numbered : ℕ → List ℕ
-numbered n = codes "k" ++ decimal n
+abbrev pub numbered_key : ℕ → List ℕ
+numbered_key n = codes "k" ++ decimal n
 
--- so many keys that hold true, from this number on, behind the key `home`
+-- that many keys that hold true, from this number on, after the key `home`
 abbrev pub true_keys : (first count : ℕ) → Map
 true_keys first zero = []
-true_keys first (suc count) = (numbered first, record { info = None; len = 2; content = Good (1 ∷ 1 ∷ []) })
+true_keys first (suc count) = (numbered_key first, record { info = None; len = 2; content = Good (1 ∷ 1 ∷ []) })
     ∷ true_keys (first + 1) count
 
--- a storage of `home` and of so many further keys
+-- a storage of `home` and of that many further keys
 abbrev pub with_further : ℕ → World
 with_further count = found_so (of_one (key_storage fav 1048576 1 1 (home_key ∷ [])))
     (fresh_state 2 ((home, record { info = None; len = 3; content = Good (3 ∷ 1 ∷ 2 ∷ []) }) ∷ true_keys 1000 count))

@@ -1,5 +1,5 @@
 -- A life of three runs, computed: one that is killed in a sync, one that is killed before its start has synchronised
--- the disk, and one behind a power loss. A copy of the key is damaged behind the first, another file behind the second.
+-- the disk, and one after a power loss. A copy of the key is damaged after the first, another file after the second.
 use Rattle.std.specs.Prelude.{◌≡◌, ℕ, List, [], ◌∷◌, map, None, refl, codes, true}
 use Rattle.per_base.specs.declared.elements.Content.TheVariants.{Good}
 use Rattle.element_state.specs.States.{State, Opens}
@@ -7,7 +7,7 @@ use Rattle.command_text.specs.declared.calls.Call.TheVariants as call
 use Rattle.run_model.specs.Lives.{Pair, all_aged, last_pairs, pairs_behind}
 use Rattle.run_model.specs.Samples.{computed, fav, home, on, replies, set_home, with_installed, world_after}
 use Rattle.run_model.specs.SamplesDamage.{found_so, in_three}
-use Rattle.run_model.specs.Worlds.{World, closed, disks, formatted, started}
+use Rattle.run_model.specs.Worlds.{World, after_run, after_start, disks, formatted}
 
 -- `home` under a generation, with this value, which these copies lack
 abbrev pub home_so : (generation low high : ℕ) → (lacking : List ℕ) → State
@@ -61,19 +61,20 @@ damaged_meanwhile = refl
 -- ---- the second run: reads give the new value, and it is killed before its start has synchronised the disk
 
 abbrev pub behind_second : List Pair
-behind_second = pairs_behind 0 (closed synced) [] (disks (started (closed synced))) (all_aged (1026 ∷ []) behind_first)
+behind_second = pairs_behind 0 (after_run synced) [] (disks (after_start (after_run synced)))
+    (all_aged (1026 ∷ []) behind_first)
 
 -- so what the first one left may be there still, with its damage
 killed_at_once : seen behind_second ≡ (is, is, []) ∷ (was, is, 1026 ∷ []) ∷ []
 unfolding computed
 killed_at_once = refl
 
--- behind another damage both count of what the first one left
+-- after another damage both count of what the first one left
 damaged_again : seen (all_aged (1031 ∷ []) behind_second) ≡ (is, is, 1031 ∷ []) ∷ (was, is, 1026 ∷ 1031 ∷ []) ∷ []
 unfolding computed
 damaged_again = refl
 
--- ---- the third run, behind a power loss: whichever it is, `home` reads so
+-- ---- the third run, after a power loss: whichever it is, `home` reads so
 
 third_reads_the_new : replies (found_so in_three (home_so 2 9 0 (1 ∷ []))) (on (call.OpenKvs fav)
     ∷ on (call.Get fav home) ∷ [])

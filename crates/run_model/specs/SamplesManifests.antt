@@ -26,9 +26,10 @@ use Rattle.manifest.specs.Rules.{elements_have_strategies, initial_size, has_roo
 use Rattle.serde_json.specs.Read.{number_of as number_of_read}
 use Rattle.value_text.specs.Limits.{keeps_limits}
 use Rattle.value_text.specs.Parsing.{scalar_at, list_kind_at, fields_kind_at, kind_here, kind_at, kind_in, text_at}
-use Rattle.value_text.specs.Parsing.{content_at, scalar_tree_at, items_at, list_tree_at, fields_tree_at, tree_here}
+use Rattle.value_text.specs.Parsing.{value_content_at, scalar_tree_at, items_at, list_tree_at, fields_tree_at}
+use Rattle.value_text.specs.Parsing.{tree_here}
 use Rattle.value_text.specs.Parsing.{tree_at, tree_in, value_in}
-use Rattle.value_text.specs.Readers.{number_of, number_at, unsigned_at, signed_at, bytes_at, quoted_at, separated}
+use Rattle.value_text.specs.Readers.{number_of, number_at, unsigned_at, signed_at, hex_bytes_at, quoted_at, separated}
 use Rattle.value_text.specs.Whole.{unsigned_in, signed_in, bytes_in}
 use Rattle.command_text.specs.declared.calls.Call.TheVariants as call
 use Rattle.command_text.specs.declared.calls.Event.TheVariants as event
@@ -52,8 +53,10 @@ unfolding computed deployment_of digits chars is_utf8 encode scan_numeral elemen
     has_few_elements elements_are_few has_element_members elements_have_known_members has_different_elements
     elements_differ has_type keys_have_types may_start initials_are_read has_strategy elements_have_strategies
     initial_size has_room initials_fit least_broken keeps_limits scalar_at list_kind_at fields_kind_at kind_here kind_at
-    kind_in text_at content_at scalar_tree_at items_at list_tree_at fields_tree_at tree_here tree_at tree_in value_in
-    number_of number_at unsigned_at signed_at bytes_at quoted_at separated unsigned_in signed_in bytes_in number_of_read
+    kind_in text_at value_content_at scalar_tree_at items_at list_tree_at fields_tree_at tree_here tree_at tree_in
+    value_in
+    number_of number_at unsigned_at signed_at hex_bytes_at quoted_at separated unsigned_in signed_in bytes_in
+    number_of_read
     items members value lex punctuate code_unit short_escape content after_number word
 manifests_read = 0
 

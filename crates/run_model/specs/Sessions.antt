@@ -26,12 +26,12 @@ use Rattle.command_text.specs.declared.replies.Answer.{Answer}
 use Rattle.command_text.specs.declared.replies.Answer.TheVariants as answer
 use Rattle.deploy_rows.specs.Rows.{◌>>=◌}
 
--- an open storage of keys: what lies on the disk, and what the calls see
+-- an open storage of keys: what is on the disk, and what the calls see
 pub record KeySession : Type 0 where
   pub synced : Map
   pub visible : Map
 
--- an open storage of files: what lies on the disk, and the working files with the handles on them
+-- an open storage of files: what is on the disk, and the working files with the handles on them
 pub record FileSession : Type 0 where
   pub synced : Map
   pub working : handles.Session
@@ -127,7 +127,7 @@ on_working c now w (call.Delete n f) = works (by_name.delete_file (storage_of c)
 on_working c now w (call.RecoverFile n f) = works (by_name.recover_file (storage_of c) w f now (initial_of c f))
 on_working c now w (call.ResetFile n f) = works (by_name.reset_file (storage_of c) w f now (initial_of c f))
 on_working c now w (call.Cat n f) = moves answer.Octets (whole.cat (storage_of c) w f now)
-on_working c now w (call.Put n f bytes) = works (whole.put (storage_of c) w f bytes now)
+on_working c now w (call.Put n f bytes) = works (whole.put_whole (storage_of c) w f bytes now)
 -- no other call comes to a storage of files
 on_working c now w other = Err error.StorageNotFound
 
@@ -137,17 +137,17 @@ abbrev pub in_session : StorageData → (now : ℕ) → Session → Call → Ans
 in_session c now (keys s) l = on_keys c s l >>= λ a. Ok (a.0, keys a.1)
 in_session c now (files s) l = on_working c now s.working l >>= λ a. Ok (a.0, files (record s { working = a.1 }))
 
--- what lies on the disk
-abbrev pub synced_of : Session → Map
-synced_of (keys s) = s.synced
-synced_of (files s) = s.synced
+-- what is on the disk
+abbrev pub synced_in_session : Session → Map
+synced_in_session (keys s) = s.synced
+synced_in_session (files s) = s.synced
 
 -- what the calls see
 abbrev pub seen_of : Session → Map
 seen_of (keys s) = s.visible
 seen_of (files s) = s.working.files
 
--- what the calls see lies on the disk
+-- what the calls see is on the disk
 abbrev pub made_durable : Session → Session
 made_durable (keys s) = keys (record s { synced = s.visible })
 made_durable (files s) = files (record s { synced = s.working.files })

@@ -17,7 +17,7 @@ use Rattle.deploy_rows.specs.Rows.{reopened}
 use Rattle.run_model.specs.AppLaws.{AppLaws, OpensRoot}
 use Rattle.run_model.specs.Moments.{Between, OrBefore}
 use Rattle.run_model.specs.Runtimes.{IsNoRoot, StartKeeps}
-use Rattle.run_model.specs.Worlds.{Application, disks, disk_at, all_resting, world_at, started}
+use Rattle.run_model.specs.Worlds.{Application, disks, disk_at, all_resting, world_at, after_start}
 
 -- ---- the worlds of the start
 
@@ -40,14 +40,14 @@ pub at_entry : (image : Image) (b : ℕ) → b < 8 → disk_at (disks (world_at 
 unfolding world_at
 at_entry image b lt = entry_disk (app_at image) 0 8 b lt ∙ ap (app_at image) (omega arith)
 
-pub at_start : (image : Image) (b : ℕ) → b < 8 → disk_at (disks (started (world_at image))) b
+pub at_start : (image : Image) (b : ℕ) → b < 8 → disk_at (disks (after_start (world_at image))) b
     ≡ reopened (app_at image b)
 unfolding world_at
 at_start image b lt = start_disk (app_at image) 0 8 b lt ∙ ap (λ (k : ℕ). reopened (app_at image k)) (omega arith)
 
 -- ---- the roots below this number are opened
 
-pub record Opened (count : ℕ) (old now : Medium) : Type 0 where
+pub record OpenedUpTo (count : ℕ) (old now : Medium) : Type 0 where
   pub moments : (b : ℕ) → b < 8 → IsCleanApp b old.image
       → EachCase (OrBefore old (StandsCase b (app_at old.image b) (reopened (app_at old.image b)))) old now
   pub opened : (b : ℕ) → b < count → b < 8 → app_at now.image b ≡ reopened (app_at old.image b)
@@ -76,8 +76,8 @@ which a b = ⊎_elim (λ less. inr (λ e. omega (arith, less, e)))
     (below_or a b)
 
 -- one root more
-pub open_next : AppLaws → (a : ℕ) (old now new : Medium) → a < 8 → Opened a old now → OpensRoot a now new
-    → Opened (a + 1) old new
+pub open_next : AppLaws → (a : ℕ) (old now new : Medium) → a < 8 → OpenedUpTo a old now → OpensRoot a now new
+    → OpenedUpTo (a + 1) old new
 open_next laws a old now new lta o r = record {
   moments = λ b lt clean c s. ⊎_elim
       (λ was. o.moments b lt clean c was)
@@ -106,7 +106,7 @@ open_next laws a old now new lta o r = record {
     clean_on b lt clean (inr differs) = (laws.others a b now.image new.image lt differs r.elsewhere).1
         (o.clean b lt clean)
 
-    -- before its turn an application is as it was, on its way to its mended root; behind it, it rests so
+    -- before its turn an application is as it was, on its way to its mended root; after it, it rests so
     rest : (b : ℕ) → b < 8 → IsCleanApp b now.image → a ≢ b → (c : Case) → IsSettledOn (IsFileOf b) now.image c
         → (b < a) ⊎ (a ≤ b) → StandsCase b (app_at old.image b) (reopened (app_at old.image b)) c
     rest b lt clean differs c s (inl below) = λ is_sound damaged image decays.
@@ -129,8 +129,9 @@ open_next laws a old now new lta o r = record {
 
 -- ---- the start as a whole
 
--- before any root is opened, behind a sync: nothing changed, and nothing is pending any more
-pub open_none : AppLaws → (old now : Medium) → Elapses old now → WritesNothing old now → Quiet now → Opened 0 old now
+-- before any root is opened, after a sync: nothing changed, and nothing is pending any more
+pub open_none : AppLaws → (old now : Medium) → Elapses old now → WritesNothing old now → Quiet now
+    → OpenedUpTo 0 old now
 open_none laws old now time nothing quiet = record {
   moments = λ b lt clean c s. ⊎_elim (λ before. inl before)
       (λ at. inr (laws.still b old.image (reopened (app_at old.image b)) c lt clean
@@ -148,13 +149,13 @@ open_none laws old now time nothing quiet = record {
 -- with all eight opened, the start is what a run begins with
 pub between_worlds : (image : Image) (b : ℕ) → b < 8 → (c : Case)
     → StandsCase b (app_at image b) (reopened (app_at image b)) c
-    → Between b (disks (world_at image)) (disks (started (world_at image))) c
-between_worlds image b lt c stands = subst (λ x. StandsCase b x (disk_at (disks (started (world_at image))) b) c)
+    → Between b (disks (world_at image)) (disks (after_start (world_at image))) c
+between_worlds image b lt c stands = subst (λ x. StandsCase b x (disk_at (disks (after_start (world_at image))) b) c)
     (sym (at_entry image b lt))
     (subst (λ y. StandsCase b (app_at image b) y c) (sym (at_start image b lt)) stands)
 
 -- between two openings each application rests, with its root mended or not yet
-pub opened_rests : AppLaws → (count : ℕ) (old now : Medium) → Opened count old now → (b : ℕ) → b < 8
+pub opened_rests : AppLaws → (count : ℕ) (old now : Medium) → OpenedUpTo count old now → (b : ℕ) → b < 8
     → IsCleanApp b old.image → (c : Case) → now.now c
     → StandsCase b (app_at old.image b) (reopened (app_at old.image b)) c
 opened_rests laws count old now o b lt clean c at = rest (below_or b count)
@@ -187,5 +188,5 @@ keeps_worlds old new moments exit roots = record {
   roots = roots;
 }
 
-pub opened_keeps : AppLaws → (count : ℕ) (old now : Medium) → Opened count old now → StartKeeps old now
+pub opened_keeps : AppLaws → (count : ℕ) (old now : Medium) → OpenedUpTo count old now → StartKeeps old now
 opened_keeps laws count old now o = keeps_worlds old now o.moments (inr (opened_rests laws count old now o)) o.roots

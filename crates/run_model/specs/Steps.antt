@@ -18,7 +18,7 @@ use Rattle.run_model.specs.Found.{Found, storage_in}
 use Rattle.run_model.specs.Calls.{Outcome, StepBeside, without_session, unless_open, local_on, least_open}
 use Rattle.run_model.specs.Calls.{beside_update, app_step}
 use Rattle.run_model.specs.Worlds.{Application, none_open, to_open, at_rest, is_to_open, update_in, Disks, Doubt, World}
-use Rattle.run_model.specs.Worlds.{world_at, closed, disks, app_of, with_app, without_doubt}
+use Rattle.run_model.specs.Worlds.{world_at, after_run, disks, app_of, with_app, without_doubt}
 
 -- ---- the step of an application whose device does not fail
 
@@ -70,38 +70,38 @@ SyncFails w (event.App app c) reply w' = IsTrue (calls_device (app_of w app) c &
     × (w' ≡ w)
 
 -- the storage that a command works on, of those that call the device
-abbrev pub storage_named : Call → Option (List ℕ)
-storage_named (call.OpenKvs n) = Some n
-storage_named (call.OpenFiles n) = Some n
-storage_named (call.Sync n) = Some n
-storage_named (call.Flush n h) = Some n
-storage_named (call.Close n) = Some n
-storage_named (call.RecoverStorage n) = Some n
-storage_named (call.ResetStorage n) = Some n
-storage_named other = None
+abbrev pub device_storage : Call → Option (List ℕ)
+device_storage (call.OpenKvs n) = Some n
+device_storage (call.OpenFiles n) = Some n
+device_storage (call.Sync n) = Some n
+device_storage (call.Flush n h) = Some n
+device_storage (call.Close n) = Some n
+device_storage (call.RecoverStorage n) = Some n
+device_storage (call.ResetStorage n) = Some n
+device_storage other = None
 
 abbrev pub found_named : Application → Call → Option (Result Found PerError)
-found_named r c = option_map (λ n. storage_in r.disk n None) (storage_named c)
+found_named r c = option_map (λ n. storage_in r.disk n None) (device_storage c)
 
 -- A failure in a storage that is named ends its session. Any other, and one in opening the root, ends all sessions and
--- the update, and the root is to be opened again. What lies on the disk is what reads then give.
+-- the update, and the root is to be opened again. What is on the disk is what reads then give.
 abbrev pub after_failure : App → Application → Option (Result Found PerError) → Application
 after_failure a r None = record { disk = a; stage = to_open; sessions = none_open }
 after_failure a r (Some (Err e)) = record r { disk = a }
 after_failure a r (Some (Ok f)) = record (without_session r f.number) { disk = a }
 
 -- whether the command gets past the refusals that are known without a device
-abbrev pub goes_on : (app : ℕ) → Application → (now : ℕ) → Call → Bool
-goes_on app r now (call.Update text) = is_ok (offered (least_open r) text r.disk)
-goes_on app r now (call.UpdateBegin text) = is_ok (offered (least_open r) text r.disk)
-goes_on app r now (call.RecoverStorage n) = is_ok (storage_in r.disk n None >>= λ f. unless_open r f (Ok f))
-goes_on app r now (call.ResetStorage n) = is_ok (storage_in r.disk n None >>= λ f. unless_open r f (Ok f))
-goes_on app r now other = is_ok (app_step app r now other)
+abbrev pub passes_refusals : (app : ℕ) → Application → (now : ℕ) → Call → Bool
+passes_refusals app r now (call.Update text) = is_ok (offered (least_open r) text r.disk)
+passes_refusals app r now (call.UpdateBegin text) = is_ok (offered (least_open r) text r.disk)
+passes_refusals app r now (call.RecoverStorage n) = is_ok (storage_in r.disk n None >>= λ f. unless_open r f (Ok f))
+passes_refusals app r now (call.ResetStorage n) = is_ok (storage_in r.disk n None >>= λ f. unless_open r f (Ok f))
+passes_refusals app r now other = is_ok (app_step app r now other)
 
 -- it reaches the device by itself
 abbrev pub reaches_device : (app : ℕ) → Application → (now : ℕ) → Call → Bool
 reaches_device app r now c = uses_device r.disk c && is_none (beside_update (update_in r.stage) c)
-    && goes_on app r now c
+    && passes_refusals app r now c
 
 -- it fails in opening the root, or in the call itself
 abbrev pub FailsAs : (app now : ℕ) → App → Application → Call → Application → Type 0
@@ -109,24 +109,24 @@ FailsAs app now a r c r' = (IsTrue (is_to_open r.stage) × (r' ≡ after_failure
     ⊎ (IsTrue (reaches_device app (root_opened r) now c)
     × (r' ≡ after_failure a (root_opened r) (found_named (root_opened r) c)))
 
--- what lies on the disk after a command that is in progress: what it leads to, or what lay there before
+-- what is on the disk after a command that is in progress: what it leads to, or what was there before
 abbrev pub Leads : List Rule → Answers → World → Event → Disks → Type 0
 Leads rules answers w e ds = (ds ≡ disks w) ⊎ ((reply : Reply) × (w' : World)
     × Step rules answers (without_doubt w) e reply w' × (ds ≡ disks w'))
 
--- The device failed elsewhere. The doubt is between what lay on the disk before and what the command leads to, with a
--- case of the disk whose image is what reads then give; what lies on the disk is what that image stands for.
-abbrev pub Fails : List Rule → Answers → World → Event → Reply → World → Type 0
-Fails rules answers w (event.Now t) reply w' = ⊥
-Fails rules answers w (event.App app c) reply w' = (r' : Application) × (after : Disks) × (read : Case)
+-- The device failed elsewhere. The doubt is between what was on the disk before and what the command leads to, with a
+-- case of the disk whose image is what reads then give; what is on the disk is what that image denotes.
+abbrev pub FailsElsewhere : List Rule → Answers → World → Event → Reply → World → Type 0
+FailsElsewhere rules answers w (event.Now t) reply w' = ⊥
+FailsElsewhere rules answers w (event.App app c) reply w' = (r' : Application) × (after : Disks) × (read : Case)
     × FailsAs app w.now (app_at read.left app) (app_of w app) c r' × Leads rules answers w (event.App app c) after
     × (reply ≡ failure)
     × (w' ≡ record (with_app w app r') { doubt = Some (record { before = disks w; after = after; case = read }) })
-    × (world_at read.left ≡ closed w')
+    × (world_at read.left ≡ after_run w')
 
 -- ---- a step
 
 -- The command is answered so, and leads there: as an ordinary step, or as one whose device failed.
 abbrev pub StepsTo : List Rule → Answers → World → Event → Reply → World → Type 0
 StepsTo rules answers w e reply w' = Step rules answers w e reply w'
-    ⊎ (SyncFails w e reply w' ⊎ Fails rules answers w e reply w')
+    ⊎ (SyncFails w e reply w' ⊎ FailsElsewhere rules answers w e reply w')

@@ -18,22 +18,22 @@ pub record Bytes : Type 0 where
   pub image : Image
   pub written : ℕ
 
-abbrev pub bytes_of : Medium → Bytes
-bytes_of m = record { image = m.image; written = m.written }
+abbrev pub bytes_now : Medium → Bytes
+bytes_now m = record { image = m.image; written = m.written }
 
 -- a command that was answered: its reply, and the world after it
 pub record Turn : Type 0 where
   pub event : Event
   pub reply : Reply
-  -- the disk's count of failures behind it
+  -- the disk's count of failures after it
   pub faults : ℕ
-  -- the disk's bytes behind it
+  -- the disk's bytes after it
   pub bytes : Bytes
   pub world : World
 
 -- the turn that ends here
 abbrev pub turn : Event → Reply → Medium → World → Turn
-turn e reply m w = record { event = e; reply = reply; faults = m.faults; bytes = bytes_of m; world = w }
+turn e reply m w = record { event = e; reply = reply; faults = m.faults; bytes = bytes_now m; world = w }
 
 abbrev pub events_of : List Turn → List Event
 events_of turns = map (λ (t : Turn). t.event) turns
@@ -45,8 +45,8 @@ abbrev pub worlds_of : List Turn → List World
 worlds_of turns = map (λ (t : Turn). t.world) turns
 
 -- the texts of all replies, in order
-abbrev pub text_of : List Turn → List ℕ
-text_of turns = flat_map reply_text (replies_of turns)
+abbrev pub replies_text : List Turn → List ℕ
+replies_text turns = flat_map reply_text (replies_of turns)
 
 -- each command leads from the world before it to the world after it
 abbrev pub Follow : List Rule → Answers → World → List Turn → Type 0
@@ -64,7 +64,7 @@ abbrev pub AreBlamed : (before : ℕ) → List Turn → (after : ℕ) → Type 0
 AreBlamed before [] after = after ≡ before
 AreBlamed before (t ∷ ts) after = IsBlamed before t.faults t.reply × AreBlamed t.faults ts after
 
--- The failures of a run: those of its answered commands, and behind the last of them none where the run was whole.
+-- The failures of a run: those of its answered commands, and after the last of them none where the run was whole.
 pub record CountsFailures (Whole : Type 0) (before : ℕ) (turns : List Turn) (after : ℕ) : Type 0 where
   pub behind : ℕ
   pub blamed : AreBlamed before turns behind

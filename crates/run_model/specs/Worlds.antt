@@ -30,18 +30,18 @@ Sessions = List (Option Session)
 abbrev pub none_open : Sessions
 none_open = replicate 16 None
 
--- an application: what lies on the disk, its stage, and the sessions of its open storages
+-- an application: what is on the disk, its stage, and the sessions of its open storages
 pub record Application : Type 0 where
   pub disk : App
   pub stage : Stage
   pub sessions : Sessions
 
--- what lies on the disk, application by application
+-- what is on the disk, application by application
 abbrev pub Disks : Type 0
 Disks = List App
 
--- A command failed at the device, and nobody knows how much of it was done: what lay on the disk before it, what it
--- leads to, and a case of the disk behind it, whose image is what reads then gave.
+-- A command failed at the device, and nobody knows how much of it was done: what was on the disk before it, what it
+-- leads to, and a case of the disk after it, whose image is what reads then gave.
 pub record Doubt : Type 0 where
   pub before : Disks
   pub after : Disks
@@ -86,22 +86,22 @@ without_doubt w = record w { doubt = None }
 
 -- ---- where worlds begin and end
 
--- so many applications, from this number on
+-- that many applications, from this number on
 abbrev pub all_resting : (ℕ → App) → (app count : ℕ) → List Application
 all_resting disk app zero = []
 all_resting disk app (suc count) = resting (disk app) ∷ all_resting disk (app + 1) count
 
--- the world that an image stands for
+-- the world that an image denotes
 unfoldable pub world_at : Image → World
 world_at image = record { now = 0; apps = all_resting (app_at image) 0 8; doubt = None }
 
 -- what is left of a world at the end of a run
-abbrev pub closed : World → World
-closed w = record { now = 0; apps = map (λ (a : Application). resting a.disk) w.apps; doubt = None }
+abbrev pub after_run : World → World
+after_run w = record { now = 0; apps = map (λ (a : Application). resting a.disk) w.apps; doubt = None }
 
 -- the start opens each root: one that is not bad lacks no copy any more
-abbrev pub started : World → World
-started w = record w { apps = map (λ (a : Application). record a { disk = reopened a.disk }) w.apps }
+abbrev pub after_start : World → World
+after_start w = record w { apps = map (λ (a : Application). record a { disk = reopened a.disk }) w.apps }
 
 -- eight applications of which nothing is installed
 abbrev pub formatted : World

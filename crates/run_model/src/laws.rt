@@ -53,7 +53,7 @@ pub fn answers_keep_worlds(migrations: &Migrations)
 {}
 
 /// And so does a command whose device failed: in the sync of a doubt, in a call that names no storage, and in one on a
-/// storage where what was read is what lay there but for that storage.
+/// storage where what was read is what was there but for that storage.
 pub fn failures_keep_worlds(migrations: &Migrations)
     ensures sync { FailedSyncLastsLaw }
     ensures call { FailureLastsLaw (rules_of migrations.now) (answers_of migrations.now) }
@@ -65,7 +65,7 @@ pub fn storages_lead_on()
     ensures { StorageLaterLaw }
 {}
 
-/// A moment behind the last command has no root from further back, and a storage whose command failed at the device is
+/// A moment after the last command has no root from further back, and a storage whose command failed at the device is
 /// not emptied.
 pub fn moments_are_bounded()
     ensures back { NotFurtherBackLaw }
@@ -117,7 +117,7 @@ pub fn a_run_begins<D: Disk>(migrations: &Migrations, old: &D, new: &D)
         (D.medium new.now) }
 {}
 
-/// A command that was answered is one turn more of a run, on a disk that tells its bytes.
+/// A command that was answered is one turn more of a run, on a disk whose bytes are modelled.
 pub fn a_run_goes_on<D: Disk>(migrations: &Migrations, old: &D, now: &D, new: &D)
     ensures { IsTrue D.told → RunGoesOnLaw (rules_of migrations.now) (answers_of migrations.now) (D.medium old.now)
         (D.medium now.now) (D.medium new.now) }

@@ -1,6 +1,6 @@
 //! The world of eight applications, what a command makes of it, and what a run promises.
 //!
-//! The world is a function of what the disk's image stands for and of what the runtime keeps in memory
+//! The world is a function of what the disk's image denotes and of what the runtime keeps in memory
 //! (`specs/Worlds`). Of the other files of `specs/`, `Lines` says how the input is cut into lines, and which commands
 //! these give; `Found` which refusals calls share; `Sessions` what calls on an open storage answer and leave that touch
 //! no disk; `Calls` what every call answers and makes of its application where no device fails; `Steps` what one

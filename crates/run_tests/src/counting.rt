@@ -2,8 +2,8 @@
 
 use disk_model::{Disk, DiskFailed, MemDisk};
 
-/// A disk in memory with the number of its calls, and of those behind which a stop finds something else than before. It
-/// tells nothing of its bytes.
+/// A disk in memory with the number of its calls, and of those after which a stop finds something else than before. Its
+/// bytes are not modelled.
 #[derive(Drop)]
 pub(crate) struct Counting {
     disk: MemDisk,

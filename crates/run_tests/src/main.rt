@@ -1,10 +1,10 @@
 //! Sessions with the program, over a disk in memory: rows in, and the same rows out with what the program wrote.
 //!
-//! | row | what it does, and what is printed behind it |
+//! | row | what it does, and what is printed after it |
 //! |---|---|
 //! | `disk empty`, `disk formatted` | begins with a new disk, whose files are all empty, or on which `--format` ran |
 //! | `$NAME = TEXT` | a text, in which a part and its count may stand between backquotes; a row whose last word is `$NAME` has the text in its place |
-//! | `> LINE`, `>COUNT LINE` | a line of the next run, or as many, with the number of each for `#`; the run prints each reply behind its line as `< REPLY`, or `<COUNT REPLY` where replies are the same |
+//! | `> LINE`, `>COUNT LINE` | a line of the next run, or as many, with the number of each for `#`; the run prints each reply after its line as `< REPLY`, or `<COUNT REPLY` where replies are the same |
 //! | `>- LINE` | a line without a line feed |
 //! | `>hex DIGITS` | bytes of the input, in two digits each |
 //! | `run`, `run WORDS` | runs the program with `--dir d` or these words; `= STATUS`. An output that is no text is shown as `<- hex DIGITS` |
@@ -13,7 +13,7 @@
 //! | `written` | after a run: how many bytes it wrote |
 //! | `fail source N`, `fail sink N` | the call of this number fails in the next run, counted from 0 |
 //! | `flip FILE,..` | between two runs: each byte of these files becomes its complement |
-//! | `put FILE hex DIGITS` | between two runs: the file begins with these bytes, behind which it stays |
+//! | `put FILE hex DIGITS` | between two runs: the file begins with these bytes, after which it stays |
 //! | `? LINE` | a line that looks at what is left, for one of the rows below |
 //! | `stops`, `stops WORDS` | the lines so far, in a run with `--dir d` or these words, stopped after each call of the disk. `Script` says what is expected |
 //! | `failures`, `cuts` | the lines so far, with each call of the disk failing alone; with each call of the source and of the sink failing alone |

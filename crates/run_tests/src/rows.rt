@@ -15,7 +15,7 @@ pub(crate) struct Line<'a> {
 /// How a line is spelled.
 #[derive(Clone, Copy, PartialEq, Eq)]
 pub(crate) enum Form {
-    /// As a text behind which a line feed comes.
+    /// As a text after which a line feed comes.
     Ended,
     /// As a text alone.
     Open,
@@ -50,7 +50,7 @@ impl Named {
     }
 }
 
-/// What stands before a mark and behind it.
+/// What stands before a mark and after it.
 pub(crate) fn parted<'a>(text: &'a str, mark: &str) -> (&'a str, &'a str) {
     match text.split_once(mark) {
         Some(parts) => parts,

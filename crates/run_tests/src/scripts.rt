@@ -13,7 +13,7 @@ use test_rows::RowError;
 /// The words of a run that reads lines.
 pub(crate) const PLAIN: &str = "--dir d";
 
-/// No script makes so many calls of a disk or of a stream.
+/// No script makes that many calls of a disk or of a stream.
 const ENOUGH: u64 = 100_000;
 
 /// What makes another of a byte.
@@ -139,7 +139,7 @@ impl Script {
     }
 
     /// `= kept` where a call of the source that fails gives status 5 and the replies to all whole lines before it, and
-    /// a call of the sink that fails status 6 and a front of the output. Else the first call for which it is not so.
+    /// a call of the sink that fails status 6 and a prefix of the output. Else the first call for which it is not so.
     pub(crate) fn cuts(&self, migrations: &Migrations) -> Result<String, RowError> {
         let mut disk = self.start.disk(self.alloc)?;
         let whole = self.ran(migrations, self.input.as_slice(), &mut disk)?;
@@ -225,8 +225,8 @@ impl Script {
         Ok(answers(self.alloc, ran.output.as_str())?)
     }
 
-    /// After how many calls of the disk the lines are stopped: none, each behind which something was written or synced,
-    /// and all. What a stop behind another call leaves is what one of these leaves.
+    /// After how many calls of the disk the lines are stopped: none, each after which something was written or synced,
+    /// and all. What a stop after another call leaves is what one of these leaves.
     fn moments(&self, migrations: &Migrations) -> Result<Vec<u64>, RowError> {
         let disk = self.start.disk(self.alloc)?;
         let mut counting = Counting::new(disk, vec![in self.alloc; 0]?);
@@ -407,14 +407,14 @@ fn answered(output: &str) -> usize {
     count
 }
 
-/// How many whole lines so many calls of a source give.
+/// How many whole lines that many calls of a source give.
 fn lines_in(input: &[u8], calls: u64) -> usize {
     let bytes = calls.saturating_mul(SOURCE_PIECE as u64) as usize;
     let taken = input.get(..bytes).unwrap_or(input);
     taken.iter().filter(|byte| **byte == b'\n').count()
 }
 
-/// The replies to so many lines, at the front of an output.
+/// The replies to that many lines, at the start of an output.
 fn front(output: &str, lines: usize) -> &str {
     let mut length = 0usize;
     let mut count = 0usize;

@@ -223,13 +223,13 @@ fn words_or_plain(words: &str) -> &str {
 enum DiskFailure {
     /// The first one.
     Start,
-    /// The next one behind the lines before.
+    /// The next one after the lines before.
     Next,
-    /// Each one behind the lines before and so many calls more.
+    /// Each one after the lines before and that many calls more.
     All(u32),
 }
 
-/// The first row that tells the disk to fail, and its place.
+/// The first row that makes the disk fail, and its place.
 fn failure_in(rows: &[String]) -> Option<(usize, DiskFailure)> {
     for (place, row) in rows.iter().enumerate() {
         match row.as_str() {

@@ -4,7 +4,7 @@ use crate::rows::{Line, line_of};
 use std::alloc::{AllocError, Global};
 use test_rows::RowError;
 
-/// No reply has so many report lines.
+/// No reply has that many report lines.
 const REPORTS: u32 = 10_000;
 
 /// Replies that are shown once they differ from the one before.
@@ -39,7 +39,7 @@ impl<'a> Tally<'a> {
         Ok(())
     }
 
-    /// Counts the lines of a reply, which stands at the front of an output, and gives what stands behind it.
+    /// Counts the lines of a reply, which stands at the start of an output, and gives what stands after it.
     fn take(&mut self, output: &'a str) -> Result<&'a str, AllocError> {
         let mut rest = output;
         for _ in 0..REPORTS {
@@ -55,7 +55,7 @@ impl<'a> Tally<'a> {
         Ok(rest)
     }
 
-    /// Shows a line's replies, and gives what stands behind them.
+    /// Shows a line's replies, and gives what stands after them.
     fn answer(&mut self, line: Line<'_>, output: &'a str) -> Result<&'a str, AllocError> {
         let mut rest = output;
         if !line.is_silent() {
@@ -67,7 +67,7 @@ impl<'a> Tally<'a> {
         Ok(rest)
     }
 
-    /// Shows all that is left of an output. A last line without its end is shown behind `<-`.
+    /// Shows all that is left of an output. A last line without its end is shown after `<-`.
     fn finish(&mut self, output: &'a str) -> Result<(), AllocError> {
         for line in output.split_inclusive('\n') {
             match line.strip_suffix('\n') {
@@ -82,7 +82,7 @@ impl<'a> Tally<'a> {
     }
 }
 
-/// The rows of a run, with its reply behind each line; then the row that ran it, and what else was written.
+/// The rows of a run, with its reply after each line; then the row that ran it, and what else was written.
 pub(crate) fn transcript(
     alloc: Global,
     rows: &[String],

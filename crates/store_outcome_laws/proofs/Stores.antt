@@ -8,7 +8,7 @@ use Rattle.per_base.specs.declared.elements.Entry.{Entry}
 use Rattle.per_base.specs.declared.elements.StoreKind.TheVariants.{Files}
 use Rattle.disk_model.specs.Image.{Image}
 use Rattle.disk_model.specs.Medium.{Medium}
-use Rattle.block_files.specs.Parts.{blocks_for, changed}
+use Rattle.block_files.specs.Parts.{blocks_for, changed_blocks}
 use Rattle.element_state.specs.declared.shapes.Shape.{Shape}
 use Rattle.element_state.specs.declared.shapes.View.{View}
 use Rattle.element_state.specs.Conditions.{IsMended}
@@ -19,7 +19,8 @@ use Rattle.element_laws.specs.Refused.{IndexFirst, OldOverwritten, SalvageLost}
 use Rattle.element_store.specs.Stores.{view_in}
 use Rattle.store_outcome_laws.specs.Stores.{BlankedFirst, ContentsNotDurable, CopyLacks, EqualBlocksWritten}
 use Rattle.store_outcome_laws.specs.Stores.{FailureAsWant}
-use Rattle.store_outcome_laws.specs.Stores.{FewCopies, IsMoment, StandingOverwritten, TextsNotGivenUp, UnchangedWritten}
+use Rattle.store_outcome_laws.specs.Stores.{FewCopies, IsMomentOfCall, StandingOverwritten, TextsNotGivenUp}
+use Rattle.store_outcome_laws.specs.Stores.{UnchangedWritten}
 
 -- ---- what is written
 
@@ -33,7 +34,7 @@ more_than zero less more old new lt some le is = omega (arith, some)
 pub equal_blocks_written : EqualBlocksWritten
 unfolding commit_cost
 equal_blocks_written copies index old new entries f was within there few some is =
-    let cost = 256 * changed f.bytes was in
+    let cost = 256 * changed_blocks f.bytes was in
     let here = subst (λ (o : Option Content). new ≤ old + copies * (0 + cost_beside Files o f.bytes + index + 88)) there
     within in
     more_than copies (0 + cost + index + 88) (256 * blocks_for (length f.bytes) + index + 88) old new
@@ -80,10 +81,10 @@ copy_lacks told image s v others e value rest copy used tells opens found good l
 -- ---- what a stop leaves
 
 module _ {D : Type 0} (medium : D → Medium) where
-  kept_at : (shape : Shape) (before after left : State) (image : Image) → IsMoment medium shape before after image
+  kept_at : (shape : Shape) (before after left : State) (image : Image) → IsMomentOfCall medium shape before after image
       → store_at image shape ≡ left → Kept shape [] left before after
   kept_at shape before after left image m is =
-      let on = m.kept m.quiet m.clean m.case m.since m.sound [] image m.left in
+      let on = m.kept m.quiet m.clean m.case m.since m.sound.pieces [] image m.left in
       subst (λ (s : State). Kept shape [] s before after) is
       (subst (λ (s : State). Kept shape [] (store_at image shape) s after) m.was on.kept)
 

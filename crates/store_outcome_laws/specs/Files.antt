@@ -6,8 +6,8 @@ use Rattle.file_handles.specs.declared.handle.Handle.{Handle}
 use Rattle.file_handles.specs.declared.storage.Storage.{Storage}
 use Rattle.file_handles.specs.Opening.{open_file}
 use Rattle.file_handles.specs.Sessions.{Session, handle_at}
-use Rattle.file_storage.specs.FileSessions.{FileSession}
-use Rattle.file_storage.specs.Scopes.{closed}
+use Rattle.file_storage.specs.FileSessions.{FilesInUse}
+use Rattle.file_storage.specs.Scopes.{without_open_handle}
 
 -- a file is opened for writing beside a reader
 abbrev pub WriterBesideReader : Type 0
@@ -18,6 +18,6 @@ WriterBesideReader = (storage : Storage) (before after : Session) (name : List �
 
 -- the drop of a scoped handle leaves the handle
 abbrev pub HandleLeft : Type 0
-HandleLeft = (before after : FileSession) (number : ℕ) (handle : Handle) → after ≡ closed before number
+HandleLeft = (before after : FilesInUse) (number : ℕ) (handle : Handle) → after ≡ without_open_handle before number
     → handle_at before.session.handles number ≡ Some handle
     → ¬ (after.session.handles ≡ before.session.handles)

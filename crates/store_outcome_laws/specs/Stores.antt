@@ -19,7 +19,7 @@ use Rattle.disk_model.specs.Medium.{Medium, Quiet}
 use Rattle.disk_model.specs.Place.{IsNoSlot}
 use Rattle.guarded_cell.specs.Register.{Holds}
 use Rattle.block_files.specs.Aside.{Where}
-use Rattle.block_files.specs.Parts.{blocks_for, changed}
+use Rattle.block_files.specs.Parts.{blocks_for, changed_blocks}
 use Rattle.index_text.specs.Spelling.{index_text}
 use Rattle.element_state.specs.declared.errors.StoreError.{StoreError}
 use Rattle.element_state.specs.declared.errors.StoreError.TheVariants as store
@@ -28,7 +28,7 @@ use Rattle.element_state.specs.declared.shapes.View.{View}
 use Rattle.element_state.specs.Clean.{IsClean, IsNamed, IsPiece, IsSound}
 use Rattle.element_state.specs.Kept.{KeptThroughout}
 use Rattle.element_state.specs.States.{State, Opens, Corrupt, store_at}
-use Rattle.element_state.specs.Written.{IsWithin, commit_cost, content_at}
+use Rattle.element_state.specs.Written.{IsWithin, commit_cost, content_named}
 use Rattle.element_laws.specs.Refused.{one}
 use Rattle.element_store.specs.declared.store.Store.{Store}
 use Rattle.element_store.specs.Committing.{index_in}
@@ -41,7 +41,8 @@ use Rattle.element_store.specs.Stores.{IsUsed, shape_of, view_in}
 abbrev pub EqualBlocksWritten : Type 0
 EqualBlocksWritten = (copies index old new : ℕ) (entries : List Entry) (f : Fresh) (was : List ℕ)
     → IsWithin copies (commit_cost Files entries (Put f ∷ [])) index old new
-    → content_at f.name entries ≡ Some (Good was) → changed f.bytes was < blocks_for (length f.bytes) → 1 ≤ copies
+    → content_named f.name entries ≡ Some (Good was) → changed_blocks f.bytes was < blocks_for (length f.bytes) → 1
+    ≤ copies
     → ¬ (new ≡ old + copies * (256 * blocks_for (length f.bytes) + index + 88))
 
 -- a content that did not change is written: more than the index, where nothing changed
@@ -72,7 +73,8 @@ CopyLacks = (told : Bool) (image : Image) (s : Store) (v : View) (others : List 
 -- ---- what a stop leaves
 
 -- a moment of a call, from a storage in this state on its way to that one, and what a crash then left without damage
-pub record IsMoment {D : Type 0} (medium : D → Medium) (shape : Shape) (before after : State) (image : Image) : Type 0
+pub record IsMomentOfCall {D : Type 0} (medium : D → Medium) (shape : Shape) (before after : State)
+    (image : Image) : Type 0
   where
     pub disk : D
     pub later : D
@@ -89,19 +91,19 @@ module _ {D : Type 0} (medium : D → Medium) where
   -- the index comes before its contents are durable
   abbrev pub ContentsNotDurable : Type 0
   ContentsNotDurable = (shape : Shape) (g : ℕ) (was is : List ℕ) (image : Image) → shape.m ≤ shape.place.copies
-      → IsMoment medium shape (Opens (one g (Good was)) []) (Opens (one (g + 1) (Good is)) []) image
+      → IsMomentOfCall medium shape (Opens (one g (Good was)) []) (Opens (one (g + 1) (Good is)) []) image
       → ¬ (store_at image shape ≡ Opens (one (g + 1) (Bad None)) [])
 
   -- a commit writes into blocks of the index that stands
   abbrev pub StandingOverwritten : Type 0
   StandingOverwritten = (shape : Shape) (g : ℕ) (was is : List ℕ) (image : Image) → shape.m ≤ shape.place.copies
-      → IsMoment medium shape (Opens (one g (Good was)) []) (Opens (one (g + 1) (Good is)) []) image
+      → IsMomentOfCall medium shape (Opens (one g (Good was)) []) (Opens (one (g + 1) (Good is)) []) image
       → ¬ (store_at image shape ≡ Opens (one g (Bad None)) [])
 
   -- a rebuild blanks everything before it writes
   abbrev pub BlankedFirst : Type 0
   BlankedFirst = (shape : Shape) (g : ℕ) (was is : List ℕ) (image : Image) → 1 ≤ shape.place.copies
-      → IsMoment medium shape (Corrupt (Some (one g (Good was))) []) (Opens (one (g + 1) (Good is)) []) image
+      → IsMomentOfCall medium shape (Corrupt (Some (one g (Good was))) []) (Opens (one (g + 1) (Good is)) []) image
       → ¬ (store_at image shape ≡ Corrupt None [])
 
 -- contents are written before the old texts are given up: at some moment what is no slot is unsettled, and a text names

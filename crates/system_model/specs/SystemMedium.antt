@@ -32,21 +32,21 @@ abbrev pub IsWhole : SystemMedium → ℕ → Type 0
 IsWhole m f = (i : ℕ) → ¬ (m.lost f i)
 
 -- nothing of the file is free
-abbrev pub IsStill : SystemMedium → ℕ → Type 0
-IsStill m f = (i : ℕ) → ¬ (m.free f i)
+abbrev pub HasNothingFree : SystemMedium → ℕ → Type 0
+HasNothingFree m f = (i : ℕ) → ¬ (m.free f i)
 
 -- the folder does not have the file, so that nothing of it is read and nothing can be lost
 pub record IsAbsent (m : SystemMedium) (f : ℕ) : Type 0 where
   pub empty : m.disk.image f ≡ []
   pub safe : IsSafe m.disk f
-  pub still : IsStill m f
+  pub still : HasNothingFree m f
 
 -- the file has these bytes from here on
-pub record Shows (file : List ℕ) (at : ℕ) (bytes : List ℕ) : Type 0 where
+pub record ShowsBytes (file : List ℕ) (at : ℕ) (bytes : List ℕ) : Type 0 where
   pub within : (j : ℕ) → j < length bytes → at + j < length file
   pub equal : (j : ℕ) → j < length bytes → slice_index file (at + j) ≡ slice_index bytes j
 
--- what the disk is told of: the write counts as done whole, and nothing is written yet
+-- what the disk records: the write counts as done whole, and nothing is written yet
 pub record AnnounceCase (file at : ℕ) (bytes : List ℕ) (old new : Case) : Type 0 where
   pub base : new.base ≡ old.base
   pub full : new.full ≡ put_image old.full file at bytes
@@ -83,6 +83,6 @@ pub record GivesNone (file : List ℕ) (at n : ℕ) : Type 0 where
   pub zeros : (j : ℕ) → j < n → slice_index file (at + j) ≡ 0
 
 -- what a read says of the bytes of the file
-abbrev pub Gives : (file : List ℕ) (at room : ℕ) (out : List ℕ) → Reading → Type 0
-Gives file at room out (Bytes n) = GivesBytes file at room out n
-Gives file at room out (Unreadable n) = GivesNone file at n
+abbrev pub ReadGives : (file : List ℕ) (at room : ℕ) (out : List ℕ) → Reading → Type 0
+ReadGives file at room out (Bytes n) = GivesBytes file at room out n
+ReadGives file at room out (Unreadable n) = GivesNone file at n

@@ -5,8 +5,9 @@ ghost use Rattle.std.specs.Prelude.{length, take, Contains};
 ghost use Rattle.disk_model.specs.Image.{put_image};
 ghost use Rattle.disk_model.specs.Case.{Case, Follows};
 ghost use Rattle.disk_model.specs.Medium.{Quiet, IsLawful, Elapses, OnlyReads, WritesNothing};
-ghost use Rattle.system_model.specs.SystemMedium.{SystemMedium, IsSafe, IsWhole, IsStill, InRange, Shows, Looks};
-ghost use Rattle.system_model.specs.SystemMedium.{AnnounceCase, TearCase, IsAbsent, read_count, Gives};
+ghost use Rattle.system_model.specs.SystemMedium.{SystemMedium, IsSafe, IsWhole, HasNothingFree, InRange, ShowsBytes};
+ghost use Rattle.system_model.specs.SystemMedium.{Looks};
+ghost use Rattle.system_model.specs.SystemMedium.{AnnounceCase, TearCase, IsAbsent, read_count, ReadGives};
 
 use crate::reading::Reading;
 use std::alloc::Global;
@@ -23,7 +24,7 @@ pub trait System {
     /// Which file it is.
     ghost number: { Self.File → ℕ };
 
-    /// Whether a system of this type tells its bytes.
+    /// Whether the bytes of a system of this type are modelled.
     ghost told: { Bool };
 
     /// What reads give, what a power loss may leave, and what is not durable yet.
@@ -51,14 +52,14 @@ pub trait System {
 
     /// Closes the file. Nothing of it may be free: the error of a later writing back would reach nobody.
     fn close(&mut self, file: Self::File)
-        requires { IsTrue told → IsStill (medium self.old) (number file) }
+        requires { IsTrue told → HasNothingFree (medium self.old) (number file) }
         ensures looks { Looks (medium self.old) (medium self.new) };
 
     /// Reads some of the bytes from `at` on, and none only at the end of the file or where there is no room.
     fn read(&mut self, file: &Self::File, at: u64, out: &mut [u8]) -> io::Result<Reading>
         ensures count { IfOk result (λ reading. read_count reading ≤ length out.old) }
         ensures gives { IsTrue told → IsWhole (medium self.old) (number file.now) → IfOk result (λ reading.
-            Gives ((medium self.old).disk.image (number file.now)) at (length out.old) out.new reading) }
+            ReadGives ((medium self.old).disk.image (number file.now)) at (length out.old) out.new reading) }
         ensures looks { Looks (medium self.old) (medium self.new) };
 
     /// How many bytes the file has.
@@ -90,7 +91,7 @@ pub trait System {
         // To write once more what is there, and is free anyway, makes no case.
         ensures again { (IsTrue told → (i : ℕ) → InRange at (length bytes.now) i
             → (medium self.old).free (number file.now) i)
-            → (IsTrue told → Shows ((medium self.old).disk.image (number file.now)) at bytes.now)
+            → (IsTrue told → ShowsBytes ((medium self.old).disk.image (number file.now)) at bytes.now)
             → OnlyReads (medium self.old).disk (medium self.new).disk };
 
     /// Makes the file durable: what was written to it by whatever process, but for what is lost, and where its name is
@@ -99,7 +100,7 @@ pub trait System {
         ensures safe { IsTrue told → OnOk result (IsWhole (medium self.old) (number file.now)
             → (medium self.old).named (number file.now) → IsSafe (medium self.new).disk (number file.now)) }
         ensures still { IsTrue told → OnOk result (IsWhole (medium self.old) (number file.now)
-            → IsStill (medium self.new) (number file.now)) }
+            → HasNothingFree (medium self.new) (number file.now)) }
         ensures kept { IsTrue told → OnOk result ((f i : ℕ) → (medium self.new).lost f i
             → (medium self.old).lost f i) }
         ensures others { IsTrue told → (f i : ℕ) → f ≢ number file.now

@@ -16,7 +16,8 @@ use Rattle.update_plan.specs.declared.contents.Stored.{Stored}
 use Rattle.update_plan.specs.declared.contents.StorageContents.{StorageContents}
 use Rattle.update_plan.specs.declared.contents.StorageContents.TheVariants.{Missing}
 use Rattle.index_text.specs.Contents.{AreContents}
-use Rattle.update_plan.specs.Plans.{AllFit, AreOf, ArePresent, AreStored, IsOf, PlansAll, PlansFor, Told}
+use Rattle.update_plan.specs.Plans.{AllFit, AreContentsOf, ArePresent, AreStored, IsStoredOf, PlansAll, PlansFor}
+use Rattle.update_plan.specs.Plans.{UnlessOutOfMemory}
 use Rattle.update_plan.specs.Plans.{contents_named, if_kind, is_kind, stored_for, with_first}
 use Rattle.update_plan.proofs.Merged.{same_name}
 
@@ -32,27 +33,27 @@ kind_is Keys Files e = absurd (cc)
 kind_is Files Keys e = absurd (cc)
 kind_is Files Files e = refl
 
-found_of : (old : DeploymentData) (contents : List Stored) (name : List ℕ) → AllByRecursion (IsOf old) contents
-    → AreOf (storage_named old name) (contents_named contents name)
+found_of : (old : DeploymentData) (contents : List Stored) (name : List ℕ) → AllByRecursion (IsStoredOf old) contents
+    → AreContentsOf (storage_named old name) (contents_named contents name)
 found_of old [] name h = by (storage_named old name)
   where
-    by : (o : Option StorageData) → AreOf o Missing
+    by : (o : Option StorageData) → AreContentsOf o Missing
     by None = tt
     by (Some s) = tt
 found_of old (x ∷ xs) name h =
     let later = found_of old xs name h.1 in
     elim (bytes_eq x.name name) as (λ b. bytes_eq x.name name ≡ b
-    → AreOf (storage_named old name) (contents_named (x ∷ xs) name)) [
+    → AreContentsOf (storage_named old name) (contents_named (x ∷ xs) name)) [
       | true ↦ λ q.
           let here : contents_named (x ∷ xs) name ≡ x.contents = rw q refl in
-          subst (AreOf (storage_named old name)) (sym here)
-          (subst (λ n. AreOf (storage_named old n) x.contents) (same_name x.name name q) h.0)
+          subst (AreContentsOf (storage_named old name)) (sym here)
+          (subst (λ n. AreContentsOf (storage_named old n) x.contents) (same_name x.name name q) h.0)
       | false ↦ λ q.
           let there : contents_named (x ∷ xs) name ≡ contents_named xs name = rw q refl in
-          subst (AreOf (storage_named old name)) (sym there) later
+          subst (AreContentsOf (storage_named old name)) (sym there) later
     ] refl
 
-of_kind : (kind : StoreKind) (o : Option StorageData) (contents : StorageContents) → AreOf o contents
+of_kind : (kind : StoreKind) (o : Option StorageData) (contents : StorageContents) → AreContentsOf o contents
     → ArePresent kind (if_kind kind o contents)
 of_kind kind None contents h = tt
 of_kind kind (Some s) contents h = by (is_kind s.kind kind) refl
@@ -62,7 +63,7 @@ of_kind kind (Some s) contents h = by (is_kind s.kind kind) refl
     by false q = tt
 
 pub stored_of_kind : (old : DeploymentData) (contents : List Stored) (s : StorageData)
-    → AllByRecursion (IsOf old) contents → ArePresent s.kind (stored_for old contents s)
+    → AllByRecursion (IsStoredOf old) contents → ArePresent s.kind (stored_for old contents s)
 stored_of_kind old contents s h = of_kind s.kind (storage_named old s.name) (contents_named contents s.name)
     (found_of old contents s.name h)
 
@@ -121,7 +122,8 @@ module _ (rules : List Rule) (answers : Answers) (now : ℕ) (stored : StorageDa
 
   pub stopped : (all left : List StorageData) (s : StorageData) (rest : List StorageData) (e : PerError)
       (done : List (List Fresh)) → Planning all left done → left ≡ s ∷ rest
-      → Told (Err e) (PlansFor rules answers now s (stored s)) → Told (Err e) (PlansAll rules answers now stored all)
+      → UnlessOutOfMemory (Err e) (PlansFor rules answers now s (stored s))
+      → UnlessOutOfMemory (Err e) (PlansAll rules answers now stored all)
   stopped all left s rest e done p is refused = λ memory.
       let inner = subst (λ l. Planning all l done) is p in
       inner.plans (Err e) (Err e, refused memory, refl)

@@ -9,7 +9,7 @@ use Rattle.value_model.specs.Encoding.{encoding}
 use Rattle.migrate_fns.specs.Rules.{Answers, ConvertsTo}
 use Rattle.update_plan.specs.Fates.{GivesOnly, Retains, by_chain, converted}
 
--- what is told of an option that is there
+-- what is said of an option that is there
 pub told : {A : Type 0} (f : A → List ℕ) (o : Option A) (x : A) (found : Option (List ℕ)) → o ≡ Some x
     → option_map f o ≡ found → found ≡ Some (f x)
 told f o x found is e = sym e ∙ ap (option_map f) is

@@ -19,7 +19,7 @@ use Rattle.deployment_model.specs.Data.{ElementData, StorageData}
 use Rattle.deployment_model.specs.declared.configs.CollectionStrategy.{CollectionStrategy}
 use Rattle.deployment_model.specs.declared.configs.ElementStrategy.{ElementStrategy}
 use Rattle.deployment_model.specs.declared.configs.ElementStrategy.TheVariants as own
-use Rattle.index_text.specs.Contents.{AreContents, IsFresh, fresh_size}
+use Rattle.index_text.specs.Contents.{AreContents, SuitsKind, fresh_size}
 use Rattle.update_plan.specs.Rows.{row_by, initial_or, made_info, started, start_of, initial_contents}
 
 -- an item of a list, and what is left from there, as their images
@@ -59,7 +59,7 @@ filter_done f xs i done whole past known = sym (append-nil done)
 
 pub record Starts (kind : StoreKind) (name : List ℕ) (initial : Option (List ℕ)) (x : Fresh) : Type 0 where
   pub named : x.name ≡ name
-  pub fresh : IsFresh kind x
+  pub fresh : SuitsKind kind x
   pub small : fresh_size x ≤ start_size name initial
 
 abbrev pub StartsWith : StoreKind → List ℕ → Option (List ℕ) → Option Fresh → Type 0
@@ -102,10 +102,10 @@ by_strategy kind cause now name t initial c None h = given kind cause now name t
 module _ (kind : StoreKind) (f : ElementData → Option Fresh)
     (starts : (e : ElementData) → IsElement kind e → StartsWith kind e.name e.initial (f e)) where
   each_fresh : (es : List ElementData) → AllByRecursion (IsElement kind) es
-      → AllByRecursion (IsFresh kind) (filter_map f es)
+      → AllByRecursion (SuitsKind kind) (filter_map f es)
   each_fresh [] h = tt
   each_fresh (e ∷ es) h = elim (f e) as (λ o. StartsWith kind e.name e.initial o
-      → AllByRecursion (IsFresh kind) (cons_option o (filter_map f es))) [
+      → AllByRecursion (SuitsKind kind) (cons_option o (filter_map f es))) [
         | None ↦ λ s. each_fresh es h.1
         | Some x ↦ λ s. (s.fresh, each_fresh es h.1)
       ] (starts e h.0)

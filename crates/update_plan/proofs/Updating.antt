@@ -21,15 +21,16 @@ use Rattle.deployment_model.specs.declared.configs.CollectionStrategy.{Collectio
 use Rattle.deployment_model.specs.declared.configs.ElementStrategy.{ElementStrategy}
 use Rattle.deployment_model.specs.declared.configs.ElementStrategy.TheVariants as own
 use Rattle.migrate_fns.specs.Rules.{Rule, Answers}
-use Rattle.update_plan.specs.Fates.{Becomes, Fate, goes, gets, converted, refused, Refuses, by_row, fate, refusal}
-use Rattle.index_text.specs.Contents.{AreContents, IsFresh, fresh_size}
+use Rattle.update_plan.specs.Fates.{Becomes, Fate, goes, gets, converted, refused, RefusesAs, by_row, fate, refusal}
+use Rattle.index_text.specs.Contents.{AreContents, SuitsKind, fresh_size}
 use Rattle.update_plan.specs.Limits.{IfMade}
 use Rattle.update_plan.specs.Merging.{Item, merged}
-use Rattle.update_plan.specs.Plans.{AreStored, IsStored, PlansOver, Told, Updated, entry_named, first_of, first_refusal}
+use Rattle.update_plan.specs.Plans.{AreStored, IsStoredEntry, PlansOver, UnlessOutOfMemory, Updated, entry_named}
+use Rattle.update_plan.specs.Plans.{first_or_none, first_refusal}
 use Rattle.update_plan.specs.Plans.{fresh_named, within_limits}
 use Rattle.update_plan.specs.Renewed.{BecomeAll, RenewAll, item_fate, refusals}
 use Rattle.update_plan.specs.Rows.{row_by, initial_or}
-use Rattle.update_plan.specs.Views.{items_in}
+use Rattle.update_plan.specs.Views.{viewed_items}
 use Rattle.update_plan.proofs.Merged.{Above, OfItem, absent, item_name, joined, merged_all, merged_ascends}
 use Rattle.update_plan.proofs.Merged.{merged_joined, merged_refusals, named, same_name}
 
@@ -54,15 +55,16 @@ module _ (rules : List Rule) (answers : Answers) (now : ℕ) (s : StorageData) w
     pub becomes : (new : List Fresh) → BecomeAll rules answers now s left new
         → BecomeAll rules answers now s all (made ++ new)
     pub same_refusals : refusals rules now s all ≡ refusals rules now s left
-    pub fit : AllByRecursion (OfItem (IsStored s.kind) (IsElement s.kind)) left
+    pub fit : AllByRecursion (OfItem (IsStoredEntry s.kind) (IsElement s.kind)) left
 
-  pub begun : (es : List Entry) → AllByRecursion (IsStored s.kind) es → AllByRecursion (IsElement s.kind) s.elements
+  pub begun : (es : List Entry) → AllByRecursion (IsStoredEntry s.kind) es
+      → AllByRecursion (IsElement s.kind) s.elements
       → Renewing (merged es s.elements) (merged es s.elements) []
   begun es h k = record {
     becomes = λ new b. b;
     same_refusals = refl;
     fit =
-        merged_all (IsStored s.kind) (IsElement s.kind) es s.elements h k;
+        merged_all (IsStoredEntry s.kind) (IsElement s.kind) es s.elements h k;
   }
 
   pub next : (all left rest : List Item) (p : Item) (f : Option Fresh) (made longer : List Fresh)
@@ -90,23 +92,23 @@ module _ (rules : List Rule) (answers : Answers) (now : ℕ) (s : StorageData) w
       (inner.same_refusals, subst (λ l. BecomeAll rules answers now s all l) (append-nil made) (inner.becomes [] refl))
 
   pub stopped : (all left rest : List Item) (p : Item) (made : List Fresh) (e : PerError) → Renewing all left made
-      → left ≡ p ∷ rest → Refuses (item_fate rules now s p) e → RenewAll rules answers now s all (Err e)
+      → left ≡ p ∷ rest → RefusesAs (item_fate rules now s p) e → RenewAll rules answers now s all (Err e)
   stopped all left rest p made e r is refuses = λ memory.
       let inner = subst (λ l. Renewing all l made) is r in
-      ap first_of (inner.same_refusals ∙ ap (λ o. cons_option o (refusals rules now s rest)) (refuses memory))
+      ap first_or_none (inner.same_refusals ∙ ap (λ o. cons_option o (refusals rules now s rest)) (refuses memory))
 
 -- ---- what the merged names become is the new contents
 
 module _ (rules : List Rule) (answers : Answers) (now : ℕ) (s : StorageData) where
   put_made : (name : List ℕ) (f : Option Fresh) (others : List Fresh) → IfMade s.kind name f
-      → AllByRecursion (IsFresh s.kind) others → AllByRecursion (IsFresh s.kind) (cons_option f others)
+      → AllByRecursion (SuitsKind s.kind) others → AllByRecursion (SuitsKind s.kind) (cons_option f others)
   put_made name None others m h = h
   put_made name (Some x) others m h = (m.fresh, h)
 
   pub all_made : (ps : List Item) (new : List Fresh) → BecomeAll rules answers now s ps new
-      → AllByRecursion (IsFresh s.kind) new
-  all_made [] new h = subst (AllByRecursion (IsFresh s.kind)) (sym h) tt
-  all_made (p ∷ ps) new h = subst (AllByRecursion (IsFresh s.kind)) (sym h.5)
+      → AllByRecursion (SuitsKind s.kind) new
+  all_made [] new h = subst (AllByRecursion (SuitsKind s.kind)) (sym h) tt
+  all_made (p ∷ ps) new h = subst (AllByRecursion (SuitsKind s.kind)) (sym h.5)
       (put_made p.name h.0 h.1 h.3 (all_made ps h.1 h.4))
 
   put_above : (a name : List ℕ) (f : Option Fresh) (others : List Fresh) → IfMade s.kind name f → name_cmp a name ≡ Less
@@ -211,22 +213,23 @@ module _ (rules : List Rule) (answers : Answers) (now : ℕ) (s : StorageData) w
   free_row name c None collection i = free_start name c i
 
   pub refused_first : (old : List Entry) → IsStorage s → AreStored s.kind old
-      → first_of (refusals rules now s (merged old s.elements)) ≡ first_refusal rules now s old
-  refused_first old storage stored = ap first_of (merged_refusals (λ name c o. refusal (fate rules now s name c o))
+      → first_or_none (refusals rules now s (merged old s.elements)) ≡ first_refusal rules now s old
+  refused_first old storage stored = ap first_or_none (merged_refusals (λ name c o. refusal (fate rules now s name c o))
       (λ name c. free_row name c c.strategy s.strategy c.initial) old s.elements stored.names_ascend storage.ascends)
 
   -- ---- the plan of a storage
 
-  pub told_so : {A : Type 0} (r : Result A PerError) (P : Result A PerError → Type 0) → P r → Told r P
+  pub told_so : {A : Type 0} (r : Result A PerError) (P : Result A PerError → Type 0) → P r → UnlessOutOfMemory r P
   told_so (Ok x) P h = h
   told_so (Err e) P h = λ memory. h
 
   pub plans_over : (old : List Entry) (new : List Fresh) (r : Result (List Fresh) PerError) → IsStorage s
       → AreStored s.kind old → RenewAll rules answers now s (merged old s.elements) (Ok new)
       → r ≡ within_limits s.maximum new
-      → Told r (PlansOver rules answers now s old (first_refusal rules now s old))
+      → UnlessOutOfMemory r (PlansOver rules answers now s old (first_refusal rules now s old))
   plans_over old new r storage stored renewed is =
-      let none : first_refusal rules now s old ≡ None = sym (refused_first old storage stored) ∙ ap first_of renewed.0
+      let none : first_refusal rules now s old ≡ None = sym (refused_first old storage stored)
+      ∙ ap first_or_none renewed.0
       in
       told_so r (PlansOver rules answers now s old (first_refusal rules now s old))
       (subst (λ o. PlansOver rules answers now s old o r) (sym none)
@@ -234,7 +237,7 @@ module _ (rules : List Rule) (answers : Answers) (now : ℕ) (s : StorageData) w
 
   pub refused_over : (old : List Entry) (e : PerError) → IsStorage s → AreStored s.kind old
       → RenewAll rules answers now s (merged old s.elements) (Err e)
-      → Told (Err e) (PlansOver rules answers now s old (first_refusal rules now s old))
+      → UnlessOutOfMemory (Err e) (PlansOver rules answers now s old (first_refusal rules now s old))
   refused_over old e storage stored renewed = λ memory.
       let first : first_refusal rules now s old ≡ Some e = sym (refused_first old storage stored) ∙ renewed memory in
       subst (λ o. PlansOver rules answers now s old o (Err e)) (sym first) refl
@@ -261,7 +264,7 @@ module _ (rules : List Rule) (answers : Answers) (now : ℕ) (s : StorageData) w
 
   pub fits_if : {A : Type 0} (items : A → List Fresh) (old : List Entry) (new : List Fresh) (r : Result A PerError)
       → IsStorage s → AreStored s.kind old → RenewAll rules answers now s (merged old s.elements) (Ok new)
-      → items_in items r ≡ within_limits s.maximum new → IfOk r (λ x. AreContents s.kind s.maximum (items x))
+      → viewed_items items r ≡ within_limits s.maximum new → IfOk r (λ x. AreContents s.kind s.maximum (items x))
   fits_if items old new (Ok x) storage stored renewed is = contents_fit old new (items x) storage stored renewed is
   fits_if items old new (Err e) storage stored renewed is = tt
 
@@ -271,7 +274,7 @@ small_one : (kind : StoreKind) (n : ℕ) → n ≤ max_len kind → n ≤ 104857
 small_one Keys n h = omega (arith, h)
 small_one Files n h = h
 
-pub all_small : (kind : StoreKind) (new : List Fresh) → AllByRecursion (IsFresh kind) new
+pub all_small : (kind : StoreKind) (new : List Fresh) → AllByRecursion (SuitsKind kind) new
     → AllByRecursion (λ (x : Fresh). length x.bytes ≤ 1048576) new
 all_small kind [] h = tt
 all_small kind (x ∷ xs) h = (small_one kind (length x.bytes) h.0.small, all_small kind xs h.1)

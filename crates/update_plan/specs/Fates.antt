@@ -12,7 +12,7 @@ use Rattle.per_base.specs.declared.elements.StoreKind.TheVariants.{Keys, Files}
 use Rattle.per_base.specs.declared.errors.PerError.{PerError}
 use Rattle.per_base.specs.declared.errors.PerError.TheVariants.{IntegrityCorrupted, DataTypeMismatch, OutOfMemory}
 use Rattle.per_base.specs.declared.errors.Unit.TheVariants.{Part}
-use Rattle.file_core.specs.Infos.{made, changed}
+use Rattle.file_core.specs.Infos.{made, info_changed}
 use Rattle.value_model.specs.Kinds.{Kind, kind_fits}
 use Rattle.value_model.specs.Trees.{Tree, type_of}
 use Rattle.value_model.specs.Encoding.{encoding}
@@ -45,7 +45,7 @@ type_in configured = option_and_then (λ (e : ElementData). e.value_type) config
 -- a stored file that is overwritten changes now, and any other file that gets its initial content is made now
 abbrev pub initial_info : StoreKind → Option ElementStrategy → Option Entry → ℕ → Option FileInfo
 initial_info Keys strategy stored now = None
-initial_info Files (Some own.Overwrite) (Some e) now = option_map (changed now Update) e.info
+initial_info Files (Some own.Overwrite) (Some e) now = option_map (info_changed now Update) e.info
 initial_info Files (Some own.Overwrite) None now = Some (made now Update)
 initial_info Files (Some own.KeepExisting) stored now = Some (made now Update)
 initial_info Files (Some own.Delete) stored now = Some (made now Update)
@@ -108,16 +108,16 @@ Becomes answers name (converted v places) new = (w : Tree) × ConvertsTo answers
 Becomes answers name (refused e) new = ⊥
 
 -- an error is the refusal, or OutOfMemory
-abbrev pub Refuses : Fate → PerError → Type 0
-Refuses f e = e ≢ OutOfMemory → refusal f ≡ Some e
+abbrev pub RefusesAs : Fate → PerError → Type 0
+RefusesAs f e = e ≢ OutOfMemory → refusal f ≡ Some e
 
 abbrev pub Renews : Answers → List ℕ → Fate → Result (Option Fresh) PerError → Type 0
 Renews answers name f (Ok new) = Becomes answers name f new
-Renews answers name f (Err e) = Refuses f e
+Renews answers name f (Err e) = RefusesAs f e
 
 abbrev pub Retains : Answers → List ℕ → Fate → Result Fresh PerError → Type 0
 Retains answers name f (Ok x) = Becomes answers name f (Some x)
-Retains answers name f (Err e) = Refuses f e
+Retains answers name f (Err e) = RefusesAs f e
 
 -- this element, unless memory runs out
 abbrev pub GivesOnly : Result Fresh PerError → Fresh → Type 0

@@ -34,14 +34,14 @@ abbrev pub IsSmall : StoreKind → Content → Type 0
 IsSmall kind (Good bytes) = length bytes ≤ max_len kind
 IsSmall kind (Bad salvage) = ⊤
 
-pub record IsStored (kind : StoreKind) (e : Entry) : Type 0 where
+pub record IsStoredEntry (kind : StoreKind) (e : Entry) : Type 0 where
   pub info : IsTrue (has_info kind e.info)
   pub small : IsSmall kind e.content
 
 -- as a storage of this kind is read: names that ascend, and an info exactly for files
 pub record AreStored (kind : StoreKind) (es : List Entry) : Type 0 where
   pub names_ascend : IsStrictlySortedBy name_cmp (map (λ (e : Entry). e.name) es)
-  pub each : AllByRecursion (IsStored kind) es
+  pub each : AllByRecursion (IsStoredEntry kind) es
 
 abbrev pub ArePresent : StoreKind → StorageContents → Type 0
 ArePresent kind Missing = ⊤
@@ -49,12 +49,12 @@ ArePresent kind Damaged = ⊤
 ArePresent kind (Present es) = AreStored kind es
 
 -- the contents of a storage of the old version are those of its kind
-abbrev pub AreOf : Option StorageData → StorageContents → Type 0
-AreOf None contents = ⊤
-AreOf (Some s) contents = ArePresent s.kind contents
+abbrev pub AreContentsOf : Option StorageData → StorageContents → Type 0
+AreContentsOf None contents = ⊤
+AreContentsOf (Some s) contents = ArePresent s.kind contents
 
-abbrev pub IsOf : DeploymentData → Stored → Type 0
-IsOf old x = AreOf (storage_named old x.name) x.contents
+abbrev pub IsStoredOf : DeploymentData → Stored → Type 0
+IsStoredOf old x = AreContentsOf (storage_named old x.name) x.contents
 
 abbrev pub or_missing : Option (Bor StorageContents) → StorageContents
 or_missing None = Missing
@@ -97,16 +97,16 @@ pub record Updated (rules : List Rule) (answers : Answers) (now : ℕ) (s : Stor
   pub each : (name : List ℕ) → Becomes answers name (fate rules now s name (element_named s name)
       (entry_named old name)) (fresh_named new name)
 
-abbrev pub first_of : {A : Type 0} → List A → Option A
-first_of [] = None
-first_of (x ∷ xs) = Some x
+abbrev pub first_or_none : {A : Type 0} → List A → Option A
+first_or_none [] = None
+first_or_none (x ∷ xs) = Some x
 
 abbrev pub entry_refusal : List Rule → ℕ → StorageData → Entry → Option PerError
 entry_refusal rules now s e = refusal (fate rules now s e.name (element_named s e.name) (Some e))
 
 -- of the stored elements, in their order, that are to be kept and cannot be, the first
 abbrev pub first_refusal : List Rule → ℕ → StorageData → List Entry → Option PerError
-first_refusal rules now s old = first_of (filter_map (entry_refusal rules now s) old)
+first_refusal rules now s old = first_or_none (filter_map (entry_refusal rules now s) old)
 
 -- too many elements, and then too many bytes
 abbrev pub within_limits : ℕ → List Fresh → Result (List Fresh) PerError
@@ -152,6 +152,6 @@ AllFit (s ∷ ss) (x ∷ xs) = AreContents s.kind s.maximum x × AllFit ss xs
 
 -- ---- what a call answers, where memory did not run out
 
-abbrev pub Told : {A : Type 0} → Result A PerError → (Result A PerError → Type 0) → Type 0
-Told (Ok x) P = P (Ok x)
-Told (Err e) P = e ≢ OutOfMemory → P (Err e)
+abbrev pub UnlessOutOfMemory : {A : Type 0} → Result A PerError → (Result A PerError → Type 0) → Type 0
+UnlessOutOfMemory (Ok x) P = P (Ok x)
+UnlessOutOfMemory (Err e) P = e ≢ OutOfMemory → P (Err e)

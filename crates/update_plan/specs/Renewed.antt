@@ -9,7 +9,7 @@ use Rattle.migrate_fns.specs.Rules.{Rule, Answers}
 use Rattle.update_plan.specs.Fates.{Becomes, Fate, fate, refusal}
 use Rattle.update_plan.specs.Limits.{IfMade}
 use Rattle.update_plan.specs.Merging.{Item}
-use Rattle.update_plan.specs.Plans.{first_of}
+use Rattle.update_plan.specs.Plans.{first_or_none}
 
 abbrev pub item_fate : List Rule → ℕ → StorageData → Item → Fate
 item_fate rules now s p = fate rules now s p.name p.configured p.stored
@@ -26,4 +26,4 @@ refusals rules now s ps = filter_map (λ (p : Item). refusal (item_fate rules no
 
 abbrev pub RenewAll : List Rule → Answers → ℕ → StorageData → List Item → Result (List Fresh) PerError → Type 0
 RenewAll rules answers now s ps (Ok new) = (refusals rules now s ps ≡ []) × BecomeAll rules answers now s ps new
-RenewAll rules answers now s ps (Err e) = e ≢ OutOfMemory → first_of (refusals rules now s ps) ≡ Some e
+RenewAll rules answers now s ps (Err e) = e ≢ OutOfMemory → first_or_none (refusals rules now s ps) ≡ Some e

@@ -9,7 +9,7 @@
 //! It reads the disk nowhere and writes nothing. A stored file that is overwritten changes now, and every other file
 //! that gets its initial content is made now; what is kept keeps its info.
 //!
-//! [`initial_of`] is this over empty contents, for an installation and for every storage that is made anew. What both
+//! [`initial_of`] is this over empty contents, for an installation and for every storage that is rebuilt. What both
 //! give can be made a storage as it stands: names ascend, there are at most 1,024, they fit the maximum, and infos
 //! stand exactly at files.
 #![tactic(auto)]

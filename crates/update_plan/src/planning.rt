@@ -5,13 +5,14 @@ ghost use Rattle.std.specs.List.{AllByRecursion};
 ghost use Rattle.deployment_model.specs.Conditions.{IsDeployment, IsStorage};
 ghost use Rattle.deployment_model.specs.Data.{deployment_data, element_data, storage_data};
 ghost use Rattle.migrate_fns.specs.Stored.{answers_of, rules_of};
-ghost use Rattle.index_text.specs.Contents.{AreContents, IsFresh, fresh_size};
+ghost use Rattle.index_text.specs.Contents.{AreContents, SuitsKind, fresh_size};
 ghost use Rattle.update_plan.specs.Merging.{merged};
-ghost use Rattle.update_plan.specs.Plans.{AllFit, ArePresent, AreStored, IsOf, PlansAll, PlansFor, PlansOver, Told};
+ghost use Rattle.update_plan.specs.Plans.{AllFit, ArePresent, AreStored, IsStoredOf, PlansAll, PlansFor, PlansOver};
+ghost use Rattle.update_plan.specs.Plans.{UnlessOutOfMemory};
 ghost use Rattle.update_plan.specs.Plans.{first_refusal, or_missing};
 ghost use Rattle.update_plan.specs.Plans as plans;
 ghost use Rattle.update_plan.specs.Renewed.{RenewAll};
-ghost use Rattle.update_plan.specs.Views.{items_in};
+ghost use Rattle.update_plan.specs.Views.{viewed_items};
 
 use crate::contents::{Contents, StorageContents, stored_for};
 use crate::merging::first_item;
@@ -41,8 +42,8 @@ pub fn plan(
 ) -> Result<Vec<Sequence<Fresh>>, PerError>
     requires old { IsDeployment (deployment_data old.now) }
     requires new { IsDeployment (deployment_data new.now) }
-    requires contents { AllByRecursion (IsOf (deployment_data old.now)) contents.now }
-    ensures plan { Told (items_in (λ x. x.items) result)
+    requires contents { AllByRecursion (IsStoredOf (deployment_data old.now)) contents.now }
+    ensures plan { UnlessOutOfMemory (viewed_items (λ x. x.items) result)
         (PlansAll (rules_of migrations.now) (answers_of migrations.now) now
         (plans.stored_for (deployment_data old.now) contents.now) (map storage_data new.now.storages)) }
     ensures fits { IfOk result (λ made. AllFit (map storage_data new.now.storages) made.items) }
@@ -68,7 +69,7 @@ impl Update<'_> {
     fn plan(&self, stored: Option<&StorageContents>) -> Result<Vec<Fresh>, PerError>
         requires storage { IsStorage (storage_data self.now.storage.now) }
         requires stored { ArePresent self.now.storage.now.kind (or_missing stored) }
-        ensures plan { Told (items_in (λ x. x.items) result)
+        ensures plan { UnlessOutOfMemory (viewed_items (λ x. x.items) result)
             (PlansFor (rules_of self.now.migrations.now) (answers_of self.now.migrations.now)
             self.now.moment (storage_data self.now.storage.now) (or_missing stored.entry)) }
         ensures fits { IfOk result (λ made. AreContents self.now.storage.now.kind self.now.storage.now.maximum
@@ -86,7 +87,7 @@ impl Update<'_> {
     fn plan_over(&self, stored: &[Entry]) -> Result<Vec<Fresh>, PerError>
         requires storage { IsStorage (storage_data self.now.storage.now) }
         requires stored { AreStored self.now.storage.now.kind stored.now }
-        ensures plan { Told (items_in (λ x. x.items) result)
+        ensures plan { UnlessOutOfMemory (viewed_items (λ x. x.items) result)
             (PlansOver (rules_of self.now.migrations.now) (answers_of self.now.migrations.now)
             self.now.moment (storage_data self.now.storage.now) stored.now
             (first_refusal (rules_of self.now.migrations.now) self.now.moment (storage_data self.now.storage.now)
@@ -104,7 +105,7 @@ impl Update<'_> {
         requires stored { AreStored self.now.storage.now.kind stored.now }
         ensures { RenewAll (rules_of self.now.migrations.now) (answers_of self.now.migrations.now) self.now.moment
             (storage_data self.now.storage.now)
-            (merged stored.now (map element_data self.now.storage.now.elements)) (items_in (λ x. x.items) result) }
+            (merged stored.now (map element_data self.now.storage.now.elements)) (viewed_items (λ x. x.items) result) }
     {
         let mut contents = Vec::new(self.alloc);
         let mut entries = stored;
@@ -137,7 +138,7 @@ fn damaged(storage: &Name) -> PerError
 /// These contents, where they are not too many and not too large.
 fn within_limits(maximum: u64, contents: Vec<Fresh>) -> Result<Vec<Fresh>, PerError>
     requires { AllByRecursion (λ x. length x.bytes ≤ 1048576) contents.items }
-    ensures { items_in (λ x. x.items) result ≡ plans.within_limits maximum contents.items }
+    ensures { viewed_items (λ x. x.items) result ≡ plans.within_limits maximum contents.items }
 {
     if contents.len() > MAX_ELEMENTS {
         return Err(PerError::LimitReached {

@@ -12,13 +12,13 @@ ghost use Rattle.value_model.specs.Encoding.{encoding};
 ghost use Rattle.value_model.specs.Kinds.{kind_fits};
 ghost use Rattle.value_model.specs.Trees.{type_of};
 ghost use Rattle.value_model.specs.Views.{kind_of};
-ghost use Rattle.update_plan.specs.Fates.{FitsType, Retains, Refuses, Renews, GivesOnly, by_chain, fate, initial_in};
+ghost use Rattle.update_plan.specs.Fates.{FitsType, Retains, RefusesAs, Renews, GivesOnly, by_chain, fate, initial_in};
 ghost use Rattle.update_plan.specs.Fates.{of_bytes, of_content, of_type, of_value, strategy_of, type_in, unreadable};
 ghost use Rattle.update_plan.specs.Fates as fates;
 ghost use Rattle.update_plan.specs.Items.{item_of};
-ghost use Rattle.index_text.specs.Contents.{IsFresh};
-ghost use Rattle.update_plan.specs.Limits.{IfMade, IsMade};
-ghost use Rattle.update_plan.specs.Plans.{IsStored};
+ghost use Rattle.index_text.specs.Contents.{SuitsKind};
+ghost use Rattle.update_plan.specs.Limits.{IfMade, IsInitialElement};
+ghost use Rattle.update_plan.specs.Plans.{IsStoredEntry};
 
 use crate::merging::Item;
 use crate::rows::{Row, initial_info, row_by};
@@ -49,7 +49,7 @@ impl Update<'_> {
     /// `IntegrityCorrupted` where what is to be kept is unreadable; `DataTypeMismatch` where it is to be converted and
     /// no chain of converters does; `OutOfMemory`.
     pub(crate) fn renewed(&self, item: Item) -> Result<Option<Fresh>, PerError>
-        requires stored { IfSome (item_of item).stored (IsStored self.now.storage.now.kind) }
+        requires stored { IfSome (item_of item).stored (IsStoredEntry self.now.storage.now.kind) }
         requires configured { IfSome (item_of item).configured (IsElement self.now.storage.now.kind) }
         ensures made { IfOk result (IfMade self.now.storage.now.kind (item_of item.entry).name) }
         ensures renewed { Renews (answers_of self.now.migrations.now) (item_of item.entry).name
@@ -74,9 +74,9 @@ impl Update<'_> {
 
     /// What is made of a stored element that is to be kept.
     fn kept(&self, name: &Name, entry: &Entry, to: Option<&ValueType>) -> Result<Fresh, PerError>
-        requires stored { IsStored self.now.storage.now.kind entry.now }
+        requires stored { IsStoredEntry self.now.storage.now.kind entry.now }
         requires typed { FitsType (option_map (λ t. kind_of t.now) to) }
-        ensures made { IfOk result (IsMade self.now.storage.now.kind name.now) }
+        ensures made { IfOk result (IsInitialElement self.now.storage.now.kind name.now) }
         ensures kept { Retains (answers_of self.now.migrations.now) name.now
             (of_content (rules_of self.now.migrations.now) self.now.storage.now.kind self.now.storage.now.name name.now
             entry.now.info (option_map (λ t. kind_of t.now) to.entry) entry.now.content) result }
@@ -95,9 +95,9 @@ impl Update<'_> {
 
     /// What is made of a key that is to be kept: it is unreadable where its bytes encode no value.
     fn kept_key(&self, same: Fresh, to: Option<&ValueType>) -> Result<Fresh, PerError>
-        requires made { IsFresh StoreKind.Keys same }
+        requires made { SuitsKind StoreKind.Keys same }
         requires typed { FitsType (option_map (λ t. kind_of t.now) to) }
-        ensures made { IfOk result (IsMade StoreKind.Keys same.name) }
+        ensures made { IfOk result (IsInitialElement StoreKind.Keys same.name) }
         ensures kept { Retains (answers_of self.now.migrations.now) same.name
             (of_value (rules_of self.now.migrations.now) self.now.storage.now.name same
             (option_map (λ t. kind_of t.now) to.entry) (decoded same.bytes)) result }
@@ -116,9 +116,9 @@ impl Update<'_> {
         value: &Value,
         to: Option<&ValueType>,
     ) -> Result<Fresh, PerError>
-        requires made { IsFresh StoreKind.Keys same }
+        requires made { SuitsKind StoreKind.Keys same }
         requires typed { FitsType (option_map (λ t. kind_of t.now) to) }
-        ensures made { IfOk result (IsMade StoreKind.Keys same.name) }
+        ensures made { IfOk result (IsInitialElement StoreKind.Keys same.name) }
         ensures kept { Retains (answers_of self.now.migrations.now) same.name
             (of_type (rules_of self.now.migrations.now) same value.now (option_map (λ t. kind_of t.now) to.entry))
             result }
@@ -136,7 +136,7 @@ impl Update<'_> {
     #[tactic(auto, using(value_code::specs::lemmas::ValueLaws::typed_fits))]
     fn converted(&self, name: Name, value: &Value, to: &ValueType) -> Result<Fresh, PerError>
         requires { IsTrue (kind_fits (kind_of to.now)) }
-        ensures made { IfOk result (IsMade StoreKind.Keys name) }
+        ensures made { IfOk result (IsInitialElement StoreKind.Keys name) }
         ensures kept { Retains (answers_of self.now.migrations.now) name
             (by_chain value.now (kind_of to.now) (chain_of (rules_of self.now.migrations.now) name (type_of value.now)
             (kind_of to.now))) result }
@@ -159,7 +159,7 @@ impl Update<'_> {
 
     /// The key with this value.
     fn encoded(&self, name: Name, value: &Value) -> Result<Fresh, PerError>
-        ensures made { IfOk result (IsMade StoreKind.Keys name) }
+        ensures made { IfOk result (IsInitialElement StoreKind.Keys name) }
         ensures encoded { GivesOnly result (record { name = name; info = None; bytes = encoding value.now }) }
     {
         let _valid = value.node();
@@ -175,7 +175,7 @@ impl Update<'_> {
 
     /// The refusal of a name that cannot be read.
     fn unreadable(&self, name: &Name) -> PerError
-        ensures { Refuses (unreadable self.now.storage.now.name name.now) result }
+        ensures { RefusesAs (unreadable self.now.storage.now.name name.now) result }
     {
         let Ok(storage) = self.storage.name.copy() else {
             return PerError::OutOfMemory;

@@ -81,7 +81,7 @@ pub(crate) fn initial_info(
 }
 
 fn overwritten_info(info: Option<FileInfo>, now: u64) -> Option<FileInfo>
-    ensures { result ≡ option_map (infos.changed now Update) info }
+    ensures { result ≡ option_map (infos.info_changed now Update) info }
 {
     match info {
         Some(info) => Some(changed(now, Cause::Update, info)),

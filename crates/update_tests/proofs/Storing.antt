@@ -8,8 +8,8 @@ use Rattle.per_base.specs.declared.elements.Entry.{Entry}
 use Rattle.per_base.specs.declared.elements.Fresh.{Fresh}
 use Rattle.per_base.specs.declared.elements.StoreKind.{StoreKind}
 use Rattle.per_base.specs.Names.{name_cmp}
-use Rattle.index_text.specs.Contents.{AreContents, IsFresh}
-use Rattle.update_plan.specs.Plans.{AreStored, IsStored}
+use Rattle.index_text.specs.Contents.{AreContents, SuitsKind}
+use Rattle.update_plan.specs.Plans.{AreStored, IsStoredEntry}
 use Rattle.update_tests.specs.Stores.{Stores}
 
 same_names : (made : List Fresh) (es : List Entry) → AllZip Stores made es
@@ -21,7 +21,7 @@ same_names (x ∷ xs) (e ∷ es) h = ap (λ n. n ∷ map (λ (e : Entry). e.name
     ∙ ap (λ ns. x.name ∷ ns) (same_names xs es h.1)
 
 each_stored : (kind : StoreKind) (made : List Fresh) (es : List Entry) → AllZip Stores made es
-    → AllByRecursion (IsFresh kind) made → AllByRecursion (IsStored kind) es
+    → AllByRecursion (SuitsKind kind) made → AllByRecursion (IsStoredEntry kind) es
 each_stored kind [] [] h all = tt
 each_stored kind [] (e ∷ es) h all = absurd h
 each_stored kind (x ∷ xs) [] h all = absurd h

@@ -7,7 +7,7 @@ ghost use Rattle.deployment_model.specs.Data.{deployment_data, storage_data};
 ghost use Rattle.deployment_model.specs.Lookups.{storage_named};
 ghost use Rattle.per_base.specs.declared.elements.Content.{Content};
 ghost use Rattle.per_base.specs.declared.elements.StoreKind.{StoreKind};
-ghost use Rattle.update_plan.specs.Plans.{AreStored, IsOf, IsSmall};
+ghost use Rattle.update_plan.specs.Plans.{AreStored, IsSmall, IsStoredOf};
 ghost use Rattle.update_tests.specs.Stores.{Stores};
 
 use deployment_model::{Deployment, StorageConfig};
@@ -50,7 +50,7 @@ pub(crate) fn installed(
     damage: Damage,
 ) -> Result<Contents, RowError>
     requires { IsDeployment (deployment_data old.now) }
-    ensures { IfOk result (AllByRecursion (IsOf (deployment_data old.now))) }
+    ensures { IfOk result (AllByRecursion (IsStoredOf (deployment_data old.now))) }
 {
     let mut contents = Vec::new(alloc);
     for storage in old.storages.as_slice() {
@@ -75,7 +75,7 @@ fn storage_of<'a>(deployment: &'a Deployment, name: &Name) -> Result<&'a Storage
 /// What is stored of the storage of this name.
 fn stored(alloc: Global, old: &Deployment, name: &Name, damage: Damage) -> Result<Stored, RowError>
     requires { IsDeployment (deployment_data old.now) }
-    ensures { IfOk result (IsOf (deployment_data old.now)) }
+    ensures { IfOk result (IsStoredOf (deployment_data old.now)) }
 {
     let storage = storage_of(old, name)?;
     let name = name.copy()?;

@@ -3,7 +3,7 @@
 ghost use Rattle.deployment_model.specs.Conditions.{IsDeployment};
 ghost use Rattle.deployment_model.specs.Data.{deployment_data};
 ghost use Rattle.std.specs.List.{AllByRecursion};
-ghost use Rattle.update_plan.specs.Plans.{IsOf};
+ghost use Rattle.update_plan.specs.Plans.{IsStoredOf};
 
 use crate::installed::{Damage, Harm, deployment, installed};
 use crate::texts::{plan_text, refusal_text};
@@ -41,7 +41,7 @@ fn plan_over(
 ) -> Result<String, RowError>
     requires old { IsDeployment (deployment_data old.now) }
     requires new { IsDeployment (deployment_data new.now) }
-    requires contents { AllByRecursion (IsOf (deployment_data old.now)) contents.now }
+    requires contents { AllByRecursion (IsStoredOf (deployment_data old.now)) contents.now }
 {
     match plan(alloc, old, contents, new, migrations, UPDATED) {
         Ok(plans) => plan_text(alloc, new, plans.as_slice()),

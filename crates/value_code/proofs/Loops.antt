@@ -6,7 +6,7 @@ use Rattle.value_model.specs.declared.errors.DecodeError.TheVariants.{NotAValue,
 use Rattle.value_model.specs.Kinds.{Kind, Kinds, no_kinds, kind_then}
 use Rattle.value_model.specs.declared.types.ValueType.{ValueType}
 use Rattle.value_model.specs.Views.{kind_of, kinds_view}
-use Rattle.value_code.specs.Reading.{◌>>=◌, Fails, kinds_by}
+use Rattle.value_code.specs.Reading.{◌>>=◌, FailsToRead, kinds_by}
 
 -- kinds before others
 abbrev pub join_kinds : Kinds → Kinds → Kinds
@@ -45,8 +45,8 @@ kinds_go_on f front count i bytes k after total lt h so_far =
     sym step ∙ so_far
 
 pub kinds_end : (e : DecodeError) (f : List ℕ → Option (Kind × List ℕ)) (front : Kinds) (count i : ℕ) (bytes : List ℕ)
-    (total : Option (Kinds × List ℕ)) → i < count → Fails e (f bytes)
-    → kinds_with front (kinds_by f (count - i) bytes) ≡ total → Fails e total
+    (total : Option (Kinds × List ℕ)) → i < count → FailsToRead e (f bytes)
+    → kinds_with front (kinds_by f (count - i) bytes) ≡ total → FailsToRead e total
 unfolding kinds_by
 kinds_end NotAValue f front count i bytes total lt h so_far =
     let left : count - i ≡ suc (count - (i + 1)) = omega arith in

@@ -8,7 +8,7 @@ use Rattle.value_model.specs.declared.nodes.Node.{Node}
 use Rattle.std.proofs.lemmas.List.{drop_all}
 use Rattle.value_model.specs.declared.types.ValueType.{ValueType}
 use Rattle.value_model.specs.Views.{kind_of, kinds_view, tree_of, trees_view}
-use Rattle.value_code.specs.Reading.{◌>>=◌, Fails, tree_at, trees_at, trees_by}
+use Rattle.value_code.specs.Reading.{◌>>=◌, FailsToRead, tree_at, trees_at, trees_by}
 
 abbrev pub join_trees : Trees → Trees → Trees
 join_trees no_trees others = others
@@ -46,8 +46,8 @@ trees_go_on f front count i bytes k after total lt h so_far =
     sym step ∙ so_far
 
 pub trees_end : (e : DecodeError) (f : List ℕ → Option (Tree × List ℕ)) (front : Trees) (count i : ℕ) (bytes : List ℕ)
-    (total : Option (Trees × List ℕ)) → i < count → Fails e (f bytes)
-    → trees_with front (trees_by f (count - i) bytes) ≡ total → Fails e total
+    (total : Option (Trees × List ℕ)) → i < count → FailsToRead e (f bytes)
+    → trees_with front (trees_by f (count - i) bytes) ≡ total → FailsToRead e total
 unfolding trees_by
 trees_end NotAValue f front count i bytes total lt h so_far =
     let left : count - i ≡ suc (count - (i + 1)) = omega arith in

@@ -18,16 +18,16 @@ None >>= f = None
 (Some x) >>= f = f x
 
 -- what an error says of a reading: memory that ran out says nothing
-abbrev pub Fails : {Y : Type 0} → DecodeError → Option Y → Type 0
-Fails NotAValue read = read ≡ None
-Fails OutOfMemory read = Unit {0}
+abbrev pub FailsToRead : {Y : Type 0} → DecodeError → Option Y → Type 0
+FailsToRead NotAValue read = read ≡ None
+FailsToRead OutOfMemory read = Unit {0}
 
 -- what a function returned, seen by view, is what the bytes say, unless memory ran out
 abbrev pub Gives : {X Y : Type 0} → (X → Y) → Result X DecodeError → Option Y → Type 0
 Gives view (Ok x) read = read ≡ Some (view x)
-Gives view (Err e) read = Fails e read
+Gives view (Err e) read = FailsToRead e read
 
--- ---- what stands in front, and the bytes after it
+-- ---- what stands at the start, and the bytes after it
 
 abbrev pub byte_at : List ℕ → Option (ℕ × List ℕ)
 byte_at [] = None

@@ -1,4 +1,4 @@
-//! What stands in front of bytes: a byte, a number with its lowest byte first, or a length with that many bytes.
+//! What stands at the start of bytes: a byte, a number with its lowest byte first, or a length with that many bytes.
 
 ghost use Rattle.std.specs.Int.{w16, w32, w64, w8};
 ghost use Rattle.std.specs.Prelude.{◌≡◌};

@@ -12,7 +12,7 @@ pub fn one_value()
     ensures { (t u : Tree) → IsValue t → IsValue u → encoding t ≡ encoding u → t ≡ u }
 {}
 
-/// The type of a value is read off the front of its encoding: whatever follows, no other type's code stands there.
+/// The type of a value is read off the start of its encoding: whatever follows, no other type's code stands there.
 pub fn type_in_front()
     ensures { (t u : Tree) → IsValue t → IsValue u → (xs ys : List ℕ)
         → type_code (type_of t) ++ xs ≡ type_code (type_of u) ++ ys → type_of t ≡ type_of u }

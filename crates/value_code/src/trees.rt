@@ -11,7 +11,7 @@ use per_base::{Bytes, ValueText};
 use std::alloc::Global;
 use value_model::{DecodeError, Node, ValueType};
 
-/// The node of this type in front of the bytes, and the bytes after it. It recurses as deep as the type nests.
+/// The node of this type at the start of the bytes, and the bytes after it. It recurses as deep as the type nests.
 #[cycle(node_at)]
 pub(crate) fn node_at<'a>(
     alloc: Global,

@@ -10,7 +10,7 @@ use crate::fields::byte_at;
 use std::alloc::{AllocError, Global};
 use value_model::{DecodeError, MAX_MEMBERS, ValueType};
 
-/// The type in front of the bytes, of at most this depth, and the bytes after it.
+/// The type at the start of the bytes, of at most this depth, and the bytes after it.
 #[cycle(type_at)]
 #[tactic(auto, unfolding(crate::specs::Reading::kind_at))]
 pub(crate) fn type_at(

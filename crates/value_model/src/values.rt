@@ -99,7 +99,7 @@ impl Value {
         &self.node
     }
 
-    /// The node itself, handed back. Takes no memory.
+    /// The node itself, handed back. Does not allocate.
     pub fn into_node(self) -> Node
         ensures tree { tree_of result ≡ self }
         ensures valid { IsValue self }

@@ -58,7 +58,7 @@ fn octets(alloc: Global, count: u32) -> Result<Node, AllocError> {
     Ok(Node::Bytes(Bytes::new(vec![in alloc; 0u8; count as usize]?)))
 }
 
-/// The type of groups with so many truths.
+/// The type of groups with that many truths.
 fn members(alloc: Global, count: u32) -> Result<ValueType, AllocError> {
     let mut types = Vec::new(alloc);
     for _ in 0..count {

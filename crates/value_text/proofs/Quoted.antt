@@ -8,7 +8,7 @@ use Rattle.std.proofs.lemmas.Str.{is_utf8-from_IsUtf8, IsUtf8-from_is_utf8}
 use Rattle.std.proofs.lemmas.List.{append-nil, drop_more}
 use Rattle.value_model.specs.declared.errors.DecodeError.{DecodeError}
 use Rattle.value_model.specs.declared.errors.DecodeError.TheVariants as errors
-use Rattle.value_text.specs.Readers.{◌>>=◌, Fails, with_front, literal_at, meant_by, quoted_at}
+use Rattle.value_text.specs.Readers.{◌>>=◌, FailsToRead, with_front, literal_at, meant_by, quoted_at}
 use Rattle.value_text.specs.Parsing.{text_at}
 use Rattle.value_text.specs.lemmas.Loop.{with_front-with_front}
 
@@ -26,8 +26,8 @@ behind_means front behind b m rest total is e so_far =
     sym (with_front-with_front front m (quoted_at false rest)) ∙ sym (ap (with_front front) here) ∙ so_far
 
 pub behind_fails : (error : DecodeError) (front : List ℕ) (behind : Bool) (b : ℕ) (rest : List ℕ) (total : Read)
-    → behind ≡ true → Fails error (meant_by b) → with_front front (quoted_at behind (b ∷ rest)) ≡ total
-    → Fails error total
+    → behind ≡ true → FailsToRead error (meant_by b) → with_front front (quoted_at behind (b ∷ rest)) ≡ total
+    → FailsToRead error total
 unfolding quoted_at
 behind_fails errors.NotAValue front behind b rest total is e so_far =
     let here : quoted_at behind (b ∷ rest) ≡ None = ap (λ (x : Bool). quoted_at x (b ∷ rest)) is

@@ -1,4 +1,4 @@
--- Reading a type and a value from the front of a text, and from the whole of it.
+-- Reading a type and a value from the start of a text, and from the whole of it.
 use Rattle.std.specs.Prelude.{ℕ, zero, suc, ◌^◌, List, [], ◌∷◌, length, true, false, nat_eq, if◌then◌else◌, Option}
 use Rattle.std.specs.Prelude.{Some, None, codes}
 use Rattle.std.specs.Str.{is_utf8}
@@ -9,7 +9,8 @@ use Rattle.value_model.specs.Trees.{fields_tree}
 use Rattle.value_model.specs.Validity.{unsigned_limit, max_depth}
 use Rattle.value_model.specs.Views.{kinds_of, trees_of}
 use Rattle.value_text.specs.Limits.{kept}
-use Rattle.value_text.specs.Readers.{◌>>=◌, branch, literal_at, unsigned_at, signed_at, bytes_at, quoted_at, separated}
+use Rattle.value_text.specs.Readers.{◌>>=◌, branch, literal_at, unsigned_at, signed_at, hex_bytes_at, quoted_at}
+use Rattle.value_text.specs.Readers.{separated}
 
 -- the words of the scalar types; none begins another
 abbrev pub words : List (List ℕ × Kind)
@@ -20,7 +21,7 @@ words = (codes "bool", bool_kind)
     ∷ (codes "i64", signed_kind eight)
     ∷ (codes "text", text_kind) ∷ (codes "bytes", bytes_kind) ∷ []
 
--- the row whose word stands at the front
+-- the row whose word stands at the start
 abbrev pub first_word : List (List ℕ × Kind) → List ℕ → Option (Kind × List ℕ)
 first_word [] bytes = None
 first_word (w ∷ ws) bytes = branch (literal_at w.0 bytes) (λ rest. Some (w.1, rest)) (first_word ws bytes)
@@ -75,21 +76,21 @@ bool_at bytes = branch (literal_at (codes "true") bytes) (λ rest. Some (bool_tr
     (literal_at (codes "false") bytes >>= λ rest. Some (bool_tree false, rest))
 
 -- after the word of a scalar type and a colon
-unfoldable pub content_at : Kind → List ℕ → Option (Tree × List ℕ)
-content_at bool_kind bytes = bool_at bytes
-content_at (unsigned_kind s) bytes = unsigned_at (unsigned_limit s) bytes >>= λ n. Some (unsigned_tree s n.0, n.1)
-content_at (signed_kind s) bytes = signed_at (signed_limit s) bytes >>= λ z. Some (signed_tree s z.0, z.1)
-content_at text_kind bytes = text_at bytes >>= λ t. Some (text_tree t.0, t.1)
-content_at bytes_kind bytes = bytes_at (length bytes) bytes >>= λ b. Some (bytes_tree b.0, b.1)
-content_at (list_kind k) bytes = None
-content_at (fields_kind ks) bytes = None
+unfoldable pub value_content_at : Kind → List ℕ → Option (Tree × List ℕ)
+value_content_at bool_kind bytes = bool_at bytes
+value_content_at (unsigned_kind s) bytes = unsigned_at (unsigned_limit s) bytes >>= λ n. Some (unsigned_tree s n.0, n.1)
+value_content_at (signed_kind s) bytes = signed_at (signed_limit s) bytes >>= λ z. Some (signed_tree s z.0, z.1)
+value_content_at text_kind bytes = text_at bytes >>= λ t. Some (text_tree t.0, t.1)
+value_content_at bytes_kind bytes = hex_bytes_at (length bytes) bytes >>= λ b. Some (bytes_tree b.0, b.1)
+value_content_at (list_kind k) bytes = None
+value_content_at (fields_kind ks) bytes = None
 
 -- a scalar: its type's word, a colon, and its content
 unfoldable pub scalar_tree_at : List ℕ → Option (Tree × List ℕ)
 scalar_tree_at bytes = do
   k ← scalar_at bytes
   rest ← literal_at (codes ":") k.1
-  content_at k.0 rest
+  value_content_at k.0 rest
 
 -- a list's items: none before the closing bracket, or as many as there are
 unfoldable pub items_at : (List ℕ → Option (Tree × List ℕ)) → List ℕ → Option (List Tree × List ℕ)

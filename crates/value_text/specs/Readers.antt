@@ -1,4 +1,4 @@
--- Readers of words, numbers and lists: each takes what it reads from the front of the bytes, and leaves the rest.
+-- Readers of words, numbers and lists: each takes what it reads from the start of the bytes, and leaves the rest.
 use Rattle.std.specs.Prelude.{◌≡◌, ℕ, zero, suc, ◌+◌, ◌-◌, ◌*◌, ◌^◌, ℤ, pos, negsuc, List, [], ◌∷◌, ◌++◌, length, take}
 use Rattle.std.specs.Prelude.{drop, Bool, true, false, not, ◌&&◌, ◌||◌, nat_lt, nat_le, nat_eq, ◌==◌, if◌then◌else◌}
 use Rattle.std.specs.Prelude.{Option, Some, None, option_and_then, Result, Ok, Err, codes}
@@ -18,14 +18,14 @@ branch None f other = other
 branch (Some x) f other = f x
 
 -- an error says that nothing can be read, unless memory ran out
-abbrev pub Fails : {Y : Type 0} → DecodeError → Option Y → Type 0
-Fails errors.NotAValue read = read ≡ None
-Fails errors.OutOfMemory read = Unit {0}
+abbrev pub FailsToRead : {Y : Type 0} → DecodeError → Option Y → Type 0
+FailsToRead errors.NotAValue read = read ≡ None
+FailsToRead errors.OutOfMemory read = Unit {0}
 
 -- what a function returned, seen by view, is what reading gives
 abbrev pub Gives : {X Y : Type 0} → (X → Y) → Result X DecodeError → Option Y → Type 0
 Gives view (Ok x) read = read ≡ Some (view x)
-Gives view (Err error) read = Fails error read
+Gives view (Err error) read = FailsToRead error read
 
 -- what a function found, seen by view, is what reading gives
 abbrev pub Finds : {X Y : Type 0} → (X → Y) → Option X → Option Y → Type 0
@@ -38,7 +38,7 @@ literal_at [] bytes = Some bytes
 literal_at (w ∷ ws) [] = None
 literal_at (w ∷ ws) (b ∷ bytes) = if nat_eq b w then literal_at ws bytes else None
 
--- how many digits stand at the front
+-- how many digits stand at the start
 abbrev pub digit_count : List ℕ → ℕ
 digit_count bytes = prefix_len is_ascii_digit bytes
 
@@ -52,7 +52,7 @@ unfoldable pub number_of : List ℕ → Option ℕ
 number_of ds = if is_canonical ds then (if nat_lt (digits_value 10 ds) (2 ^ 64) then Some (digits_value 10 ds) else
     None) else None
 
--- the number at the front, as far as digits go
+-- the number at the start, as far as digits go
 unfoldable pub number_at : List ℕ → Option (ℕ × List ℕ)
 number_at bytes = number_of (take (digit_count bytes) bytes) >>= λ n. Some (n, drop (digit_count bytes) bytes)
 
@@ -77,19 +77,20 @@ hex_value b = if nat_le 48 b && nat_le b 57 then Some (b - 48) else
     (if nat_le 97 b && nat_le b 102 then Some (b - 87) else None)
 
 -- a byte in two digits
-abbrev pub byte_at : List ℕ → Option (ℕ × List ℕ)
-byte_at [] = None
-byte_at (a ∷ []) = None
-byte_at (a ∷ b ∷ rest) = hex_value a >>= λ high. hex_value b >>= λ low. Some (16 * high + low, rest)
+abbrev pub hex_byte_at : List ℕ → Option (ℕ × List ℕ)
+hex_byte_at [] = None
+hex_byte_at (a ∷ []) = None
+hex_byte_at (a ∷ b ∷ rest) = hex_value a >>= λ high. hex_value b >>= λ low. Some (16 * high + low, rest)
 
 -- what was read before, and what is read after it
 abbrev pub with_front : {A : Type 0} → List A → Option (List A × List ℕ) → Option (List A × List ℕ)
 with_front front read = read >>= λ x. Some (front ++ x.0, x.1)
 
 -- as many bytes as stand there, at most n
-unfoldable pub bytes_at : ℕ → List ℕ → Option (List ℕ × List ℕ)
-bytes_at zero bytes = Some ([], bytes)
-bytes_at (suc n) bytes = branch (byte_at bytes) (λ x. with_front (x.0 ∷ []) (bytes_at n x.1)) (Some ([], bytes))
+unfoldable pub hex_bytes_at : ℕ → List ℕ → Option (List ℕ × List ℕ)
+hex_bytes_at zero bytes = Some ([], bytes)
+hex_bytes_at (suc n) bytes = branch (hex_byte_at bytes) (λ x. with_front (x.0 ∷ []) (hex_bytes_at n x.1))
+    (Some ([], bytes))
 
 -- the byte that a byte after a backslash denotes
 abbrev pub meant_by : ℕ → Option ℕ

@@ -8,8 +8,9 @@ use Rattle.value_model.specs.Trees.{bool_tree, unsigned_tree, signed_tree, text_
 use Rattle.value_model.specs.Trees.{tree_then}
 use Rattle.value_text.specs.Texts.{type_text, value_text}
 use Rattle.value_text.specs.Limits.{keeps_limits}
-use Rattle.value_text.specs.Readers.{number_of, number_at, unsigned_at, signed_at, bytes_at, separated}
-use Rattle.value_text.specs.Parsing.{scalar_at, list_kind_at, fields_kind_at, kind_here, kind_at, kind_in, content_at}
+use Rattle.value_text.specs.Readers.{number_of, number_at, unsigned_at, signed_at, hex_bytes_at, separated}
+use Rattle.value_text.specs.Parsing.{scalar_at, list_kind_at, fields_kind_at, kind_here, kind_at, kind_in}
+use Rattle.value_text.specs.Parsing.{value_content_at}
 use Rattle.value_text.specs.Parsing.{scalar_tree_at, items_at, list_tree_at, tree_here, tree_at, tree_in, value_in}
 
 -- ---- texts
@@ -51,16 +52,16 @@ no_members_type = refl
 -- ---- values that texts spell
 
 bool_value : value_in (codes "bool:true") ≡ Some (bool_tree true)
-unfolding value_in tree_in tree_at tree_here scalar_tree_at scalar_at content_at keeps_limits
+unfolding value_in tree_in tree_at tree_here scalar_tree_at scalar_at value_content_at keeps_limits
 bool_value = refl
 
 u16_value : value_in (codes "u16:513") ≡ Some (unsigned_tree two 513)
-unfolding value_in tree_in tree_at tree_here scalar_tree_at scalar_at content_at unsigned_at number_at number_of
+unfolding value_in tree_in tree_at tree_here scalar_tree_at scalar_at value_content_at unsigned_at number_at number_of
     keeps_limits
 u16_value = refl
 
 bytes_value : value_in (codes "bytes:") ≡ Some (bytes_tree [])
-unfolding value_in tree_in tree_at tree_here scalar_tree_at scalar_at content_at bytes_at keeps_limits
+unfolding value_in tree_in tree_at tree_here scalar_tree_at scalar_at value_content_at hex_bytes_at keeps_limits
 bytes_value = refl
 
 no_items : value_in (codes "list<u16>[]") ≡ Some (list_tree (unsigned_kind two) no_trees)
@@ -68,21 +69,21 @@ unfolding value_in tree_in tree_at tree_here list_tree_at items_at kind_at kind_
 no_items = refl
 
 leading_zero : value_in (codes "u8:07") ≡ None
-unfolding value_in tree_in tree_at tree_here scalar_tree_at scalar_at content_at unsigned_at number_at number_of
+unfolding value_in tree_in tree_at tree_here scalar_tree_at scalar_at value_content_at unsigned_at number_at number_of
     keeps_limits
 leading_zero = refl
 
 minus_zero : value_in (codes "i8:-0") ≡ None
-unfolding value_in tree_in tree_at tree_here scalar_tree_at scalar_at content_at signed_at unsigned_at number_at
+unfolding value_in tree_in tree_at tree_here scalar_tree_at scalar_at value_content_at signed_at unsigned_at number_at
     number_of keeps_limits
 minus_zero = refl
 
 too_great : value_in (codes "u8:256") ≡ None
-unfolding value_in tree_in tree_at tree_here scalar_tree_at scalar_at content_at unsigned_at number_at number_of
+unfolding value_in tree_in tree_at tree_here scalar_tree_at scalar_at value_content_at unsigned_at number_at number_of
     keeps_limits
 too_great = refl
 
 other_item_type : value_in (codes "list<u8>[bool:true]") ≡ None
 unfolding value_in tree_in tree_at tree_here list_tree_at items_at separated kind_at kind_here scalar_tree_at scalar_at
-    content_at keeps_limits
+    value_content_at keeps_limits
 other_item_type = refl

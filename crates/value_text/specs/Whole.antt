@@ -1,6 +1,6 @@
 -- Reading a number and bytes from the whole of a text.
 use Rattle.std.specs.Prelude.{ℕ, ℤ, List, length, nat_eq, if◌then◌else◌, Option, Some, None}
-use Rattle.value_text.specs.Readers.{◌>>=◌, unsigned_at, signed_at, bytes_at}
+use Rattle.value_text.specs.Readers.{◌>>=◌, unsigned_at, signed_at, hex_bytes_at}
 
 -- the number below the limit that the whole text writes
 unfoldable pub unsigned_in : ℕ → List ℕ → Option ℕ
@@ -12,4 +12,4 @@ signed_in limit text = signed_at limit text >>= λ z. if nat_eq (length z.1) 0 t
 
 -- the bytes whose digits the whole text is
 unfoldable pub bytes_in : List ℕ → Option (List ℕ)
-bytes_in text = bytes_at (length text) text >>= λ b. if nat_eq (length b.1) 0 then Some b.0 else None
+bytes_in text = hex_bytes_at (length text) text >>= λ b. if nat_eq (length b.1) 0 then Some b.0 else None

@@ -1,7 +1,7 @@
-//! Decimal numbers at the front of a text: no plus sign, no leading zero, and a minus only before a number that is not
+//! Decimal numbers at the start of a text: no plus sign, no leading zero, and a minus only before a number that is not
 //! 0.
 
-ghost use Rattle.std.specs.Prelude.{◌≡◌, ◌+◌, ◌^◌, ◌<◌, ◌≤◌, IfOk, true};
+ghost use Rattle.std.specs.Prelude.{◌≡◌, ◌≢◌, ◌+◌, ◌^◌, ◌<◌, ◌≤◌, IfOk, true};
 ghost use Rattle.std.specs.List.{prefix_len};
 ghost use Rattle.std.specs.Char.{is_ascii_digit};
 ghost use Rattle.std.specs.Str.{all_ascii_digits};
@@ -11,7 +11,7 @@ ghost use Rattle.value_text.specs.Readers.{Gives, is_canonical, number_of, numbe
 use crate::readers::after;
 use value_model::DecodeError;
 
-/// How many digits stand at the front.
+/// How many digits stand at the start.
 fn digit_count(bytes: &[u8]) -> usize
     ensures { result ≡ prefix_len is_ascii_digit bytes.now }
 {
@@ -45,10 +45,11 @@ fn number_of(digits: &[u8]) -> Option<u64>
     }
 }
 
-/// The number at the front, and what follows it.
+/// The number at the start, and what follows it.
 #[tactic(auto, unfolding(crate::specs::Readers::number_at))]
 fn number(bytes: &[u8]) -> Result<(u64, &[u8]), DecodeError>
-    ensures { Gives (λ x. (x.0, x.1.now)) result (number_at bytes.now) }
+    ensures read { Gives (λ x. (x.0, x.1.now)) result (number_at bytes.now) }
+    ensures memory { result ≢ Err DecodeError.OutOfMemory }
 {
     let (digits, rest) = bytes.split_at(digit_count(bytes));
     let Some(n) = number_of(digits) else {
@@ -57,11 +58,12 @@ fn number(bytes: &[u8]) -> Result<(u64, &[u8]), DecodeError>
     Ok((n, rest))
 }
 
-/// A number of at most `max` at the front, and what follows it.
+/// A number of at most `max` at the start, and what follows it.
 #[tactic(auto, unfolding(crate::specs::Readers::unsigned_at))]
 pub(crate) fn unsigned(max: u64, bytes: &[u8]) -> Result<(u64, &[u8]), DecodeError>
     ensures read { Gives (λ x. (x.0, x.1.now)) result (unsigned_at (max + 1) bytes.now) }
     ensures range { IfOk result (λ x. x.0 ≤ max) }
+    ensures memory { result ≢ Err DecodeError.OutOfMemory }
 {
     let (n, rest) = number(bytes)?;
     if n > max {
@@ -75,6 +77,7 @@ fn negative(max: u64, n: u64) -> Result<i64, DecodeError>
     requires { max < 2 ^ 63 }
     ensures read { Gives (λ z. z) result (negative (max + 1) n) }
     ensures range { IfOk result (λ z. mag z ≤ max) }
+    ensures memory { result ≢ Err DecodeError.OutOfMemory }
 {
     if n == 0 || n - 1 > max {
         return Err(DecodeError::NotAValue);
@@ -82,12 +85,13 @@ fn negative(max: u64, n: u64) -> Result<i64, DecodeError>
     Ok(-1 - (n - 1) as i64)
 }
 
-/// A number from `-max - 1` to `max` at the front, and what follows it.
+/// A number from `-max - 1` to `max` at the start, and what follows it.
 #[tactic(auto, unfolding(crate::specs::Readers::signed_at))]
 pub(crate) fn signed(max: u64, bytes: &[u8]) -> Result<(i64, &[u8]), DecodeError>
     requires { max < 2 ^ 63 }
     ensures read { Gives (λ x. (x.0, x.1.now)) result (signed_at (max + 1) bytes.now) }
     ensures range { IfOk result (λ x. mag x.0 ≤ max) }
+    ensures memory { result ≢ Err DecodeError.OutOfMemory }
 {
     if let Some(rest) = after(b"-", bytes) {
         let (n, rest) = number(rest)?;

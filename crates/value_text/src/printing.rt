@@ -101,7 +101,7 @@ pub fn push_hex(out: &mut String, bytes: &[u8]) -> Result<(), AllocError>
 
 /// Writes the text of a node.
 #[cycle(value_texts)]
-fn push_value(out: &mut String, node: &Node) -> Result<(), AllocError>
+fn push_node(out: &mut String, node: &Node) -> Result<(), AllocError>
     ensures { OnOk result (string_bytes out.new ≡ string_bytes out.old ++ value_text (tree_of node.now)) }
 {
     match node {
@@ -128,12 +128,12 @@ fn push_value(out: &mut String, node: &Node) -> Result<(), AllocError>
             out.push_str("list<")?;
             push_type(out, item)?;
             out.push_str(">[")?;
-            push_values(out, items.as_slice())?;
+            push_nodes(out, items.as_slice())?;
             out.push_str("]")
         }
         Node::Fields(members) => {
             out.push_str("{")?;
-            push_values(out, members.as_slice())?;
+            push_nodes(out, members.as_slice())?;
             out.push_str("}")
         }
     }
@@ -141,16 +141,16 @@ fn push_value(out: &mut String, node: &Node) -> Result<(), AllocError>
 
 /// Writes the texts of items or members, with commas between them.
 #[cycle(value_texts)]
-fn push_values(out: &mut String, nodes: &[Node]) -> Result<(), AllocError>
+fn push_nodes(out: &mut String, nodes: &[Node]) -> Result<(), AllocError>
     ensures { OnOk result (string_bytes out.new ≡ string_bytes out.old ++ values_text (trees_view nodes.now)) }
 {
     let Some((first, others)) = nodes.split_first() else {
         return Ok(());
     };
-    push_value(out, first)?;
+    push_node(out, first)?;
     for node in others {
         out.push_str(",")?;
-        push_value(out, node)?;
+        push_node(out, node)?;
     }
     Ok(())
 }
@@ -165,11 +165,18 @@ pub fn print_type(alloc: Global, value_type: &ValueType) -> Result<String, Alloc
     Ok(text)
 }
 
+/// Appends the text of a value.
+pub fn push_value(out: &mut String, value: &Value) -> Result<(), AllocError>
+    ensures { OnOk result (string_bytes out.new ≡ string_bytes out.old ++ value_text value.now) }
+{
+    push_node(out, value.node())
+}
+
 /// The text of a value.
 pub fn print_value(alloc: Global, value: &Value) -> Result<String, AllocError>
     ensures { IfOk result (λ text. string_bytes text ≡ value_text value.now) }
 {
     let mut text = String::new(alloc);
-    push_value(&mut text, value.node())?;
+    push_value(&mut text, value)?;
     Ok(text)
 }

@@ -1,4 +1,4 @@
-//! Words and numbers at the front of a text.
+//! Words and numbers at the start of a text.
 
 ghost use Rattle.std.specs.Prelude.{◌≡◌};
 ghost use Rattle.value_text.specs.Readers.{Finds, Gives, literal_at, punctuation_at};

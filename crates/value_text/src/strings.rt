@@ -1,7 +1,7 @@
 //! Texts in quotes, and bytes in hexadecimal digits.
 
 ghost use Rattle.std.specs.Prelude.{◌≡◌, false, IfSome, Some, length, option_map, ◌<◌};
-ghost use Rattle.value_text.specs.Readers.{Finds, Gives, hex_value, byte_at, bytes_at, meant_by, quoted_at};
+ghost use Rattle.value_text.specs.Readers.{Finds, Gives, hex_value, hex_byte_at, hex_bytes_at, meant_by, quoted_at};
 ghost use Rattle.value_text.specs.Parsing.{text_at};
 
 use crate::readers::after;
@@ -83,9 +83,9 @@ fn hex_value(digit: u8) -> Option<u8>
     }
 }
 
-/// The byte in the two digits at the front, and what follows them.
+/// The byte in the two digits at the start, and what follows them.
 fn byte_at(bytes: &[u8]) -> Option<(u8, &[u8])>
-    ensures { Finds (λ x. (x.0, x.1.now)) result (byte_at bytes.now) }
+    ensures { Finds (λ x. (x.0, x.1.now)) result (hex_byte_at bytes.now) }
 {
     let (first, rest) = bytes.split_first()?;
     let (second, rest) = rest.split_first()?;
@@ -94,9 +94,9 @@ fn byte_at(bytes: &[u8]) -> Option<(u8, &[u8])>
     Some((16 * high + low, rest))
 }
 
-/// How many bytes stand at the front in two digits each.
+/// How many bytes stand at the start in two digits each.
 fn count_at(bytes: &[u8]) -> usize
-    ensures { option_map (λ x. length x.0) (bytes_at (length bytes.now) bytes.now) ≡ Some result }
+    ensures { option_map (λ x. length x.0) (hex_bytes_at (length bytes.now) bytes.now) ≡ Some result }
 {
     let mut rest = bytes;
     for count in 0..bytes.len() {
@@ -108,9 +108,9 @@ fn count_at(bytes: &[u8]) -> usize
     bytes.len()
 }
 
-/// As many bytes as stand at the front in two digits each, and what follows them. Their room is taken at once.
+/// As many bytes as stand at the start in two digits each, and what follows them. Their room is taken at once.
 pub(crate) fn bytes_at(alloc: Global, bytes: &[u8]) -> Result<(Bytes, &[u8]), DecodeError>
-    ensures { Gives (λ x. (x.0, x.1.now)) result (bytes_at (length bytes.now) bytes.now) }
+    ensures { Gives (λ x. (x.0, x.1.now)) result (hex_bytes_at (length bytes.now) bytes.now) }
 {
     let mut found = Vec::with_capacity(alloc, count_at(bytes))?;
     let mut rest = bytes;

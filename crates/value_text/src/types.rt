@@ -12,7 +12,7 @@ use crate::readers::{after, punctuation};
 use std::alloc::Global;
 use value_model::{DecodeError, MAX_DEPTH, MAX_MEMBERS, ValueType};
 
-/// The scalar type whose word stands at the front, and what follows it.
+/// The scalar type whose word stands at the start, and what follows it.
 #[tactic(auto, unfolding(crate::specs::Parsing::scalar_at))]
 pub(crate) fn scalar_at(bytes: &[u8]) -> Option<(ValueType, &[u8])>
     ensures { Finds (λ x. (kind_of x.0, x.1.now)) result (scalar_at bytes.now) }

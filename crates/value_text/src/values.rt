@@ -7,7 +7,8 @@ ghost use Rattle.value_model.specs.Views.{kind_of, tree_of};
 ghost use Rattle.value_text.specs.Texts.{value_text};
 ghost use Rattle.value_text.specs.Limits.{kept};
 ghost use Rattle.value_text.specs.Readers.{Gives, separated};
-ghost use Rattle.value_text.specs.Parsing.{bool_at, content_at, scalar_tree_at, items_at, list_tree_at, tree_here};
+ghost use Rattle.value_text.specs.Parsing.{bool_at, value_content_at, scalar_tree_at, items_at, list_tree_at};
+ghost use Rattle.value_text.specs.Parsing.{tree_here};
 ghost use Rattle.value_text.specs.Parsing.{tree_at, tree_in, value_in};
 
 use crate::numbers::{signed, unsigned};
@@ -31,13 +32,13 @@ fn boolean(bytes: &[u8]) -> Result<(Node, &[u8]), DecodeError>
 }
 
 /// What follows the word of a scalar type and a colon.
-#[tactic(auto, unfolding(crate::specs::Parsing::content_at))]
+#[tactic(auto, unfolding(crate::specs::Parsing::value_content_at))]
 fn content<'a>(
     alloc: Global,
     value_type: &ValueType,
     bytes: &'a [u8],
 ) -> Result<(Node, &'a [u8]), DecodeError>
-    ensures { Gives (λ x. (tree_of x.0, x.1.now)) result (content_at (kind_of value_type.now) bytes.now) }
+    ensures { Gives (λ x. (tree_of x.0, x.1.now)) result (value_content_at (kind_of value_type.now) bytes.now) }
 {
     match value_type {
         ValueType::Bool => boolean(bytes),

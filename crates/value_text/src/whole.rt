@@ -16,7 +16,8 @@ use value_model::DecodeError;
 /// The number that the whole text writes.
 #[tactic(auto, unfolding(crate::specs::Whole::unsigned_in))]
 fn unsigned_in(max: u64, text: &[u8]) -> Result<u64, DecodeError>
-    ensures { Gives (λ n. n) result (unsigned_in (max + 1) text.now) }
+    ensures read { Gives (λ n. n) result (unsigned_in (max + 1) text.now) }
+    ensures memory { result ≢ Err DecodeError.OutOfMemory }
 {
     let (n, rest) = unsigned(max, text)?;
     if !rest.is_empty() {
@@ -36,6 +37,7 @@ pub fn parse_unsigned(max: u64, text: &[u8]) -> Result<u64, DecodeError>
 
     // the text alone decides
     ensures exact { Gives (λ n. n) result (unsigned_in (max + 1) text.now) }
+    ensures memory { result ≢ Err DecodeError.OutOfMemory }
 {
     unsigned_in(max, text)
 }
@@ -44,7 +46,8 @@ pub fn parse_unsigned(max: u64, text: &[u8]) -> Result<u64, DecodeError>
 #[tactic(auto, unfolding(crate::specs::Whole::signed_in))]
 fn signed_in(max: u64, text: &[u8]) -> Result<i64, DecodeError>
     requires { max < 2 ^ 63 }
-    ensures { Gives (λ z. z) result (signed_in (max + 1) text.now) }
+    ensures read { Gives (λ z. z) result (signed_in (max + 1) text.now) }
+    ensures memory { result ≢ Err DecodeError.OutOfMemory }
 {
     let (z, rest) = signed(max, text)?;
     if !rest.is_empty() {
@@ -66,6 +69,7 @@ pub fn parse_signed(max: u64, text: &[u8]) -> Result<i64, DecodeError>
 
     // the text alone decides
     ensures exact { Gives (λ z. z) result (signed_in (max + 1) text.now) }
+    ensures memory { result ≢ Err DecodeError.OutOfMemory }
 {
     signed_in(max, text)
 }

@@ -8,8 +8,8 @@ use Rattle.std.proofs.lemmas.List.FromFn.{get_or-range_with_len}
 use Rattle.disk_model.specs.Image.{Image}
 use Rattle.disk_model.specs.Place.{area, IsNoArea}
 use Rattle.disk_model.specs.declared.place.Place.{Place}
-use Rattle.block_files.specs.BlockSets.{IsApart}
-use Rattle.block_files.specs.Parts.{blocks_for, changed}
+use Rattle.block_files.specs.BlockSets.{IsNotAmong}
+use Rattle.block_files.specs.Parts.{blocks_for, changed_blocks}
 use Rattle.block_files.specs.Areas.{area_of, IsFull, AllFull, NamedFull, HoldsShared}
 use Rattle.block_files.specs.Writes.{IsNoneOf, IsApartFromChanged}
 use Rattle.block_files.specs.lemmas.PartLemmas.{same_part, changed_to-le}
@@ -68,13 +68,14 @@ shared_none file blocks bytes i lt same j small inside =
 -- ---- beside an empty content
 
 -- a block that is none of them is none of those that change
-pub apart_none : (blocks bytes was : List ℕ) (k : ℕ) → IsApart blocks k → IsApartFromChanged blocks bytes was k
+pub apart_none : (blocks bytes was : List ℕ) (k : ℕ) → IsNotAmong blocks k → IsApartFromChanged blocks bytes was k
 apart_none blocks bytes was k apart i lt differ = apart i lt
 
 -- that many copies, each of which writes no more than all of its blocks
 pub whole_le : (bytes : List ℕ) (copies count : ℕ) → length bytes ≤ 256 * count
-    → copies * (256 * changed bytes []) ≤ copies * (256 * count)
+    → copies * (256 * changed_blocks bytes []) ≤ copies * (256 * count)
 whole_le bytes copies count room =
-    let few : 256 * changed bytes [] ≤ 256 * count = omega (arith, changed_to-le bytes [] (blocks_for (length bytes)))
+    let few : 256 * changed_blocks bytes [] ≤ 256 * count = omega
+    (arith, changed_to-le bytes [] (blocks_for (length bytes)))
     in
     mul-le-mul_left copies few

@@ -54,11 +54,11 @@ read_joined file blocks len q r lt small inside = get_or-take len (flat_map (blo
 -- ---- within a file
 
 -- each byte of a content is below the size
-abbrev pub Reaches : (size : ℕ) (blocks : List ℕ) (len : ℕ) → Type 0
-Reaches size blocks len = (m j : ℕ) → m < length blocks → j < 256 → 256 * m + j < len
+abbrev pub StaysBelow : (size : ℕ) (blocks : List ℕ) (len : ℕ) → Type 0
+StaysBelow size blocks len = (m j : ℕ) → m < length blocks → j < 256 → 256 * m + j < len
     → 256 * get_or blocks m 0 + j < size
 
-pub within_from : (size : ℕ) (blocks : List ℕ) (len : ℕ) → Reaches size blocks len → is_within size blocks len ≡ true
+pub within_from : (size : ℕ) (blocks : List ℕ) (len : ℕ) → StaysBelow size blocks len → is_within size blocks len ≡ true
 within_from size [] len reaches = refl
 within_from size (k ∷ blocks) len reaches = ⊎_elim
     (λ none. or_left (nat_eq len 0) (nat_le (256 * k + min 256 len) size && is_within size blocks (len - 256))
@@ -70,7 +70,8 @@ within_from size (k ∷ blocks) len reaches = ⊎_elim
     (within_from size blocks (len - 256) (λ m j lt small inside. reaches (suc m) j (omega arith) small (omega arith)))))
     (cases_eq len 0)
 
-pub reaches_from : (size : ℕ) (blocks : List ℕ) (len : ℕ) → is_within size blocks len ≡ true → Reaches size blocks len
+pub reaches_from : (size : ℕ) (blocks : List ℕ) (len : ℕ) → is_within size blocks len ≡ true
+    → StaysBelow size blocks len
 reaches_from size [] len is m j lt small inside = absurd (omega arith)
 reaches_from size (k ∷ blocks) len is zero j lt small inside = ⊎_elim
     (λ none. absurd (let e = eqb-true len 0 none in omega arith))

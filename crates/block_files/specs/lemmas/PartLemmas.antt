@@ -5,7 +5,7 @@ use Rattle.std.specs.Str.{bytes_eq}
 use Rattle.std.proofs.lemmas.List.{take_min, drop_min}
 use Rattle.std.proofs.lemmas.Bool.{not-false, cases_Bool}
 use Rattle.std.proofs.lemmas.Slice.Eq.{bytes_eq-Decides}
-use Rattle.block_files.specs.Parts.{part, is_changed, changed_to}
+use Rattle.block_files.specs.Parts.{part, is_changed, changed_below}
 
 -- a part cut within the bounds
 pub part_cut : (bytes rest : List ℕ) (i a b : ℕ) → rest ≡ drop a bytes → a ≡ min (256 * i) (length bytes)
@@ -21,50 +21,50 @@ unfolding is_changed
 same_part bytes was i same = (bytes_eq-Decides (part bytes i) (part was i)).0
     (not-false (bytes_eq (part bytes i) (part was i)) same)
 
--- so many parts differ at most
-pub changed_to-le : (bytes was : List ℕ) (n : ℕ) → changed_to bytes was n ≤ n
+-- that many parts differ at most
+pub changed_to-le : (bytes was : List ℕ) (n : ℕ) → changed_below bytes was n ≤ n
 changed_to-le bytes was zero = omega arith
 changed_to-le bytes was (suc n) = ⊎_elim
-    (λ yes. let e = ap (λ b. changed_to bytes was n + cond b 1 0) yes in omega (arith, changed_to-le bytes was n))
-    (λ no. let e = ap (λ b. changed_to bytes was n + cond b 1 0) no in omega (arith, changed_to-le bytes was n))
+    (λ yes. let e = ap (λ b. changed_below bytes was n + cond b 1 0) yes in omega (arith, changed_to-le bytes was n))
+    (λ no. let e = ap (λ b. changed_below bytes was n + cond b 1 0) no in omega (arith, changed_to-le bytes was n))
     (cases_Bool (is_changed bytes was n))
 
 -- one more part
 pub changed_more : (bytes was : List ℕ) (i : ℕ) → is_changed bytes was i ≡ true
-    → changed_to bytes was (i + 1) ≡ changed_to bytes was i + 1
+    → changed_below bytes was (i + 1) ≡ changed_below bytes was i + 1
 changed_more bytes was i differ =
     let e : i + 1 ≡ suc i = omega arith in
-    ap (changed_to bytes was) e ∙ ap (λ b. changed_to bytes was i + cond b 1 0) differ
+    ap (changed_below bytes was) e ∙ ap (λ b. changed_below bytes was i + cond b 1 0) differ
 
 pub changed_same : (bytes was : List ℕ) (i : ℕ) → is_changed bytes was i ≡ false
-    → changed_to bytes was (i + 1) ≡ changed_to bytes was i
+    → changed_below bytes was (i + 1) ≡ changed_below bytes was i
 changed_same bytes was i same =
     let e : i + 1 ≡ suc i = omega arith in
-    let f = ap (λ b. changed_to bytes was i + cond b 1 0) same in
-    let z : changed_to bytes was i + 0 ≡ changed_to bytes was i = omega arith in
-    ap (changed_to bytes was) e ∙ f ∙ z
+    let f = ap (λ b. changed_below bytes was i + cond b 1 0) same in
+    let z : changed_below bytes was i + 0 ≡ changed_below bytes was i = omega arith in
+    ap (changed_below bytes was) e ∙ f ∙ z
 
 -- the count never falls
-pub changed_to-grows : (bytes was : List ℕ) (i n : ℕ) → changed_to bytes was i ≤ changed_to bytes was (i + n)
+pub changed_to-grows : (bytes was : List ℕ) (i n : ℕ) → changed_below bytes was i ≤ changed_below bytes was (i + n)
 changed_to-grows bytes was i zero = let e : i + 0 ≡ i = omega arith in let f =
-    ap (changed_to bytes was) e in omega arith
+    ap (changed_below bytes was) e in omega arith
 changed_to-grows bytes was i (suc n) =
     let e : i + suc n ≡ (i + n) + 1 = omega arith in
-    let f = ap (changed_to bytes was) e in
+    let f = ap (changed_below bytes was) e in
     ⊎_elim
     (λ yes. omega (arith, changed_to-grows bytes was i n, changed_more bytes was (i + n) yes))
     (λ no. omega (arith, changed_to-grows bytes was i n, changed_same bytes was (i + n) no))
     (cases_Bool (is_changed bytes was (i + n)))
 
-pub changed_to-mono : (bytes was : List ℕ) (i j : ℕ) → i ≤ j → changed_to bytes was i ≤ changed_to bytes was j
+pub changed_to-mono : (bytes was : List ℕ) (i j : ℕ) → i ≤ j → changed_below bytes was i ≤ changed_below bytes was j
 changed_to-mono bytes was i j le =
     let e : i + (j - i) ≡ j = omega arith in
-    let P : ℕ → Type 0 = λ n. changed_to bytes was i ≤ changed_to bytes was n in
+    let P : ℕ → Type 0 = λ n. changed_below bytes was i ≤ changed_below bytes was n in
     subst P e (changed_to-grows bytes was i (j - i))
 
 -- a part that differs is counted
 pub changed_at : (bytes was : List ℕ) (i j : ℕ) → i < j → is_changed bytes was i ≡ true
-    → changed_to bytes was i < changed_to bytes was j
+    → changed_below bytes was i < changed_below bytes was j
 changed_at bytes was i j less differ = omega (
   arith,
   changed_more bytes was i differ,
@@ -74,12 +74,12 @@ changed_at bytes was i j less differ = omega (
 -- parts that all differ are all counted
 pub changed_run : (bytes was : List ℕ) (i n : ℕ)
     → ((m : ℕ) → i ≤ m → m < i + n → is_changed bytes was m ≡ true)
-    → changed_to bytes was (i + n) ≡ changed_to bytes was i + n
+    → changed_below bytes was (i + n) ≡ changed_below bytes was i + n
 changed_run bytes was i zero differ = let e : i + 0 ≡ i = omega arith in let f =
-    ap (changed_to bytes was) e in omega arith
+    ap (changed_below bytes was) e in omega arith
 changed_run bytes was i (suc n) differ =
     let e : i + suc n ≡ (i + n) + 1 = omega arith in
-    let f = ap (changed_to bytes was) e in
+    let f = ap (changed_below bytes was) e in
     omega (
       arith,
       changed_more bytes was (i + n) (differ (i + n) (omega arith) (omega arith)),

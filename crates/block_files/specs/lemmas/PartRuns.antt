@@ -6,7 +6,7 @@ use Rattle.std.proofs.lemmas.Bool.{cases_lt}
 use Rattle.disk_model.specs.Image.{put_bytes}
 use Rattle.disk_model.specs.Written.{put_inside, length-put_some}
 use Rattle.block_files.specs.BlockSets.{AreDistinct}
-use Rattle.block_files.specs.Parts.{blocks_for, is_changed, changed, changed_to}
+use Rattle.block_files.specs.Parts.{blocks_for, is_changed, changed_blocks, changed_below}
 use Rattle.block_files.specs.Areas.{HoldsPart}
 use Rattle.block_files.specs.Writes.{IsApartFromChanged, IsRun}
 use Rattle.block_files.specs.lemmas.PartLemmas.{changed_run, changed_to-mono}
@@ -86,13 +86,13 @@ module _ (blocks bytes was : List ℕ) (first end : ℕ) (room : length bytes �
       (cases_lt k low)
 
   -- the parts of a run are all counted
-  pub run_counted : changed_to bytes was end ≡ changed_to bytes was first + (end - first)
+  pub run_counted : changed_below bytes was end ≡ changed_below bytes was first + (end - first)
   run_counted =
       let e : first + (end - first) ≡ end = omega (arith, run.some) in
-      ap (changed_to bytes was) (sym e)
+      ap (changed_below bytes was) (sym e)
       ∙ changed_run bytes was first (end - first) (λ m from lt. run.differ m from (omega arith))
 
-  pub run_few : changed_to bytes was first + (end - first) ≤ changed bytes was
+  pub run_few : changed_below bytes was first + (end - first) ≤ changed_blocks bytes was
   run_few = omega (arith, run_counted, changed_to-mono bytes was end (blocks_for (length bytes)) run.within)
 
   -- what is written

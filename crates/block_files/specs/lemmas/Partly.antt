@@ -9,7 +9,7 @@ use Rattle.disk_model.specs.Case.{WriteCase, WriteOrNot, Follows}
 use Rattle.disk_model.specs.Medium.{Medium, IsLawful, Elapses}
 use Rattle.disk_model.specs.Written.{put_image_here}
 use Rattle.block_files.specs.BlockSets.{AreDistinct}
-use Rattle.block_files.specs.Parts.{part, blocks_for, is_changed, changed, changed_to}
+use Rattle.block_files.specs.Parts.{part, blocks_for, is_changed, changed_blocks, changed_below}
 use Rattle.block_files.specs.Areas.{HoldsPart, HoldsBytes, HoldsShared}
 use Rattle.block_files.specs.Writes.{Wrote, Tore, IsApartFromChanged, IsRun}
 use Rattle.block_files.specs.lemmas.PartLemmas.{changed_same}
@@ -30,7 +30,7 @@ HoldsTo file blocks bytes was i = (m : ℕ) → m < length blocks → (m < i) �
     → HoldsPart file blocks bytes m
 
 pub record IsPartly (told : Bool) (file : ℕ) (blocks bytes was : List ℕ) (i : ℕ) (old now : Medium) : Type 0 where
-  pub wrote : Wrote told (λ f. f ≢ file) (IsApartFromChanged blocks bytes was) (256 * changed_to bytes was i) old now
+  pub wrote : Wrote told (λ f. f ≢ file) (IsApartFromChanged blocks bytes was) (256 * changed_below bytes was i) old now
   pub holds : IsTrue told → HoldsTo (now.image file) blocks bytes was i
 
 module _ (told : Bool) (file : ℕ) (blocks bytes was : List ℕ) where
@@ -58,10 +58,10 @@ module _ (told : Bool) (file : ℕ) (blocks bytes was : List ℕ) where
 
   pub partly_all : (i : ℕ) (old now : Medium) → i ≡ blocks_for (length bytes)
       → IsPartly told file blocks bytes was i old now
-      → Wrote told (λ f. f ≢ file) (IsApartFromChanged blocks bytes was) (256 * changed bytes was) old now
+      → Wrote told (λ f. f ≢ file) (IsApartFromChanged blocks bytes was) (256 * changed_blocks bytes was) old now
   partly_all i old now all partly =
       let P : ℕ → Type 0 = λ n. Wrote told (λ f. f ≢ file) (IsApartFromChanged blocks bytes was)
-      (256 * changed_to bytes was n) old now in
+      (256 * changed_below bytes was n) old now in
       subst P all partly.wrote
 
   pub partly_holds : (i : ℕ) (old now : Medium) → i ≡ blocks_for (length bytes)
@@ -104,9 +104,9 @@ module _ (told : Bool) (file : ℕ) (blocks bytes was : List ℕ) (first end sto
     wrote = (
         let next = wrote_less told others apart others (IsApartFromChanged blocks bytes was) (λ f ne. ne) apart_run
         (256 * (end - first)) (256 * (end - first)) (omega arith) mid new one in
-        let both = wrote_on told others (IsApartFromChanged blocks bytes was) (256 * changed_to bytes was first)
+        let both = wrote_on told others (IsApartFromChanged blocks bytes was) (256 * changed_below bytes was first)
         (256 * (end - first)) old mid new partly.wrote next in
-        let e : 256 * changed_to bytes was first + 256 * (end - first) ≡ 256 * changed_to bytes was end =
+        let e : 256 * changed_below bytes was first + 256 * (end - first) ≡ 256 * changed_below bytes was end =
         omega (arith, run_counted blocks bytes was first end room run) in
         let P : ℕ → Type 0 = λ n. Wrote told others (IsApartFromChanged blocks bytes was) n old new in
         subst P e both);
@@ -140,13 +140,14 @@ module _ (told : Bool) (file : ℕ) (blocks bytes was : List ℕ) (first end sto
   pub partly_tear : (IsTrue told → TornImage file (256 * b) (length sent) mid.image new.image)
       → Follows (WriteOrNot file (256 * b) sent) mid.now (new.since mid.moment)
       → new.written ≤ mid.written + length sent → Elapses mid new → Rose mid.faults new.faults
-      → Tore told (λ f. f ≢ file) (IsApartFromChanged blocks bytes was) (256 * changed bytes was) old new
+      → Tore told (λ f. f ≢ file) (IsApartFromChanged blocks bytes was) (256 * changed_blocks bytes was) old new
   partly_tear torn during written time cause =
       let one = tore_one told file b (end - first) sent fits mid new torn during written time cause in
       let next = tore_less told others apart others (IsApartFromChanged blocks bytes was) (λ f ne. ne) apart_run
       (256 * (end - first)) (256 * (end - first)) (omega arith) mid new one in
-      let both = wrote_tore told others (IsApartFromChanged blocks bytes was) (256 * changed_to bytes was first)
+      let both = wrote_tore told others (IsApartFromChanged blocks bytes was) (256 * changed_below bytes was first)
       (256 * (end - first)) old mid new partly.wrote next in
       tore_less told others (IsApartFromChanged blocks bytes was) others (IsApartFromChanged blocks bytes was)
-      (λ f ne. ne) (λ k is. is) (256 * changed_to bytes was first + 256 * (end - first)) (256 * changed bytes was)
+      (λ f ne. ne) (λ k is. is) (256 * changed_below bytes was first + 256 * (end - first))
+      (256 * changed_blocks bytes was)
       (omega (arith, run_few blocks bytes was first end room run)) old new both

@@ -5,8 +5,8 @@ use Rattle.std.proofs.Common.{true, false, cond, refl, sym, ap, ◌∙◌, arith
 use Rattle.std.specs.Prelude.{slice_index}
 use Rattle.std.proofs.lemmas.List.{length-append, get_or_append_left, get_or_push}
 use Rattle.std.proofs.lemmas.Bool.{cases_lt, cases_Bool, cond-true, cond-false, both_ways}
-use Rattle.block_files.specs.BlockSets.{contains, AreDistinct, IsApart, AreFree, IsAdded, SharesBlocks}
-use Rattle.block_files.specs.Parts.{blocks_for, is_changed, changed, changed_to, IsMerged}
+use Rattle.block_files.specs.BlockSets.{contains, AreDistinct, IsNotAmong, AreFree, IsAdded, SharesBlocks}
+use Rattle.block_files.specs.Parts.{blocks_for, is_changed, changed_blocks, changed_below, IsMerged}
 use Rattle.block_files.specs.Areas.{HoldsShared, IsFull}
 use Rattle.block_files.specs.Writes.{IsTaken, IsApartFromChanged}
 use Rattle.block_files.specs.lemmas.PartLemmas.{same_part, changed_to-le, changed_more, changed_same, changed_at}
@@ -17,14 +17,14 @@ use Rattle.block_files.specs.lemmas.Joined.{holds_from}
 
 -- the block of part i
 abbrev merged : (bytes was old fresh : List ℕ) (i : ℕ) → ℕ
-merged bytes was old fresh i = cond (is_changed bytes was i) (slice_index fresh (changed_to bytes was i))
+merged bytes was old fresh i = cond (is_changed bytes was i) (slice_index fresh (changed_below bytes was i))
     (slice_index old i)
 
 pub record IsMerging (bytes was old fresh : List ℕ) (i next : ℕ) (blocks : List ℕ) : Type 0 where
-  pub next_is : next ≡ changed_to bytes was i
+  pub next_is : next ≡ changed_below bytes was i
   pub count : length blocks ≡ i
   pub each : (m : ℕ) → m < i → get_or blocks m 0 ≡ cond (is_changed bytes was m)
-      (slice_index fresh (changed_to bytes was m)) (slice_index old m)
+      (slice_index fresh (changed_below bytes was m)) (slice_index old m)
 
 module _ (bytes was old fresh : List ℕ) where
   pub merging_none : IsMerging bytes was old fresh 0 0 []
@@ -48,7 +48,7 @@ module _ (bytes was old fresh : List ℕ) where
     count = omega (arith, now.count, length-append blocks (b ∷ []));
     each = each_more i b blocks now.count
         (is ∙ ap (λ n. get_or fresh n 0) now.next_is ∙ sym
-        (cond-true (is_changed bytes was i) (slice_index fresh (changed_to bytes was i)) (slice_index old i)
+        (cond-true (is_changed bytes was i) (slice_index fresh (changed_below bytes was i)) (slice_index old i)
         differ))
         now.each;
   }
@@ -59,7 +59,8 @@ module _ (bytes was old fresh : List ℕ) where
     next_is = omega (arith, now.next_is, changed_same bytes was i same);
     count = omega (arith, now.count, length-append blocks (b ∷ []));
     each = each_more i b blocks now.count
-        (is ∙ sym (cond-false (is_changed bytes was i) (slice_index fresh (changed_to bytes was i)) (slice_index old i)
+        (is ∙ sym (cond-false (is_changed bytes was i) (slice_index fresh (changed_below bytes was i))
+        (slice_index old i)
         same))
         now.each;
   }
@@ -85,23 +86,23 @@ same_inside bytes was i j same small inside = omega (
 -- ---- the merged blocks
 
 -- each fresh block has its part
-part_of : (bytes was : List ℕ) (n t : ℕ) → t < changed_to bytes was n
-    → (i : ℕ) × (i < n) × (is_changed bytes was i ≡ true) × (changed_to bytes was i ≡ t)
+part_of : (bytes was : List ℕ) (n t : ℕ) → t < changed_below bytes was n
+    → (i : ℕ) × (i < n) × (is_changed bytes was i ≡ true) × (changed_below bytes was i ≡ t)
 part_of bytes was zero t lt = absurd (omega arith)
 part_of bytes was (suc n) t lt = ⊎_elim
     (λ before. let (i, less, differ, is) = part_of bytes was n t before in (i, omega arith, differ, is))
     (λ past. ⊎_elim
     (λ differ. (
-    let e = ap (λ b. changed_to bytes was n + cond b 1 0) differ in
+    let e = ap (λ b. changed_below bytes was n + cond b 1 0) differ in
     (n, omega arith, differ, omega (arith, e))))
-    (λ same. (let e = ap (λ b. changed_to bytes was n + cond b 1 0) same in absurd (omega (arith, e))))
+    (λ same. (let e = ap (λ b. changed_below bytes was n + cond b 1 0) same in absurd (omega (arith, e))))
     (cases_Bool (is_changed bytes was n)))
-    (cases_lt t (changed_to bytes was n))
+    (cases_lt t (changed_below bytes was n))
 
 module _ (bytes was old fresh blocks : List ℕ) (set : List Bool) (is : IsMerged bytes was old fresh blocks)
-    (free : AreFree set fresh) (many : length fresh ≡ changed bytes was) where
+    (free : AreFree set fresh) (many : length fresh ≡ changed_blocks bytes was) where
   abbrev at_fresh : ℕ → ℕ
-  at_fresh i = changed_to bytes was i
+  at_fresh i = changed_below bytes was i
 
   fresh_lt : (i : ℕ) → i < length blocks → is_changed bytes was i ≡ true → at_fresh i < length fresh
   fresh_lt i lt differ = omega (
@@ -112,11 +113,12 @@ module _ (bytes was old fresh blocks : List ℕ) (set : List Bool) (is : IsMerge
 
   fresh_is : (i : ℕ) → i < length blocks → is_changed bytes was i ≡ true
       → get_or blocks i 0 ≡ get_or fresh (at_fresh i) 0
-  fresh_is i lt differ = is.each i lt ∙ cond-true (is_changed bytes was i) (slice_index fresh (changed_to bytes was i))
+  fresh_is i lt differ = is.each i lt ∙ cond-true (is_changed bytes was i)
+      (slice_index fresh (changed_below bytes was i))
       (slice_index old i) differ
 
   old_is : (i : ℕ) → i < length blocks → is_changed bytes was i ≡ false → get_or blocks i 0 ≡ get_or old i 0
-  old_is i lt same = is.each i lt ∙ cond-false (is_changed bytes was i) (slice_index fresh (changed_to bytes was i))
+  old_is i lt same = is.each i lt ∙ cond-false (is_changed bytes was i) (slice_index fresh (changed_below bytes was i))
       (slice_index old i) same
 
   pub shares : SharesBlocks bytes was old set blocks
@@ -198,7 +200,7 @@ taken_apart_changed blocks bytes old was set shares k taken i lt differ e =
     both_ways (contains set (get_or blocks i 0)) (shares.fresh i lt differ).1 (sym (ap (contains set) e) ∙ taken)
 
 pub taken_apart_free : (set : List Bool) (blocks : List ℕ) → AreFree set blocks → (k : ℕ) → IsTaken set k
-    → IsApart blocks k
+    → IsNotAmong blocks k
 taken_apart_free set blocks free k taken i lt e = both_ways (contains set (get_or blocks i 0)) (free.free i lt)
     (sym (ap (contains set) e) ∙ taken)
 

@@ -7,7 +7,7 @@ use Rattle.disk_model.specs.Case.{WriteCase, WriteOrNot, Follows}
 use Rattle.disk_model.specs.Medium.{Medium, IsLawful, Elapses}
 use Rattle.disk_model.specs.Frame.{Keeps, KeepsCase}
 use Rattle.disk_model.specs.Laws.{rose_before, elapses_none, elapses_on, cases_on, follows_less, follows_on}
-use Rattle.disk_model.specs.lemmas.Frames.{IsApart, keeps_none, keeps_on, keeps_less, keeps_tears, tears_on}
+use Rattle.disk_model.specs.lemmas.Frames.{IsWriteApart, keeps_none, keeps_on, keeps_less, keeps_tears, tears_on}
 use Rattle.disk_model.specs.lemmas.Frames.{tears_less, case_none, case_on, case_less, keeps_put, tears_torn, case_write}
 use Rattle.disk_model.specs.lemmas.Frames.{case_or_not}
 use Rattle.block_files.specs.Writes.{Wrote, Tore}
@@ -93,7 +93,7 @@ module _ (told : Bool) (file b n : ℕ) (bytes : List ℕ) (fits : length bytes 
   abbrev apart : ℕ → Type 0
   apart k = (k < b) ⊎ (b + n ≤ k)
 
-  one_run : IsApart others apart file (256 * b) (length bytes)
+  one_run : IsWriteApart others apart file (256 * b) (length bytes)
   one_run = record {
     files = λ f ne. ne;
     bytes = λ k j inside is. ⊎_elim (λ below. inl (omega arith)) (λ above. inr (omega arith)) is;

@@ -85,19 +85,19 @@ case_less files blocks keeps = record {
 -- ---- one write
 
 -- the write is in no spared file and in no block apart
-pub record IsApart (spared apart : ℕ → Type 0) (file at n : ℕ) : Type 0 where
+pub record IsWriteApart (spared apart : ℕ → Type 0) (file at n : ℕ) : Type 0 where
   pub files : (f : ℕ) → spared f → f ≢ file
   pub bytes : (k j : ℕ) → j < 256 → apart k → (256 * k + j < at) ⊎ (at + n ≤ 256 * k + j)
 
 -- a write of whole files apart: no block is claimed
 pub apart_file : (spared : ℕ → Type 0) (file at n : ℕ) → ((f : ℕ) → spared f → f ≢ file)
-    → IsApart spared (λ k. ⊥) file at n
+    → IsWriteApart spared (λ k. ⊥) file at n
 apart_file spared file at n files = record { files = files; bytes = λ k j inside none. absurd none }
 
 -- a write within one block
 pub apart_block : (spared apart : ℕ → Type 0) (file block n : ℕ) → n ≤ 256 → ((f : ℕ) → spared f → f ≢ file)
     → ((k : ℕ) → apart k → k ≢ block)
-    → IsApart spared apart file (256 * block) n
+    → IsWriteApart spared apart file (256 * block) n
 apart_block spared apart file block n short files blocks = record {
   files = files;
   bytes = λ k j inside is.
@@ -106,7 +106,7 @@ apart_block spared apart file block n short files blocks = record {
 }
 
 pub keeps_put : {spared apart : ℕ → Type 0} (image : Image) (file at : ℕ) (bytes : List ℕ)
-    → IsApart spared apart file at (length bytes)
+    → IsWriteApart spared apart file at (length bytes)
     → Keeps spared apart image (put_image image file at bytes)
 keeps_put image file at bytes is = let torn = put_tears image file at bytes in record {
   files = λ f spared. torn.others f (is.files f spared);
@@ -123,7 +123,7 @@ keeps_put image file at bytes is = let torn = put_tears image file at bytes in r
       (cases_eq f file);
 }
 
-pub tears_torn : {spared apart : ℕ → Type 0} (old new : Image) (file at n : ℕ) → IsApart spared apart file at n
+pub tears_torn : {spared apart : ℕ → Type 0} (old new : Image) (file at n : ℕ) → IsWriteApart spared apart file at n
     → TornImage file at n old new → Tears spared apart old new
 tears_torn old new file at n is torn = record {
   files = λ f spared. torn.others f (is.files f spared);
@@ -140,7 +140,7 @@ tears_torn old new file at n is torn = record {
 }
 
 pub case_write : {spared apart : ℕ → Type 0} {old new : Case} (file at : ℕ) (bytes : List ℕ)
-    → IsApart spared apart file at (length bytes)
+    → IsWriteApart spared apart file at (length bytes)
     → WriteCase file at bytes old new → KeepsCase spared apart old new
 case_write {spared} {apart} {old} {new} file at bytes is step = record {
   base = step.base;
@@ -149,7 +149,7 @@ case_write {spared} {apart} {old} {new} file at bytes is step = record {
 }
 
 pub case_or_not : {spared apart : ℕ → Type 0} (old new : Case) (file at : ℕ) (bytes : List ℕ)
-    → IsApart spared apart file at (length bytes)
+    → IsWriteApart spared apart file at (length bytes)
     → WriteOrNot file at bytes old new → KeepsCase spared apart old new
 case_or_not {spared} {apart} old new file at bytes is step =
     ⊎_elim (case_write file at bytes is) (λ same. subst (KeepsCase spared apart old) (sym same) (case_none old)) step

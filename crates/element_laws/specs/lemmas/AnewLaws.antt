@@ -1,4 +1,4 @@
--- A corrupt storage that is made anew, and places that are clean.
+-- A corrupt storage that is rebuilt, and places that are clean.
 use Rattle.std.proofs.Common.{◌≡◌, ℕ, ◌+◌, ◌*◌, ◌<◌, ◌≤◌, ◌⊎◌, Bool, true, List, [], length, Some, refl, sym, ap, subst}
 use Rattle.std.proofs.Common.{◌∙◌, inl, inr, arith}
 use Rattle.std.specs.Prelude.{map, slice_index}
@@ -21,14 +21,14 @@ use Rattle.index_text.specs.declared.entries.IndexEntry.{IndexEntry}
 use Rattle.index_text.specs.Reading.{index_of}
 use Rattle.element_state.specs.declared.shapes.Shape.{Shape}
 use Rattle.element_state.specs.Fit.{FitText, fit_index}
-use Rattle.element_state.specs.Clean.{where_of, counting_at, IsNamed, IsPiece, in_blocks, IsCounted}
-use Rattle.element_laws.specs.Phases.{IsSalvageAt, IsGivenUp, GivenUpLaw, IsWritten, TakesNamed, TakenLaw}
+use Rattle.element_state.specs.Clean.{where_of, counting_at, IsNamed, IsPiece, in_blocks, SomeCopyCounts}
+use Rattle.element_laws.specs.Phases.{IsSalvageAt, IsGivenUp, GivenUpLaw, IsContentWritten, TakesNamed, TakenBlocksLaw}
 use Rattle.element_laws.specs.Phases.{AnewContentsLaw, AnewDoneLaw, AnewIndexLaw, AreAgreed, CleanLaw, AdoptedLaw}
 use Rattle.element_laws.specs.Phases.{SoundLaw, SettledLaw}
 use Rattle.element_laws.specs.lemmas.Lists.{In, In-Contains, nothing_listed, all_by, all_in, Contains-In, In-map}
 use Rattle.element_laws.specs.lemmas.Lists.{map-In}
 use Rattle.element_laws.specs.lemmas.Lists.{some_is, zip_with, zip_find}
-use Rattle.element_laws.specs.lemmas.Copies.{Gives, backed_alike}
+use Rattle.element_laws.specs.lemmas.Copies.{CopyGives, backed_alike}
 use Rattle.element_laws.specs.lemmas.Fits.{fit-spelled}
 use Rattle.element_laws.specs.lemmas.Standing.{gift_of}
 use Rattle.element_laws.specs.lemmas.Left.{is_whole_at, value_at}
@@ -71,7 +71,7 @@ given_up shape start now text clean salvage alone areas = (
       copy h u lt v in (k.0, k.1),
 )
 
-pub taken_named : TakenLaw
+pub taken_named : TakenBlocksLaw
 taken_named place image text index taken only spells is_index takes at is =
     let one : is.index ≡ index = some_is is.index index (sym is.spelled
     ∙ ap index_of (only is.copy is.generation is.text is.inside is.held) ∙ spells) in
@@ -162,7 +162,7 @@ pub anew_contents : AsideLaw → AnewContentsLaw
 anew_contents aside shape start now taken after old c positive given_up takes settled keeps sound damaged image d =
     fewer_kept shape start image damaged after positive given_up.clean given_up.corrupt
     (fewer_decays shape damaged c.left image d start (anew_fewer aside shape start now taken old c given_up takes
-    settled keeps sound.pieces))
+    settled keeps sound))
     (λ text is. keeps_decays shape damaged c.left image d text.0.generation text.0.text start
     (anew_keeps aside shape start now taken damaged old c given_up takes settled keeps text is))
 
@@ -231,8 +231,9 @@ still_held : (shape : Shape) (then new : Image) (g : ℕ) (next : List ℕ)
 still_held shape then new g next known copy h u lt apart v =
     elim (known copy h u lt v) [ inl was ↦ was | inr newer ↦ absurd (apart newer.0) ]
 
-as_given : (shape : Shape) (start : Image) (at : Where) (copy : ℕ) (w : List ℕ) → Gives (gift_of start shape at) copy w
-    → Gives (gift_of start shape at) copy w ⊎ (value_at start shape at ≡ Some w)
+as_given : (shape : Shape) (start : Image) (at : Where) (copy : ℕ) (w : List ℕ)
+    → CopyGives (gift_of start shape at) copy w
+    → CopyGives (gift_of start shape at) copy w ⊎ (value_at start shape at ≡ Some w)
 as_given shape start at copy w gives = inl gives
 
 pub anew_index : AsideLaw → AnewIndexLaw
@@ -245,10 +246,10 @@ anew_index aside shape start now then taken g next new_index view others c posit
     stops.slots (sound_slots shape c sound) damaged image (decays_slots shape c damaged image d) in
     let same = λ (copy : ℕ). stops.elsewhere.left (area place copy) (area_no_slot place copy) in
     let given = λ (at : Where) (is : IsNamed shape.place image at) (copy : ℕ) (w : List ℕ) (lt : copy < place.copies)
-    (gives : Gives (gift_of image shape at) copy w).
+    (gives : CopyGives (gift_of image shape at) copy w).
     given_then shape then c.left image damaged same d at is copy w lt gives in
     let whole = λ (at : Where) (copy : ℕ) (v : List ℕ) (spared : IsUndamaged damaged place copy)
-    (was : is_whole_at then shape copy at ≡ true) (gave : Gives (gift_of then shape at) copy v).
+    (was : is_whole_at then shape copy at ≡ true) (gave : CopyGives (gift_of then shape at) copy v).
     whole_then shape then c.left image damaged same d at copy v spared was gave in
     let low = λ (copy h : ℕ) (u : List ℕ) (lt : copy < place.copies) (v : Holds then place copy h u).
     below copy h u lt (subst (λ (bytes : List ℕ). VerifiesAs bytes h u)
@@ -261,7 +262,7 @@ anew_index aside shape start now then taken g next new_index view others c posit
     still_held shape then image g next (λ copy h u lt v. it.known copy lt h u v) copy h u lt apart v in
     let same_gift = λ (at : Where) (is : IsNamed shape.place image at) (apart : is.generation ≡ g → ⊥)
     (was : IsNamed shape.place start at) (copy : ℕ) (w : List ℕ)
-    (lt : copy < place.copies) (gives : Gives (gift_of image shape at) copy w).
+    (lt : copy < place.copies) (gives : CopyGives (gift_of image shape at) copy w).
     fewer.counted at (record {
       copy = is.copy;
       generation = is.generation;
@@ -273,16 +274,16 @@ anew_index aside shape start now then taken g next new_index view others c posit
       named = is.named;
     }) copy w lt (given at is copy w lt gives) in
     let stand = λ (copy : ℕ) (lt : copy < place.copies) (v : Holds image place copy g next).
-    zip_with (IsWritten shape then) (EntryStands shape image damaged) new_index.entries view.entries
+    zip_with (IsContentWritten shape then) (EntryStands shape image damaged) new_index.entries view.entries
     (λ e f h k w. written_stands shape start then image damaged given whole e f
     (names_it shape image copy g next new_index lt v fit (where_of e) (map-In where_of e new_index.entries h)) w)
     entries in
     let counted = λ (at : Where) (is : IsNamed shape.place image at) (apart : is.generation ≡ g → ⊥)
     (was : IsNamed shape.place start at) (copy : ℕ) (w : List ℕ)
-    (lt : copy < place.copies) (gives : Gives (gift_of image shape at) copy w).
+    (lt : copy < place.copies) (gives : CopyGives (gift_of image shape at) copy w).
     as_given shape start at copy w (same_gift at is apart was copy w lt gives) in
     let alike_new = λ (e : IndexEntry) (h : In e new_index.entries) (is : IsNamed shape.place image (where_of e)).
-    let found = zip_find (IsWritten shape then) new_index.entries view.entries e entries h in
+    let found = zip_find (IsContentWritten shape then) new_index.entries view.entries e entries h in
     let stands = written_stands shape start then image damaged given whole e found.0 is found.2 in
     backed_alike shape.m place.copies (gift_of image shape (where_of e)) found.0.content stands.backed in
     let kept = λ (text : FitText) (is : IsSalvageAt shape start text).
@@ -332,8 +333,8 @@ clean_alone shape image g t i alone fit agreed =
           let (e, k, same) = In-map where_of at i.entries (subst (λ (j : Index). In at (map where_of j.entries)) one
           (Contains-In at (map where_of is.index.entries) is.named)) in
           all_in (AreAgreed shape image) i.entries agreed e k a b s u la lb
-          (subst (λ (x : Where). Gives (gift_of image shape x) a s) (sym same) ga)
-          (subst (λ (x : Where). Gives (gift_of image shape x) b u) (sym same) gb);
+          (subst (λ (x : Where). CopyGives (gift_of image shape x) a s) (sym same) ga)
+          (subst (λ (x : Where). CopyGives (gift_of image shape x) b u) (sym same) gb);
     }
 
 pub clean_adopted : AdoptedLaw
@@ -359,7 +360,7 @@ settled_sound shape image c settled clean = record {
       (counted_at at s one) (counted_at at t two);
 }
   where
-    counted_at : (at : Where) (s : List ℕ) (x : IsCounted shape.place c at s)
+    counted_at : (at : Where) (s : List ℕ) (x : SomeCopyCounts shape.place c at s)
         → counting_at image shape.place x.copy at ≡ Some s
     counted_at at s x = elim x.counts [
       | inl e ↦ subst (λ (im : Image). counting_at im shape.place x.copy at ≡ Some s) settled.base e
@@ -367,9 +368,9 @@ settled_sound shape image c settled clean = record {
     ]
 
 pub settled_kept : SettledLaw
-settled_kept shape start image after c settled clean kept = (kept (settled_sound shape image c settled clean) [] image
-    (record {
+settled_kept shape start image after c settled clean kept =
+    let sound = settled_sound shape image c settled clean in
+    (kept sound.no_twins sound.pieces [] image (record {
       others = λ f out. ap (λ (im : Image). im f) (sym settled.left);
-      pieces =
-          λ x is. subst (λ (im : Image). IsPiece shape.place im x) (sym settled.left) is;
+      pieces = λ x is. subst (λ (im : Image). IsPiece shape.place im x) (sym settled.left) is;
     })).kept

@@ -1,5 +1,5 @@
--- Copies that pass a test, however they are listed or counted: as numbers, among what each copy gives, or as so many at
--- least.
+-- Copies that pass a test, however they are listed or counted: as numbers, among what each copy gives, or as that many
+-- at least.
 use Rattle.std.proofs.Common.{◌≡◌, ℕ, zero, suc, ◌+◌, ◌<◌, ◌≤◌, ◌⊎◌, Bool, true, false, cond, List, [], ◌∷◌, ◌++◌}
 use Rattle.std.proofs.Common.{length, Option, Some, None, refl, sym, ap, subst, ◌∙◌, inl, inr, length-append, arith}
 use Rattle.std.specs.Prelude.{map, count_by, nat_eq}
@@ -75,8 +75,8 @@ Gift = ℕ → Option (List ℕ)
 abbrev pub gifts : Gift → ℕ → List (Option (List ℕ))
 gifts f n = map f (range_with_len 0 n)
 
-abbrev pub Gives : Gift → ℕ → List ℕ → Type 0
-Gives f copy text = f copy ≡ Some text
+abbrev pub CopyGives : Gift → ℕ → List ℕ → Type 0
+CopyGives f copy text = f copy ≡ Some text
 
 pub is_text-is : (v : List ℕ) (o : Option (List ℕ)) → is_text v o ≡ true → o ≡ Some v
 is_text-is v None e = absurd (not_false e)
@@ -108,16 +108,17 @@ counted_that t f (suc n) =
     ∙ (let before = counted_that t f n in let one = count_one t (f n) in let more =
     more_that (λ c. t (f c)) n in omega (arith, before, one, more))
 
-pub holders_many : (f : Gift) (n m : ℕ) (v : List ℕ) → m ≤ holders (gifts f n) v → AtLeast (λ c. Gives f c v) n m
+pub holders_many : (f : Gift) (n m : ℕ) (v : List ℕ) → m ≤ holders (gifts f n) v → AtLeast (λ c. CopyGives f c v) n m
 holders_many f n m v le =
     let e = counted_that (is_text v) f n in
-    at_least_map (λ c. is_text v (f c) ≡ true) (λ c. Gives f c v) n m (λ c lt is. is_text-is v (f c) is)
+    at_least_map (λ c. is_text v (f c) ≡ true) (λ c. CopyGives f c v) n m (λ c lt is. is_text-is v (f c) is)
     (enough_pass (λ c. is_text v (f c)) n m (omega (arith, le, e)))
 
-pub many_holders : (f : Gift) (n m : ℕ) (v : List ℕ) → AtLeast (λ c. Gives f c v) n m → m ≤ holders (gifts f n) v
+pub many_holders : (f : Gift) (n m : ℕ) (v : List ℕ) → AtLeast (λ c. CopyGives f c v) n m → m ≤ holders (gifts f n) v
 many_holders f n m v some =
     let e = counted_that (is_text v) f n in
-    let le = passing_enough (λ c. is_text v (f c)) n m (at_least_map (λ c. Gives f c v) (λ c. is_text v (f c) ≡ true) n
+    let le = passing_enough (λ c. is_text v (f c)) n m (at_least_map (λ c. CopyGives f c v) (λ c. is_text v (f c)
+    ≡ true) n
     m (λ c lt is. its_text v (f c) is) some) in
     omega (arith, le, e)
 
@@ -145,14 +146,16 @@ no_first (None ∷ xs) s (inr h) e = no_first xs s h e
 no_first (Some x ∷ xs) s h e = not_none x e
 
 -- the first content is one that a copy gives
-pub first_given : (f : Gift) (n : ℕ) (s : List ℕ) → first_content (gifts f n) ≡ Some s → (c : ℕ) × (c < n) × Gives f c s
+pub first_given : (f : Gift) (n : ℕ) (s : List ℕ) → first_content (gifts f n) ≡ Some s → (c : ℕ) × (c < n)
+    × CopyGives f c s
 first_given f n s e =
     let r = In-map f (Some s) (range_with_len 0 n) (first_In (gifts f n) s e) in
     let within = In_range r.0 0 n r.1 in
     (r.0, omega (arith, within.1), r.2)
 
 -- where there is no first content, no copy gives any
-pub none_given : (f : Gift) (n : ℕ) → first_content (gifts f n) ≡ None → (c : ℕ) (s : List ℕ) → c < n → Gives f c s → ⊥
+pub none_given : (f : Gift) (n : ℕ) → first_content (gifts f n) ≡ None → (c : ℕ) (s : List ℕ) → c < n → CopyGives f c s
+    → ⊥
 none_given f n e c s lt gives =
     no_first (gifts f n) s (subst (λ o. In o (gifts f n)) gives
     (map-In f c (range_with_len 0 n) (range_In c 0 n (omega arith) (omega (arith, lt))))) e
@@ -161,17 +164,18 @@ none_given f n e c s lt gives =
 
 -- they give its value alone; or its salvage alone, and too few; or nothing
 abbrev pub Backed : (m n : ℕ) → Gift → Content → Type 0
-Backed m n f (Good v) = (c : ℕ) (w : List ℕ) → c < n → Gives f c w → w ≡ v
-Backed m n f (Bad (Some u)) = ((c : ℕ) (w : List ℕ) → c < n → Gives f c w → w ≡ u)
-    × ((w : List ℕ) → AtLeast (λ c. Gives f c w) n m → ⊥)
-Backed m n f (Bad None) = (c : ℕ) (w : List ℕ) → c < n → Gives f c w → ⊥
+Backed m n f (Good v) = (c : ℕ) (w : List ℕ) → c < n → CopyGives f c w → w ≡ v
+Backed m n f (Bad (Some u)) = ((c : ℕ) (w : List ℕ) → c < n → CopyGives f c w → w ≡ u)
+    × ((w : List ℕ) → AtLeast (λ c. CopyGives f c w) n m → ⊥)
+Backed m n f (Bad None) = (c : ℕ) (w : List ℕ) → c < n → CopyGives f c w → ⊥
 
 abbrev pub AreAlike : Gift → ℕ → Type 0
-AreAlike f n = (a b : ℕ) (s t : List ℕ) → a < n → b < n → Gives f a s → Gives f b t → s ≡ t
+AreAlike f n = (a b : ℕ) (s t : List ℕ) → a < n → b < n → CopyGives f a s → CopyGives f b t → s ≡ t
 
 module _ (m n : ℕ) (positive : 1 ≤ m) where
-  pub voted_given : (f : Gift) (v : List ℕ) → voted m (gifts f n) ≡ Some v → (c : ℕ) × (c < n) × Gives f c v
-  voted_given f v e = at_least_one (λ c. Gives f c v) n m positive (holders_many f n m v (voted-held m (gifts f n) v e))
+  pub voted_given : (f : Gift) (v : List ℕ) → voted m (gifts f n) ≡ Some v → (c : ℕ) × (c < n) × CopyGives f c v
+  voted_given f v e = at_least_one (λ c. CopyGives f c v) n m positive
+      (holders_many f n m v (voted-held m (gifts f n) v e))
 
   left : (f : Gift) (there : Content) → Backed m n f there → (a s : Option (List ℕ)) → voted m (gifts f n) ≡ a
       → first_content (gifts f n) ≡ s
@@ -206,23 +210,23 @@ module _ (m n : ℕ) (positive : 1 ≤ m) where
   backed_now f alike = backed f alike (voted m (gifts f n)) (first_content (gifts f n)) refl refl
 
   -- where copies give less, or the value
-  pub backed_less : (f g : Gift) (there : Content) → ((c : ℕ) (w : List ℕ) → c < n → Gives g c w
-      → Gives f c w ⊎ (there ≡ Good w)) → Backed m n f there → Backed m n g there
+  pub backed_less : (f g : Gift) (there : Content) → ((c : ℕ) (w : List ℕ) → c < n → CopyGives g c w
+      → CopyGives f c w ⊎ (there ≡ Good w)) → Backed m n f there → Backed m n g there
   backed_less f g (Good v) less b = λ c w lt gives. elim (less c w lt gives)
       [ inl was ↦ b c w lt was | inr is ↦ sym (good_same v w is) ]
   backed_less f g (Bad (Some u)) less b = (
     λ c w lt gives. elim (less c w lt gives) [ inl was ↦ b.0 c w lt was | inr is ↦ absurd (bad_good (Some u) w is) ],
-    λ w some. b.1 w (at_least_map (λ c. Gives g c w) (λ c. Gives f c w) n m
+    λ w some. b.1 w (at_least_map (λ c. CopyGives g c w) (λ c. CopyGives f c w) n m
         (λ c lt gives. elim (less c w lt gives) [ inl was ↦ was | inr is ↦ absurd (bad_good (Some u) w is) ]) some),
   )
   backed_less f g (Bad None) less b = λ c w lt gives. elim (less c w lt gives)
       [ inl was ↦ b c w lt was | inr is ↦ absurd (bad_good None w is) ]
 
   -- enough copies give the value: it is the vote
-  pub good_now : (f : Gift) (v : List ℕ) → Backed m n f (Good v) → AtLeast (λ c. Gives f c v) n m
+  pub good_now : (f : Gift) (v : List ℕ) → Backed m n f (Good v) → AtLeast (λ c. CopyGives f c v) n m
       → voted m (gifts f n) ≡ Some v
   good_now f v b some = voted-only m (gifts f n) v positive (many_holders f n m v some)
-      (λ other many. let r = at_least_one (λ c. Gives f c other) n m positive (holders_many f n m other many) in
+      (λ other many. let r = at_least_one (λ c. CopyGives f c other) n m positive (holders_many f n m other many) in
       b r.0 other r.1 r.2)
 
 -- copies that back a content give no two texts

@@ -18,7 +18,7 @@ use Rattle.index_text.specs.Reading.{index_of}
 use Rattle.element_state.specs.declared.shapes.Shape.{Shape}
 use Rattle.element_state.specs.declared.shapes.View.{View}
 use Rattle.element_state.specs.Fit.{FitText, fit_index, fit_texts, if_fits, with_index}
-use Rattle.element_state.specs.States.{beside, picked, corrupt_state, state_of}
+use Rattle.element_state.specs.States.{beside, first_picked, corrupt_state, state_of}
 use Rattle.element_state.specs.Kept.{all_views}
 use Rattle.element_laws.specs.lemmas.Lists.{In, In-Contains, Contains-In, not_none, some_is, not_false, In-map, map-In}
 use Rattle.element_laws.specs.lemmas.Lists.{In-filter_map, filter_map-In}
@@ -41,7 +41,7 @@ with_index-is s None y e = absurd (not_none y (sym e))
 with_index-is s (Some i) y e = (i, refl, some_is (s, i) y e)
 
 -- what stands among the texts that fit is held by a copy, with its index
-pub record IsFit (image : Image) (shape : Shape) (y : FitText) : Type 0 where
+pub record IsHeldFit (image : Image) (shape : Shape) (y : FitText) : Type 0 where
   pub generation : ℕ
   pub text : List ℕ
   pub index : Index
@@ -51,7 +51,7 @@ pub record IsFit (image : Image) (shape : Shape) (y : FitText) : Type 0 where
   pub fit : fit_index shape text ≡ Some index
   pub is : fit_at image shape generation text index ≡ y
 
-pub In-fit : (image : Image) (shape : Shape) (y : FitText) → In y (fit_texts shape image) → IsFit image shape y
+pub In-fit : (image : Image) (shape : Shape) (y : FitText) → In y (fit_texts shape image) → IsHeldFit image shape y
 unfolding fit_texts
 In-fit image shape y h =
     let place = shape.place in
@@ -124,17 +124,18 @@ keep_some x None r e = absurd (not_none r (sym e))
 keep_some x (Some s) r e = (s, refl, sym (some_is (s.0, x ∷ s.1) r e))
 
 -- picking an item leaves the others, and the item passes
-pub picked_parts : {A : Type 0} (q : A → Bool) (xs : List A) (r : A × List A) → picked q xs ≡ Some r
+pub picked_parts : {A : Type 0} (q : A → Bool) (xs : List A) (r : A × List A) → first_picked q xs ≡ Some r
     → ((z : A) → In z xs → (r.0 ≡ z) ⊎ In z r.1) × ((z : A) → (r.0 ≡ z) ⊎ In z r.1 → In z xs) × (q r.0 ≡ true)
 picked_parts q [] r e = absurd (not_none r (sym e))
-picked_parts {A} q (x ∷ xs) r e = elim (q x) as (λ b. q x ≡ b → cond b (Some (x, xs)) (beside x (picked q xs)) ≡ Some r
+picked_parts {A} q (x ∷ xs) r e = elim (q x) as (λ b. q x ≡ b → cond b (Some (x, xs)) (beside x (first_picked q xs))
+    ≡ Some r
     → ((z : A) → In z (x ∷ xs) → (r.0 ≡ z) ⊎ In z r.1) × ((z : A) → (r.0 ≡ z) ⊎ In z r.1 → In z (x ∷ xs))
     × (q r.0 ≡ true)) [
       | true ↦ λ is e. let same = some_is (x, xs) r e in
           subst (λ (r : A × List A). ((z : A) → In z (x ∷ xs) → (r.0 ≡ z) ⊎ In z r.1)
           × ((z : A) → (r.0 ≡ z) ⊎ In z r.1 → In z (x ∷ xs)) × (q r.0 ≡ true)) same (λ z h. h, λ z h. h, is)
       | false ↦ λ is e.
-          let k = keep_some x (picked q xs) r e in
+          let k = keep_some x (first_picked q xs) r e in
           let p = picked_parts q xs k.0 k.1 in
           subst (λ (r : A × List A). ((z : A) → In z (x ∷ xs) → (r.0 ≡ z) ⊎ In z r.1)
           × ((z : A) → (r.0 ≡ z) ⊎ In z r.1 → In z (x ∷ xs)) × (q r.0 ≡ true)) (sym k.2) (
@@ -158,7 +159,7 @@ module _ (view : FitText → View) where
   views_corrupt w (v ∷ vs) h = h
 
   pub In-views : (q : FitText → Bool) (xs : List FitText) (w : View) (o : Option (FitText × List FitText))
-      → picked q xs ≡ o
+      → first_picked q xs ≡ o
       → In w (all_views (state_of view xs o)) → (x : FitText) × In x xs × (view x ≡ w)
   In-views q xs w None e h = In-map view w xs (corrupt_views w (map view xs) h)
   In-views q xs w (Some r) e h =
@@ -169,7 +170,7 @@ module _ (view : FitText → View) where
       ]
 
   pub views-In : (q : FitText → Bool) (xs : List FitText) (x : FitText) (o : Option (FitText × List FitText))
-      → picked q xs ≡ o
+      → first_picked q xs ≡ o
       → In x xs → In (view x) (all_views (state_of view xs o))
   views-In q xs x None e h = views_corrupt (view x) (map view xs) (map-In view x xs h)
   views-In q xs x (Some r) e h = let p = picked_parts q xs r e in
@@ -217,11 +218,11 @@ below_In n (x ∷ xs) z h (inr k) = below_In n xs z h.1 k
 
 -- nothing that passes stands above what is picked
 pub picked_max : (q : FitText → Bool) (xs : List FitText) (r : FitText × List FitText) → GDescends xs
-    → picked q xs ≡ Some r
+    → first_picked q xs ≡ Some r
     → (z : FitText) → In z xs → q z ≡ true → z.0.generation ≤ r.0.0.generation
 picked_max q [] r g e z h is = absurd h
 picked_max q (x ∷ xs) r g e z h is = elim (q x) as (λ b. q x ≡ b
-    → cond b (Some (x, xs)) (beside x (picked q xs)) ≡ Some r → z.0.generation ≤ r.0.0.generation) [
+    → cond b (Some (x, xs)) (beside x (first_picked q xs)) ≡ Some r → z.0.generation ≤ r.0.0.generation) [
       | true ↦ λ now e. let same : x ≡ r.0 = ap (λ (s : FitText × List FitText). s.0) (some_is (x, xs) r e) in
           subst (λ (y : FitText). z.0.generation ≤ y.0.generation) same
           (elim h [
@@ -230,7 +231,7 @@ picked_max q (x ∷ xs) r g e z h is = elim (q x) as (λ b. q x ≡ b
                 below_In x.0.generation xs z g.0 k
           ])
       | false ↦ λ now e.
-          let k = keep_some x (picked q xs) r e in
+          let k = keep_some x (first_picked q xs) r e in
           let same : k.0.0 ≡ r.0 = ap (λ (s : FitText × List FitText). s.0) (sym k.2) in
           subst (λ (y : FitText). z.0.generation ≤ y.0.generation) same
           (picked_max q xs k.0 g.1 k.1 z (elim h [
@@ -244,10 +245,10 @@ picked_max q (x ∷ xs) r g e z h is = elim (q x) as (λ b. q x ≡ b
 pub pick_greatest : (q : FitText → Bool) (xs : List FitText) (y : FitText) → GDescends xs → In y xs → q y ≡ true
     → ((z : FitText) → In z xs → q z ≡ true → z.0.generation ≤ y.0.generation)
     → ((z : FitText) → In z xs → z.0.generation ≡ y.0.generation → z ≡ y)
-    → (r : FitText × List FitText) × (picked q xs ≡ Some r) × (r.0 ≡ y)
+    → (r : FitText × List FitText) × (first_picked q xs ≡ Some r) × (r.0 ≡ y)
 pick_greatest q [] y g h is most one = absurd h
 pick_greatest q (x ∷ xs) y g h is most one = elim (q x) as
-    (λ b. q x ≡ b → (r : FitText × List FitText) × (cond b (Some (x, xs)) (beside x (picked q xs)) ≡ Some r)
+    (λ b. q x ≡ b → (r : FitText × List FitText) × (cond b (Some (x, xs)) (beside x (first_picked q xs)) ≡ Some r)
     × (r.0 ≡ y)) [
       | true ↦ λ now.
           let low : x.0.generation ≤ y.0.generation = most x (inl refl) now in
@@ -272,11 +273,13 @@ pub nothing_beside : {A : Type 0} (x : A) (o : Option (A × List A)) → beside 
 nothing_beside x None e = refl
 nothing_beside x (Some r) e = absurd (not_none (r.0, x ∷ r.1) e)
 
-pub none_passes : (q : FitText → Bool) (xs : List FitText) (z : FitText) → picked q xs ≡ None → In z xs → q z ≡ true → ⊥
+pub none_passes : (q : FitText → Bool) (xs : List FitText) (z : FitText) → first_picked q xs ≡ None → In z xs → q z
+    ≡ true → ⊥
 none_passes q [] z e h is = h
-none_passes q (x ∷ xs) z e h is = elim (q x) as (λ b. q x ≡ b → cond b (Some (x, xs)) (beside x (picked q xs)) ≡ None
+none_passes q (x ∷ xs) z e h is = elim (q x) as (λ b. q x ≡ b → cond b (Some (x, xs)) (beside x (first_picked q xs))
+    ≡ None
     → ⊥) [
       | true ↦ λ now e. not_none (x, xs) e
-      | false ↦ λ now e. none_passes q xs z (nothing_beside x (picked q xs) e)
+      | false ↦ λ now e. none_passes q xs z (nothing_beside x (first_picked q xs) e)
           (elim h [ inl a ↦ absurd (not_false (sym now ∙ subst (λ z. q z ≡ true) (sym a) is)) | inr l ↦ l ]) is
     ] refl e

@@ -12,7 +12,7 @@ use Rattle.block_files.specs.Contents.{counting}
 use Rattle.block_files.specs.Areas.{within}
 use Rattle.element_state.specs.declared.shapes.Shape.{Shape}
 use Rattle.element_state.specs.Clean.{where_of, IsNamed, IsPiece, in_slot, in_blocks, BlockText, IsBlockPiece}
-use Rattle.element_laws.specs.lemmas.Copies.{Gives}
+use Rattle.element_laws.specs.lemmas.Copies.{CopyGives}
 use Rattle.element_laws.specs.lemmas.Standing.{gift_of}
 use Rattle.element_laws.specs.lemmas.Left.{is_whole_at}
 use Rattle.element_laws.specs.lemmas.Keeping.{IsLess, IsFewer, KeepsAll}
@@ -42,7 +42,7 @@ module _ (shape : Shape) (copy : ℕ) (at : Where) (w : List ℕ) where
   its_blocks = record { copy = copy; at = at; bytes = w }
 
   pub given_piece : (image : Image) → copy < shape.place.copies → IsNamed shape.place image at
-      → Gives (gift_of image shape at) copy w → IsBlockPiece shape.place image its_blocks
+      → CopyGives (gift_of image shape at) copy w → IsBlockPiece shape.place image its_blocks
   given_piece image lt is gives = record { inside = lt; named = is; counts = gives }
 
 module _ (shape : Shape) (damaged : List ℕ) (left new : Image) (d : DecaysFor (IsPiece shape.place) damaged left new)
@@ -67,7 +67,7 @@ module _ (shape : Shape) (damaged : List ℕ) (left new : Image) (d : DecaysFor 
     }
 
     pub given_back : (at : Where) → IsNamed shape.place new at → (copy : ℕ) (w : List ℕ) → copy < shape.place.copies
-        → Gives (gift_of new shape at) copy w → Gives (gift_of left shape at) copy w
+        → CopyGives (gift_of new shape at) copy w → CopyGives (gift_of left shape at) copy w
     given_back at is copy w lt gives =
         let p : IsBlockPiece shape.place left (its_blocks shape copy at w) =
         d.pieces (in_blocks (its_blocks shape copy at w)) (given_piece shape copy at w new lt is gives) in
@@ -85,8 +85,8 @@ module _ (shape : Shape) (damaged : List ℕ) (left new : Image) (d : DecaysFor 
     area_on copy spared = d.others (area shape.place copy) (spared 2 (omega arith))
 
     pub whole_on : (copy : ℕ) (at : Where) (v : List ℕ) → IsUndamaged damaged shape.place copy
-        → (is_whole_at left shape copy at ≡ true) × Gives (gift_of left shape at) copy v
-        → (is_whole_at new shape copy at ≡ true) × Gives (gift_of new shape at) copy v
+        → (is_whole_at left shape copy at ≡ true) × CopyGives (gift_of left shape at) copy v
+        → (is_whole_at new shape copy at ≡ true) × CopyGives (gift_of new shape at) copy v
     whole_on copy at v spared is = subst (λ (file : List ℕ). (within file at.blocks at.len ≡ true)
         × (counting file at.blocks at.len at.hash ≡ Some v)) (sym (area_on copy spared)) is
 

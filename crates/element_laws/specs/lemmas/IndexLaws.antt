@@ -26,10 +26,10 @@ use Rattle.element_state.specs.Fit.{fit_index}
 use Rattle.element_state.specs.Views.{qualifies, supporters, entry_view, content_of}
 use Rattle.element_state.specs.Clean.{where_of, IsNamed, IsClean}
 use Rattle.element_state.specs.Conditions.{IsMended}
-use Rattle.element_laws.specs.Phases.{OpensAt, IsWritten, IsCarried, IndexLaw}
+use Rattle.element_laws.specs.Phases.{OpensAt, IsContentWritten, IsCarried, IndexLaw}
 use Rattle.element_laws.specs.lemmas.Lists.{In, In-Contains, Contains-In, In-map, map-In, some_is, zip_with, zip_find}
 use Rattle.element_laws.specs.lemmas.Lists.{nothing_listed}
-use Rattle.element_laws.specs.lemmas.Copies.{Gift, Gives, gifts, Backed, backed_now, backed_less, backed_alike}
+use Rattle.element_laws.specs.lemmas.Copies.{Gift, CopyGives, gifts, Backed, backed_now, backed_less, backed_alike}
 use Rattle.element_laws.specs.lemmas.Copies.{good_same}
 use Rattle.element_laws.specs.lemmas.Fits.{fit_at, fit-spelled}
 use Rattle.element_laws.specs.lemmas.Standing.{gift_of}
@@ -58,12 +58,13 @@ names_it shape image copy g t i lt v fit at h = record {
 
 module _ (shape : Shape) (start then new : Image) (damaged : List ℕ)
     (given : (at : Where) → IsNamed shape.place new at → (copy : ℕ) (w : List ℕ) → copy < shape.place.copies
-    → Gives (gift_of new shape at) copy w → Gives (gift_of then shape at) copy w)
+    → CopyGives (gift_of new shape at) copy w → CopyGives (gift_of then shape at) copy w)
     (whole : (at : Where) (copy : ℕ) (v : List ℕ) → IsUndamaged damaged shape.place copy
     → is_whole_at then shape copy at ≡ true
-    → Gives (gift_of then shape at) copy v → (is_whole_at new shape copy at ≡ true)
-    × Gives (gift_of new shape at) copy v) where
-  pub written_stands : (e : IndexEntry) (f : Entry) → IsNamed shape.place new (where_of e) → IsWritten shape then e f
+    → CopyGives (gift_of then shape at) copy v → (is_whole_at new shape copy at ≡ true)
+    × CopyGives (gift_of new shape at) copy v) where
+  pub written_stands : (e : IndexEntry) (f : Entry) → IsNamed shape.place new (where_of e)
+      → IsContentWritten shape then e f
       → EntryStands shape new damaged e f
   written_stands e f is w = record {
     headed = w.headed;
@@ -89,7 +90,7 @@ module _ (shape : Shape) (start then new : Image) (damaged : List ℕ)
 
     numbers_are : (e : IndexEntry) (c : ℕ) → (entry_view start shape.place shape.m e).lacking ≡ [] → (v : List ℕ)
         → value_at start shape (where_of e) ≡ Some v → c < shape.place.copies
-        → Gives (gift_of start shape (where_of e)) c v × (is_whole_at start shape c (where_of e) ≡ true)
+        → CopyGives (gift_of start shape (where_of e)) c v × (is_whole_at start shape c (where_of e) ≡ true)
     unfolding entry_view
     numbers_are e c none v value lt = spared_has shape start (where_of e) v c value lt
         (λ listed. nothing_listed (c + 1) (subst (λ (xs : List ℕ). Contains xs (c + 1)) none listed))
@@ -102,22 +103,22 @@ module _ (shape : Shape) (start then new : Image) (damaged : List ℕ)
       named_now = names_it shape then opens.copy g t i opens.inside (held opens.copy opens.inside) opens.fit at h
 
       pub counted_at : IsNamed shape.place new at → (copy : ℕ) (w : List ℕ) → copy < shape.place.copies
-          → Gives (gift_of new shape at) copy w
-          → Gives (gift_of start shape at) copy w ⊎ (value_at start shape at ≡ Some w)
+          → CopyGives (gift_of new shape at) copy w
+          → CopyGives (gift_of start shape at) copy w ⊎ (value_at start shape at ≡ Some w)
       counted_at is copy w lt gives = elim (less.counted at named_now copy w lt (given at is copy w lt gives))
           [ inl was ↦ inl was | inr value ↦ inr value.1 ]
 
       pub whole_at : (copy : ℕ) (v : List ℕ) → copy < shape.place.copies → IsUndamaged damaged shape.place copy
           → is_whole_at start shape copy at ≡ true
-          → Gives (gift_of start shape at) copy v → (is_whole_at new shape copy at ≡ true)
-          × Gives (gift_of new shape at) copy v
+          → CopyGives (gift_of start shape at) copy v → (is_whole_at new shape copy at ≡ true)
+          × CopyGives (gift_of new shape at) copy v
       whole_at copy v lt spared was gave =
           let (e, k, same) = In-map where_of at i.entries h in
           let still = less.whole i (fit-spelled shape t i opens.fit) e k copy v lt spared
           (subst (λ (x : Where). is_whole_at start shape copy x ≡ true) (sym same) was)
-          (subst (λ (x : Where). Gives (gift_of start shape x) copy v) (sym same) gave) in
+          (subst (λ (x : Where). CopyGives (gift_of start shape x) copy v) (sym same) gave) in
           whole at copy v spared (subst (λ (x : Where). is_whole_at then shape copy x ≡ true) same still.0)
-          (subst (λ (x : Where). Gives (gift_of then shape x) copy v) same still.1)
+          (subst (λ (x : Where). CopyGives (gift_of then shape x) copy v) same still.1)
 
       backed_at : IsNamed shape.place new at → Backed shape.m shape.place.copies (gift_of new shape at) (content_at at)
       unfolding content_at
@@ -173,7 +174,7 @@ module _ (shape : Shape) (start then new : Image) (damaged : List ℕ)
 
     pub entry_stands : qualifies start shape (fit_at start shape g t i) ≡ true → (e : IndexEntry) (f : Entry)
         → IsNamed shape.place new (where_of e)
-        → IsWritten shape then e f ⊎ IsCarried shape start i e f → EntryStands shape new damaged e f
+        → IsContentWritten shape then e f ⊎ IsCarried shape start i e f → EntryStands shape new damaged e f
     entry_stands passes e f is (inl written) = written_stands e f is written
     entry_stands passes e f is (inr carried) = carried_stands passes e f is carried
 
@@ -222,36 +223,38 @@ index aside shape start now then g t i taken next new_index view others c positi
     stops.slots (sound_slots shape c sound) damaged image (decays_slots shape c damaged image d) in
     let same = λ (copy : ℕ). stops.elsewhere.left (area place copy) (area_no_slot place copy) in
     let given = λ (at : Where) (is : IsNamed shape.place image at) (copy : ℕ) (w : List ℕ) (lt : copy < place.copies)
-    (gives : Gives (gift_of image shape at) copy w).
+    (gives : CopyGives (gift_of image shape at) copy w).
     given_then shape then c.left image damaged same d at is copy w lt gives in
     let whole = λ (at : Where) (copy : ℕ) (v : List ℕ) (spared : IsUndamaged damaged place copy)
-    (was : is_whole_at then shape copy at ≡ true) (gave : Gives (gift_of then shape at) copy v).
+    (was : is_whole_at then shape copy at ≡ true) (gave : CopyGives (gift_of then shape at) copy v).
     whole_then shape then c.left image damaged same d at copy v spared was gave in
     let (rest, state, passes) = open_at shape start g t i clean opens in
     let entry = λ (e : IndexEntry) (f : Entry) (is : IsNamed shape.place image (where_of e))
-    (w : IsWritten shape then e f ⊎ IsCarried shape start i e f).
+    (w : IsContentWritten shape then e f ⊎ IsCarried shape start i e f).
     entry_stands shape start then image damaged given whole positive clean g t i opens less held passes e f is w in
     let texts = λ (copy h : ℕ) (u : List ℕ) (lt : copy < place.copies) (v : Holds image place copy h u).
     old_or_new shape then image g t next (λ copy h u lt v. only copy h u lt v) (λ copy h u lt v. it.known copy lt h u v)
     copy h u lt v in
     let stand = λ (copy : ℕ) (lt : copy < place.copies) (v : Holds image place copy (g + 1) next).
-    zip_with (λ e f. IsWritten shape then e f ⊎ IsCarried shape start i e f) (EntryStands shape image damaged)
+    zip_with (λ e f. IsContentWritten shape then e f ⊎ IsCarried shape start i e f) (EntryStands shape image damaged)
     new_index.entries view.entries
     (λ e f h k w. entry e f (names_it shape image copy (g + 1) next new_index lt v fit (where_of e)
     (map-In where_of e new_index.entries h)) w) entries in
     let counted = λ (at : Where) (is : IsNamed shape.place image at) (apart : is.generation ≡ g + 1 → ⊥)
     (was : IsNamed shape.place start at) (copy : ℕ) (w : List ℕ)
-    (lt : copy < place.copies) (gives : Gives (gift_of image shape at) copy w).
+    (lt : copy < place.copies) (gives : CopyGives (gift_of image shape at) copy w).
     counted_at shape start then image damaged given whole positive clean g t i opens less held at
     (old_named shape image g t i next texts (fit-spelled shape t i opens.fit) at is apart) is copy w lt gives in
     let alike_new = λ (e : IndexEntry) (h : In e new_index.entries) (is : IsNamed shape.place image (where_of e)).
-    let found = zip_find (λ e f. IsWritten shape then e f ⊎ IsCarried shape start i e f) new_index.entries view.entries
+    let found = zip_find (λ e f. IsContentWritten shape then e f
+    ⊎ IsCarried shape start i e f) new_index.entries view.entries
     e entries h in
     let stands = entry e found.0 is found.2 in
     backed_alike shape.m place.copies (gift_of image shape (where_of e)) found.0.content stands.backed in
     let whole_old = λ (e : IndexEntry) (h : In e i.entries) (copy : ℕ) (v : List ℕ) (lt : copy < place.copies)
     (spared : IsUndamaged damaged place copy)
-    (was : is_whole_at start shape copy (where_of e) ≡ true) (gave : Gives (gift_of start shape (where_of e)) copy v).
+    (was : is_whole_at start shape copy (where_of e) ≡ true) (gave : CopyGives
+    (gift_of start shape (where_of e)) copy v).
     whole_at shape start then image damaged given whole positive clean g t i opens less held (where_of e)
     (map-In where_of e i.entries h) copy v lt spared was gave in
     let stays : ((c : ℕ) → c < place.copies → IsUndamaged damaged place c → Holds image place c g t)

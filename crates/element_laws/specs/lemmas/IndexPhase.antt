@@ -19,7 +19,7 @@ use Rattle.element_state.specs.Clean.{where_of, IsNamed, IsClean}
 use Rattle.element_state.specs.Kept.{HasEnough, CostsNoCopy, Kept}
 use Rattle.element_laws.specs.Phases.{OpensAt}
 use Rattle.element_laws.specs.lemmas.Lists.{In, some_is, not_false}
-use Rattle.element_laws.specs.lemmas.Copies.{Gives, AreAlike}
+use Rattle.element_laws.specs.lemmas.Copies.{CopyGives, AreAlike}
 use Rattle.element_laws.specs.lemmas.Fits.{fit_at, In-fit, fit-In, picked_parts}
 use Rattle.element_laws.specs.lemmas.Standing.{gift_of, one_fit, generation_of, EachStands, SparesCopies, Found}
 use Rattle.element_laws.specs.lemmas.Standing.{kept_opens}
@@ -66,13 +66,14 @@ module _ (shape : Shape) (start new : Image) (damaged : List ℕ) (positive : 1 
     → ((h ≡ g) × (u ≡ t)) ⊎ ((h ≡ g + 1) × (u ≡ next)))
     (counted : (at : Where) → (is : IsNamed shape.place new at) → (is.generation ≡ g + 1 → ⊥)
     → IsNamed shape.place start at → (copy : ℕ) (w : List ℕ) → copy < shape.place.copies
-    → Gives (gift_of new shape at) copy w → Gives (gift_of start shape at) copy w ⊎ (value_at start shape at ≡ Some w))
+    → CopyGives (gift_of new shape at) copy w → CopyGives (gift_of start shape at) copy w
+    ⊎ (value_at start shape at ≡ Some w))
     (alike_new : (e : IndexEntry) → In e index.entries → IsNamed shape.place new (where_of e)
     → AreAlike (gift_of new shape (where_of e)) shape.place.copies)
     (whole : (e : IndexEntry) → In e i.entries → (copy : ℕ) (v : List ℕ) → copy < shape.place.copies
     → IsUndamaged damaged shape.place copy
-    → is_whole_at start shape copy (where_of e) ≡ true → Gives (gift_of start shape (where_of e)) copy v
-    → (is_whole_at new shape copy (where_of e) ≡ true) × Gives (gift_of new shape (where_of e)) copy v)
+    → is_whole_at start shape copy (where_of e) ≡ true → CopyGives (gift_of start shape (where_of e)) copy v
+    → (is_whole_at new shape copy (where_of e) ≡ true) × CopyGives (gift_of new shape (where_of e)) copy v)
     (stays : ((c : ℕ) → c < shape.place.copies → IsUndamaged damaged shape.place c
     → Holds new shape.place c g t)
     ⊎ ((c : ℕ) → c < shape.place.copies → IsUndamaged damaged shape.place c
@@ -101,8 +102,8 @@ module _ (shape : Shape) (start new : Image) (damaged : List ℕ) (positive : 1 
   -- the old text, where a copy holds it
   module _ (one : ℕ) (lt : one < shape.place.copies) (v : Holds new shape.place one g t) where
     its_counted : (e : IndexEntry) → In e i.entries → (c : ℕ) (w : List ℕ) → c < shape.place.copies
-        → Gives (gift_of new shape (where_of e)) c w
-        → Gives (gift_of start shape (where_of e)) c w ⊎ (value_at start shape (where_of e) ≡ Some w)
+        → CopyGives (gift_of new shape (where_of e)) c w
+        → CopyGives (gift_of start shape (where_of e)) c w ⊎ (value_at start shape (where_of e) ≡ Some w)
     its_counted e k c w ltc gives = counted (where_of e) (named shape new opened_clean one g t i lt v opens.fit e k)
         (λ e. no_next g e)
         (named shape start clean opens.copy g t i opens.inside opens.held opens.fit e k) c w ltc gives

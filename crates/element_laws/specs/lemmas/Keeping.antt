@@ -16,16 +16,17 @@ use Rattle.element_state.specs.declared.shapes.Shape.{Shape}
 use Rattle.element_state.specs.declared.shapes.View.{View}
 use Rattle.element_state.specs.Fit.{FitText, fit_index, fit_texts}
 use Rattle.element_state.specs.Views.{qualifies, view_of}
-use Rattle.element_state.specs.States.{State, Opens, beside, picked, state_of, store_at, corrupt_state, salvage_of}
+use Rattle.element_state.specs.States.{State, Opens, beside, first_picked, state_of, store_at, corrupt_state}
+use Rattle.element_state.specs.States.{salvage_of}
 use Rattle.element_state.specs.Clean.{where_of, IsNamed, IsClean}
-use Rattle.element_state.specs.Chosen.{chosen, first_of, or_first}
+use Rattle.element_state.specs.Chosen.{chosen, first_fit, or_first}
 use Rattle.element_state.specs.Kept.{IsSpared, HasEnough, HasOne, CostsNoCopy, IsLeftAs, SalvageStays, HasHolder}
-use Rattle.element_state.specs.Kept.{KeepsSalvage, all_views, listed, Kept}
+use Rattle.element_state.specs.Kept.{KeepsSalvage, all_views, views_in, Kept}
 use Rattle.element_laws.specs.lemmas.Lists.{In, append-In, some_is, not_none, not_false}
-use Rattle.element_laws.specs.lemmas.Copies.{Gives, voted_given}
-use Rattle.element_laws.specs.lemmas.Fits.{fit_at, IsFit, In-fit, fit-In, fit-spelled, fit_descends, nothing_beside}
+use Rattle.element_laws.specs.lemmas.Copies.{CopyGives, voted_given}
+use Rattle.element_laws.specs.lemmas.Fits.{fit_at, IsHeldFit, In-fit, fit-In, fit-spelled, fit_descends, nothing_beside}
 use Rattle.element_laws.specs.lemmas.Fits.{pick_greatest, picked_max, picked_parts, none_passes, views-In}
-use Rattle.element_laws.specs.lemmas.Standing.{gift_of, StandsFor, one_fit, EachStands, SparesCopies, Found}
+use Rattle.element_laws.specs.lemmas.Standing.{gift_of, DenotesView, one_fit, EachStands, SparesCopies, Found}
 use Rattle.element_laws.specs.lemmas.Standing.{same_headings}
 use Rattle.element_laws.specs.lemmas.Standing.{keeps_each, kept_opens, corrupt_kept}
 use Rattle.element_laws.specs.lemmas.Left.{is_whole_at, value_at, named, numbers_lacking, spared_holds, lacking_view}
@@ -44,14 +45,14 @@ pub record IsLess (shape : Shape) (g : ℕ) (t : List ℕ) (damaged : List ℕ) 
   pub held : (copy h : ℕ) (u : List ℕ) → copy < shape.place.copies → Holds new shape.place copy h u
       → Holds old shape.place copy h u ⊎ ((h ≡ g) × (u ≡ t))
   pub counted : (at : Where) → IsNamed shape.place new at → (copy : ℕ) (w : List ℕ) → copy < shape.place.copies
-      → Gives (gift_of new shape at) copy w
-      → Gives (gift_of old shape at) copy w ⊎ (HoldsOnly shape new g t × (value_at old shape at ≡ Some w))
+      → CopyGives (gift_of new shape at) copy w
+      → CopyGives (gift_of old shape at) copy w ⊎ (HoldsOnly shape new g t × (value_at old shape at ≡ Some w))
   pub text : KeepsText shape.place g t damaged old new
   pub whole : (i : Index) → index_of t ≡ Some i → (e : IndexEntry) → In e i.entries → (copy : ℕ) (v : List ℕ)
       → copy < shape.place.copies
       → IsUndamaged damaged shape.place copy → is_whole_at old shape copy (where_of e) ≡ true
-      → Gives (gift_of old shape (where_of e)) copy v
-      → (is_whole_at new shape copy (where_of e) ≡ true) × Gives (gift_of new shape (where_of e)) copy v
+      → CopyGives (gift_of old shape (where_of e)) copy v
+      → (is_whole_at new shape copy (where_of e) ≡ true) × CopyGives (gift_of new shape (where_of e)) copy v
 
 -- a text that was held on the earlier image
 pub record WasHeld (shape : Shape) (old : Image) (h : ℕ) (u : List ℕ) : Type 0 where
@@ -66,8 +67,8 @@ pub clean_from : (shape : Shape) (old new : Image) → IsClean shape old
     → (from : (copy h : ℕ) (u : List ℕ) → copy < shape.place.copies → Holds new shape.place copy h u
     → WasHeld shape old h u)
     → (given : (at : Where) → IsNamed shape.place new at → (copy : ℕ) (w : List ℕ) → copy < shape.place.copies
-    → Gives (gift_of new shape at) copy w
-    → (b : ℕ) × (b < shape.place.copies) × Gives (gift_of old shape at) b w)
+    → CopyGives (gift_of new shape at) copy w
+    → (b : ℕ) × (b < shape.place.copies) × CopyGives (gift_of old shape at) b w)
     → IsClean shape new
 clean_from shape old new clean from given = record {
   one_each = λ a b h s u la lb va vb.
@@ -97,14 +98,14 @@ clean_from shape old new clean from given = record {
 module _ (shape : Shape) (old new : Image) (damaged : List ℕ) (positive : 1 ≤ shape.m) (clean : IsClean shape old) where
   pub stood : (h : ℕ) (u : List ℕ) (j : Index) → WasHeld shape old h u → fit_index shape u ≡ Some j
       → ((e : IndexEntry) → In e j.entries → (copy : ℕ) (w : List ℕ) → copy < shape.place.copies
-      → Gives (gift_of new shape (where_of e)) copy w
-      → Gives (gift_of old shape (where_of e)) copy w ⊎ (value_at old shape (where_of e) ≡ Some w))
-      → (there : View) × In there (all_views (store_at old shape)) × StandsFor shape new h j there
+      → CopyGives (gift_of new shape (where_of e)) copy w
+      → CopyGives (gift_of old shape (where_of e)) copy w ⊎ (value_at old shape (where_of e) ≡ Some w))
+      → (there : View) × In there (all_views (store_at old shape)) × DenotesView shape new h j there
   unfolding store_at
   stood h u j was fit counted = (
     view_of old shape (fit_at old shape h u j),
     views-In (view_of old shape) (qualifies old shape) (fit_texts shape old) (fit_at old shape h u j)
-        (picked (qualifies old shape) (fit_texts shape old)) refl
+        (first_picked (qualifies old shape) (fit_texts shape old)) refl
         (fit-In old shape was.copy h u j was.inside was.holds fit),
     stands_left shape old new damaged positive clean was.copy h u j was.inside was.holds fit counted,
   )
@@ -112,9 +113,9 @@ module _ (shape : Shape) (old new : Image) (damaged : List ℕ) (positive : 1 �
 -- ---- from a storage that opened
 
 module _ (shape : Shape) (old new : Image) (damaged : List ℕ) (positive : 1 ≤ shape.m) (clean : IsClean shape old)
-    (r : FitText × List FitText) (found : picked (qualifies old shape) (fit_texts shape old) ≡ Some r) where
+    (r : FitText × List FitText) (found : first_picked (qualifies old shape) (fit_texts shape old) ≡ Some r) where
   -- the text that it opened at
-  pub its : IsFit old shape r.0
+  pub its : IsHeldFit old shape r.0
   its = In-fit old shape r.0 ((picked_parts (qualifies old shape) (fit_texts shape old) r found).1 r.0 (inl refl))
 
   pub its_passes : qualifies old shape (fit_at old shape its.generation its.text its.index) ≡ true
@@ -147,8 +148,8 @@ module _ (shape : Shape) (old new : Image) (damaged : List ℕ) (positive : 1 �
     ]
 
     given : (at : Where) → IsNamed shape.place new at → (copy : ℕ) (w : List ℕ) → copy < shape.place.copies
-        → Gives (gift_of new shape at) copy w
-        → (b : ℕ) × (b < shape.place.copies) × Gives (gift_of old shape at) b w
+        → CopyGives (gift_of new shape at) copy w
+        → (b : ℕ) × (b < shape.place.copies) × CopyGives (gift_of old shape at) b w
     given at is copy w lt gives = elim (less.counted at is copy w lt gives) [
       | inl was ↦ (copy, lt, was)
       | inr value ↦ voted_given shape.m shape.place.copies positive (gift_of old shape at) w value.1
@@ -160,8 +161,8 @@ module _ (shape : Shape) (old new : Image) (damaged : List ℕ) (positive : 1 �
     counted_in : (copy h : ℕ) (u : List ℕ) (j : Index) → copy < shape.place.copies
         → Holds new shape.place copy h u → fit_index shape u ≡ Some j
         → (e : IndexEntry) → In e j.entries → (c : ℕ) (w : List ℕ) → c < shape.place.copies
-        → Gives (gift_of new shape (where_of e)) c w
-        → Gives (gift_of old shape (where_of e)) c w ⊎ (value_at old shape (where_of e) ≡ Some w)
+        → CopyGives (gift_of new shape (where_of e)) c w
+        → CopyGives (gift_of old shape (where_of e)) c w ⊎ (value_at old shape (where_of e) ≡ Some w)
     counted_in copy h u j lt v fit e k c w ltc gives = elim (less.counted (where_of e)
         (named shape new less_clean copy h u j lt v fit e k) c w ltc gives) [
           | inl was ↦ inl was
@@ -172,13 +173,13 @@ module _ (shape : Shape) (old new : Image) (damaged : List ℕ) (positive : 1 �
     each after copy h u j lt v fit =
         let s = stood shape old new damaged positive clean h u j (from copy h u lt v) fit
         (counted_in copy h u j lt v fit) in
-        (s.0, append-In s.0 (all_views (store_at old shape)) (listed (salvage_of after)) (inl s.1), s.2)
+        (s.0, append-In s.0 (all_views (store_at old shape)) (views_in (salvage_of after)) (inl s.1), s.2)
 
     whole_in : (u : List ℕ) (j : Index) → fit_index shape u ≡ Some j → u ≡ its.text → (e : IndexEntry) → In e j.entries
         → (c : ℕ) (v : List ℕ) → c < shape.place.copies
         → IsUndamaged damaged shape.place c → is_whole_at old shape c (where_of e) ≡ true
-        → Gives (gift_of old shape (where_of e)) c v
-        → (is_whole_at new shape c (where_of e) ≡ true) × Gives (gift_of new shape (where_of e)) c v
+        → CopyGives (gift_of old shape (where_of e)) c v
+        → (is_whole_at new shape c (where_of e) ≡ true) × CopyGives (gift_of new shape (where_of e)) c v
     whole_in u j fit same = less.whole j (ap index_of (sym same) ∙ fit-spelled shape u j fit)
 
     spares : SparesCopies shape new damaged positive less_clean (view_of old shape r.0)
@@ -232,7 +233,7 @@ module _ (shape : Shape) (old new : Image) (damaged : List ℕ) (positive : 1 �
           let t = its.text in
           let i = its.index in
           let counted = λ (e : IndexEntry) (k : In e i.entries) (c : ℕ) (w : List ℕ) (lt : c < shape.place.copies)
-          (gives : Gives (gift_of new shape (where_of e)) c w).
+          (gives : CopyGives (gift_of new shape (where_of e)) c w).
           counted_in one.0 g t i one.1 one.2 its.fit e k c w lt gives in
           let whole = whole_in t i its.fit refl in
           record {
@@ -279,8 +280,8 @@ pub record KeepsAll (shape : Shape) (g : ℕ) (t : List ℕ) (damaged : List ℕ
   pub whole : (i : Index) → index_of t ≡ Some i → (e : IndexEntry) → In e i.entries → (copy : ℕ) (v : List ℕ)
       → copy < shape.place.copies
       → IsUndamaged damaged shape.place copy → is_whole_at old shape copy (where_of e) ≡ true
-      → Gives (gift_of old shape (where_of e)) copy v
-      → (is_whole_at new shape copy (where_of e) ≡ true) × Gives (gift_of new shape (where_of e)) copy v
+      → CopyGives (gift_of old shape (where_of e)) copy v
+      → (is_whole_at new shape copy (where_of e) ≡ true) × CopyGives (gift_of new shape (where_of e)) copy v
 
 pub less_keeps : (shape : Shape) (g : ℕ) (t : List ℕ) (damaged : List ℕ) (old new : Image)
     → IsLess shape g t damaged old new → KeepsAll shape g t damaged old new
@@ -291,12 +292,12 @@ pub left_as : (shape : Shape) (old new : Image) (damaged : List ℕ) → 1 ≤ s
     → (copy g : ℕ) (t : List ℕ) (i : Index)
     → copy < shape.place.copies → Holds old shape.place copy g t → fit_index shape t ≡ Some i
     → ((e : IndexEntry) → In e i.entries → (copy : ℕ) (w : List ℕ) → copy < shape.place.copies
-    → Gives (gift_of new shape (where_of e)) copy w
-    → Gives (gift_of old shape (where_of e)) copy w ⊎ (value_at old shape (where_of e) ≡ Some w))
+    → CopyGives (gift_of new shape (where_of e)) copy w
+    → CopyGives (gift_of old shape (where_of e)) copy w ⊎ (value_at old shape (where_of e) ≡ Some w))
     → ((e : IndexEntry) → In e i.entries → (copy : ℕ) (v : List ℕ) → copy < shape.place.copies
     → IsUndamaged damaged shape.place copy
-    → is_whole_at old shape copy (where_of e) ≡ true → Gives (gift_of old shape (where_of e)) copy v
-    → (is_whole_at new shape copy (where_of e) ≡ true) × Gives (gift_of new shape (where_of e)) copy v)
+    → is_whole_at old shape copy (where_of e) ≡ true → CopyGives (gift_of old shape (where_of e)) copy v
+    → (is_whole_at new shape copy (where_of e) ≡ true) × CopyGives (gift_of new shape (where_of e)) copy v)
     → IsLeftAs shape damaged (view_of new shape (fit_at new shape g t i)) (view_of old shape (fit_at old shape g t i))
 left_as shape old new damaged positive clean new_clean copy g t i inside held fit counted whole =
     let stands = stands_left shape old new damaged positive clean copy g t i inside held fit counted in
@@ -310,7 +311,7 @@ left_as shape old new damaged positive clean new_clean copy g t i inside held fi
 
 -- the first of the texts that fit has the greatest generation
 pub at_first : (shape : Shape) (old : Image) (x : FitText) (xs : List FitText) → fit_texts shape old ≡ x ∷ xs
-    → IsFit old shape x
+    → IsHeldFit old shape x
 at_first shape old x xs are = In-fit old shape x (subst (λ (ys : List FitText). In x ys) (sym are) (inl refl))
 
 pub first_greatest : (shape : Shape) (old : Image) (x : FitText) (xs : List FitText) → fit_texts shape old ≡ x ∷ xs
@@ -318,7 +319,7 @@ pub first_greatest : (shape : Shape) (old : Image) (x : FitText) (xs : List FitT
     → z.0.generation ≤ x.0.generation
 first_greatest shape old x xs are z h = picked_max (λ (u : FitText). true) (fit_texts shape old) (x, xs)
     (fit_descends old shape)
-    (subst (λ (ys : List FitText). picked (λ (u : FitText). true) ys ≡ Some (x, xs)) (sym are) refl) z h refl
+    (subst (λ (ys : List FitText). first_picked (λ (u : FitText). true) ys ≡ Some (x, xs)) (sym are) refl) z h refl
 
 -- a copy that is spared and did not lack it holds its text
 pub first_held : (shape : Shape) (old : Image) (damaged : List ℕ) (x : FitText) (xs : List FitText)
@@ -340,24 +341,24 @@ first_held shape old damaged x xs are one =
 
 -- the salvage is the view of the first text
 pub first_salvage : (view : FitText → View) (ts : List FitText) (r : FitText × List FitText)
-    → picked (λ (u : FitText). true) ts ≡ Some r
+    → first_picked (λ (u : FitText). true) ts ≡ Some r
     → salvage_of (corrupt_state (map view ts)) ≡ Some (view r.0)
 first_salvage view [] r e = absurd (not_none r (sym e))
 first_salvage view (x ∷ xs) r e = ap (λ (s : FitText × List FitText). Some (view s.0)) (some_is (x, xs) r e)
 
-none_found : (q : FitText → Bool) (ts : List FitText) → picked q ts ≡ None → find q ts ≡ None
+none_found : (q : FitText → Bool) (ts : List FitText) → first_picked q ts ≡ None → find q ts ≡ None
 none_found q [] e = refl
-none_found q (x ∷ xs) e = elim (q x) as (λ b. cond b (Some (x, xs)) (beside x (picked q xs)) ≡ None
+none_found q (x ∷ xs) e = elim (q x) as (λ b. cond b (Some (x, xs)) (beside x (first_picked q xs)) ≡ None
     → cond b (Some x) (find q xs) ≡ None) [
       | true ↦ λ n. absurd (not_none (x, xs) n)
-      | false ↦ λ n. none_found q xs (nothing_beside x (picked q xs) n)
+      | false ↦ λ n. none_found q xs (nothing_beside x (first_picked q xs) n)
     ] e
 
 pub first_chosen : (shape : Shape) (old : Image) (x : FitText) (xs : List FitText) → fit_texts shape old ≡ x ∷ xs
-    → picked (qualifies old shape) (fit_texts shape old) ≡ None → chosen old shape ≡ Some (false, x)
+    → first_picked (qualifies old shape) (fit_texts shape old) ≡ None → chosen old shape ≡ Some (false, x)
 unfolding chosen
 first_chosen shape old x xs are none =
-    ap (or_first (fit_texts shape old)) (none_found (qualifies old shape) (fit_texts shape old) none) ∙ ap first_of are
+    ap (or_first (fit_texts shape old)) (none_found (qualifies old shape) (fit_texts shape old) none) ∙ ap first_fit are
 
 first_list : (ts : List FitText) (o : Option FitText) (text : FitText) → or_first ts o ≡ Some (false, text)
     → (rest : List FitText) × (ts ≡ text ∷ rest)
@@ -377,8 +378,8 @@ salvage_first shape old text is = first_list (fit_texts shape old) (find (qualif
 pub record IsFewer (shape : Shape) (old new : Image) : Type 0 where
   pub held : HoldsLess shape.place old new
   pub counted : (at : Where) → IsNamed shape.place new at → (copy : ℕ) (w : List ℕ) → copy < shape.place.copies
-      → Gives (gift_of new shape at) copy w
-      → Gives (gift_of old shape at) copy w
+      → CopyGives (gift_of new shape at) copy w
+      → CopyGives (gift_of old shape at) copy w
 
 module _ (shape : Shape) (old new : Image) (damaged : List ℕ) (positive : 1 ≤ shape.m) (clean : IsClean shape old)
     (fewer : IsFewer shape old new) where
@@ -387,7 +388,7 @@ module _ (shape : Shape) (old new : Image) (damaged : List ℕ) (positive : 1 �
       (λ copy h u lt v. record { copy = copy; inside = lt; holds = fewer.held copy lt h u v })
       (λ at is copy w lt gives. (copy, lt, fewer.counted at is copy w lt gives))
 
-  module _ (none : picked (qualifies old shape) (fit_texts shape old) ≡ None) where
+  module _ (none : first_picked (qualifies old shape) (fit_texts shape old) ≡ None) where
     pub was_corrupt : store_at old shape ≡ corrupt_state (map (view_of old shape) (fit_texts shape old))
     unfolding store_at
     was_corrupt = ap (state_of (view_of old shape) (fit_texts shape old)) none
@@ -398,10 +399,10 @@ module _ (shape : Shape) (old new : Image) (damaged : List ℕ) (positive : 1 �
         (record { copy = copy; inside = lt; holds = fewer.held copy lt h u v }) fit
         (λ e k c w ltc gives. inl (fewer.counted (where_of e) (named shape new fewer_clean copy h u j lt v fit e k) c w
         ltc gives)) in
-        (s.0, append-In s.0 (all_views (store_at old shape)) (listed (salvage_of after)) (inl s.1), s.2)
+        (s.0, append-In s.0 (all_views (store_at old shape)) (views_in (salvage_of after)) (inl s.1), s.2)
 
     -- it does not open
-    still_none : (o : Option (FitText × List FitText)) → picked (qualifies new shape) (fit_texts shape new) ≡ o
+    still_none : (o : Option (FitText × List FitText)) → first_picked (qualifies new shape) (fit_texts shape new) ≡ o
         → (w : View) (rest : List View)
         → state_of (view_of new shape) (fit_texts shape new) o ≡ Opens w rest → ⊥
     still_none None e w rest is = no_open (map (view_of new shape) (fit_texts shape new)) w rest is
@@ -423,13 +424,13 @@ module _ (shape : Shape) (old new : Image) (damaged : List ℕ) (positive : 1 �
 
     never_opens : (w : View) (rest : List View) → store_at new shape ≡ Opens w rest → ⊥
     unfolding store_at
-    never_opens w rest is = still_none (picked (qualifies new shape) (fit_texts shape new)) refl w rest is
+    never_opens w rest is = still_none (first_picked (qualifies new shape) (fit_texts shape new)) refl w rest is
 
     -- and the salvage is the one of before, where a copy of it is left
     module _ (x : FitText) (xs : List FitText) (are : fit_texts shape old ≡ x ∷ xs)
         (keeps : KeepsAll shape x.0.generation x.0.text damaged old new)
         (one : HasHolder shape old damaged x) where
-      abbrev at_x : IsFit old shape x
+      abbrev at_x : IsHeldFit old shape x
       at_x = at_first shape old x xs are
 
       keeps_x : KeepsAll shape at_x.generation at_x.text damaged old new
@@ -465,7 +466,8 @@ module _ (shape : Shape) (old new : Image) (damaged : List ℕ) (positive : 1 �
           ltc gives))
           (keeps_x.whole at_x.index (fit-spelled shape at_x.text at_x.index at_x.fit)))
 
-      salvage_here : (o : Option (FitText × List FitText)) → picked (qualifies new shape) (fit_texts shape new) ≡ o
+      salvage_here : (o : Option (FitText × List FitText)) → first_picked (qualifies new shape) (fit_texts shape new)
+          ≡ o
           → salvage_of (state_of (view_of new shape) (fit_texts shape new) o) ≡ Some (view_of new shape y)
       salvage_here None e =
           let r = pick_greatest (λ (u : FitText). true) (fit_texts shape new) y (fit_descends new shape) y_In refl
@@ -478,7 +480,7 @@ module _ (shape : Shape) (old new : Image) (damaged : List ℕ) (positive : 1 �
 
       salvage_now : salvage_of (store_at new shape) ≡ Some (view_of new shape y)
       unfolding store_at
-      salvage_now = salvage_here (picked (qualifies new shape) (fit_texts shape new)) refl
+      salvage_now = salvage_here (first_picked (qualifies new shape) (fit_texts shape new)) refl
 
     salvage_stays : (after : State) (ts : List FitText) → fit_texts shape old ≡ ts
         → ((text : FitText) → chosen old shape ≡ Some (false, text)

@@ -28,16 +28,18 @@ use Rattle.index_text.specs.declared.entries.IndexEntry.{IndexEntry}
 use Rattle.element_state.specs.declared.shapes.Shape.{Shape}
 use Rattle.element_state.specs.Fit.{FitText, fit_index}
 use Rattle.element_state.specs.Views.{holds_text, counts, holds_all, supporters, qualifies, content_of, entry_view}
-use Rattle.element_state.specs.Views.{entries_of, lacks_one, store_lacking, view_of}
+use Rattle.element_state.specs.Views.{entries_seen, lacks_one, store_lacking, view_of}
 use Rattle.element_state.specs.Clean.{where_of, IsNamed, IsClean}
 use Rattle.element_state.specs.Kept.{IsSpared, HasEnough, CostsNoCopy}
 use Rattle.element_laws.specs.lemmas.Lists.{In, In-Contains, map-In, not_none, some_is, not_false, both_true, true_both}
 use Rattle.element_laws.specs.lemmas.Lists.{or_false, not_is_false, false_not_true, there_is, none_any, list_all-In}
 use Rattle.element_laws.specs.lemmas.Lists.{In-list_all, zip_map, zip_right}
-use Rattle.element_laws.specs.lemmas.Copies.{Gift, Gives, gifts, AreAlike, Backed, backed_now, backed_less, voted_given}
+use Rattle.element_laws.specs.lemmas.Copies.{Gift, CopyGives, gifts, AreAlike, Backed, backed_now, backed_less}
+use Rattle.element_laws.specs.lemmas.Copies.{voted_given}
 use Rattle.element_laws.specs.lemmas.Copies.{good_now, filtered_that, Contains_named, good_same, bad_good}
 use Rattle.element_laws.specs.lemmas.Fits.{fit_at, fit-spelled}
-use Rattle.element_laws.specs.lemmas.Standing.{gift_of, StandsFor, headings_of, generation_of, HasValue, HasEach}
+use Rattle.element_laws.specs.lemmas.Standing.{gift_of, DenotesView, headings_of, generation_of, HasBackedValue}
+use Rattle.element_laws.specs.lemmas.Standing.{HasEach}
 
 -- the copy has all bytes of a content within its area
 abbrev pub is_whole_at : Image → Shape → ℕ → Where → Bool
@@ -94,7 +96,7 @@ module _ (shape : Shape) (image : Image) (at : Where) where
   -- a copy that is not listed has the value, and whole
   pub spared_has : (v : List ℕ) (copy : ℕ) → value_at image shape at ≡ Some v → copy < shape.place.copies
       → ¬ (Contains (numbers (value_at image shape at)) (copy + 1))
-      → Gives (gift_of image shape at) copy v × (is_whole_at image shape copy at ≡ true)
+      → CopyGives (gift_of image shape at) copy v × (is_whole_at image shape copy at ≡ true)
   spared_has v copy e lt absent =
       has_value v (gift_of image shape at copy) (is_whole_at image shape copy at)
       (subst (λ o. lacks_at o copy ≡ false) e (not_listed (value_at image shape at) copy lt absent))
@@ -131,7 +133,7 @@ module _ (shape : Shape) (image : Image) (clean : IsClean shape image) (copy : �
   its_text = fit_at image shape g t i
 
   pub counts_all : (c : ℕ) → holds_all image shape.place its_text c ≡ true → (e : IndexEntry) → In e i.entries
-      → (v : List ℕ) × Gives (gift_of image shape (where_of e)) c v
+      → (v : List ℕ) × CopyGives (gift_of image shape (where_of e)) c v
   counts_all c all e h =
       let r = both_true (holds_text image shape.place its_text c)
       (list_all (λ e. counts image shape.place e c) i.entries) all in
@@ -149,7 +151,7 @@ module _ (shape : Shape) (image : Image) (clean : IsClean shape image) (copy : �
       let v = counts_all one.0 one.2 e h in (
         v.0,
         good_now shape.m n positive f v.0 (λ c w lt gives. alike e h c one.0 w v.0 lt one.1 gives v.1)
-            (at_least_map (λ c. holds_all image shape.place its_text c ≡ true) (λ c. Gives f c v.0) n shape.m
+            (at_least_map (λ c. holds_all image shape.place its_text c ≡ true) (λ c. CopyGives f c v.0) n shape.m
             (λ c lt all. let w = counts_all c all e h in
             w.1 ∙ ap (λ x. Some x) (alike e h c one.0 w.0 v.0 lt one.1 w.1 v.1)) some),
       )
@@ -157,7 +159,7 @@ module _ (shape : Shape) (image : Image) (clean : IsClean shape image) (copy : �
 -- a copy that gives the only value, and whole, is not listed
 pub never_listed : (shape : Shape) (image : Image) (at : Where) (v : List ℕ) (c : ℕ) → 1 ≤ shape.m
     → Backed shape.m shape.place.copies (gift_of image shape at) (Good v)
-    → is_whole_at image shape c at ≡ true → Gives (gift_of image shape at) c v
+    → is_whole_at image shape c at ≡ true → CopyGives (gift_of image shape at) c v
     → ¬ (Contains (lacking (value_at image shape at) shape.place at.blocks at.len at.hash
     image) (c + 1))
 never_listed shape image at v c positive only whole gives listed =
@@ -203,7 +205,7 @@ module _ (shape : Shape) (old : Image) (g : ℕ) (t : List ℕ) (i : Index) wher
   lacks_text c = not (holds_text old shape.place text_was c)
 
   abbrev pub numbers_lacking : Scope → List ℕ
-  numbers_lacking s = store_lacking s lacks_text (entries_of old shape text_was) shape.place.copies
+  numbers_lacking s = store_lacking s lacks_text (entries_seen old shape text_was) shape.place.copies
 
   pub spared_holds : (s : Scope) (c : ℕ) → c < shape.place.copies → ¬ (Contains (numbers_lacking s) (c + 1))
       → Holds old shape.place c g t
@@ -211,8 +213,8 @@ module _ (shape : Shape) (old : Image) (g : ℕ) (t : List ℕ) (i : Index) wher
       (not_is_false (holds_text old shape.place text_was c)
       (false_not_true (lacks_text c) (λ yes. absent (passing_is lacks_text shape.place.copies c lt yes))))
   spared_holds scope.Storage c lt absent =
-      let test : ℕ → Bool = λ c. lacks_text c || lacks_one (entries_of old shape text_was) (c + 1) in
-      let r = or_false (lacks_text c) (lacks_one (entries_of old shape text_was) (c + 1))
+      let test : ℕ → Bool = λ c. lacks_text c || lacks_one (entries_seen old shape text_was) (c + 1) in
+      let r = or_false (lacks_text c) (lacks_one (entries_seen old shape text_was) (c + 1))
       (false_not_true (test c) (λ yes. absent (passing_is test shape.place.copies c lt yes))) in
       holds_is old shape.place c (g, t) (not_is_false (holds_text old shape.place text_was c) r.0)
 
@@ -220,12 +222,12 @@ module _ (shape : Shape) (old : Image) (g : ℕ) (t : List ℕ) (i : Index) wher
       → (e : IndexEntry) → In e i.entries
       → ¬ (Contains (entry_view old shape.place shape.m e).lacking (c + 1))
   spared_element c lt absent e h inside_it =
-      let test : ℕ → Bool = λ c. lacks_text c || lacks_one (entries_of old shape text_was) (c + 1) in
-      let r = or_false (lacks_text c) (lacks_one (entries_of old shape text_was) (c + 1))
+      let test : ℕ → Bool = λ c. lacks_text c || lacks_one (entries_seen old shape text_was) (c + 1) in
+      let r = or_false (lacks_text c) (lacks_one (entries_seen old shape text_was) (c + 1))
       (false_not_true (test c) (λ yes. absent (passing_is test shape.place.copies c lt yes))) in
       let f : Entry = entry_view old shape.place shape.m e in
       both_false (named_in f.lacking (c + 1)) (Contains_named f.lacking (c + 1) inside_it)
-      (none_any (λ (f : Entry). named_in f.lacking (c + 1)) (entries_of old shape text_was) r.1 f
+      (none_any (λ (f : Entry). named_in f.lacking (c + 1)) (entries_seen old shape text_was) r.1 f
       (map-In (entry_view old shape.place shape.m) e i.entries h))
 
   pub lacking_view : (view_of old shape text_was).lacking ≡ numbers_lacking shape.scope
@@ -249,20 +251,20 @@ module _ (shape : Shape) (old : Image) (g : ℕ) (t : List ℕ) (i : Index) wher
 -- whole
 pub record ContentsLeft (shape : Shape) (index : Index) (damaged : List ℕ) (old new : Image) : Type 0 where
   pub counted : (e : IndexEntry) → In e index.entries → (copy : ℕ) (w : List ℕ) → copy < shape.place.copies
-      → Gives (gift_of new shape (where_of e)) copy w
-      → Gives (gift_of old shape (where_of e)) copy w ⊎ (value_at old shape (where_of e) ≡ Some w)
+      → CopyGives (gift_of new shape (where_of e)) copy w
+      → CopyGives (gift_of old shape (where_of e)) copy w ⊎ (value_at old shape (where_of e) ≡ Some w)
   pub whole : (e : IndexEntry) → In e index.entries → (copy : ℕ) (v : List ℕ) → copy < shape.place.copies
       → IsUndamaged damaged shape.place copy
-      → is_whole_at old shape copy (where_of e) ≡ true → Gives (gift_of old shape (where_of e)) copy v
-      → (is_whole_at new shape copy (where_of e) ≡ true) × Gives (gift_of new shape (where_of e)) copy v
+      → is_whole_at old shape copy (where_of e) ≡ true → CopyGives (gift_of old shape (where_of e)) copy v
+      → (is_whole_at new shape copy (where_of e) ≡ true) × CopyGives (gift_of new shape (where_of e)) copy v
 
 module _ (shape : Shape) (old new : Image) (damaged : List ℕ) (positive : 1 ≤ shape.m) (clean : IsClean shape old)
     (copy : ℕ) (g : ℕ) (t : List ℕ) (i : Index)
     (inside : copy < shape.place.copies) (held : Holds old shape.place copy g t)
     (fit : fit_index shape t ≡ Some i)
     (counted : (e : IndexEntry) → In e i.entries → (copy : ℕ) (w : List ℕ) → copy < shape.place.copies
-    → Gives (gift_of new shape (where_of e)) copy w
-    → Gives (gift_of old shape (where_of e)) copy w ⊎ (value_at old shape (where_of e) ≡ Some w)) where
+    → CopyGives (gift_of new shape (where_of e)) copy w
+    → CopyGives (gift_of old shape (where_of e)) copy w ⊎ (value_at old shape (where_of e) ≡ Some w)) where
   abbrev n : ℕ
   n = shape.place.copies
 
@@ -291,7 +293,7 @@ module _ (shape : Shape) (old new : Image) (damaged : List ℕ) (positive : 1 �
       (backed_now shape.m n positive f (its_alike e h))
 
   -- the text denotes what it denoted
-  pub stands_left : StandsFor shape new g i (view_of old shape was)
+  pub stands_left : DenotesView shape new g i (view_of old shape was)
   unfolding view_of
   stands_left = record {
     generation_is = sym (generation_of shape old was);
@@ -302,14 +304,14 @@ module _ (shape : Shape) (old new : Image) (damaged : List ℕ) (positive : 1 �
 
   module _ (whole : (e : IndexEntry) → In e i.entries → (copy : ℕ) (v : List ℕ) → copy < shape.place.copies
       → IsUndamaged damaged shape.place copy
-      → is_whole_at old shape copy (where_of e) ≡ true → Gives (gift_of old shape (where_of e)) copy v
-      → (is_whole_at new shape copy (where_of e) ≡ true) × Gives (gift_of new shape (where_of e)) copy v) where
+      → is_whole_at old shape copy (where_of e) ≡ true → CopyGives (gift_of old shape (where_of e)) copy v
+      → (is_whole_at new shape copy (where_of e) ≡ true) × CopyGives (gift_of new shape (where_of e)) copy v) where
     -- what a spared copy gives of a good element
     spared_gives : (e : IndexEntry) → In e i.entries → (v : List ℕ) (c : ℕ) → c < n
         → (entry_view old shape.place shape.m e).content ≡ Good v
         → IsSpared shape damaged (entry_view old shape.place shape.m e).lacking c
-        → (is_whole_at new shape c (where_of e) ≡ true) × Gives (gift_of new shape (where_of e)) c v
-        × Gives (gift_of old shape (where_of e)) c v
+        → (is_whole_at new shape c (where_of e) ≡ true) × CopyGives (gift_of new shape (where_of e)) c v
+        × CopyGives (gift_of old shape (where_of e)) c v
     unfolding entry_view
     spared_gives e h v c lt good spared =
         let at = where_of e in
@@ -320,7 +322,7 @@ module _ (shape : Shape) (old new : Image) (damaged : List ℕ) (positive : 1 �
 
     not_lacking : (e : IndexEntry) → In e i.entries → (v : List ℕ) (c : ℕ) → c < n
         → is_whole_at new shape c (where_of e) ≡ true
-        → Gives (gift_of new shape (where_of e)) c v → Gives (gift_of old shape (where_of e)) c v
+        → CopyGives (gift_of new shape (where_of e)) c v → CopyGives (gift_of old shape (where_of e)) c v
         → (o : Option (List ℕ)) → value_at new shape (where_of e) ≡ o
         → lacks_at shape new (where_of e) o c ≡ false
     not_lacking e h v c lt whole_now gives gave None eo =
@@ -353,11 +355,11 @@ module _ (shape : Shape) (old new : Image) (damaged : List ℕ) (positive : 1 �
         → IsSpared shape damaged f.lacking copy → ¬ (Contains e.lacking (copy + 1)))
         (entry_view new shape.place shape.m) (entry_view old shape.place shape.m) i.entries entry_costs
 
-    -- with enough copies left of an element, so many give its value
+    -- with enough copies left of an element, that many give its value
     each_entry : (e : IndexEntry) → In e i.entries → HasEach shape new damaged e (entry_view old shape.place shape.m e)
     each_entry e h v good some =
         at_least_map (IsSpared shape damaged (entry_view old shape.place shape.m e).lacking)
-        (λ c. Gives (gift_of new shape (where_of e)) c v) n shape.m
+        (λ c. CopyGives (gift_of new shape (where_of e)) c v) n shape.m
         (λ c lt spared. (spared_gives e h v c lt good spared).1) some
 
     pub each_left : AllZip (HasEach shape new damaged) i.entries (view_of old shape was).entries
@@ -373,20 +375,21 @@ module _ (shape : Shape) (old new : Image) (damaged : List ℕ) (positive : 1 �
       enough_of : HasEnough shape damaged (store_numbers shape.scope)
       enough_of = enough_lacking shape old g t i damaged enough
 
-      value_entry : (e : IndexEntry) → In e i.entries → HasValue shape new damaged e
+      value_entry : (e : IndexEntry) → In e i.entries → HasBackedValue shape new damaged e
           (entry_view old shape.place shape.m e)
       value_entry e h v good (inr some) = each_entry e h v good some
       value_entry e h v good (inl storage) =
           let some = subst (λ (s : Scope). HasEnough shape damaged (store_numbers s)) storage enough_of in
           at_least_map (IsSpared shape damaged (store_numbers scope.Storage))
-          (λ c. Gives (gift_of new shape (where_of e)) c v) n shape.m
+          (λ c. CopyGives (gift_of new shape (where_of e)) c v) n shape.m
           (λ c lt spared. (spared_gives e h v c lt good (spared.0, spared_element shape old g t i c lt spared.1 e h)).1)
           some
 
       -- enough copies give the value of each good element
-      pub enough_left : AllZip (HasValue shape new damaged) i.entries (view_of old shape was).entries
+      pub enough_left : AllZip (HasBackedValue shape new damaged) i.entries (view_of old shape was).entries
       unfolding view_of
-      enough_left = zip_right (HasValue shape new damaged) (entry_view old shape.place shape.m) i.entries value_entry
+      enough_left = zip_right (HasBackedValue shape new damaged)
+          (entry_view old shape.place shape.m) i.entries value_entry
 
       module _ (text : (c : ℕ) → c < n → IsUndamaged damaged shape.place c → Holds old shape.place c g t
           → Holds new shape.place c g t) where
@@ -427,8 +430,8 @@ module _ (shape : Shape) (old new : Image) (damaged : List ℕ) (positive : 1 �
 module _ (shape : Shape) (old new : Image) (g : ℕ) (t : List ℕ) (i : Index)
     (held : (c : ℕ) → c < shape.place.copies → Holds new shape.place c g t → Holds old shape.place c g t)
     (counted : (e : IndexEntry) → In e i.entries → (copy : ℕ) (w : List ℕ) → copy < shape.place.copies
-    → Gives (gift_of new shape (where_of e)) copy w
-    → Gives (gift_of old shape (where_of e)) copy w) where
+    → CopyGives (gift_of new shape (where_of e)) copy w
+    → CopyGives (gift_of old shape (where_of e)) copy w) where
   text_back : (c : ℕ) → c < shape.place.copies → holds_text new shape.place (fit_at new shape g t i) c ≡ true
       → holds_text old shape.place (fit_at old shape g t i) c ≡ true
   text_back c lt e = is_holds old shape.place c (g, t) (held c lt (holds_is new shape.place c (g, t) e))

@@ -21,9 +21,9 @@ use Rattle.element_state.specs.Clean.{where_of}
 use Rattle.element_state.specs.Kept.{heading, IsSpared, CostsNoCopy}
 use Rattle.element_laws.specs.Phases.{IsHeaded}
 use Rattle.element_laws.specs.lemmas.Lists.{true_both, In-list_all, zip_left, zip_with, zip_find}
-use Rattle.element_laws.specs.lemmas.Copies.{Gives, Backed}
+use Rattle.element_laws.specs.lemmas.Copies.{CopyGives, Backed}
 use Rattle.element_laws.specs.lemmas.Fits.{fit_at}
-use Rattle.element_laws.specs.lemmas.Standing.{gift_of, StandsFor, HasValue, index_heading}
+use Rattle.element_laws.specs.lemmas.Standing.{gift_of, DenotesView, HasBackedValue, index_heading}
 use Rattle.element_laws.specs.lemmas.Left.{is_whole_at, never_listed, that_many}
 
 -- what stands under an entry: the content is backed, and a good one is given whole by each copy outside the damage
@@ -32,7 +32,7 @@ pub record EntryStands (shape : Shape) (image : Image) (damaged : List ℕ) (e :
   pub backed : Backed shape.m shape.place.copies (gift_of image shape (where_of e)) f.content
   pub gives : (v : List ℕ) (c : ℕ) → f.content ≡ Good v → c < shape.place.copies
       → IsUndamaged damaged shape.place c
-      → (is_whole_at image shape c (where_of e) ≡ true) × Gives (gift_of image shape (where_of e)) c v
+      → (is_whole_at image shape c (where_of e) ≡ true) × CopyGives (gift_of image shape (where_of e)) c v
   pub good : shape.scope ≡ scope.Storage → (v : List ℕ) × (f.content ≡ Good v)
 
 headings_by : (shape : Shape) (image : Image) (damaged : List ℕ) (es : List IndexEntry) (fs : List Entry)
@@ -47,7 +47,7 @@ headings_by shape image damaged (e ∷ es) (f ∷ fs) h = let one = h.0.headed i
 module _ (shape : Shape) (image : Image) (damaged : List ℕ) (g : ℕ) (t : List ℕ) (i : Index) (there : View)
     (stand : AllZip (EntryStands shape image damaged) i.entries there.entries) (generation_is : there.generation ≡ g)
   where
-    pub new_stands : StandsFor shape image g i there
+    pub new_stands : DenotesView shape image g i there
     new_stands = record {
       generation_is = sym generation_is;
       headings = headings_by shape image damaged i.entries there.entries stand;
@@ -57,10 +57,11 @@ module _ (shape : Shape) (image : Image) (damaged : List ℕ) (g : ℕ) (t : Lis
     }
 
     pub new_enough : AtLeast (λ c. IsUndamaged damaged shape.place c) shape.place.copies shape.m
-        → AllZip (HasValue shape image damaged) i.entries there.entries
-    new_enough some = zip_with (EntryStands shape image damaged) (HasValue shape image damaged) i.entries there.entries
+        → AllZip (HasBackedValue shape image damaged) i.entries there.entries
+    new_enough some = zip_with (EntryStands shape image damaged)
+        (HasBackedValue shape image damaged) i.entries there.entries
         (λ e f h k s v good enough. at_least_map (λ c. IsUndamaged damaged shape.place c)
-        (λ c. Gives (gift_of image shape (where_of e)) c v) shape.place.copies shape.m
+        (λ c. CopyGives (gift_of image shape (where_of e)) c v) shape.place.copies shape.m
         (λ c lt spared. (s.gives v c good lt spared).1) some) stand
 
     costs_entry : 1 ≤ shape.m → (e : IndexEntry) (f : Entry) → EntryStands shape image damaged e f
@@ -85,7 +86,7 @@ module _ (shape : Shape) (image : Image) (damaged : List ℕ) (g : ℕ) (t : Lis
         → ¬ (Contains (entry_view image shape.place shape.m e).lacking (copy + 1)))
         i.entries there.entries (λ e f h k s. costs_entry positive e f s) stand)
 
-    -- where each copy outside the damage holds the text, and so many are, it qualifies
+    -- where each copy outside the damage holds the text, and that many are, it qualifies
     module _ (held : (c : ℕ) → c < shape.place.copies → IsUndamaged damaged shape.place c
         → Holds image shape.place c g t)
         (some : AtLeast (λ c. IsUndamaged damaged shape.place c) shape.place.copies shape.m) where

@@ -22,14 +22,14 @@ use Rattle.element_state.specs.declared.shapes.Shape.{Shape}
 use Rattle.element_state.specs.declared.shapes.View.{View}
 use Rattle.element_state.specs.Fit.{FitText, fit_texts}
 use Rattle.element_state.specs.Views.{qualifies, view_of}
-use Rattle.element_state.specs.States.{State, Opens, Corrupt, beside, picked, state_of, store_at, corrupt_state}
-use Rattle.element_state.specs.Clean.{where_of, IsNamed, IsPiece, in_slot, in_blocks, IsClean, IsSound}
+use Rattle.element_state.specs.States.{State, Opens, Corrupt, beside, first_picked, state_of, store_at, corrupt_state}
+use Rattle.element_state.specs.Clean.{where_of, IsNamed, IsPiece, in_slot, in_blocks, IsClean}
 use Rattle.element_state.specs.Chosen.{chosen, or_first}
 use Rattle.element_state.specs.Kept.{Kept, IsKeptOn}
 use Rattle.element_laws.specs.Phases.{IsOfPlace, DamageLaw, UntouchedLaw, OpensAt, IsCorruptAt, CorruptLaw, IsSalvageAt}
 use Rattle.element_laws.specs.Phases.{IsAdopted, AdoptLaw, KeepLaw, TakesBlocks, ContentsLaw, ContentsDoneLaw}
 use Rattle.element_laws.specs.lemmas.Lists.{In, all_in, Contains-In, In-map, not_none, not_false, some_is}
-use Rattle.element_laws.specs.lemmas.Copies.{Gives}
+use Rattle.element_laws.specs.lemmas.Copies.{CopyGives}
 use Rattle.element_laws.specs.lemmas.Fits.{fit-spelled}
 use Rattle.element_laws.specs.lemmas.Standing.{gift_of, generation_of}
 use Rattle.element_laws.specs.lemmas.Left.{is_whole_at}
@@ -47,17 +47,17 @@ pub no_open : (vs : List View) (w : View) (rest : List View) → corrupt_state v
 no_open [] w rest e = cc
 no_open (v ∷ vs) w rest e = cc
 
-none_picked : {A : Type 0} (q : A → Bool) (xs : List A) → find q xs ≡ None → picked q xs ≡ None
+none_picked : {A : Type 0} (q : A → Bool) (xs : List A) → find q xs ≡ None → first_picked q xs ≡ None
 none_picked q [] e = refl
 none_picked q (y ∷ ys) e = elim (q y) as (λ b. cond b (Some y) (find q ys) ≡ None
-    → cond b (Some (y, ys)) (beside y (picked q ys)) ≡ None) [
+    → cond b (Some (y, ys)) (beside y (first_picked q ys)) ≡ None) [
       | true ↦ λ e. absurd (not_none y e)
       | false ↦ λ e. ap (beside y) (none_picked q ys e)
     ] e
 
 module _ (shape : Shape) (start : Image) where
   abbrev pub pick : Option (FitText × List FitText)
-  pick = picked (qualifies start shape) (fit_texts shape start)
+  pick = first_picked (qualifies start shape) (fit_texts shape start)
 
   picks : (o : Option (FitText × List FitText)) → pick ≡ o → (v : View) (others : List View)
       → state_of (view_of start shape) (fit_texts shape start) o ≡ Opens v others
@@ -82,7 +82,7 @@ module _ (shape : Shape) (start : Image) where
 -- ---- where a storage opens, nothing is asked of a salvage
 
 not_picked : (ts : List FitText) (q : FitText → Bool) (o : Option FitText) (r : FitText × List FitText) (text : FitText)
-    → find q ts ≡ o → picked q ts ≡ Some r
+    → find q ts ≡ o → first_picked q ts ≡ Some r
     → or_first ts o ≡ Some (false, text) → ⊥
 not_picked ts q None r text e found is = absurd (not_none r (sym found ∙ none_picked q ts e))
 not_picked ts q (Some x) r text e found is = not_false
@@ -159,8 +159,9 @@ module _ (shape : Shape) (start mid new : Image) (damaged : List ℕ) (after : S
         → Holds start shape.place copy h u
     held_same copy h u lt v = subst (λ (bytes : List ℕ). VerifiesAs bytes h u) (slot_same copy h lt) v
 
-    given_same : (at : Where) (copy : ℕ) (w : List ℕ) → copy < shape.place.copies → Gives (gift_of mid shape at) copy w
-        → Gives (gift_of start shape at) copy w
+    given_same : (at : Where) (copy : ℕ) (w : List ℕ) → copy < shape.place.copies
+        → CopyGives (gift_of mid shape at) copy w
+        → CopyGives (gift_of start shape at) copy w
     given_same at copy w lt gives = subst (λ (file : List ℕ). counting file at.blocks at.len at.hash ≡ Some w)
         (area_same copy lt) gives
 
@@ -265,8 +266,8 @@ one_salvage shape start text other a b = ap (λ (p : Bool × FitText). p.1)
 -- ---- slots are written, and no area
 
 module _ (shape : Shape) (c : Case) where
-  pub sound_slots : IsSound shape.place c → IsSoundFor (IsSlotPiece shape.place) c
-  sound_slots sound x is = sound.pieces (in_slot x) is
+  pub sound_slots : IsSoundFor (IsPiece shape.place) c → IsSoundFor (IsSlotPiece shape.place) c
+  sound_slots sound x is = sound (in_slot x) is
 
   pub decays_slots : (damaged : List ℕ) (image : Image) → DecaysFor (IsPiece shape.place) damaged c.left image
       → DecaysFor (IsSlotPiece shape.place) damaged c.left image
@@ -277,15 +278,15 @@ module _ (shape : Shape) (start left new : Image) (damaged : List ℕ)
     (same : (copy : ℕ) → left (area shape.place copy) ≡ start (area shape.place copy))
     (d : DecaysFor (IsPiece shape.place) damaged left new) where
   pub given_then : (at : Where) → IsNamed shape.place new at → (copy : ℕ) (w : List ℕ) → copy < shape.place.copies
-      → Gives (gift_of new shape at) copy w → Gives (gift_of start shape at) copy w
+      → CopyGives (gift_of new shape at) copy w → CopyGives (gift_of start shape at) copy w
   given_then at is copy w lt gives =
       subst (λ (file : List ℕ). counting file at.blocks at.len at.hash ≡ Some w) (same copy)
       (given_back shape damaged left new d at is copy w lt gives)
 
   pub whole_then : (at : Where) (copy : ℕ) (v : List ℕ) → IsUndamaged damaged shape.place copy
       → is_whole_at start shape copy at ≡ true
-      → Gives (gift_of start shape at) copy v → (is_whole_at new shape copy at ≡ true)
-      × Gives (gift_of new shape at) copy v
+      → CopyGives (gift_of start shape at) copy v → (is_whole_at new shape copy at ≡ true)
+      × CopyGives (gift_of new shape at) copy v
   whole_then at copy v spared was gave = whole_on shape damaged left new d copy at v spared
       (subst (λ (file : List ℕ). (within file at.blocks at.len ≡ true)
       × (counting file at.blocks at.len at.hash ≡ Some v)) (sym (same copy)) (was, gave))
@@ -401,7 +402,7 @@ pub contents : AsideLaw → ContentsLaw
 contents aside shape start now g t i taken after old c positive adopted is_index takes settled keeps sound damaged image
     d =
     let less = contents_less aside shape start now g t i taken damaged old c adopted is_index takes settled keeps
-    sound.pieces in
+    sound in
     less_kept shape start image damaged g t i after positive adopted.clean adopted.opens
     (less_decays shape damaged c.left image d g t start less.0)
 

@@ -14,7 +14,7 @@ use Rattle.element_state.specs.Fit.{FitText, fit_index, fit_texts}
 use Rattle.guarded_cell.specs.Register.{Holds}
 use Rattle.element_state.specs.declared.shapes.Shape.{Shape}
 use Rattle.element_state.specs.declared.shapes.View.{View}
-use Rattle.element_state.specs.States.{Opens, Corrupt, beside, picked, corrupt_state, state_of, store_at}
+use Rattle.element_state.specs.States.{Opens, Corrupt, beside, first_picked, corrupt_state, state_of, store_at}
 use Rattle.block_files.specs.Aside.{Where}
 use Rattle.block_files.specs.Contents.{first_content, lacking}
 use Rattle.element_state.specs.Views.{entry_view, content_of, qualifies, view_of}
@@ -198,10 +198,10 @@ whole shape image e v good none c lt =
 -- ---- what a survey finds
 
 found_pick : {A : Type 0} (q : A → Bool) (xs : List A) (x : A) → find q xs ≡ Some x
-    → (r : A × List A) × (picked q xs ≡ Some r) × (r.0 ≡ x)
+    → (r : A × List A) × (first_picked q xs ≡ Some r) × (r.0 ≡ x)
 found_pick q [] x e = absurd (not_none x (sym e))
 found_pick {A} q (y ∷ ys) x e = elim (q y) as (λ b. cond b (Some y) (find q ys) ≡ Some x
-    → (r : A × List A) × (cond b (Some (y, ys)) (beside y (picked q ys)) ≡ Some r) × (r.0 ≡ x)) [
+    → (r : A × List A) × (cond b (Some (y, ys)) (beside y (first_picked q ys)) ≡ Some r) × (r.0 ≡ x)) [
       | true ↦ λ e. ((y, ys), refl, some_is y x e)
       | false ↦ λ e. let r = found_pick q ys x e in ((r.0.0, y ∷ r.0.1), ap (beside y) r.1, r.2)
     ] e

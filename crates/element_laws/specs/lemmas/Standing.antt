@@ -19,13 +19,14 @@ use Rattle.element_state.specs.declared.shapes.Shape.{Shape}
 use Rattle.element_state.specs.declared.shapes.View.{View}
 use Rattle.element_state.specs.Fit.{FitText, fit_index, fit_texts}
 use Rattle.element_state.specs.Views.{entry_view, view_of, content_of, qualifies}
-use Rattle.element_state.specs.States.{State, Opens, Corrupt, picked, state_of, store_at, corrupt_state, salvage_of}
+use Rattle.element_state.specs.States.{State, Opens, Corrupt, first_picked, state_of, store_at, corrupt_state}
+use Rattle.element_state.specs.States.{salvage_of}
 use Rattle.element_state.specs.Clean.{where_of, counting_at, IsClean}
 use Rattle.element_state.specs.Kept.{heading, SameHeadings, IsLeftOf, IsFrom, IsFromOneOf, HasEnough, KeepsGood}
-use Rattle.element_state.specs.Kept.{KeepsEach, CostsNoCopy, SalvageStays, listed, all_views, BecomesAs, Stays}
+use Rattle.element_state.specs.Kept.{KeepsEach, CostsNoCopy, SalvageStays, views_in, all_views, BecomesAs, StaysOpen}
 use Rattle.element_state.specs.Kept.{CopiesStay, Kept}
 use Rattle.element_laws.specs.lemmas.Lists.{In, all_by, some_is, zip_left, zip_with, zip_both}
-use Rattle.element_laws.specs.lemmas.Copies.{Gift, Gives, gifts, Backed, left_of, good_now}
+use Rattle.element_laws.specs.lemmas.Copies.{Gift, CopyGives, gifts, Backed, left_of, good_now}
 use Rattle.element_laws.specs.lemmas.Fits.{fit_at, In-fit, fit-In, fit_descends, pick_greatest, picked_parts, In-views}
 
 -- what the copies give of a content
@@ -36,7 +37,7 @@ abbrev pub index_heading : IndexEntry → List ℕ × Option FileInfo × ℕ × 
 index_heading e = (e.name, e.info, e.len, e.changed)
 
 -- a text that may be found, beside a view that it denotes
-pub record StandsFor (shape : Shape) (image : Image) (generation : ℕ) (index : Index) (there : View) : Type 0 where
+pub record DenotesView (shape : Shape) (image : Image) (generation : ℕ) (index : Index) (there : View) : Type 0 where
   pub generation_is : generation ≡ there.generation
   pub headings : map index_heading index.entries ≡ map heading there.entries
   pub backed : AllZip (λ e f. Backed shape.m shape.place.copies (gift_of image shape (where_of e)) f.content)
@@ -84,15 +85,15 @@ module _ (shape : Shape) (image : Image) where
   generation_of y = refl
 
 -- enough copies give the value of each good element of which enough copies are left
-abbrev pub HasValue : Shape → Image → (damaged : List ℕ) → IndexEntry → Entry → Type 0
-HasValue shape image damaged e f = (v : List ℕ) → f.content ≡ Good v
+abbrev pub HasBackedValue : Shape → Image → (damaged : List ℕ) → IndexEntry → Entry → Type 0
+HasBackedValue shape image damaged e f = (v : List ℕ) → f.content ≡ Good v
     → (shape.scope ≡ scope.Storage) ⊎ HasEnough shape damaged f.lacking
-    → AtLeast (λ c. Gives (gift_of image shape (where_of e)) c v) shape.place.copies shape.m
+    → AtLeast (λ c. CopyGives (gift_of image shape (where_of e)) c v) shape.place.copies shape.m
 
 -- so they do with enough copies left of the element, in either scope
 abbrev pub HasEach : Shape → Image → (damaged : List ℕ) → IndexEntry → Entry → Type 0
 HasEach shape image damaged e f = (v : List ℕ) → f.content ≡ Good v → HasEnough shape damaged f.lacking
-    → AtLeast (λ c. Gives (gift_of image shape (where_of e)) c v) shape.place.copies shape.m
+    → AtLeast (λ c. CopyGives (gift_of image shape (where_of e)) c v) shape.place.copies shape.m
 
 module _ (shape : Shape) (image : Image) (damaged : List ℕ) (positive : 1 ≤ shape.m) (clean : IsClean shape image) where
   abbrev view : FitText → View
@@ -104,7 +105,7 @@ module _ (shape : Shape) (image : Image) (damaged : List ℕ) (positive : 1 ≤ 
   abbrev xs : List FitText
   xs = fit_texts shape image
 
-  pub same_headings : (g : ℕ) (t : List ℕ) (i : Index) (there : View) → StandsFor shape image g i there
+  pub same_headings : (g : ℕ) (t : List ℕ) (i : Index) (there : View) → DenotesView shape image g i there
       → SameHeadings (view (fit_at image shape g t i)) there
   same_headings g t i there s = record {
     generation = generation_of shape image (fit_at image shape g t i) ∙ s.generation_is;
@@ -117,7 +118,7 @@ module _ (shape : Shape) (image : Image) (damaged : List ℕ) (positive : 1 ≤ 
   unfolding entry_view
   left_entry e f b = left_of shape.m shape.place.copies positive (gift_of image shape (where_of e)) f.content b
 
-  from : (g : ℕ) (t : List ℕ) (i : Index) (there : View) → StandsFor shape image g i there
+  from : (g : ℕ) (t : List ℕ) (i : Index) (there : View) → DenotesView shape image g i there
       → IsFrom (view (fit_at image shape g t i)) there
   unfolding view_of
   from g t i there s = record {
@@ -131,7 +132,7 @@ module _ (shape : Shape) (image : Image) (damaged : List ℕ) (positive : 1 ≤ 
 
   good_value : (e : IndexEntry) (f : Entry) (v : List ℕ)
       → Backed shape.m shape.place.copies (gift_of image shape (where_of e)) f.content → f.content ≡ Good v
-      → AtLeast (λ c. Gives (gift_of image shape (where_of e)) c v) shape.place.copies shape.m
+      → AtLeast (λ c. CopyGives (gift_of image shape (where_of e)) c v) shape.place.copies shape.m
       → (entry_view image shape.place shape.m e).content ≡ Good v
   unfolding entry_view
   good_value e f v backed good enough =
@@ -140,8 +141,8 @@ module _ (shape : Shape) (image : Image) (damaged : List ℕ) (positive : 1 ≤ 
       ap (λ o. content_of o (first_content (gifts gift shape.place.copies)))
       (good_now shape.m shape.place.copies positive gift v all enough)
 
-  pub keeps : (g : ℕ) (t : List ℕ) (i : Index) (there : View) → StandsFor shape image g i there
-      → AllZip (HasValue shape image damaged) i.entries there.entries
+  pub keeps : (g : ℕ) (t : List ℕ) (i : Index) (there : View) → DenotesView shape image g i there
+      → AllZip (HasBackedValue shape image damaged) i.entries there.entries
       → KeepsGood shape damaged (view (fit_at image shape g t i)) there
   unfolding view_of
   keeps g t i there s n =
@@ -149,14 +150,14 @@ module _ (shape : Shape) (image : Image) (damaged : List ℕ) (positive : 1 ≤ 
       → (shape.scope ≡ scope.Storage) ⊎ HasEnough shape damaged f.lacking → e.content ≡ Good v)
       (entry_view image shape.place shape.m) i.entries there.entries
       (zip_with (λ e f. Backed shape.m shape.place.copies (gift_of image shape (where_of e)) f.content
-      × HasValue shape image damaged e f)
+      × HasBackedValue shape image damaged e f)
       (λ e f. (v : List ℕ) → f.content ≡ Good v → (shape.scope ≡ scope.Storage) ⊎ HasEnough shape damaged f.lacking
       → (entry_view image shape.place shape.m e).content ≡ Good v) i.entries there.entries
       (λ e f ie jf b v good enough. good_value e f v b.0 good (b.1 v good enough))
       (zip_both (λ e f. Backed shape.m shape.place.copies (gift_of image shape (where_of e)) f.content)
-      (HasValue shape image damaged) i.entries there.entries s.backed n))
+      (HasBackedValue shape image damaged) i.entries there.entries s.backed n))
 
-  pub keeps_each : (g : ℕ) (t : List ℕ) (i : Index) (there : View) → StandsFor shape image g i there
+  pub keeps_each : (g : ℕ) (t : List ℕ) (i : Index) (there : View) → DenotesView shape image g i there
       → AllZip (HasEach shape image damaged) i.entries there.entries
       → KeepsEach shape damaged (view (fit_at image shape g t i)) there
   unfolding view_of
@@ -184,13 +185,13 @@ module _ (shape : Shape) (image : Image) (damaged : List ℕ) (positive : 1 ≤ 
     pub fit : fit_index shape text ≡ Some index
     pub passes : q (fit_at image shape generation text index) ≡ true
     pub most : (z : FitText) → In z xs → q z ≡ true → z.0.generation ≤ generation
-    pub stands : StandsFor shape image generation index there
-    pub enough : AllZip (HasValue shape image damaged) index.entries there.entries
+    pub stands : DenotesView shape image generation index there
+    pub enough : AllZip (HasBackedValue shape image damaged) index.entries there.entries
     pub costs : CostsNoCopy shape damaged (view (fit_at image shape generation text index)) there
     pub which : (there ≡ v) ⊎ ((there.generation ≡ v.generation → ⊥) × (rest : List View) × (after ≡ Opens there rest))
 
   opens : (v : View) (others : List View) (after : State) → Found v after
-      → Stays shape damaged (store_at image shape) (Opens v others) after
+      → StaysOpen shape damaged (store_at image shape) (Opens v others) after
   unfolding store_at
   opens v others after f enough =
       let y : FitText = fit_at image shape f.generation f.text f.index in
@@ -216,19 +217,19 @@ module _ (shape : Shape) (image : Image) (damaged : List ℕ) (positive : 1 ≤ 
   abbrev pub EachStands : State → State → Type 0
   EachStands before after = (copy g : ℕ) (t : List ℕ) (i : Index) → copy < shape.place.copies
       → Holds image shape.place copy g t
-      → fit_index shape t ≡ Some i → (there : View) × In there (all_views before ++ listed (salvage_of after))
-      × StandsFor shape image g i there
+      → fit_index shape t ≡ Some i → (there : View) × In there (all_views before ++ views_in (salvage_of after))
+      × DenotesView shape image g i there
 
   known_by : (before after : State) → EachStands before after
-      → AllByRecursion (λ w. IsFromOneOf w (all_views before ++ listed (salvage_of after)))
+      → AllByRecursion (λ w. IsFromOneOf w (all_views before ++ views_in (salvage_of after)))
       (all_views (store_at image shape))
   unfolding store_at
-  known_by before after each = all_by (λ w. IsFromOneOf w (all_views before ++ listed (salvage_of after)))
-      (all_views (state_of view xs (picked q xs))) (λ w h.
-      let r = In-views view q xs w (picked q xs) refl h in
+  known_by before after each = all_by (λ w. IsFromOneOf w (all_views before ++ views_in (salvage_of after)))
+      (all_views (state_of view xs (first_picked q xs))) (λ w h.
+      let r = In-views view q xs w (first_picked q xs) refl h in
       let u = In-fit image shape r.0 r.1 in
       let s = each u.copy u.generation u.text u.index u.inside u.holds u.fit in
-      from_one w s.0 (all_views before ++ listed (salvage_of after)) s.1
+      from_one w s.0 (all_views before ++ views_in (salvage_of after)) s.1
       (subst (λ x. IsFrom x s.0) (ap view u.is ∙ r.2) (from u.generation u.text u.index s.0 s.2)))
 
   -- where it opens now with the same headings, the stop has cost no copy
@@ -237,7 +238,8 @@ module _ (shape : Shape) (image : Image) (damaged : List ℕ) (positive : 1 ≤ 
       → Holds image shape.place copy g t → fit_index shape t ≡ Some i
       → g ≡ v.generation → CostsNoCopy shape damaged (view (fit_at image shape g t i)) v
 
-  spared_by : (v : View) (others : List View) → SparesCopies v → (o : Option (FitText × List FitText)) → picked q xs ≡ o
+  spared_by : (v : View) (others : List View) → SparesCopies v → (o : Option (FitText × List FitText))
+      → first_picked q xs ≡ o
       → CopiesStay shape damaged (state_of view xs o) (Opens v others)
   spared_by v others spares None e = corrupt_now shape damaged (map view xs) (Opens v others)
   spared_by v others spares (Some r) e = λ same.
@@ -254,7 +256,7 @@ module _ (shape : Shape) (image : Image) (damaged : List ℕ) (positive : 1 ≤ 
   kept_opens v others after each spares found = record {
     known = known_by (Opens v others) after each;
     stays = λ enough. opens v others after (found enough) enough;
-    copies = spared_by v others spares (picked q xs) refl;
+    copies = spared_by v others spares (first_picked q xs) refl;
     salvage = tt;
   }
 

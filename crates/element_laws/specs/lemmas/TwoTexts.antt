@@ -23,16 +23,16 @@ use Rattle.element_state.specs.declared.shapes.Shape.{Shape}
 use Rattle.element_state.specs.declared.shapes.View.{View}
 use Rattle.element_state.specs.Fit.{FitText, fit_index, fit_texts}
 use Rattle.element_state.specs.Views.{holds_all, supporters, qualifies, view_of}
-use Rattle.element_state.specs.States.{Opens, picked, state_of, store_at, corrupt_state, salvage_of}
+use Rattle.element_state.specs.States.{Opens, first_picked, state_of, store_at, corrupt_state, salvage_of}
 use Rattle.element_state.specs.Clean.{where_of, IsNamed, IsClean}
 use Rattle.element_state.specs.Chosen.{chosen}
 use Rattle.element_state.specs.Kept.{IsSpared, HasEnough, IsLeftAs, SalvageStays, HasHolder, KeepsSalvage, BecomesAs}
 use Rattle.element_state.specs.Kept.{all_views, Kept}
 use Rattle.element_laws.specs.Phases.{IsCorruptAt}
 use Rattle.element_laws.specs.lemmas.Lists.{In, Contains-In, In-map, append-In, some_is, zip_with}
-use Rattle.element_laws.specs.lemmas.Copies.{Gives, AreAlike, Backed, voted_given}
-use Rattle.element_laws.specs.lemmas.Fits.{fit_at, IsFit, In-fit, fit-In, fit-spelled, picked_parts, none_passes}
-use Rattle.element_laws.specs.lemmas.Standing.{gift_of, StandsFor, HasValue, HasEach, EachStands, one_fit}
+use Rattle.element_laws.specs.lemmas.Copies.{CopyGives, AreAlike, Backed, voted_given}
+use Rattle.element_laws.specs.lemmas.Fits.{fit_at, IsHeldFit, In-fit, fit-In, fit-spelled, picked_parts, none_passes}
+use Rattle.element_laws.specs.lemmas.Standing.{gift_of, DenotesView, HasBackedValue, HasEach, EachStands, one_fit}
 use Rattle.element_laws.specs.lemmas.Standing.{same_headings}
 use Rattle.element_laws.specs.lemmas.Standing.{keeps, keeps_each, corrupt_kept}
 use Rattle.element_laws.specs.lemmas.Left.{is_whole_at, value_at, named, counts_all, qualifies_back}
@@ -53,8 +53,8 @@ pub record SalvageKept (shape : Shape) (damaged : List ℕ) (start new : Image) 
   pub whole : (i : Index) → index_of text.0.text ≡ Some i → (e : IndexEntry) → In e i.entries → (copy : ℕ) (v : List ℕ)
       → copy < shape.place.copies
       → IsUndamaged damaged shape.place copy → is_whole_at start shape copy (where_of e) ≡ true
-      → Gives (gift_of start shape (where_of e)) copy v
-      → (is_whole_at new shape copy (where_of e) ≡ true) × Gives (gift_of new shape (where_of e)) copy v
+      → CopyGives (gift_of start shape (where_of e)) copy v
+      → (is_whole_at new shape copy (where_of e) ≡ true) × CopyGives (gift_of new shape (where_of e)) copy v
 
 module _ (shape : Shape) (start new : Image) (damaged : List ℕ) (positive : 1 ≤ shape.m) (clean : IsClean shape start)
     (g : ℕ) (next : List ℕ) (index : Index) (view : View) (others : List View)
@@ -65,12 +65,14 @@ module _ (shape : Shape) (start new : Image) (damaged : List ℕ) (positive : 1 
     → (WasHeld shape start h u × (h ≡ g → ⊥)) ⊎ ((h ≡ g) × (u ≡ next)))
     (counted : (at : Where) → (is : IsNamed shape.place new at) → (is.generation ≡ g → ⊥) → IsNamed shape.place start at
     → (copy : ℕ) (w : List ℕ) → copy < shape.place.copies
-    → Gives (gift_of new shape at) copy w → Gives (gift_of start shape at) copy w ⊎ (value_at start shape at ≡ Some w))
+    → CopyGives (gift_of new shape at) copy w → CopyGives (gift_of start shape at) copy w
+    ⊎ (value_at start shape at ≡ Some w))
     (alike_new : (e : IndexEntry) → In e index.entries → IsNamed shape.place new (where_of e)
     → AreAlike (gift_of new shape (where_of e)) shape.place.copies) where
   origin : (at : Where) → (is : IsNamed shape.place new at) → (is.generation ≡ g → ⊥) → IsNamed shape.place start at
       → (copy : ℕ) (w : List ℕ) → copy < shape.place.copies
-      → Gives (gift_of new shape at) copy w → (b : ℕ) × (b < shape.place.copies) × Gives (gift_of start shape at) b w
+      → CopyGives (gift_of new shape at) copy w → (b : ℕ) × (b < shape.place.copies)
+      × CopyGives (gift_of start shape at) b w
   origin at is apart was copy w lt gives = elim (counted at is apart was copy w lt gives) [
     | inl then ↦ (copy, lt, then)
     | inr value ↦ voted_given shape.m shape.place.copies positive (gift_of start shape at) w value
@@ -92,7 +94,7 @@ module _ (shape : Shape) (start new : Image) (damaged : List ℕ) (positive : 1 
 
   alike_at : (at : Where) (a b : ℕ) (s t : List ℕ) → IsNamed shape.place new at → a < shape.place.copies
       → b < shape.place.copies
-      → Gives (gift_of new shape at) a s → Gives (gift_of new shape at) b t → s ≡ t
+      → CopyGives (gift_of new shape at) a s → CopyGives (gift_of new shape at) b t → s ≡ t
   alike_at at a b s t is la lb ga gb = elim (texts is.copy is.generation is.text is.inside is.held) [
     | inl x ↦
         let was = named_then at is x.0 in
@@ -106,8 +108,8 @@ module _ (shape : Shape) (start new : Image) (damaged : List ℕ) (positive : 1 
         (subst (λ (j : Index). In at (map where_of j.entries)) one
         (Contains-In at (map where_of is.index.entries) is.named)) in
         alike_new e k (subst (λ (x : Where). IsNamed shape.place new x) (sym at_is) is) a b s t la lb
-        (subst (λ (x : Where). Gives (gift_of new shape x) a s) (sym at_is) ga)
-        (subst (λ (x : Where). Gives (gift_of new shape x) b t) (sym at_is) gb)
+        (subst (λ (x : Where). CopyGives (gift_of new shape x) a s) (sym at_is) ga)
+        (subst (λ (x : Where). CopyGives (gift_of new shape x) b t) (sym at_is) gb)
   ]
 
   pub two_clean : IsClean shape new
@@ -130,14 +132,14 @@ module _ (shape : Shape) (start new : Image) (damaged : List ℕ) (positive : 1 
   old_counted : (copy h : ℕ) (u : List ℕ) (j : Index) → copy < shape.place.copies → Holds new shape.place copy h u
       → fit_index shape u ≡ Some j → WasHeld shape start h u → (h ≡ g → ⊥)
       → (e : IndexEntry) → In e j.entries → (c : ℕ) (w : List ℕ) → c < shape.place.copies
-      → Gives (gift_of new shape (where_of e)) c w
-      → Gives (gift_of start shape (where_of e)) c w ⊎ (value_at start shape (where_of e) ≡ Some w)
+      → CopyGives (gift_of new shape (where_of e)) c w
+      → CopyGives (gift_of start shape (where_of e)) c w ⊎ (value_at start shape (where_of e) ≡ Some w)
   old_counted copy h u j lt v is x apart e k c w ltc gives =
       counted (where_of e) (named shape new two_clean copy h u j lt v is e k) apart
       (named shape start clean x.copy h u j x.inside x.holds is e k) c w ltc gives
 
   pub stands_new : (copy : ℕ) → copy < shape.place.copies → Holds new shape.place copy g next
-      → StandsFor shape new g index view
+      → DenotesView shape new g index view
   stands_new copy lt v = new_stands shape new damaged g next index view (stand copy lt v) generation_is
 
   pub each_two : EachStands shape new damaged positive two_clean (store_at start shape) (Opens view others)
@@ -151,8 +153,8 @@ module _ (shape : Shape) (start new : Image) (damaged : List ℕ) (positive : 1 
         (subst (λ (x : List ℕ). Holds new shape.place copy h x) same.1 v) in (
           view,
           append-In view (all_views (store_at start shape)) (view ∷ []) (inr (inl refl)),
-          subst (λ (k : ℕ). StandsFor shape new k j view) (sym same.0)
-              (subst (λ (k : Index). StandsFor shape new g k view) one (stands_new copy lt held)),
+          subst (λ (k : ℕ). DenotesView shape new k j view) (sym same.0)
+              (subst (λ (k : Index). DenotesView shape new g k view) one (stands_new copy lt held)),
         )
   ]
 
@@ -163,9 +165,9 @@ module _ (shape : Shape) (start new : Image) (damaged : List ℕ) (positive : 1 
       → Holds new shape.place copy h u → Holds start shape.place copy h u)
       (same_gift : (at : Where) → (is : IsNamed shape.place new at) → (is.generation ≡ g → ⊥)
       → IsNamed shape.place start at → (copy : ℕ) (w : List ℕ) → copy < shape.place.copies
-      → Gives (gift_of new shape at) copy w → Gives (gift_of start shape at) copy w) where
+      → CopyGives (gift_of new shape at) copy w → CopyGives (gift_of start shape at) copy w) where
     abbrev pick_new : Option (FitText × List FitText)
-    pick_new = picked (qualifies new shape) (fit_texts shape new)
+    pick_new = first_picked (qualifies new shape) (fit_texts shape new)
 
     -- copies give the values of a new text that qualifies
     module _ (copy : ℕ) (lt : copy < shape.place.copies) (holds : Holds new shape.place copy g next)
@@ -179,17 +181,18 @@ module _ (shape : Shape) (start new : Image) (damaged : List ℕ) (positive : 1 
           ≡ true) storage passes))
 
       value_of : (e : IndexEntry) (f : Entry) → In e index.entries → EntryStands shape new damaged e f
-          → HasValue shape new damaged e f
+          → HasBackedValue shape new damaged e f
       value_of e f h s v good enough = elim enough [
         | inl storage ↦ at_least_map (λ c. holds_all new shape.place (fit_at new shape g next index) c ≡ true)
-            (λ c. Gives (gift_of new shape (where_of e)) c v) shape.place.copies shape.m
+            (λ c. CopyGives (gift_of new shape (where_of e)) c v) shape.place.copies shape.m
             (λ c ltc all.
             let w = counts_all shape new two_clean copy g next index lt holds fit c all e h in
             let backed = subst (λ (x : Content). Backed shape.m shape.place.copies (gift_of new shape (where_of e)) x)
             good s.backed in
-            subst (λ (x : List ℕ). Gives (gift_of new shape (where_of e)) c x) (backed c w.0 ltc w.1) w.1)
+            subst (λ (x : List ℕ). CopyGives (gift_of new shape (where_of e)) c x) (backed c w.0 ltc w.1) w.1)
             (enough_all storage)
-        | inr spared ↦ at_least_map (IsSpared shape damaged f.lacking) (λ c. Gives (gift_of new shape (where_of e)) c v)
+        | inr spared ↦ at_least_map (IsSpared shape damaged f.lacking)
+            (λ c. CopyGives (gift_of new shape (where_of e)) c v)
             shape.place.copies shape.m
             (λ c ltc is. (s.gives v c good ltc is.0).1) spared
       ]
@@ -198,7 +201,7 @@ module _ (shape : Shape) (start new : Image) (damaged : List ℕ) (positive : 1 
       becomes = (
         same_headings shape new damaged positive two_clean g next index view (stands_new copy lt holds),
         keeps shape new damaged positive two_clean g next index view (stands_new copy lt holds)
-            (zip_with (EntryStands shape new damaged) (HasValue shape new damaged) index.entries view.entries
+            (zip_with (EntryStands shape new damaged) (HasBackedValue shape new damaged) index.entries view.entries
             (λ e f h k s. value_of e f h s) (stand copy lt holds)),
         new_costs shape new damaged g next index view (stand copy lt holds) generation_is positive,
       )
@@ -252,7 +255,7 @@ module _ (shape : Shape) (start new : Image) (damaged : List ℕ) (positive : 1 
       good = keeps_each shape new damaged positive two_clean g next index view (stands_new copy lt holds)
           (zip_with (EntryStands shape new damaged) (HasEach shape new damaged) index.entries view.entries
           (λ e f h k s v good enough. at_least_map (IsSpared shape damaged f.lacking)
-          (λ c. Gives (gift_of new shape (where_of e)) c v) shape.place.copies shape.m
+          (λ c. CopyGives (gift_of new shape (where_of e)) c v) shape.place.copies shape.m
           (λ c ltc is. (s.gives v c good ltc is.0).1) enough) (stand copy lt holds));
       copies = new_costs shape new damaged g next index view (stand copy lt holds) generation_is positive;
     }
@@ -283,10 +286,10 @@ module _ (shape : Shape) (start new : Image) (damaged : List ℕ) (positive : 1 
         (whole : (i : Index) → index_of x.0.text ≡ Some i → (e : IndexEntry) → In e i.entries → (copy : ℕ) (v : List ℕ)
         → copy < shape.place.copies
         → IsUndamaged damaged shape.place copy → is_whole_at start shape copy (where_of e) ≡ true
-        → Gives (gift_of start shape (where_of e)) copy v
-        → (is_whole_at new shape copy (where_of e) ≡ true) × Gives (gift_of new shape (where_of e)) copy v)
+        → CopyGives (gift_of start shape (where_of e)) copy v
+        → (is_whole_at new shape copy (where_of e) ≡ true) × CopyGives (gift_of new shape (where_of e)) copy v)
         (one : HasHolder shape start damaged x) where
-      abbrev at_x : IsFit start shape x
+      abbrev at_x : IsHeldFit start shape x
       at_x = at_first shape start x xs are
 
       generation_x : at_x.generation ≡ x.0.generation
@@ -322,7 +325,7 @@ module _ (shape : Shape) (start new : Image) (damaged : List ℕ) (positive : 1 
 
       -- what the first text is
       module _ (z : FitText) (zs : List FitText) (be : fit_texts shape new ≡ z ∷ zs) where
-        abbrev at_z : IsFit new shape z
+        abbrev at_z : IsHeldFit new shape z
         at_z = at_first shape new z zs be
 
         first_new : (at_z.generation ≡ g) × (at_z.text ≡ next) → IsLeftAs shape damaged (view_of new shape z) view

@@ -22,14 +22,15 @@ abbrev pub NamesAscend : {X : Type 0} → (X → List ℕ) → List X → Type 0
 NamesAscend name_of xs = IsStrictlySortedBy name_cmp (map name_of xs)
 
 -- each of these names comes after this one
-abbrev pub Above : List ℕ → List (List ℕ) → Type 0
-Above name names = AllByRecursion (λ y. name_cmp name y ≡ Less) names
+abbrev pub ComesBeforeAll : List ℕ → List (List ℕ) → Type 0
+ComesBeforeAll name names = AllByRecursion (λ y. name_cmp name y ≡ Less) names
 
-above_all : (a b : List ℕ) (names : List (List ℕ)) → name_cmp a b ≡ Less → Above b names → Above a names
+above_all : (a b : List ℕ) (names : List (List ℕ)) → name_cmp a b ≡ Less → ComesBeforeAll b names
+    → ComesBeforeAll a names
 above_all a b [] less above = tt
 above_all a b (n ∷ ns) less above = (less_less a b n less above.0, above_all a b ns less above.1)
 
-apart_above : (name : List ℕ) (names : List (List ℕ)) → Above name names
+apart_above : (name : List ℕ) (names : List (List ℕ)) → ComesBeforeAll name names
     → AllByRecursion (λ y. bytes_eq name y ≡ false) names
 apart_above name [] above = tt
 apart_above name (n ∷ ns) above = (less_apart name n above.0, apart_above name ns above.1)
@@ -41,7 +42,7 @@ names_apart [] sorted = tt
 names_apart (n ∷ ns) sorted = IsDistinct-cons bytes_eq n ns (apart_above n ns sorted.0) (names_apart ns sorted.1)
 
 module _ {X : Type 0} (name_of : X → List ℕ) where
-  pub first : (x : X) (xs : List X) → NamesAscend name_of (x ∷ xs) → Above (name_of x) (map name_of xs)
+  pub first : (x : X) (xs : List X) → NamesAscend name_of (x ∷ xs) → ComesBeforeAll (name_of x) (map name_of xs)
   unfolding IsStrictlySortedBy
   first x xs sorted = sorted.0
 
@@ -49,7 +50,7 @@ module _ {X : Type 0} (name_of : X → List ℕ) where
   unfolding IsStrictlySortedBy
   rest x xs sorted = sorted.1
 
-  ascends_more : (x : X) (xs : List X) → Above (name_of x) (map name_of xs) → NamesAscend name_of xs
+  ascends_more : (x : X) (xs : List X) → ComesBeforeAll (name_of x) (map name_of xs) → NamesAscend name_of xs
       → NamesAscend name_of (x ∷ xs)
   unfolding IsStrictlySortedBy
   ascends_more x xs above sorted = (above, sorted)
@@ -64,7 +65,7 @@ module _ {X : Type 0} (name_of : X → List ℕ) where
     | inr f ↦ item_named name ys x (rw f at e)
   ]
 
-  pub item_above : (name : List ℕ) (xs : List X) → Above name (map name_of xs) → item_at name_of name xs ≡ None
+  pub item_above : (name : List ℕ) (xs : List X) → ComesBeforeAll name (map name_of xs) → item_at name_of name xs ≡ None
   item_above name [] above = refl
   item_above name (y ∷ ys) above = rw (eq_back (name_of y) name ∙ less_apart name (name_of y) above.0)
       (item_above name ys above.1)

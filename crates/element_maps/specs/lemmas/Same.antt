@@ -14,7 +14,7 @@ use Rattle.per_base.specs.Maps.{Map}
 use Rattle.element_state.specs.declared.shapes.Shape.{Shape}
 use Rattle.element_state.specs.declared.shapes.View.{View}
 use Rattle.element_state.specs.Changes.{committed, same_info, same_content, same_element, is_same}
-use Rattle.element_maps.specs.Sessions.{same_map, synced_view}
+use Rattle.element_maps.specs.Sessions.{same_map, view_once_synced}
 use Rattle.element_maps.specs.lemmas.Names.{eq_itself, same_names}
 
 pub both : (a b : Bool) → (a && b) ≡ true → (a ≡ true) × (b ≡ true)
@@ -155,11 +155,11 @@ same_map_from a b e = subst (λ (x : Map). same_map a x ≡ true) e (same_map_it
 
 -- ---- the view after a sync
 
-pub view_stays : (shape : Shape) (v : View) (synced new : Map) → synced ≡ new → synced_view shape v synced new ≡ v
+pub view_stays : (shape : Shape) (v : View) (synced new : Map) → synced ≡ new → view_once_synced shape v synced new ≡ v
 view_stays shape v synced new is = rw (same_map_from synced new is) refl
 
 pub next_view : (shape : Shape) (v : View) (synced new : Map) → synced ≢ new
-    → synced_view shape v synced new ≡ committed shape v synced new
+    → view_once_synced shape v synced new ≡ committed shape v synced new
 next_view shape v synced new differ = by (same_map synced new) refl
   where
     by : (b : Bool) → same_map synced new ≡ b → cond b v (committed shape v synced new) ≡ committed shape v synced new

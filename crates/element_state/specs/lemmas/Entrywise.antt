@@ -15,7 +15,7 @@ use Rattle.index_text.specs.declared.entries.Index.{Index}
 use Rattle.index_text.specs.declared.entries.IndexEntry.{IndexEntry}
 use Rattle.index_text.specs.Rules.{blocks_of}
 use Rattle.index_text.specs.Sizes.{size_of, area_blocks, fits}
-use Rattle.index_text.specs.Spelling.{kind_code}
+use Rattle.index_text.specs.Spelling.{store_kind_code}
 use Rattle.disk_model.specs.Medium.{Medium, IsLawful, Elapses, OnlyReads}
 use Rattle.disk_model.specs.Laws.{reads_none, reads_on, elapses_none, elapses_on}
 
@@ -88,7 +88,8 @@ all_flat test f (x ∷ xs) = ap (λ b. list_all test (f x) && b) (all_flat test 
 
 -- ---- whether an index fits, test by test
 
-pub fits_by : (kind : StoreKind) (allowed : ℕ) (i : Index) (k s b : Bool) → (kind_code i.kind == kind_code kind) ≡ k
+pub fits_by : (kind : StoreKind) (allowed : ℕ) (i : Index) (k s b : Bool)
+    → (store_kind_code i.kind == store_kind_code kind) ≡ k
     → nat_le (size_of i.entries) allowed ≡ s
     → list_all (λ (e : IndexEntry). list_all (λ n. nat_lt n (area_blocks allowed)) e.blocks) i.entries ≡ b
     → fits kind allowed i ≡ (k && s && b)

@@ -19,7 +19,7 @@ use Rattle.index_text.specs.declared.entries.Index.{Index}
 use Rattle.index_text.specs.declared.entries.IndexEntry.{IndexEntry}
 use Rattle.index_text.specs.Rules.{IsEntry, IsIndex, has_info, names_of, blocks_of}
 use Rattle.index_text.specs.Sizes.{Fits, size_of, area_blocks}
-use Rattle.index_text.specs.Spelling.{kind_code}
+use Rattle.index_text.specs.Spelling.{store_kind_code}
 use Rattle.element_state.specs.declared.shapes.Shape.{Shape}
 use Rattle.element_state.specs.declared.shapes.View.{View}
 use Rattle.element_state.specs.Views.{store_lacking, lacks_number}
@@ -30,18 +30,21 @@ use Rattle.element_state.specs.lemmas.Entrywise.{length_zip}
 
 -- ---- an index that fits
 
-same_kind : (a b : StoreKind) → eqb (kind_code a) (kind_code b) ≡ true → a ≡ b
+same_kind : (a b : StoreKind) → eqb (store_kind_code a) (store_kind_code b) ≡ true → a ≡ b
 same_kind Keys Keys e = refl
 same_kind Keys Files e = absurd cc
 same_kind Files Keys e = absurd cc
 same_kind Files Files e = refl
 
 module _ (kind : StoreKind) (allowed : ℕ) (index : Index) (fit : Fits kind allowed index) where
-  fit_parts : IsTrue (eqb (kind_code index.kind) (kind_code kind)) × IsTrue (nat_le (size_of index.entries) allowed)
+  fit_parts : IsTrue (eqb (store_kind_code index.kind) (store_kind_code kind))
+      × IsTrue (nat_le (size_of index.entries) allowed)
   fit_parts =
-      let front = and_parts (eqb (kind_code index.kind) (kind_code kind) && nat_le (size_of index.entries) allowed)
+      let front = and_parts (eqb (store_kind_code index.kind) (store_kind_code kind)
+      && nat_le (size_of index.entries) allowed)
       (list_all (λ b. nat_lt b (area_blocks allowed)) (blocks_of index.entries)) fit in
-      and_parts (eqb (kind_code index.kind) (kind_code kind)) (nat_le (size_of index.entries) allowed) front.0
+      and_parts (eqb (store_kind_code index.kind) (store_kind_code kind))
+      (nat_le (size_of index.entries) allowed) front.0
 
   pub fit_kind : index.kind ≡ kind
   fit_kind = same_kind index.kind kind fit_parts.0

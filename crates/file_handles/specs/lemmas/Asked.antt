@@ -19,7 +19,7 @@ use Rattle.per_base.specs.Names.{name_cmp}
 use Rattle.file_core.specs.declared.cursor.Cursor.{Cursor}
 use Rattle.file_core.specs.declared.room.Room.{Room}
 use Rattle.file_core.specs.Files.{bytes_of, file_of, too_long, written}
-use Rattle.file_core.specs.Places.{is_bad_mode, overwritten, placed, write_place, writes}
+use Rattle.file_core.specs.Places.{is_bad_mode, opening_place, overwritten, write_place, writes}
 use Rattle.file_core.specs.Refusals.{IsDue, refused_by}
 use Rattle.file_handles.specs.declared.handle.Handle.{Handle}
 use Rattle.file_handles.specs.declared.storage.Storage.{Storage}
@@ -28,7 +28,8 @@ use Rattle.file_handles.specs.Opening.{can_open, file_opened, no_room_to_create,
 use Rattle.file_handles.specs.Opening.{would_fit}
 use Rattle.file_handles.specs.Sessions.{Handles, Session, free_number, handle_at, open_at, others, room_for}
 use Rattle.file_handles.specs.Sessions.{with_changed, with_handle}
-use Rattle.file_handles.specs.Whole.{SameContentLaw, and_then, bytes_at, cat, plain, put, released, truncating}
+use Rattle.file_handles.specs.Whole.{SameContentLaw, and_then, bytes_of_file, cat, plain, put_whole, released}
+use Rattle.file_handles.specs.Whole.{truncating}
 use Rattle.file_handles.specs.lemmas.Entries.{size_insert, size_set}
 use Rattle.file_handles.specs.lemmas.Lookups.{handle_put}
 use Rattle.file_handles.specs.lemmas.Named.{fits_room}
@@ -84,22 +85,23 @@ refused_ok None rest answer is = is
 refused_ok (Some error) rest answer is = absurd (cc)
 
 bytes_opened : (read_only : Bool) (now : ℕ) (found : Option Element)
-    → bytes_of (file_opened read_only plain now found).content ≡ bytes_at found
+    → bytes_of (file_opened read_only plain now found).content ≡ bytes_of_file found
 bytes_opened read_only now None = refl
 bytes_opened true now (Some file) = refl
 bytes_opened false now (Some file) = refl
 
 pub same_content : (storage : Storage) (s : Session) (name : List ℕ) (now : ℕ) (opened : ℕ × Session)
     → open_file storage s name Read plain now ≡ Ok opened
-    → bytes_at (element_at opened.1.files name) ≡ bytes_at (element_at s.files name)
+    → bytes_of_file (element_at opened.1.files name) ≡ bytes_of_file (element_at s.files name)
 same_content storage s name now opened is =
     let file : Element = file_opened storage.read_only plain now (element_at s.files name) in
     let after : ℕ × Session = with_opened s name Read plain file in
     let roomy : Ok after ≡ Ok opened = refused_ok (no_room_to_create storage s.files name) (Ok after) opened
     (refused_ok (can_open storage s name Read plain) _ opened is) in
     let same : after ≡ opened = cc in
-    subst (λ (o : ℕ × Session). bytes_at (element_at o.1.files name) ≡ bytes_at (element_at s.files name)) same
-    (ap bytes_at (put_there s.files name file) ∙ bytes_opened storage.read_only now (element_at s.files name))
+    subst (λ (o : ℕ × Session). bytes_of_file (element_at o.1.files name)
+    ≡ bytes_of_file (element_at s.files name)) same
+    (ap bytes_of_file (put_there s.files name file) ∙ bytes_opened storage.read_only now (element_at s.files name))
 
 -- ---- writing
 
@@ -167,7 +169,7 @@ write_due : (storage : Storage) (s : Session) (name bytes : List ℕ) (now : ℕ
 write_due storage s name bytes now info sorted fits =
     let file : Element = file_of info [] in
     let o : ℕ × Session = with_opened s name Write truncating file in
-    let handle : Handle = record { name = name; cursor = placed Write truncating 0 } in
+    let handle : Handle = record { name = name; cursor = opening_place Write truncating 0 } in
     let is_open : open_at o.1 o.0 ≡ Some (handle, file) =
     rw (handle_there s.handles (free_number s.handles) handle) (rw (put_there s.files name file) refl) in
     let room : Room = room_for o.1.files name storage.maximum in
@@ -182,7 +184,7 @@ write_due storage s name bytes now info sorted fits =
 pub put_due : (storage : Storage) (s : Session) (name bytes : List ℕ) (now : ℕ)
     → IsStrictlySortedBy name_cmp (keys_of s.files)
     → can_open storage s name Write truncating ≡ None → would_fit storage s.files name (length bytes) ≡ None
-    → IsDue (put storage s name bytes now)
+    → IsDue (put_whole storage s name bytes now)
 put_due storage s name bytes now sorted none fits =
     let e = emptied (element_at s.files name) now in
     rw (
@@ -198,21 +200,21 @@ put_due storage s name bytes now sorted none fits =
 
 pub cat_given : SameContentLaw → (storage : Storage) (s mid : Session) (name : List ℕ) (now number : ℕ)
     (content : List ℕ) → open_file storage s name Read plain now ≡ Ok (number, mid)
-    → content ≡ bytes_at (element_at s.files name) → cat storage s name now ≡ Ok (content, released mid number)
+    → content ≡ bytes_of_file (element_at s.files name) → cat storage s name now ≡ Ok (content, released mid number)
 cat_given law storage s mid name now number content is read =
-    let step : cat storage s name now ≡ Ok (bytes_at (element_at mid.files name), released mid number) =
+    let step : cat storage s name now ≡ Ok (bytes_of_file (element_at mid.files name), released mid number) =
     ap (λ (r : Result (ℕ × Session) PerError). and_then r
-    (λ o. Ok (bytes_at (element_at o.1.files name), released o.1 o.0))) is in
+    (λ o. Ok (bytes_of_file (element_at o.1.files name), released o.1 o.0))) is in
     step ∙ ap (λ (b : List ℕ). Ok (b, released mid number)) (law storage s name now (number, mid) is ∙ sym read)
 
 -- what was asked, written and released
 pub put_is : (storage : Storage) (s mid : Session) (name bytes : List ℕ) (now number : ℕ)
     → can_open storage s name Write truncating ≡ None → would_fit storage s.files name (length bytes) ≡ None
     → open_file storage s name Write truncating now ≡ Ok (number, mid)
-    → put storage s name bytes now ≡ and_then (write storage mid now number bytes)
+    → put_whole storage s name bytes now ≡ and_then (write storage mid now number bytes)
     (λ after. Ok (released after number))
 put_is storage s mid name bytes now number none fits is =
-    let one : put storage s name bytes now ≡ and_then (open_file storage s name Write truncating now)
+    let one : put_whole storage s name bytes now ≡ and_then (open_file storage s name Write truncating now)
     (λ o. and_then (write storage o.1 now o.0 bytes) (λ after. Ok (released after o.0))) = rw (none, fits) refl in
     one ∙ ap (λ (r : Result (ℕ × Session) PerError). and_then r
     (λ o. and_then (write storage o.1 now o.0 bytes) (λ after. Ok (released after o.0)))) is

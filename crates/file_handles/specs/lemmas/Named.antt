@@ -22,7 +22,7 @@ use Rattle.per_base.specs.Maps.{Map, element_at, has, with_element, without, siz
 use Rattle.per_base.specs.Names.{name_cmp}
 use Rattle.file_core.specs.declared.room.Room.{Room}
 use Rattle.file_core.specs.Files.{HasLength, IsFile, NoSalvage, changed_to, is_good, too_long}
-use Rattle.file_handles.specs.ByName.{HasSalvage, recovered, salvage_of, salvaged, with_content}
+use Rattle.file_handles.specs.ByName.{HasSalvage, recovered, salvaged, saved_bytes, with_content}
 use Rattle.file_handles.specs.Opening.{busy, too_many}
 use Rattle.file_handles.specs.declared.storage.Storage.{Storage}
 use Rattle.file_handles.specs.Sessions.{Session, Handles, SameBeside, blocking, others, room_for}
@@ -194,7 +194,7 @@ recovers_good storage s name now initial file (Bad salvage) good = absurd (cc)
 
 recovers_by : (storage : Storage) (s : Session) (name : List ℕ) (now : ℕ) (initial : Option (List ℕ)) (file : Element)
     (content : Content) → HasSalvage content → recovered storage s name now initial file content
-    ≡ Ok (record s { files = with_element s.files name (changed_to (salvage_of content) now Recovery file) })
+    ≡ Ok (record s { files = with_element s.files name (changed_to (saved_bytes content) now Recovery file) })
 recovers_by storage s name now initial file (Good bytes) some = absurd some
 recovers_by storage s name now initial file (Bad None) some = absurd some
 recovers_by storage s name now initial file (Bad (Some salvage)) some = refl

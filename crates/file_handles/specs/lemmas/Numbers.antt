@@ -11,7 +11,7 @@ use Rattle.std.proofs.lemmas.Cmp.{nat_cmp_total, eq_by_cmp_equiv}
 use Rattle.std.proofs.lemmas.Map.Keys.{sorted_tail, sorted_head}
 use Rattle.std.proofs.lemmas.Bool.{cases_lt, cases_eq, ne_eqb, eq-eqb}
 use Rattle.file_handles.specs.declared.handle.Handle.{Handle}
-use Rattle.file_handles.specs.Sessions.{Handles, handle_at, free_from, free_number, lowest}
+use Rattle.file_handles.specs.Sessions.{Handles, handle_at, lowest_free_from, free_number, lowest}
 use Rattle.file_handles.specs.Tables.{Numbered}
 
 misses : (l b : Bool) → b ≡ false → is_eq (cond l Less (cond b Equal Greater)) ≡ false
@@ -46,16 +46,16 @@ gone_below n k (e ∷ es) sorted le =
 
 -- the lowest number from here on
 pub record IsLowest (from : ℕ) (es : Handles) : Type 0 where
-  pub above : from ≤ free_from from es
-  pub taken : (n : ℕ) → from ≤ n → n < free_from from es → IsSome (handle_at es n)
-  pub free : handle_at es (free_from from es) ≡ None
+  pub above : from ≤ lowest_free_from from es
+  pub taken : (n : ℕ) → from ≤ n → n < lowest_free_from from es → IsSome (handle_at es n)
+  pub free : handle_at es (lowest_free_from from es) ≡ None
 
 abbrev From : ℕ → Handles → Type 0
 From from es = (n : ℕ) (handle : Handle) → handle_at es n ≡ Some handle → from ≤ n
 
 -- after a first handle of this number the search goes on
 goes_on : (e : ℕ × Handle) (es : Handles) → IsLowest (e.0 + 1) es → IsStrictlySortedBy nat_cmp (keys_of (e ∷ es))
-    → (free : ℕ) → free ≡ free_from (e.0 + 1) es
+    → (free : ℕ) → free ≡ lowest_free_from (e.0 + 1) es
     → (e.0 ≤ free) × ((n : ℕ) → e.0 ≤ n → n < free → IsSome (handle_at (e ∷ es) n)) × (handle_at (e ∷ es) free ≡ None)
 goes_on e es rest sorted free is = (
   omega (arith, is, rest.above),
@@ -77,9 +77,10 @@ behind e es sorted n handle at = ⊎_elim
 hits : (from : ℕ) (e : ℕ × Handle) (es : Handles) → IsStrictlySortedBy nat_cmp (keys_of (e ∷ es))
     → IsLowest (e.0 + 1) es → from ≡ e.0 → IsLowest from (e ∷ es)
 hits from e es sorted rest same =
-    let is : free_from from (e ∷ es) ≡ free_from (e.0 + 1) es =
-    ap (λ b. cond b (free_from (from + 1) es) from) (eq-eqb from e.0 same) ∙ ap (λ m. free_from (m + 1) es) same in
-    let on = goes_on e es rest sorted (free_from from (e ∷ es)) is in
+    let is : lowest_free_from from (e ∷ es) ≡ lowest_free_from (e.0 + 1) es =
+    ap (λ b. cond b (lowest_free_from (from + 1) es) from) (eq-eqb from e.0 same)
+    ∙ ap (λ m. lowest_free_from (m + 1) es) same in
+    let on = goes_on e es rest sorted (lowest_free_from from (e ∷ es)) is in
     record {
       above = omega (arith, on.0, same);
       taken = λ n le lt. on.1 n (omega (arith, le, same)) lt;
@@ -89,7 +90,8 @@ hits from e es sorted rest same =
 stops : (from : ℕ) (e : ℕ × Handle) (es : Handles) → IsStrictlySortedBy nat_cmp (keys_of (e ∷ es)) → from ≤ e.0
     → (from ≡ e.0 → ⊥) → IsLowest from (e ∷ es)
 stops from e es sorted least differ =
-    let is : free_from from (e ∷ es) ≡ from = ap (λ b. cond b (free_from (from + 1) es) from) (ne_eqb from e.0 differ)
+    let is : lowest_free_from from (e ∷ es) ≡ from = ap (λ b. cond b (lowest_free_from (from + 1) es) from)
+    (ne_eqb from e.0 differ)
     in
     record {
       above = omega (arith, is);
@@ -123,12 +125,12 @@ pub lowest_is_free : (handles : Handles) → IsStrictlySortedBy nat_cmp (keys_of
 lowest_is_free handles sorted all = (lowest_from 1 handles sorted (λ n h at. (all n h at).0)).free
 
 -- and it is at most one more than there are handles
-pub free_from_few : (from : ℕ) (es : Handles) → free_from from es ≤ from + length es
+pub free_from_few : (from : ℕ) (es : Handles) → lowest_free_from from es ≤ from + length es
 free_from_few from [] = omega arith
 free_from_few from (e ∷ es) = by (from == e.0) (free_from_few (from + 1) es)
   where
-    by : (b : Bool) → free_from (from + 1) es ≤ from + 1 + length es
-        → cond b (free_from (from + 1) es) from ≤ from + length (e ∷ es)
+    by : (b : Bool) → lowest_free_from (from + 1) es ≤ from + 1 + length es
+        → cond b (lowest_free_from (from + 1) es) from ≤ from + length (e ∷ es)
     by true few = omega (arith, few)
     by false few = omega arith
 

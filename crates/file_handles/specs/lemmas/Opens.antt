@@ -33,7 +33,7 @@ use Rattle.per_base.specs.declared.errors.PerError.TheVariants.{LimitReached, Ou
 use Rattle.per_base.specs.declared.opening.OpenKind.{OpenKind}
 use Rattle.per_base.specs.Maps.{Map, element_at, has, with_element, without, size_of}
 use Rattle.per_base.specs.Names.{name_cmp}
-use Rattle.file_core.specs.Places.{writes, is_bad_mode, placed}
+use Rattle.file_core.specs.Places.{writes, is_bad_mode, opening_place}
 use Rattle.file_handles.specs.declared.handle.Handle.{Handle}
 use Rattle.file_handles.specs.Opening.{first, when, busy, can_open, file_opened, is_unreadable, no_room_to_create}
 use Rattle.file_handles.specs.Opening.{open_file, too_many, with_opened}
@@ -125,7 +125,7 @@ pub file_put_removed : (files : Map) (name : List ℕ) (new : Element) → eleme
 file_put_removed files name new none = put_removed nat_list_cmp_total name new files none
 
 -- a new place is in the file
-pub placed_inside : (kind : OpenKind) (mode : OpenMode) (size : ℕ) → (placed kind mode size).position ≤ size
+pub placed_inside : (kind : OpenKind) (mode : OpenMode) (size : ℕ) → (opening_place kind mode size).position ≤ size
 placed_inside kind mode size = by (at_end mode)
   where
     by : (b : Bool) → cond b size 0 ≤ size
@@ -209,7 +209,7 @@ good_there files name old is e = by (is_good old.content) (rw is at e)
     by true p = refl
     by false p = absurd (cc)
 
-pub record Opened (storage : Storage) (files : Map) (handles : Handles) (new_files : Map) (later : Handles)
+pub record OpenedHandle (storage : Storage) (files : Map) (handles : Handles) (new_files : Map) (later : Handles)
     (name : List ℕ) (kind : OpenKind) (mode : OpenMode) (now number : ℕ) : Type 0 where
   pub sound : IsTable storage new_files later
   pub answer : open_file storage (record { files = files; handles = handles }) name kind mode now
@@ -218,7 +218,7 @@ pub record Opened (storage : Storage) (files : Map) (handles : Handles) (new_fil
 answered : (files : Map) (handles : Handles) (new_files : Map) (later : Handles) (name : List ℕ) (kind : OpenKind)
     (mode : OpenMode) (number : ℕ) (cursor : Cursor) (new : Element) → new_files ≡ with_element files name new
     → later ≡ with_handle handles number (record { name = name; cursor = cursor }) → number ≡ free_number handles
-    → cursor ≡ placed kind mode new.len → (let answer : Result (ℕ × Session) PerError =
+    → cursor ≡ opening_place kind mode new.len → (let answer : Result (ℕ × Session) PerError =
     Ok (with_opened (record { files = files; handles = handles }) name kind mode new) in
     answer ≡ Ok (number, record { files = new_files; handles = later }))
 answered files handles new_files later name kind mode number cursor new is_files is_handles numbering placing =
@@ -227,12 +227,12 @@ answered files handles new_files later name kind mode number cursor new is_files
 pub opened_present : (storage : Storage) (files : Map) (handles : Handles) (new_files : Map) (later : Handles)
     (name : List ℕ) (kind : OpenKind) (mode : OpenMode) (now number : ℕ) (cursor : Cursor) (old : Element)
     → IsTable storage files handles → can_open storage (record { files = files; handles = handles }) name kind mode
-    ≡ None → element_at files name ≡ Some old → cursor ≡ placed kind mode
+    ≡ None → element_at files name ≡ Some old → cursor ≡ opening_place kind mode
     (file_opened storage.read_only mode now (Some old)).len → number ≡ free_number handles
     → new_files ≡ with_element files name (file_opened storage.read_only mode now (Some old))
     → keys_of new_files ≡ keys_of files → later ≡ with_handle handles number (record { name = name; cursor = cursor })
     → IsStrictlySortedBy nat_cmp (keys_of later) → length later ≤ length handles + 1
-    → Opened storage files handles new_files later name kind mode now number
+    → OpenedHandle storage files handles new_files later name kind mode now number
 opened_present storage files handles new_files later name kind mode now number cursor old t free there placing numbering
     is_files names is_handles numbers few =
     let a : Allowed storage files handles name kind mode = allowed storage files handles name kind mode free in
@@ -292,12 +292,13 @@ missing_few files name missing none =
 pub opened_missing : (storage : Storage) (files : Map) (handles : Handles) (new_files : Map) (later : Handles)
     (name : List ℕ) (kind : OpenKind) (mode : OpenMode) (now number : ℕ) (cursor : Cursor)
     → IsTable storage files handles → can_open storage (record { files = files; handles = handles }) name kind mode
-    ≡ None → element_at files name ≡ None → no_room_to_create storage files name ≡ None → cursor ≡ placed kind mode 0
+    ≡ None → element_at files name ≡ None → no_room_to_create storage files name ≡ None → cursor
+    ≡ opening_place kind mode 0
     → number ≡ free_number handles → new_files ≡ with_element files name (file_of (Some (made now Application)) [])
     → IsStrictlySortedBy name_cmp (keys_of new_files) → length new_files ≤ length files + 1
     → later ≡ with_handle handles number (record { name = name; cursor = cursor })
     → IsStrictlySortedBy nat_cmp (keys_of later) → length later ≤ length handles + 1
-    → Opened storage files handles new_files later name kind mode now number
+    → OpenedHandle storage files handles new_files later name kind mode now number
 opened_missing storage files handles new_files later name kind mode now number cursor t free missing space placing
     numbering is_files names few_new is_handles numbers few =
     let a : Allowed storage files handles name kind mode = allowed storage files handles name kind mode free in
@@ -348,7 +349,7 @@ pub present_sound : (storage : Storage) (files : Map) (handles : Handles) (new_f
     ≡ None → IsTrue (has files name) → size ≡ size_of files
     → ((old : Element) → element_at files name ≡ Some old → before ≡ old.len)
     → ((n : ℕ) (old : Element) → before ≡ old.len → after ≡ (file_opened storage.read_only mode n (Some old)).len)
-    → after ≤ before → cursor ≡ placed kind mode after → number ≡ free_number handles
+    → after ≤ before → cursor ≡ opening_place kind mode after → number ≡ free_number handles
     → ((old : Element) → element_at files name ≡ Some old
     → new_files ≡ with_element files name (file_opened storage.read_only mode now (Some old)))
     → keys_of new_files ≡ keys_of files → later ≡ with_handle handles number (record { name = name; cursor = cursor })
@@ -369,7 +370,7 @@ present_sound storage files handles new_files later name kind mode now number cu
         size_set files name old new e t.names in
         let same_size : size_of new_files ≡ size_of (with_element files name new) = ap size_of (is_files old e) in (
           (opened_present storage files handles new_files later name kind mode now number cursor old t free e
-              (placing ∙ ap (placed kind mode) length_after) numbering (is_files old e) names is_handles numbers
+              (placing ∙ ap (opening_place kind mode) length_after) numbering (is_files old e) names is_handles numbers
               few).sound,
           omega (arith, measured, length_before, length_after, sizes, same_size, smaller, len_fits files name old e),
         )
@@ -380,7 +381,7 @@ pub missing_sound : (storage : Storage) (files : Map) (handles : Handles) (new_f
     (size extra : ℕ) → IsTable storage files handles → can_open storage (record { files = files; handles = handles })
     name kind mode ≡ None → element_at files name ≡ None → no_room_to_create storage files name ≡ None
     → size ≡ size_of files → extra ≡ length name → empty ≡ file_of (Some (made now Application)) []
-    → cursor ≡ placed kind mode 0 → number ≡ free_number handles → new_files ≡ with_element files name empty
+    → cursor ≡ opening_place kind mode 0 → number ≡ free_number handles → new_files ≡ with_element files name empty
     → IsStrictlySortedBy name_cmp (keys_of new_files) → length new_files ≤ length files + 1
     → later ≡ with_handle handles number (record { name = name; cursor = cursor })
     → IsStrictlySortedBy nat_cmp (keys_of later) → length later ≤ length handles + 1

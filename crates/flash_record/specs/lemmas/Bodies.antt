@@ -68,7 +68,7 @@ body_reads_back sequence file page len bytes small_file small_page small_len =
     ∙ ap (λ n. record { sequence = sequence; file = file; page = page; len = n; bytes = drop 16 body }) its_len
     ∙ ap (λ (bs : List ℕ). record { sequence = sequence; file = file; page = page; len = len; bytes = bs }) its_bytes
 
--- a page whose front verifies with a body of 272 bytes is the record that the body says
+-- a page whose start verifies with a body of 272 bytes is the record that the body says
 pub record_in-text : (page : List ℕ) (sequence : ℕ) (body : List ℕ) → VerifiesAs page sequence body → length body ≡ 272
     → record_in page ≡ Some (body_record sequence body)
 unfolding record_in
@@ -80,7 +80,7 @@ pub record_in-none : (page : List ℕ) → ((g : ℕ) (body : List ℕ) → Veri
 unfolding record_in
 record_in-none page never = ap record_by (verified-none page never)
 
--- a page whose text is the front of another is the same record
+-- a page whose text is a prefix of another is the same record
 same_text : (page other : List ℕ) (text : ℕ × List ℕ) → verified page ≡ Some text → VerifiesAs other text.0 text.1
     → record_in page ≡ record_in other
 unfolding record_in
@@ -104,7 +104,7 @@ record_in-plain page one other plain = by_text (verified page) refl
         (λ done. inr (same_text page other text is done))
         (plain text.0 text.1 (verified-verifies page text.0 text.1 is)))
 
--- a page whose front verifies with a body of another length is no record
+-- a page whose start verifies with a body of another length is no record
 pub record_in-other : (page : List ℕ) (sequence : ℕ) (body : List ℕ) → VerifiesAs page sequence body → length body ≢ 272
     → record_in page ≡ None
 unfolding record_in

@@ -1,4 +1,4 @@
--- Laws of the copies that pass a test: which they are, which is the first, and that they are so many exactly where at
+-- Laws of the copies that pass a test: which they are, which is the first, and that they are that many exactly where at
 -- least that many copies pass.
 use Rattle.std.proofs.Common.{◌≡◌, ℕ, zero, suc, ◌+◌, ◌<◌, ◌≤◌, List, [], ◌∷◌, ◌++◌, length, get_or, Bool, true, false}
 use Rattle.std.proofs.Common.{cond, sym, ap, ◌∙◌, subst, inl, inr, ⊎_elim, length-append, refl, arith}

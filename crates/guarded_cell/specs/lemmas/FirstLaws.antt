@@ -7,7 +7,7 @@ use Rattle.disk_model.specs.Image.{Image}
 use Rattle.disk_model.specs.Place.{slot}
 use Rattle.disk_model.specs.declared.place.Place.{Place}
 use Rattle.guarded_cell.specs.declared.looking.Seen.{Seen}
-use Rattle.guarded_cell.specs.Held.{Text, of_parity, text_in, is_seen, with_copy, with_slot, holds, copies_that}
+use Rattle.guarded_cell.specs.Held.{Text, of_parity, text_held, is_seen, with_copy, with_slot, holds, copies_that}
 use Rattle.guarded_cell.specs.Held.{held_in_first, held}
 use Rattle.guarded_cell.specs.Held.{standing}
 use Rattle.guarded_cell.specs.lemmas.SeenLaws.{IsAhead, IsInOrder, text_of, alike, never_both, first_seen, seen_more}
@@ -23,14 +23,14 @@ abbrev pub first_of : Seen → ℕ
 first_of seen = get_or seen.copies 0 0
 
 -- texts of this one's generation in the list have later first copies
-abbrev pub IsEarlier : Seen → List Seen → Type 0
-IsEarlier s [] = Unit {0}
-IsEarlier s (x ∷ xs) = (x.generation ≡ s.generation → first_of s < first_of x) × IsEarlier s xs
+abbrev pub HasEarlierCopy : Seen → List Seen → Type 0
+HasEarlierCopy s [] = Unit {0}
+HasEarlierCopy s (x ∷ xs) = (x.generation ≡ s.generation → first_of s < first_of x) × HasEarlierCopy s xs
 
 -- each text has copies, at one generation in order, and none begins beyond the bound of its parity
 abbrev pub IsByFirst : (bound : ℕ → ℕ) → List Seen → Type 0
 IsByFirst bound [] = Unit {0}
-IsByFirst bound (x ∷ xs) = (1 ≤ length x.copies) × (first_of x < bound (x.generation % 2)) × IsEarlier x xs
+IsByFirst bound (x ∷ xs) = (1 ≤ length x.copies) × (first_of x < bound (x.generation % 2)) × HasEarlierCopy x xs
     × IsByFirst bound xs
 
 first_push : (cs : List ℕ) (c : ℕ) → 1 ≤ length cs → get_or (cs ++ c ∷ []) 0 0 ≡ get_or cs 0 0
@@ -42,23 +42,24 @@ looser b c [] le by = tt
 looser b c (x ∷ xs) le by =
     let low = le (x.generation % 2) in let is = by.1 in (by.0, omega (arith, low, is), by.2, looser b c xs le by.3)
 
-more_earlier : (copy : ℕ) (s : Seen) (xs : List Seen) → 1 ≤ length s.copies → IsEarlier s xs
-    → IsEarlier (seen_more copy s) xs
+more_earlier : (copy : ℕ) (s : Seen) (xs : List Seen) → 1 ≤ length s.copies → HasEarlierCopy s xs
+    → HasEarlierCopy (seen_more copy s) xs
 more_earlier copy s [] some is = tt
 more_earlier copy s (x ∷ xs) some is =
     let same = first_push s.copies copy some in
     ((λ e. let lt = is.0 e in omega (arith, lt, same)), more_earlier copy s xs some is.1)
 
-greater_earlier : (copy : ℕ) (t u : Text) (xs : List Seen) → u.0 < t.0 → IsAhead u xs → IsEarlier (first_seen copy t) xs
+greater_earlier : (copy : ℕ) (t u : Text) (xs : List Seen) → u.0 < t.0 → IsAhead u xs
+    → HasEarlierCopy (first_seen copy t) xs
 greater_earlier copy t u [] less ahead = tt
 greater_earlier copy t u (x ∷ xs) less ahead =
     ((λ e. let le = ahead.0 in absurd (omega (arith, e, le, less))), greater_earlier copy t u xs less ahead.2)
 
 still_earlier : (bound : ℕ → ℕ) (copy : ℕ) (t : Text) (s : Seen) (xs : List Seen)
     → (t.0 ≡ s.generation → first_of s < copy)
-    → IsByFirst bound xs → IsEarlier s xs → IsEarlier s (with_copy copy t xs)
+    → IsByFirst bound xs → HasEarlierCopy s xs → HasEarlierCopy s (with_copy copy t xs)
 still_earlier bound copy t s [] later by is = (later, tt)
-still_earlier bound copy t s (x ∷ xs) later by is = placed copy t x xs (IsEarlier s)
+still_earlier bound copy t s (x ∷ xs) later by is = placed copy t x xs (HasEarlierCopy s)
     (λ e. let same = first_push x.copies copy by.0 in ((λ one. let lt = is.0 one in omega (arith, lt, same)), is.1))
     (λ e less. (later, is))
     (λ e more. (is.0, still_earlier bound copy t s xs later by.3 is.1))
@@ -145,17 +146,17 @@ held_by_first image place zero = tt
 held_by_first image place (suc n) =
     let even = middle_even n in
     let odd = middle_odd n in
-    let one : IsByFirst (middle n) (with_slot (n + 1) (text_in image place n 0) (held_in_first image place n)) =
+    let one : IsByFirst (middle n) (with_slot (n + 1) (text_held image place n 0) (held_in_first image place n)) =
     slot_by_first (λ p. n + 1) (middle n) (n + 1) (middle_low n) 0 (verified (image (slot place n 0)))
     (held_in_first image place n)
     (omega arith) (omega (arith, even)) (held_in_order image place n) (held_by_first image place n) in
     slot_by_first (middle n) (λ p. suc n + 1) (n + 1) (λ p. let le = middle_high n p in omega (arith, le)) 1
-    (verified (image (slot place n 1))) (with_slot (n + 1) (text_in image place n 0) (held_in_first image place n))
+    (verified (image (slot place n 1))) (with_slot (n + 1) (text_held image place n 0) (held_in_first image place n))
     (omega (arith, odd)) (omega arith)
-    (with_slot_in_order (n + 1) (text_in image place n 0) (held_in_first image place n) (held_in_order image place n))
+    (with_slot_in_order (n + 1) (text_held image place n 0) (held_in_first image place n) (held_in_order image place n))
     one
 
-earlier_at : (s : Seen) (xs : List Seen) (k : ℕ) (d : Seen) → k < length xs → IsEarlier s xs
+earlier_at : (s : Seen) (xs : List Seen) (k : ℕ) (d : Seen) → k < length xs → HasEarlierCopy s xs
     → (get_or xs k d).generation ≡ s.generation → first_of s < first_of (get_or xs k d)
 earlier_at s [] k d lt is e = absurd (omega (arith, lt))
 earlier_at s (x ∷ xs) zero d lt is e = is.0 e
@@ -188,7 +189,8 @@ held_some image place = some_copies (λ p. place.copies + 1) (held image place)
 
 -- ---- the text that stands
 
-earlier_in : (u : Text) (s : Seen) (xs : List Seen) → IsEarlier s xs → 1 ≤ length (copies_in u xs) → u.0 ≡ s.generation
+earlier_in : (u : Text) (s : Seen) (xs : List Seen) → HasEarlierCopy s xs → 1 ≤ length (copies_in u xs) → u.0
+    ≡ s.generation
     → first_of s < get_or (copies_in u xs) 0 0
 earlier_in u s [] is some e = absurd (omega (arith, some))
 earlier_in u s (x ∷ xs) is some e = ⊎_elim

@@ -11,7 +11,8 @@ use Rattle.disk_model.specs.Place.{slot}
 use Rattle.disk_model.specs.declared.place.Place.{Place}
 use Rattle.guarded_cell.specs.declared.looking.Seen.{Seen}
 use Rattle.guarded_cell.specs.Register.{Holds, IsHeldBy, IsStanding, HasNoStanding, IsOneEach, own}
-use Rattle.guarded_cell.specs.Held.{Text, text_in, is_text, holds, copies_that, lacking, with_slot, held_in_first}
+use Rattle.guarded_cell.specs.Held.{Text, text_held, is_slot_text, holds, copies_that, lacking, with_slot}
+use Rattle.guarded_cell.specs.Held.{held_in_first}
 use Rattle.guarded_cell.specs.Held.{held, standing}
 use Rattle.guarded_cell.specs.lemmas.CopyLaws.{enough_pass, passing_enough, passing_is, is_passing, some_passes}
 use Rattle.guarded_cell.specs.lemmas.StopLaws.{at_least_map}
@@ -21,10 +22,10 @@ use Rattle.guarded_cell.specs.lemmas.SeenLaws.{other_parity, same_parity, text_o
 
 -- ---- what a copy holds
 
-is_text-verifies : (t : Text) (bytes : List ℕ) → is_text t (verified bytes) ≡ true → VerifiesAs bytes t.0 t.1
+is_text-verifies : (t : Text) (bytes : List ℕ) → is_slot_text t (verified bytes) ≡ true → VerifiesAs bytes t.0 t.1
 is_text-verifies t bytes e = go (verified bytes) refl e
   where
-    go : (answer : Option Text) → verified bytes ≡ answer → is_text t answer ≡ true → VerifiesAs bytes t.0 t.1
+    go : (answer : Option Text) → verified bytes ≡ answer → is_slot_text t answer ≡ true → VerifiesAs bytes t.0 t.1
     go None is passes = absurd (never_both false passes refl)
     go (Some u) is passes =
         let same = alike u t passes in
@@ -39,9 +40,9 @@ holds_is image place copy t e = is_text-verifies t (image (slot place copy (own 
 pub is_holds : (image : Image) (place : Place) (copy : ℕ) (t : Text) → Holds image place copy t.0 t.1
     → holds image place copy t ≡ true
 is_holds image place copy t v =
-    ap (is_text t) (verifies-verified (image (slot place copy (own t.0))) t.0 t.1 v) ∙ is_alike t t refl refl
+    ap (is_slot_text t) (verifies-verified (image (slot place copy (own t.0))) t.0 t.1 v) ∙ is_alike t t refl refl
 
--- at least m copies hold the text exactly where the copies that pass the test are so many
+-- at least m copies hold the text exactly where the copies that pass the test are that many
 pub held_by : (image : Image) (place : Place) (m : ℕ) (t : Text)
     → m ≤ length (copies_that (λ copy. holds image place copy t) place.copies)
     → IsHeldBy image place m t.0 t.1
@@ -87,9 +88,9 @@ pub held_in_order : (image : Image) (place : Place) (n : ℕ) → IsInOrder (hel
 unfolding held_in_first
 held_in_order image place zero = tt
 held_in_order image place (suc n) =
-    with_slot_in_order (n + 1) (text_in image place n 1)
-    (with_slot (n + 1) (text_in image place n 0) (held_in_first image place n))
-    (with_slot_in_order (n + 1) (text_in image place n 0) (held_in_first image place n) (held_in_order image place n))
+    with_slot_in_order (n + 1) (text_held image place n 1)
+    (with_slot (n + 1) (text_held image place n 0) (held_in_first image place n))
+    (with_slot_in_order (n + 1) (text_held image place n 0) (held_in_first image place n) (held_in_order image place n))
 
 -- among the texts that are held, a text has just the copies that hold it
 pub copies_of : (image : Image) (place : Place) (n : ℕ) (u : Text)
@@ -102,20 +103,20 @@ copies_of image place (suc n) u =
     ap (λ (cs : List ℕ). cs ++ cond (holds image place n u) ((n + 1) ∷ []) []) (copies_of image place n u) in
     ⊎_elim
     (λ even.
-    low_slot (n + 1) u (text_in image place n 0) (text_in image place n 1) (holds image place n u)
+    low_slot (n + 1) u (text_held image place n 0) (text_held image place n 1) (holds image place n u)
     (held_in_first image place n)
     (held_in_order image place n)
     (same_parity u 0 (verified (image (slot place n 0))) even
-    ∙ ap (λ (p : ℕ). is_text u (verified (image (slot place n p)))) (sym even))
+    ∙ ap (λ (p : ℕ). is_slot_text u (verified (image (slot place n p)))) (sym even))
     (other_parity u 1 (verified (image (slot place n 1))) (λ e. omega (arith, even, e))) ∙ earlier)
     (λ odd.
     let one : u.0 % 2 ≡ 1 = is_odd (u.0) odd in
-    high_slot (n + 1) u (text_in image place n 0) (text_in image place n 1) (holds image place n u)
+    high_slot (n + 1) u (text_held image place n 0) (text_held image place n 1) (holds image place n u)
     (held_in_first image place n)
     (held_in_order image place n)
     (other_parity u 0 (verified (image (slot place n 0))) odd)
     (same_parity u 1 (verified (image (slot place n 1))) one
-    ∙ ap (λ (p : ℕ). is_text u (verified (image (slot place n p)))) (sym one)) ∙ earlier)
+    ∙ ap (λ (p : ℕ). is_slot_text u (verified (image (slot place n p)))) (sym one)) ∙ earlier)
     (cases_eq (u.0 % 2) 0)
   where
     is_odd : (g : ℕ) → ¬ (g % 2 ≡ 0) → g % 2 ≡ 1

@@ -10,7 +10,7 @@ use Rattle.std.proofs.lemmas.Slice.Eq.{bytes_eq-Decides}
 use Rattle.std.specs.Str.{bytes_eq}
 use Rattle.std.specs.List.{Any, Contains}
 use Rattle.guarded_cell.specs.declared.looking.Seen.{Seen}
-use Rattle.guarded_cell.specs.Held.{Text, of_parity, is_seen, is_text, with_copy, with_slot}
+use Rattle.guarded_cell.specs.Held.{Text, of_parity, is_seen, is_slot_text, with_copy, with_slot}
 
 -- ---- tests of texts
 
@@ -162,7 +162,7 @@ keeps copy t u (x ∷ xs) differs = placed copy t x xs (λ ys. copies_in u ys �
 
 -- one slot more
 abbrev if_text : Text → Option Text → ℕ → List ℕ
-if_text u o copy = cond (is_text u o) (copy ∷ []) []
+if_text u o copy = cond (is_slot_text u o) (copy ∷ []) []
 
 slot_adds : (copy : ℕ) (o : Option Text) (u : Text) (xs : List Seen) → IsInOrder xs
     → copies_in u (with_slot copy o xs) ≡ copies_in u xs ++ if_text u o copy
@@ -172,32 +172,32 @@ slot_adds copy (Some t) u xs order = ⊎_elim
     let same = alike t u e in
     let it : t ≡ u = ap (λ (g : ℕ). (g, t.1)) same.0 ∙ ap (λ (bs : List ℕ). (u.0, bs)) same.1 in
     subst (λ (w : Text). copies_in w (with_copy copy t xs) ≡ copies_in w xs ++ copy ∷ []) it (gains copy t xs order)
-    ∙ ap (λ (cs : List ℕ). copies_in u xs ++ cs) (sym (cond-true (is_text u (Some t)) (copy ∷ []) [] e)))
+    ∙ ap (λ (cs : List ℕ). copies_in u xs ++ cs) (sym (cond-true (is_slot_text u (Some t)) (copy ∷ []) [] e)))
     (λ e. keeps copy t u xs e ∙ sym (append-nil (copies_in u xs))
-    ∙ ap (λ (cs : List ℕ). copies_in u xs ++ cs) (sym (cond-false (is_text u (Some t)) (copy ∷ []) [] e)))
-    (cases_Bool (is_text u (Some t)))
+    ∙ ap (λ (cs : List ℕ). copies_in u xs ++ cs) (sym (cond-false (is_slot_text u (Some t)) (copy ∷ []) [] e)))
+    (cases_Bool (is_slot_text u (Some t)))
 
 pub same_parity : (u : Text) (parity : ℕ) (o : Option Text) → u.0 % 2 ≡ parity
-    → is_text u (of_parity parity o) ≡ is_text u o
+    → is_slot_text u (of_parity parity o) ≡ is_slot_text u o
 same_parity u parity None e = refl
 same_parity u parity (Some t) e = ⊎_elim
-    (λ same. ap (is_text u) (cond-true (eqb (t.0 % 2) parity) (Some t) None same))
-    (λ differs. ap (is_text u) (cond-false (eqb (t.0 % 2) parity) (Some t) None differs)
+    (λ same. ap (is_slot_text u) (cond-true (eqb (t.0 % 2) parity) (Some t) None same))
+    (λ differs. ap (is_slot_text u) (cond-false (eqb (t.0 % 2) parity) (Some t) None differs)
     ∙ sym (unlike t u (λ one two. eqb-false (t.0 % 2) parity differs (ap (λ (g : ℕ). g % 2) one ∙ e))))
     (cases_Bool (eqb (t.0 % 2) parity))
 
 pub other_parity : (u : Text) (parity : ℕ) (o : Option Text) → ¬ (u.0 % 2 ≡ parity)
-    → is_text u (of_parity parity o) ≡ false
+    → is_slot_text u (of_parity parity o) ≡ false
 other_parity u parity None e = refl
 other_parity u parity (Some t) e = ⊎_elim
-    (λ same. ap (is_text u) (cond-true (eqb (t.0 % 2) parity) (Some t) None same)
+    (λ same. ap (is_slot_text u) (cond-true (eqb (t.0 % 2) parity) (Some t) None same)
     ∙ unlike t u (λ one two. e (sym (ap (λ (g : ℕ). g % 2) one) ∙ eqb-true (t.0 % 2) parity same)))
-    (λ differs. ap (is_text u) (cond-false (eqb (t.0 % 2) parity) (Some t) None differs))
+    (λ differs. ap (is_slot_text u) (cond-false (eqb (t.0 % 2) parity) (Some t) None differs))
     (cases_Bool (eqb (t.0 % 2) parity))
 
 -- of two slots, of which one alone can hold the text
 pub low_slot : (copy : ℕ) (u : Text) (a b : Option Text) (holding : Bool) (xs : List Seen) → IsInOrder xs
-    → is_text u a ≡ holding → is_text u b ≡ false
+    → is_slot_text u a ≡ holding → is_slot_text u b ≡ false
     → copies_in u (with_slot copy b (with_slot copy a xs)) ≡ copies_in u xs ++ cond holding (copy ∷ []) []
 low_slot copy u a b holding xs order one two =
     slot_adds copy b u (with_slot copy a xs) (with_slot_in_order copy a xs order)
@@ -207,7 +207,7 @@ low_slot copy u a b holding xs order one two =
     ∙ ap (λ (p : Bool). copies_in u xs ++ cond p (copy ∷ []) []) one
 
 pub high_slot : (copy : ℕ) (u : Text) (a b : Option Text) (holding : Bool) (xs : List Seen) → IsInOrder xs
-    → is_text u a ≡ false → is_text u b ≡ holding
+    → is_slot_text u a ≡ false → is_slot_text u b ≡ holding
     → copies_in u (with_slot copy b (with_slot copy a xs)) ≡ copies_in u xs ++ cond holding (copy ∷ []) []
 high_slot copy u a b holding xs order one two =
     slot_adds copy b u (with_slot copy a xs) (with_slot_in_order copy a xs order)

@@ -11,9 +11,9 @@ use Rattle.guarded_cell.specs.lemmas.HeldLaws.{standing_copies}
 use Rattle.guarded_cell.specs.lemmas.HeldLaws.{standing_stands, standing_none}
 use Rattle.guarded_cell.specs.lemmas.FirstLaws.{held_firsts, held_some, standing_first}
 use Rattle.guarded_cell.specs.lemmas.SeenLaws.{text_of}
-use Rattle.guarded_cell.specs.Shown.{Shows, Chooses}
+use Rattle.guarded_cell.specs.Shown.{ShowsTexts, Chooses}
 
-pub held_shows : (image : Image) (place : Place) → Shows image place (held image place)
+pub held_shows : (image : Image) (place : Place) → ShowsTexts image place (held image place)
 held_shows image place = record {
   every = λ copy generation text lt v. held_all image place copy generation text lt v;
   copies_are = held_copies image place;

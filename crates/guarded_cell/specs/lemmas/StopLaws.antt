@@ -10,7 +10,7 @@ use Rattle.disk_model.specs.declared.place.Place.{Place}
 use Rattle.guarded_cell.specs.Register.{Holds, IsHeldBy, IsAlone, IsStanding, HasNoStanding, IsOneEach, own, other}
 use Rattle.guarded_cell.specs.Stops.{IsOldOrNew}
 
--- ---- so many of the copies
+-- ---- that many of the copies
 
 pub at_least_map : (P Q : ℕ → Type 0) (n m : ℕ) → ((c : ℕ) → c < n → P c → Q c) → AtLeast P n m → AtLeast Q n m
 at_least_map P Q n zero f some = tt

@@ -16,7 +16,7 @@ use Rattle.std.specs.List.{list_all}
 use Rattle.index_text.specs.declared.entries.IndexEntry.{IndexEntry}
 use Rattle.index_text.specs.declared.entries.Index.{Index}
 use Rattle.index_text.specs.Rules.{IsEntry, IsIndex, block_count, blocks_of, has_info}
-use Rattle.index_text.specs.Spelling.{changed_text, entry_text, index_text, info_text, kind_code}
+use Rattle.index_text.specs.Spelling.{changed_text, entry_text, index_text, info_text, store_kind_code}
 use Rattle.index_text.specs.Sizes.{Fits, area_blocks, changed_length, entry_length, info_length, size_of, text_length}
 
 name_length : (name : List ℕ) → IsName name → length name ≤ 255
@@ -103,9 +103,10 @@ entries_bound format kind (e ∷ es) each =
 
 size_within : (kind : StoreKind) (allowed : ℕ) (i : Index) → Fits kind allowed i → size_of i.entries ≤ allowed
 size_within kind allowed i fits =
-    let front = and_parts (eqb (kind_code i.kind) (kind_code kind) && leb (size_of i.entries) allowed)
+    let front = and_parts (eqb (store_kind_code i.kind) (store_kind_code kind) && leb (size_of i.entries) allowed)
     (list_all (λ b. ltb b (area_blocks allowed)) (blocks_of i.entries)) fits in
-    leb-true _ _ (and_parts (eqb (kind_code i.kind) (kind_code kind)) (leb (size_of i.entries) allowed) front.0).1
+    leb-true _ _ (and_parts (eqb (store_kind_code i.kind) (store_kind_code kind))
+    (leb (size_of i.entries) allowed) front.0).1
 
 pub text_is_short : (kind : StoreKind) (allowed : ℕ) (i : Index) → IsIndex i → Fits kind allowed i → allowed ≤ 4194304
     → length (index_text i) ≤ 403460

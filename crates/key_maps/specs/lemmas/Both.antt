@@ -16,7 +16,7 @@ use Rattle.key_maps.specs.declared.key_states.Pending.{Pending}
 use Rattle.key_maps.specs.declared.key_states.Pending.TheVariants.{Same, Removed, Now}
 use Rattle.key_maps.specs.declared.extents.Extent.{Extent}
 use Rattle.key_maps.specs.KeyStates.{AreKeyStates, AreMeasured, KeyStates, IsKeyState, IsPending, IsMarkedSynced}
-use Rattle.key_maps.specs.KeyStates.{IsStep, Measures, state_at, changed, synced_map, synced_of, visible_map}
+use Rattle.key_maps.specs.KeyStates.{IsStep, Measures, state_at, once_changed, synced_map, synced_of, visible_map}
 use Rattle.key_maps.specs.KeyStates.{visible_of}
 use Rattle.key_maps.specs.Changes.{AreChanges, changes_of, has_any}
 use Rattle.key_maps.specs.KeyElements.{IsKey, is_readable}
@@ -179,7 +179,8 @@ as_synced : (states : KeyStates) → AreKeyStates states → (name : List ℕ) (
 as_synced states are name key there unreadable =
     synced_at states name are ∙ by (state_at states name) refl (sym (visible_at states name are) ∙ there)
   where
-    of_pending : (state : KeyState) (pending : Pending) → IsPending pending → changed state.synced pending ≡ Some key
+    of_pending : (state : KeyState) (pending : Pending) → IsPending pending → once_changed state.synced pending
+        ≡ Some key
         → state.synced ≡ Some key
     of_pending state Same is p = p
     of_pending state Removed is p = absurd (cc)

@@ -15,7 +15,7 @@ use Rattle.per_base.specs.declared.elements.Content.TheVariants.{Good, Bad}
 use Rattle.per_base.specs.declared.elements.Element.{Element}
 use Rattle.per_base.specs.Maps.{Map, element_at, names_of}
 use Rattle.per_base.specs.Names.{name_cmp}
-use Rattle.key_maps.specs.Changes.{AreChanges, difference, is_same, put, same_content, same_key, same_salvage}
+use Rattle.key_maps.specs.Changes.{AreChanges, difference, is_same_key, put, same_content, same_key, same_salvage}
 use Rattle.key_maps.specs.KeyElements.{IsKey}
 use Rattle.key_maps.specs.lemmas.Ordered.{same_lists}
 
@@ -39,7 +39,7 @@ pub difference_named : (name : List ℕ) (old new : Option Element) (c : Change)
     → changed_name c ≡ name
 difference_named name None None c is = absurd (cc)
 difference_named name (Some old) None c is = let same : Remove name ≡ c = cc in ap changed_name (sym same)
-difference_named name old (Some key) c is = by (is_same old key) is
+difference_named name old (Some key) c is = by (is_same_key old key) is
   where
     by : (b : Bool) → cond b None (Some (put name key)) ≡ Some c → changed_name c ≡ name
     by true p = absurd (cc)

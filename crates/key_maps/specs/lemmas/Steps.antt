@@ -14,7 +14,8 @@ use Rattle.key_maps.specs.declared.key_states.KeyState.{KeyState}
 use Rattle.key_maps.specs.declared.key_states.Pending.{Pending}
 use Rattle.key_maps.specs.declared.key_states.Pending.TheVariants.{Same, Removed, Now}
 use Rattle.key_maps.specs.KeyStates.{AreKeyStates, KeyStates, IsKeyState, IsPending, IsMarkedSynced, IsStep, state_at}
-use Rattle.key_maps.specs.KeyStates.{changed, synced_map, synced_of, visible_map, visible_of, with_state, without_state}
+use Rattle.key_maps.specs.KeyStates.{once_changed, synced_map, synced_of, visible_map, visible_of, with_state}
+use Rattle.key_maps.specs.KeyStates.{without_state}
 use Rattle.key_maps.specs.Changes.{AreChanges, change_of, changes_of, difference}
 use Rattle.key_maps.specs.KeyElements.{IsKey, is_readable}
 use Rattle.key_maps.specs.Picked.{picked}
@@ -231,7 +232,7 @@ is_key_state pending is (Some synced) key = (key, is)
 pub visible_key : (state : KeyState) → IsKeyState state → IfSome (visible_of state) IsKey
 visible_key state is = by state.pending is.1
   where
-    by : (pending : Pending) → IsPending pending → IfSome (changed state.synced pending) IsKey
+    by : (pending : Pending) → IsPending pending → IfSome (once_changed state.synced pending) IsKey
     by Same now = is.0
     by Removed now = tt
     by (Now key) now = now.0

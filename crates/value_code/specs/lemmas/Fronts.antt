@@ -1,4 +1,4 @@
--- What stands in front of bytes: what is read is what was written, and what was written is read again.
+-- What stands at the start of bytes: what is read is what was written, and what was written is read again.
 use Rattle.std.proofs.Common.{◌≡◌, ◌⊎◌, ℕ, suc, ◌+◌, ◌^◌, ◌<◌, ◌≤◌, Bool, true, false, cond, ltb, List, [], ◌∷◌, ◌++◌}
 use Rattle.std.proofs.Common.{length, get_or, take, drop, Option, Some, None, refl, sym, ap, subst, ◌∙◌, append_assoc}
 use Rattle.std.proofs.Common.{arith, inl, inr}
@@ -60,7 +60,7 @@ pub either_way : {A : Type 0} (b : Bool) (p q : Option A) (y : A) → cond b p q
 either_way true p q y e = inl (refl, e)
 either_way false p q y e = inr (refl, e)
 
--- ---- what a reader took from the front
+-- ---- what a reader took from the start
 
 pub record Takes (bytes text rest : List ℕ) : Type 0 where
   pub parts : bytes ≡ text ++ rest

@@ -87,7 +87,7 @@ decoded_again t v =
 pub one_tree : (t u : Tree) → IsValue t → IsValue u → encoding t ≡ encoding u → t ≡ u
 one_tree t u v w e = some_is t u (sym (decoded_again t v) ∙ (ap decoded e ∙ decoded_again u w))
 
--- codes of types are told apart by what stands in front
+-- codes of types are told apart by what stands at the start
 pub one_kind : (k j : Kind) → IsTrue (kind_fits k) → IsTrue (kind_fits j) → kind_depth k ≤ 8 → kind_depth j ≤ 8
     → (xs ys : List ℕ) → type_code k ++ xs ≡ type_code j ++ ys → (k ≡ j) × (xs ≡ ys)
 one_kind k j fits fits' shallow shallow' xs ys e =

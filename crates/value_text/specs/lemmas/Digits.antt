@@ -1,4 +1,4 @@
--- Decimal numbers: digits at the front of a text, and what `parse` makes of them.
+-- Decimal numbers: digits at the start of a text, and what `parse` makes of them.
 use Rattle.std.proofs.Common.{◌≡◌, ℕ, suc, ◌+◌, ◌≤◌, ◌<◌, ◌^◌, true, false, nat_lt, List, [], ◌∷◌, length, take, Some}
 use Rattle.std.proofs.Common.{None, Result, Ok, Err, inl, inr, refl, ap, arith}
 use Rattle.std.specs.List.{prefix_len}

@@ -48,8 +48,9 @@ punctuation_is close (b ∷ rest) x e =
     ]
 
 -- what is read is spelled so, and fits
-abbrev pub Takes : {A : Type 0} → (A → List ℕ) → (A → Type 0) → (List ℕ → Option (A × List ℕ)) → Type 0
-Takes {A} text P thing = (bytes : List ℕ) (x : A × List ℕ) → thing bytes ≡ Some x → (bytes ≡ text x.0 ++ x.1) × P x.0
+abbrev pub TakesSpelled : {A : Type 0} → (A → List ℕ) → (A → Type 0) → (List ℕ → Option (A × List ℕ)) → Type 0
+TakesSpelled {A} text P thing = (bytes : List ℕ) (x : A × List ℕ) → thing bytes ≡ Some x → (bytes ≡ text x.0 ++ x.1)
+    × P x.0
 
 -- what is spelled so is read
 abbrev pub Again : {A : Type 0} → (A → List ℕ) → (List ℕ → Option (A × List ℕ)) → A → Type 0
@@ -71,7 +72,8 @@ module _ {A : Type 0} (text : A → List ℕ) (thing : List ℕ → Option (A ×
       ap (λ (t : List ℕ). 44 ∷ t) g ∙ ap (λ (t : List ℕ). t ++ close ∷ rest) (sym (further-is text xs some)) in
       e ∙ ap (λ (t : List ℕ). text x ++ t) (f ∙ comma) ∙ sym (append_assoc (text x) (further text xs) (close ∷ rest))
 
-  pub separated_takes : (P : A → Type 0) → Takes text P thing → (most : ℕ) (bytes : List ℕ) (xs : List A × List ℕ)
+  pub separated_takes : (P : A → Type 0) → TakesSpelled text P thing
+      → (most : ℕ) (bytes : List ℕ) (xs : List A × List ℕ)
       → separated thing close most bytes ≡ Some xs → ReadsList text P close most bytes xs.0 xs.1
   unfolding separated
   separated_takes P law zero bytes xs e = absurd cc

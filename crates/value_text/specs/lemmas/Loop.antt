@@ -3,7 +3,7 @@ use Rattle.std.proofs.Common.{◌≡◌, ℕ, suc, ◌-◌, ◌+◌, ◌≤◌, 
 use Rattle.std.proofs.Common.{refl, sym, ap, ◌∙◌, append_assoc, arith}
 use Rattle.value_model.specs.declared.errors.DecodeError.{DecodeError}
 use Rattle.value_model.specs.declared.errors.DecodeError.TheVariants as errors
-use Rattle.value_text.specs.Readers.{Fails, with_front, punctuation_at, separated}
+use Rattle.value_text.specs.Readers.{FailsToRead, with_front, punctuation_at, separated}
 
 pub with_front-with_front : {A : Type 0} (front : List A) (x : A) (read : Option (List A × List ℕ))
     → with_front front (with_front (x ∷ []) read) ≡ with_front (front ++ x ∷ []) read
@@ -65,15 +65,16 @@ module _ {A : Type 0} (thing : List ℕ → Option (A × List ℕ)) (close : ℕ
 
   -- the exits of a loop where a step failed
   pub thing_fails : (error : DecodeError) (front : List A) (most i : ℕ) (rest : List ℕ)
-      (total : Option (List A × List ℕ)) → i < most → Fails error (thing rest)
-      → with_front front (separated thing close (most - i) rest) ≡ total → Fails error total
+      (total : Option (List A × List ℕ)) → i < most → FailsToRead error (thing rest)
+      → with_front front (separated thing close (most - i) rest) ≡ total → FailsToRead error total
   thing_fails errors.NotAValue front most i rest total lt e so_far = stops front most i rest total lt e so_far
   thing_fails errors.OutOfMemory front most i rest total lt e so_far = tt
 
   pub punctuation_fails : (error : DecodeError) (front : List A) (most i : ℕ) (rest : List ℕ) (x : A) (behind : List ℕ)
       (total : Option (List A × List ℕ)) → i < most → thing rest ≡ Some (x, behind)
-      → Fails error (punctuation_at close behind) → with_front front (separated thing close (most - i) rest) ≡ total
-      → Fails error total
+      → FailsToRead error (punctuation_at close behind) → with_front front (separated thing close (most - i) rest)
+      ≡ total
+      → FailsToRead error total
   punctuation_fails errors.NotAValue front most i rest x behind total lt e cut so_far =
       breaks front most i rest x behind total lt e cut so_far
   punctuation_fails errors.OutOfMemory front most i rest x behind total lt e cut so_far = tt

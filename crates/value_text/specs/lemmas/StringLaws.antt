@@ -7,7 +7,8 @@ use Rattle.std.specs.Str.{IsUtf8, is_utf8}
 use Rattle.std.proofs.lemmas.Bool.{and_parts, cases_Bool, eqb-true, lt-ltb, le-ltb, leb-true, le-leb, lt-leb, cases_lt}
 use Rattle.std.proofs.lemmas.Str.{is_utf8-from_IsUtf8, IsUtf8-from_is_utf8}
 use Rattle.value_text.specs.Texts.{escaped_byte, escaped, hex_digit, hex_byte_text, hex_text}
-use Rattle.value_text.specs.Readers.{◌>>=◌, literal_at, hex_value, byte_at, bytes_at, with_front, meant_by, quoted_at}
+use Rattle.value_text.specs.Readers.{◌>>=◌, literal_at, hex_value, hex_byte_at, hex_bytes_at, with_front, meant_by}
+use Rattle.value_text.specs.Readers.{quoted_at}
 use Rattle.value_text.specs.Parsing.{text_at}
 use Rattle.value_text.specs.lemmas.Steps.{bind_some, if_some, else_some, chosen, branch_some, some_is}
 use Rattle.value_text.specs.lemmas.Words.{literal_takes}
@@ -165,7 +166,7 @@ hex_value-hex_digit h lt =
           ap hex_value letter ∙ rw (first_low, first_high, low, high, back) refl
     ]
 
-byte_takes : (bytes : List ℕ) (x : ℕ × List ℕ) → byte_at bytes ≡ Some x
+byte_takes : (bytes : List ℕ) (x : ℕ × List ℕ) → hex_byte_at bytes ≡ Some x
     → (bytes ≡ hex_byte_text x.0 ++ x.1) × (x.0 < 256)
 byte_takes [] x e = absurd cc
 byte_takes (a ∷ []) x e = absurd cc
@@ -197,15 +198,15 @@ AreBytes-cons x b small others (suc i) = others i
 abbrev Hexed : List ℕ → List ℕ × List ℕ → Type 0
 Hexed bytes x = (bytes ≡ hex_text x.0 ++ x.1) × AreBytes x.0
 
-pub bytes_takes : (n : ℕ) (bytes : List ℕ) (x : List ℕ × List ℕ) → bytes_at n bytes ≡ Some x
+pub bytes_takes : (n : ℕ) (bytes : List ℕ) (x : List ℕ × List ℕ) → hex_bytes_at n bytes ≡ Some x
     → (bytes ≡ hex_text x.0 ++ x.1) × ((i : ℕ) → slice_index x.0 i < 256)
-unfolding bytes_at
+unfolding hex_bytes_at
 bytes_takes zero bytes x e = subst (λ (y : List ℕ × List ℕ). Hexed bytes y) (some_is ([], bytes) x e)
     (refl, AreBytes-nil)
 bytes_takes (suc n) bytes x e =
-    elim (branch_some (byte_at bytes) (λ b. with_front (b.0 ∷ []) (bytes_at n b.1)) (Some ([], bytes)) x e) [
+    elim (branch_some (hex_byte_at bytes) (λ b. with_front (b.0 ∷ []) (hex_bytes_at n b.1)) (Some ([], bytes)) x e) [
       | inl p ↦
-          let d = bind_some (bytes_at n p.0.1) (λ y. Some ((p.0.0 ∷ []) ++ y.0, y.1)) x p.2 in
+          let d = bind_some (hex_bytes_at n p.0.1) (λ y. Some ((p.0.0 ∷ []) ++ y.0, y.1)) x p.2 in
           let first = byte_takes bytes p.0 p.1 in
           let others = bytes_takes n p.0.1 d.0 d.1 in
           subst (λ (y : List ℕ × List ℕ). Hexed bytes y) (some_is (p.0.0 ∷ d.0.0, d.0.1) x d.2) (
@@ -216,7 +217,7 @@ bytes_takes (suc n) bytes x e =
       | inr p ↦ subst (λ (y : List ℕ × List ℕ). Hexed bytes y) (some_is ([], bytes) x p.1) (refl, AreBytes-nil)
     ]
 
-byte_again : (b : ℕ) (rest : List ℕ) → b < 256 → byte_at (hex_byte_text b ++ rest) ≡ Some (b, rest)
+byte_again : (b : ℕ) (rest : List ℕ) → b < 256 → hex_byte_at (hex_byte_text b ++ rest) ≡ Some (b, rest)
 byte_again b rest lt =
     let high : hex_value (hex_digit (b / 16)) ≡ Some (b / 16) = hex_value-hex_digit (b / 16) (omega arith) in
     let low : hex_value (hex_digit (b % 16)) ≡ Some (b % 16) = hex_value-hex_digit (b % 16) (omega arith) in
@@ -224,30 +225,30 @@ byte_again b rest lt =
     with_digits (hex_digit (b / 16)) (hex_digit (b % 16)) (b / 16) (b % 16) b rest high low back
   where
     with_digits : (a c h l n : ℕ) (rest : List ℕ) → hex_value a ≡ Some h → hex_value c ≡ Some l → 16 * h + l ≡ n
-        → byte_at (a ∷ c ∷ rest) ≡ Some (n, rest)
+        → hex_byte_at (a ∷ c ∷ rest) ≡ Some (n, rest)
     with_digits a c h l n rest e f g = rw (e, f) (ap (λ (m : ℕ). Some (m, rest)) g)
 
-no_byte_at_end : (rest : List ℕ) → Ends rest → byte_at rest ≡ None
+no_byte_at_end : (rest : List ℕ) → Ends rest → hex_byte_at rest ≡ None
 no_byte_at_end [] ends = refl
 no_byte_at_end (a ∷ []) ends = refl
 no_byte_at_end (a ∷ b ∷ rest) ends = ap (λ (o : Option ℕ). o >>= λ high. hex_value b >>= λ low.
     Some (16 * high + low, rest)) ends
 
-bytes_at_end : (n : ℕ) (rest : List ℕ) → Ends rest → bytes_at n rest ≡ Some ([], rest)
-unfolding bytes_at
+bytes_at_end : (n : ℕ) (rest : List ℕ) → Ends rest → hex_bytes_at n rest ≡ Some ([], rest)
+unfolding hex_bytes_at
 bytes_at_end zero rest ends = refl
 bytes_at_end (suc n) rest ends = rw (no_byte_at_end rest ends) refl
 
 bytes_again_within : (n : ℕ) (b rest : List ℕ) → length b ≤ n → ((i : ℕ) → slice_index b i < 256) → Ends rest
-    → bytes_at n (hex_text b ++ rest) ≡ Some (b, rest)
-unfolding bytes_at
+    → hex_bytes_at n (hex_text b ++ rest) ≡ Some (b, rest)
+unfolding hex_bytes_at
 bytes_again_within n [] rest short fits ends = bytes_at_end n rest ends
 bytes_again_within zero (x ∷ b) rest short fits ends = absurd (omega arith)
 bytes_again_within (suc n) (x ∷ b) rest short fits ends =
-    let others : bytes_at n (hex_text b ++ rest) ≡ Some (b, rest) =
+    let others : hex_bytes_at n (hex_text b ++ rest) ≡ Some (b, rest) =
     bytes_again_within n b rest (omega arith) (λ i. fits (suc i)) ends in
-    let one : byte_at ((hex_byte_text x ++ hex_text b) ++ rest) ≡ Some (x, hex_text b ++ rest) =
-    ap byte_at (append_assoc (hex_byte_text x) (hex_text b) rest) ∙ byte_again x (hex_text b ++ rest) (fits 0) in
+    let one : hex_byte_at ((hex_byte_text x ++ hex_text b) ++ rest) ≡ Some (x, hex_text b ++ rest) =
+    ap hex_byte_at (append_assoc (hex_byte_text x) (hex_text b) rest) ∙ byte_again x (hex_text b ++ rest) (fits 0) in
     rw (one, others) refl
 
 length-hex_text : (b rest : List ℕ) → length b ≤ length (hex_text b ++ rest)
@@ -255,6 +256,6 @@ length-hex_text [] rest = omega arith
 length-hex_text (x ∷ b) rest = let others = length-hex_text b rest in omega arith
 
 pub bytes_again : (b rest : List ℕ) → ((i : ℕ) → slice_index b i < 256) → Ends rest
-    → bytes_at (length (hex_text b ++ rest)) (hex_text b ++ rest) ≡ Some (b, rest)
+    → hex_bytes_at (length (hex_text b ++ rest)) (hex_text b ++ rest) ≡ Some (b, rest)
 bytes_again b rest fits ends = bytes_again_within (length (hex_text b ++ rest)) b rest (length-hex_text b rest) fits
     ends

@@ -45,11 +45,11 @@ length-kinds_list no_kinds = refl
 length-kinds_list (kind_then k ks) = ap suc (length-kinds_list ks)
 
 -- a type whose groups have 1 to 32 members, and that nests at most so deep
-pub record Fits (depth : ℕ) (k : Kind) : Type 0 where
+pub record FitsDepth (depth : ℕ) (k : Kind) : Type 0 where
   pub groups : kind_fits k ≡ true
   pub shallow : kind_depth k ≤ depth
 
-kinds_fit-kinds_of : (depth : ℕ) (xs : List Kind) → AllByRecursion (Fits depth) xs
+kinds_fit-kinds_of : (depth : ℕ) (xs : List Kind) → AllByRecursion (FitsDepth depth) xs
     → (kinds_fit (kinds_of xs) ≡ true) × (kinds_depth (kinds_of xs) ≤ depth)
 kinds_fit-kinds_of depth [] each = (refl, omega arith)
 kinds_fit-kinds_of depth (x ∷ xs) each =
@@ -109,7 +109,7 @@ unfolding scalar_at
 scalar_takes bytes x e = first_word_takes words bytes x rows e
 
 abbrev Typed : ℕ → List ℕ → Kind × List ℕ → Type 0
-Typed depth bytes x = (bytes ≡ type_text x.0 ++ x.1) × Fits depth x.0
+Typed depth bytes x = (bytes ≡ type_text x.0 ++ x.1) × FitsDepth depth x.0
 
 list_kind_takes : (depth : ℕ) → ((bytes : List ℕ) (x : Kind × List ℕ) → kind_at depth bytes ≡ Some x
     → Typed depth bytes x) → (bytes rest : List ℕ) (x : Kind × List ℕ) → bytes ≡ codes "list<" ++ rest
@@ -136,7 +136,7 @@ unfolding fields_kind_at
 fields_kind_takes depth law bytes rest x front e =
     let a = bind_some (separated (kind_at depth) 125 32 rest)
     (λ members. Some (fields_kind (kinds_of members.0), members.1)) x e in
-    let members = separated_takes type_text (kind_at depth) 125 (Fits depth) law 32 rest a.0 a.1 in
+    let members = separated_takes type_text (kind_at depth) 125 (FitsDepth depth) law 32 rest a.0 a.1 in
     let inner = kinds_fit-kinds_of depth a.0.0 members.each in
     let count = count_kinds-kinds_of a.0.0 in
     let some : nat_le 1 (count_kinds (kinds_of a.0.0)) ≡ true = le-leb _ _ (omega (arith, members.some, count)) in

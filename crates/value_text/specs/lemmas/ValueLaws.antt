@@ -14,8 +14,9 @@ use Rattle.value_model.specs.Trees.{fields_tree, Trees, no_trees, tree_then, cou
 use Rattle.value_model.specs.Validity.{AllOf, IsTyped, AllTyped, unsigned_limit, InRange, AllInRange}
 use Rattle.value_model.specs.Views.{trees_of}
 use Rattle.value_text.specs.Texts.{type_text, escaped, hex_text, value_text, values_text, further_values_text}
-use Rattle.value_text.specs.Readers.{◌>>=◌, branch, literal_at, unsigned_at, signed_at, bytes_at, separated}
-use Rattle.value_text.specs.Parsing.{scalar_at, kind_at, signed_limit, bool_at, text_at, content_at, scalar_tree_at}
+use Rattle.value_text.specs.Readers.{◌>>=◌, branch, literal_at, unsigned_at, signed_at, hex_bytes_at, separated}
+use Rattle.value_text.specs.Parsing.{scalar_at, kind_at, signed_limit, bool_at, text_at, value_content_at}
+use Rattle.value_text.specs.Parsing.{scalar_tree_at}
 use Rattle.value_text.specs.Parsing.{items_at, list_tree_at, fields_tree_at, tree_here, tree_at}
 use Rattle.value_text.specs.lemmas.Steps.{bind_some, branch_some, some_is}
 use Rattle.value_text.specs.lemmas.Words.{literal_takes}
@@ -81,8 +82,9 @@ bool_takes bytes x e =
           (ap (λ (t : List ℕ). codes "bool:" ++ t) (literal_takes (codes "false") bytes a.0 a.1), tt)
     ]
 
-content_takes : (k : Kind) (bytes : List ℕ) (x : Tree × List ℕ) → content_at k bytes ≡ Some x → SpelledBehind k bytes x
-unfolding content_at
+content_takes : (k : Kind) (bytes : List ℕ) (x : Tree × List ℕ) → value_content_at k bytes ≡ Some x
+    → SpelledBehind k bytes x
+unfolding value_content_at
 content_takes bool_kind bytes x e = bool_takes bytes x e
 content_takes (unsigned_kind s) bytes x e =
     let a = bind_some (unsigned_at (unsigned_limit s) bytes) (λ n. Some (unsigned_tree s n.0, n.1)) x e in
@@ -110,7 +112,7 @@ content_takes text_kind bytes x e =
       text.1,
     )
 content_takes bytes_kind bytes x e =
-    let a = bind_some (bytes_at (length bytes) bytes) (λ b. Some (bytes_tree b.0, b.1)) x e in
+    let a = bind_some (hex_bytes_at (length bytes) bytes) (λ b. Some (bytes_tree b.0, b.1)) x e in
     let hex = bytes_takes (length bytes) bytes a.0 a.1 in
     subst (λ (y : Tree × List ℕ). SpelledBehind bytes_kind bytes y) (some_is (bytes_tree a.0.0, a.0.1) x a.2)
     (ap (λ (t : List ℕ). codes "bytes:" ++ t) hex.0, hex.1)
@@ -120,8 +122,8 @@ content_takes (fields_kind ks) bytes x e = absurd cc
 scalar_tree_takes : (bytes : List ℕ) (x : Tree × List ℕ) → scalar_tree_at bytes ≡ Some x → Spelled bytes x
 unfolding scalar_tree_at
 scalar_tree_takes bytes x e =
-    let a = bind_some (scalar_at bytes) (λ k. literal_at (codes ":") k.1 >>= λ rest. content_at k.0 rest) x e in
-    let b = bind_some (literal_at (codes ":") a.0.1) (λ rest. content_at a.0.0 rest) x a.2 in
+    let a = bind_some (scalar_at bytes) (λ k. literal_at (codes ":") k.1 >>= λ rest. value_content_at k.0 rest) x e in
+    let b = bind_some (literal_at (codes ":") a.0.1) (λ rest. value_content_at a.0.0 rest) x a.2 in
     let word = scalar_takes bytes a.0 a.1 in
     let content = content_takes a.0.0 b.0 x b.2 in (
       word.0 ∙ ap (λ (t : List ℕ). type_text a.0.0 ++ t) (literal_takes (codes ":") a.0.1 b.0 b.1) ∙ content.0,
@@ -230,24 +232,24 @@ mag_fits four z fits = fits.sfits
 mag_fits eight z fits = fits.sfits
 
 unsigned_content : (s : Size) (n : ℕ) (rest : List ℕ) → n < unsigned_limit s → Ends rest
-    → content_at (unsigned_kind s) (decimal n ++ rest) ≡ Some (unsigned_tree s n, rest)
-unfolding content_at
+    → value_content_at (unsigned_kind s) (decimal n ++ rest) ≡ Some (unsigned_tree s n, rest)
+unfolding value_content_at
 unsigned_content s n rest lt ends = rw (unsigned_again (unsigned_limit s) n rest (unsigned_limit_fits s) lt ends) refl
 
 signed_content : (s : Size) (z : ℤ) (rest : List ℕ) → FitsSigned (width s) z → Ends rest
-    → content_at (signed_kind s) (signed_decimal z ++ rest) ≡ Some (signed_tree s z, rest)
-unfolding content_at
+    → value_content_at (signed_kind s) (signed_decimal z ++ rest) ≡ Some (signed_tree s z, rest)
+unfolding value_content_at
 signed_content s z rest fits ends = rw (signed_again (signed_limit s) z rest (signed_limit_fits s) (mag_fits s z fits)
     ends) refl
 
 text_content : (t rest : List ℕ) → InRange (text_tree t)
-    → content_at text_kind (34 ∷ ((escaped t ++ codes "\"") ++ rest)) ≡ Some (text_tree t, rest)
-unfolding content_at
+    → value_content_at text_kind (34 ∷ ((escaped t ++ codes "\"") ++ rest)) ≡ Some (text_tree t, rest)
+unfolding value_content_at
 text_content t rest fits = rw (text_again t rest fits) refl
 
 bytes_content : (b rest : List ℕ) → InRange (bytes_tree b) → Ends rest
-    → content_at bytes_kind (hex_text b ++ rest) ≡ Some (bytes_tree b, rest)
-unfolding content_at
+    → value_content_at bytes_kind (hex_text b ++ rest) ≡ Some (bytes_tree b, rest)
+unfolding value_content_at
 bytes_content b rest fits ends = rw (bytes_again b rest fits ends) refl
 
 no_bracket : (t : Tree) (rest : List ℕ) → literal_at (codes "]") (value_text t ++ rest) ≡ None
@@ -335,8 +337,8 @@ members_are_read depth law (tree_then t ts) shallow typed fits =
 pub tree_again : (depth : ℕ) → IsAgain depth
 unfolding tree_at tree_here scalar_tree_at scalar_at
 tree_again zero t shallow typed fits rest ends = absurd (omega (arith, kind_depth-positive (type_of t)))
-tree_again (suc depth) (bool_tree true) shallow typed fits rest ends = unfold content_at in refl
-tree_again (suc depth) (bool_tree false) shallow typed fits rest ends = unfold content_at in refl
+tree_again (suc depth) (bool_tree true) shallow typed fits rest ends = unfold value_content_at in refl
+tree_again (suc depth) (bool_tree false) shallow typed fits rest ends = unfold value_content_at in refl
 tree_again (suc depth) (unsigned_tree one n) shallow typed fits rest ends = unsigned_content one n rest fits ends
 tree_again (suc depth) (unsigned_tree two n) shallow typed fits rest ends = unsigned_content two n rest fits ends
 tree_again (suc depth) (unsigned_tree four n) shallow typed fits rest ends = unsigned_content four n rest fits ends

@@ -9,7 +9,7 @@ use Rattle.std.proofs.lemmas.List.{append-nil, nil_from_length}
 use Rattle.value_model.specs.declared.errors.DecodeError.{DecodeError}
 use Rattle.value_model.specs.declared.errors.DecodeError.TheVariants as errors
 use Rattle.value_text.specs.Texts.{hex_text}
-use Rattle.value_text.specs.Readers.{Gives, unsigned_at, signed_at, bytes_at}
+use Rattle.value_text.specs.Readers.{Gives, unsigned_at, signed_at, hex_bytes_at}
 use Rattle.value_text.specs.Whole.{unsigned_in, signed_in, bytes_in}
 use Rattle.value_text.specs.lemmas.Steps.{bind_some, if_some, some_is}
 use Rattle.value_text.specs.lemmas.NumberLaws.{unsigned_takes, unsigned_again, signed_takes, signed_again}
@@ -58,7 +58,7 @@ pub bytes_in_takes : (text b : List ℕ) → bytes_in text ≡ Some b
     → (text ≡ hex_text b) × ((i : ℕ) → slice_index b i < 256)
 unfolding bytes_in
 bytes_in_takes text b e =
-    let a = bind_some (bytes_at (length text) text) (λ x. cond (nat_eq (length x.1) 0) (Some x.0) None) b e in
+    let a = bind_some (hex_bytes_at (length text) text) (λ x. cond (nat_eq (length x.1) 0) (Some x.0) None) b e in
     let d = if_some (nat_eq (length a.0.1) 0) (Some a.0.0) b a.2 in
     let read = bytes_takes (length text) text a.0 a.1 in
     subst (λ (c : List ℕ). (text ≡ hex_text c) × ((i : ℕ) → slice_index c i < 256)) (some_is a.0.0 b d.1)
@@ -67,8 +67,8 @@ bytes_in_takes text b e =
 pub bytes_in_again : (b : List ℕ) → ((i : ℕ) → slice_index b i < 256) → bytes_in (hex_text b) ≡ Some b
 unfolding bytes_in
 bytes_in_again b fits =
-    let read : bytes_at (length (hex_text b)) (hex_text b) ≡ Some (b, []) =
-    ap (λ (t : List ℕ). bytes_at (length t) t) (sym (append-nil (hex_text b))) ∙ bytes_again b [] fits refl in
+    let read : hex_bytes_at (length (hex_text b)) (hex_text b) ≡ Some (b, []) =
+    ap (λ (t : List ℕ). hex_bytes_at (length t) t) (sym (append-nil (hex_text b))) ∙ bytes_again b [] fits refl in
     rw read refl
 
 -- ---- what the functions promise

@@ -1,4 +1,4 @@
--- Words at the front of a text.
+-- Words at the start of a text.
 use Rattle.std.proofs.Common.{◌≡◌, ℕ, Bool, true, false, cond, nat_eq, List, [], ◌∷◌, ◌++◌, length, take, drop, Option}
 use Rattle.std.proofs.Common.{Some, None, MatchOption, inl, inr, refl, ap, sym, ◌∙◌, ◌+◌, Bor}
 use Rattle.std.specs.Cmp.Lexicographic.{pointwise}

@@ -1,6 +1,6 @@
 use Rattle.std.proofs.Common.{◌*◌, [], length, get_or}
-use Rattle.block_files.specs.BlockSets.{IsApart}
-use Rattle.block_files.specs.Parts.{changed}
+use Rattle.block_files.specs.BlockSets.{IsNotAmong}
+use Rattle.block_files.specs.Parts.{changed_blocks}
 use Rattle.block_files.specs.Areas.{area_of}
 use Rattle.block_files.specs.Writes.{IsNoneOf, IsApartFromChanged}
 use Rattle.block_files.specs.lemmas.Everywhere.{shared_none, apart_none, whole_le}
@@ -17,9 +17,9 @@ pub returns-clause-done : goal.returns-clause-done
 returns-clause-done g c =
     let none = IsNoneOf c.args.place c.args.copies.now in
     wrote_less g.D.Disk.told none (IsApartFromChanged c.args.blocks.now c.args.bytes.now []) none
-    (IsApart c.args.blocks.now)
+    (IsNotAmong c.args.blocks.now)
     (λ f is. is) (apart_none c.args.blocks.now c.args.bytes.now [])
-    (length c.args.copies.now * (256 * changed c.args.bytes.now []))
+    (length c.args.copies.now * (256 * changed_blocks c.args.bytes.now []))
     (length c.args.copies.now * (256 * length c.args.blocks.now))
     (whole_le c.args.bytes.now (length c.args.copies.now) (length c.args.blocks.now) c.requires.room)
     (g.D.Disk.medium c.args.disk.now) (g.D.Disk.medium c.write_copies.new.disk)
@@ -30,9 +30,9 @@ returns-in_err-write_copies-clause-failed g c =
     let none = IsNoneOf c.args.place c.args.copies.now in
     on_err c.from_residual.result
     (tore_less g.D.Disk.told none (IsApartFromChanged c.args.blocks.now c.args.bytes.now []) none
-    (IsApart c.args.blocks.now)
+    (IsNotAmong c.args.blocks.now)
     (λ f is. is) (apart_none c.args.blocks.now c.args.bytes.now [])
-    (length c.args.copies.now * (256 * changed c.args.bytes.now []))
+    (length c.args.copies.now * (256 * changed_blocks c.args.bytes.now []))
     (length c.args.copies.now * (256 * length c.args.blocks.now))
     (whole_le c.args.bytes.now (length c.args.copies.now) (length c.args.blocks.now) c.requires.room)
     (g.D.Disk.medium c.args.disk.now) (g.D.Disk.medium c.write_copies.new.disk)

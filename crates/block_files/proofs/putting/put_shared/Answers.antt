@@ -1,7 +1,7 @@
 use Rattle.std.proofs.Common.{◌*◌, List, ℕ, sym, ap, subst, length, arith, le_refl}
 use Rattle.disk_model.specs.Place.{area, IsNoArea}
 use Rattle.block_files.specs.BlockSets.{AreDistinct}
-use Rattle.block_files.specs.Parts.{changed}
+use Rattle.block_files.specs.Parts.{changed_blocks}
 use Rattle.block_files.specs.Areas.{HoldsShared}
 use Rattle.block_files.specs.Writes.{IsTaken, IsApartFromChanged}
 use Rattle.block_files.specs.lemmas.Sharing.{holds_shared, taken_apart_changed}
@@ -27,7 +27,7 @@ pub returns-in_err-write_shared-clause-failed : goal.returns-in_err-write_shared
 returns-in_err-write_shared-clause-failed g c = λ failed.
     let blocks = c.in_ok-blob.blob.blocks in
     let none = IsNoArea c.args.place in
-    let n = c.args.place.copies * (256 * changed c.args.bytes.now c.args.old_bytes.now) in
+    let n = c.args.place.copies * (256 * changed_blocks c.args.bytes.now c.args.old_bytes.now) in
     let P : List ℕ → Type 0 = λ xs. (k : ℕ) → IsTaken c.args.used.now k
     → IsApartFromChanged xs c.args.bytes.now c.args.old_bytes.now k in
     tore_less g.D.Disk.told none (IsApartFromChanged c.as_slice.result.now c.args.bytes.now c.args.old_bytes.now) none

@@ -1,8 +1,8 @@
 use Rattle.std.proofs.Common.{◌*◌, [], length}
 use Rattle.std.proofs.lemmas.Result.{on_ok_weaker, on_err_weaker}
 use Rattle.disk_model.specs.Place.{area, IsNoArea}
-use Rattle.block_files.specs.BlockSets.{IsApart}
-use Rattle.block_files.specs.Parts.{changed}
+use Rattle.block_files.specs.BlockSets.{IsNotAmong}
+use Rattle.block_files.specs.Parts.{changed_blocks}
 use Rattle.block_files.specs.Writes.{IsApartFromChanged}
 use Rattle.block_files.specs.lemmas.Everywhere.{shared_none, apart_none, whole_le}
 use Rattle.block_files.specs.lemmas.Stretches.{wrote_less, tore_less}
@@ -17,9 +17,10 @@ returns-clause-done g c =
     let none = IsNoArea c.args.place in
     on_ok_weaker c.write_shared.result
     (wrote_less g.D.Disk.told none (IsApartFromChanged c.args.blocks.now c.args.bytes.now []) none
-    (IsApart c.args.blocks.now)
+    (IsNotAmong c.args.blocks.now)
     (λ f is. is) (apart_none c.args.blocks.now c.args.bytes.now [])
-    (c.args.place.copies * (256 * changed c.args.bytes.now [])) (c.args.place.copies * (256 * length c.args.blocks.now))
+    (c.args.place.copies * (256 * changed_blocks c.args.bytes.now []))
+    (c.args.place.copies * (256 * length c.args.blocks.now))
     (whole_le c.args.bytes.now c.args.place.copies (length c.args.blocks.now) c.requires.room)
     (g.D.Disk.medium c.args.disk.now) (g.D.Disk.medium c.write_shared.new.disk))
     c.write_shared.ensures.done
@@ -29,9 +30,10 @@ returns-clause-failed g c =
     let none = IsNoArea c.args.place in
     on_err_weaker c.write_shared.result
     (tore_less g.D.Disk.told none (IsApartFromChanged c.args.blocks.now c.args.bytes.now []) none
-    (IsApart c.args.blocks.now)
+    (IsNotAmong c.args.blocks.now)
     (λ f is. is) (apart_none c.args.blocks.now c.args.bytes.now [])
-    (c.args.place.copies * (256 * changed c.args.bytes.now [])) (c.args.place.copies * (256 * length c.args.blocks.now))
+    (c.args.place.copies * (256 * changed_blocks c.args.bytes.now []))
+    (c.args.place.copies * (256 * length c.args.blocks.now))
     (whole_le c.args.bytes.now c.args.place.copies (length c.args.blocks.now) c.requires.room)
     (g.D.Disk.medium c.args.disk.now) (g.D.Disk.medium c.write_shared.new.disk))
     c.write_shared.ensures.failed

@@ -1,7 +1,7 @@
 use Rattle.std.proofs.Common.{◌*◌, ◌≤◌, ap, arith, length, take}
 use Rattle.std.proofs.lemmas.Result.{on_ok_weaker, on_err_weaker}
 use Rattle.disk_model.specs.Place.{IsNoArea}
-use Rattle.block_files.specs.Parts.{changed}
+use Rattle.block_files.specs.Parts.{changed_blocks}
 use Rattle.block_files.specs.Writes.{IsNoneOf, IsApartFromChanged}
 use Rattle.block_files.specs.lemmas.Everywhere.{numbers, numbers_named, shared_named, all_full, none_named}
 use Rattle.block_files.specs.lemmas.Everywhere.{length-numbers}
@@ -28,7 +28,7 @@ pub returns-clause-done : goal.returns-clause-done
 returns-clause-done g c =
     let place = c.args.place in
     let apart = IsApartFromChanged c.args.blocks.now c.args.bytes.now c.args.was.now in
-    let n = 256 * changed c.args.bytes.now c.args.was.now in
+    let n = 256 * changed_blocks c.args.bytes.now c.args.was.now in
     let le : length (take place.copies numbers) * n ≤ place.copies * n =
     omega (arith, ap (λ k. k * n) (length-numbers place)) in
     on_ok_weaker c.write_copies.result
@@ -43,7 +43,7 @@ pub returns-clause-failed : goal.returns-clause-failed
 returns-clause-failed g c =
     let place = c.args.place in
     let apart = IsApartFromChanged c.args.blocks.now c.args.bytes.now c.args.was.now in
-    let n = 256 * changed c.args.bytes.now c.args.was.now in
+    let n = 256 * changed_blocks c.args.bytes.now c.args.was.now in
     let le : length (take place.copies numbers) * n ≤ place.copies * n =
     omega (arith, ap (λ k. k * n) (length-numbers place)) in
     on_err_weaker c.write_copies.result

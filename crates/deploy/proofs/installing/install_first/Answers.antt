@@ -6,11 +6,11 @@ use Rattle.deployment_model.specs.Data.{deployment_data}
 use Rattle.root_text.specs.declared.versions.VersionText.{VersionText}
 use Rattle.deploy_laws.specs.Apps.{App, app_at}
 use Rattle.deploy_laws.specs.Stands.{StandsThroughout}
-use Rattle.deploy_rows.specs.Rows.{Answers, after, deployment_of, installed_app, installing}
+use Rattle.deploy_rows.specs.Rows.{AnswersRow, after, deployment_of, installed_app, installing}
 use Rattle.deploy.specs.declared.roots.Outcome.{Outcome}
 use Rattle.deploy.specs.declared.roots.Root.TheVariants as root
 use Rattle.deploy.specs.Roots.{root_app, root_says}
-use Rattle.deploy.specs.Versions.{Told}
+use Rattle.deploy.specs.Versions.{TellsRow}
 use Rattle.deploy.proofs.FirstVersion.{if_ok, says_absent}
 use Rattle.deploy.proofs.InstallRow.{installs, rejected, worn_out}
 use Rattle.deploy.proofs.Unmoved.{answered, app_after, later_after, led_after, led_answers, led_is_ok}
@@ -30,14 +30,14 @@ pub returns-in-Err-clause-refused : goal.returns-in-Err-clause-refused
 returns-in-Err-clause-refused g c = answered (installing c.args.now c.args.manifest.now) c.in-Err.rejected
     (root.Absent c.args.cell) (root.Absent c.args.cell) c.refuses.result refl c.refuses.ensures
     (rejected c.args.now (generation_of c.args.cell) c.args.manifest.now (root_app (root.Absent c.args.cell) []) refl
-    c.in-Err.rejected (subst (λ (r : Result VersionText PerError). Told (deployment_of c.args.manifest.now) r)
+    c.in-Err.rejected (subst (λ (r : Result VersionText PerError). TellsRow (deployment_of c.args.manifest.now) r)
     c.in-Err.is c.in_ok-version.ensures.told))
 
 pub returns-in-Err-clause-says : goal.returns-in-Err-clause-says
 returns-in-Err-clause-says g c = says_still (installing c.args.now c.args.manifest.now) c.in-Err.rejected
     (root.Absent c.args.cell) (root.Absent c.args.cell) c.refuses.result refl c.refuses.ensures
     (rejected c.args.now (generation_of c.args.cell) c.args.manifest.now (root_app (root.Absent c.args.cell) []) refl
-    c.in-Err.rejected (subst (λ (r : Result VersionText PerError). Told (deployment_of c.args.manifest.now) r)
+    c.in-Err.rejected (subst (λ (r : Result VersionText PerError). TellsRow (deployment_of c.args.manifest.now) r)
     c.in-Err.is c.in_ok-version.ensures.told))
 
 pub returns-in-Err-clause-app : goal.returns-in-Err-clause-app
@@ -46,7 +46,7 @@ returns-in-Err-clause-app g c = app_after (installing c.args.now c.args.manifest
     c.args.manifest.now) g.D.Disk.told (g.D.Disk.medium c.args.disk.now).image c.args.app (root.Absent c.args.cell)
     c.requires.root (rejected c.args.now (generation_of c.args.cell) c.args.manifest.now
     (root_app (root.Absent c.args.cell) []) refl c.in-Err.rejected
-    (subst (λ (r : Result VersionText PerError). Told (deployment_of c.args.manifest.now) r) c.in-Err.is
+    (subst (λ (r : Result VersionText PerError). TellsRow (deployment_of c.args.manifest.now) r) c.in-Err.is
     c.in_ok-version.ensures.told))
 
 pub returns-in-Err-clause-any_moment : goal.returns-in-Err-clause-any_moment
@@ -62,7 +62,7 @@ returns-then-generation-clause-refused g c = answered (installing c.args.now c.a
     (root.Absent c.args.cell) (root.Absent c.args.cell) c.refuses-then-generation.result refl
     c.refuses-then-generation.ensures (worn_out c.args.now (generation_of c.args.cell) c.args.manifest.now
     (root_app (root.Absent c.args.cell) []) refl (deployment_data c.in-Ok.version.deployment)
-    (subst (λ (r : Result VersionText PerError). Told (deployment_of c.args.manifest.now) r) c.in-Ok.is
+    (subst (λ (r : Result VersionText PerError). TellsRow (deployment_of c.args.manifest.now) r) c.in-Ok.is
     c.in_ok-version.ensures.told) (omega arith) ∙ ap (λ (e : PerError). Err e) (sym c.worn_out.ensures))
 
 pub returns-then-generation-clause-says : goal.returns-then-generation-clause-says
@@ -70,7 +70,7 @@ returns-then-generation-clause-says g c = says_still (installing c.args.now c.ar
     (root.Absent c.args.cell) (root.Absent c.args.cell) c.refuses-then-generation.result refl
     c.refuses-then-generation.ensures (worn_out c.args.now (generation_of c.args.cell) c.args.manifest.now
     (root_app (root.Absent c.args.cell) []) refl (deployment_data c.in-Ok.version.deployment)
-    (subst (λ (r : Result VersionText PerError). Told (deployment_of c.args.manifest.now) r) c.in-Ok.is
+    (subst (λ (r : Result VersionText PerError). TellsRow (deployment_of c.args.manifest.now) r) c.in-Ok.is
     c.in_ok-version.ensures.told) (omega arith) ∙ ap (λ (e : PerError). Err e) (sym c.worn_out.ensures))
 
 pub returns-then-generation-clause-app : goal.returns-then-generation-clause-app
@@ -79,7 +79,7 @@ returns-then-generation-clause-app g c = app_after (installing c.args.now c.args
     c.args.manifest.now) g.D.Disk.told (g.D.Disk.medium c.args.disk.now).image c.args.app (root.Absent c.args.cell)
     c.requires.root (worn_out c.args.now (generation_of c.args.cell) c.args.manifest.now
     (root_app (root.Absent c.args.cell) []) refl (deployment_data c.in-Ok.version.deployment)
-    (subst (λ (r : Result VersionText PerError). Told (deployment_of c.args.manifest.now) r) c.in-Ok.is
+    (subst (λ (r : Result VersionText PerError). TellsRow (deployment_of c.args.manifest.now) r) c.in-Ok.is
     c.in_ok-version.ensures.told) (omega arith) ∙ ap (λ (e : PerError). Err e) (sym c.worn_out.ensures))
 
 pub returns-then-generation-clause-any_moment : goal.returns-then-generation-clause-any_moment
@@ -93,13 +93,13 @@ returns-then-generation-clause-any_moment g c = λ tells.
 
 pub returns-clause-refused : goal.returns-clause-refused
 returns-clause-refused g c = if_ok c.install_version.result (λ (o : Outcome). o.refused ≡ None)
-    (λ (o : Outcome). Answers o.refused (installing c.args.now c.args.manifest.now
+    (λ (o : Outcome). AnswersRow o.refused (installing c.args.now c.args.manifest.now
     (root_app (root.Absent c.args.cell) [])))
     (λ o none. led_answers o.refused (installing c.args.now c.args.manifest.now (root_app (root.Absent c.args.cell) []))
     (installed_app (generation_of c.args.cell) c.args.now (deployment_data c.in-Ok.version.deployment)) none
     (installs c.args.now (generation_of c.args.cell) c.args.manifest.now (root_app (root.Absent c.args.cell) [])
     refl (deployment_data c.in-Ok.version.deployment)
-    (subst (λ (r : Result VersionText PerError). Told (deployment_of c.args.manifest.now) r) c.in-Ok.is
+    (subst (λ (r : Result VersionText PerError). TellsRow (deployment_of c.args.manifest.now) r) c.in-Ok.is
     c.in_ok-version.ensures.told) (omega arith))) c.install_version.ensures.installed
 
 pub returns-clause-says : goal.returns-clause-says
@@ -113,7 +113,7 @@ returns-clause-says g c = if_ok c.install_version.result
     (installing c.args.now c.args.manifest.now (root_app (root.Absent c.args.cell) []))
     (installs c.args.now (generation_of c.args.cell) c.args.manifest.now (root_app (root.Absent c.args.cell) [])
     refl (deployment_data c.in-Ok.version.deployment)
-    (subst (λ (r : Result VersionText PerError). Told (deployment_of c.args.manifest.now) r) c.in-Ok.is
+    (subst (λ (r : Result VersionText PerError). TellsRow (deployment_of c.args.manifest.now) r) c.in-Ok.is
     c.in_ok-version.ensures.told) (omega arith)))) c.install_version.ensures.says
 
 pub returns-clause-app : goal.returns-clause-app
@@ -127,7 +127,7 @@ returns-clause-app g c = λ tells. subst (λ (b : App). OnOk c.install_version.r
     (says_absent c.one_root.ensures.again c.roots_say.ensures.alone (g.D.Disk.medium c.args.disk.now).image
     c.args.app c.args.cell c.requires.root.memory (c.requires.root.disk tells))
     (deployment_data c.in-Ok.version.deployment) (subst
-    (λ (r : Result VersionText PerError). Told (deployment_of c.args.manifest.now) r) c.in-Ok.is
+    (λ (r : Result VersionText PerError). TellsRow (deployment_of c.args.manifest.now) r) c.in-Ok.is
     c.in_ok-version.ensures.told) (omega arith))) (c.install_version.ensures.app tells)
 
 pub returns-clause-early : goal.returns-clause-early
@@ -136,7 +136,7 @@ returns-clause-early g c = λ e refusal. led_never_refused
     (installing c.args.now c.args.manifest.now (root_app (root.Absent c.args.cell) [])) e
     (installs c.args.now (generation_of c.args.cell) c.args.manifest.now (root_app (root.Absent c.args.cell) []) refl
     (deployment_data c.in-Ok.version.deployment) (subst
-    (λ (r : Result VersionText PerError). Told (deployment_of c.args.manifest.now) r) c.in-Ok.is
+    (λ (r : Result VersionText PerError). TellsRow (deployment_of c.args.manifest.now) r) c.in-Ok.is
     c.in_ok-version.ensures.told) (omega arith)) refusal
 
 pub returns-clause-device_only : goal.returns-clause-device_only
@@ -144,7 +144,7 @@ returns-clause-device_only g c = λ _. led_is_ok (installed_app (generation_of c
     (deployment_data c.in-Ok.version.deployment)) (installing c.args.now c.args.manifest.now
     (root_app (root.Absent c.args.cell) [])) (installs c.args.now (generation_of c.args.cell) c.args.manifest.now
     (root_app (root.Absent c.args.cell) []) refl (deployment_data c.in-Ok.version.deployment)
-    (subst (λ (r : Result VersionText PerError). Told (deployment_of c.args.manifest.now) r) c.in-Ok.is
+    (subst (λ (r : Result VersionText PerError). TellsRow (deployment_of c.args.manifest.now) r) c.in-Ok.is
     c.in_ok-version.ensures.told) (omega arith))
 
 pub returns-clause-any_moment : goal.returns-clause-any_moment
@@ -158,5 +158,5 @@ returns-clause-any_moment g c = λ tells. subst (λ (b : App).
     (says_absent c.one_root.ensures.again c.roots_say.ensures.alone (g.D.Disk.medium c.args.disk.now).image
     c.args.app c.args.cell c.requires.root.memory (c.requires.root.disk tells))
     (deployment_data c.in-Ok.version.deployment) (subst
-    (λ (r : Result VersionText PerError). Told (deployment_of c.args.manifest.now) r) c.in-Ok.is
+    (λ (r : Result VersionText PerError). TellsRow (deployment_of c.args.manifest.now) r) c.in-Ok.is
     c.in_ok-version.ensures.told) (omega arith))) (c.install_version.ensures.any_moment tells)

@@ -5,7 +5,7 @@ use Rattle.deploy_rows.specs.Rows.{after, finishing}
 use Rattle.deploy.specs.declared.roots.Outcome.{Outcome}
 use Rattle.deploy.specs.Clauses.{IsNoRootSlot}
 use Rattle.deploy.specs.Leaving.{lone_says}
-use Rattle.deploy.specs.Roots.{texts_in}
+use Rattle.deploy.specs.Roots.{root_texts}
 use Rattle.deploy.proofs.RowsInUse.{led_answers, led_app, led_ok, led_says, led_stands, led_text, led_unchanged}
 use Rattle.deploy.proofs.RowsInUse.{next_clean, not_refused, refused_answers, refused_app, refused_root, refused_says}
 use Rattle.deploy.proofs.RowsInUse.{refused_text}
@@ -32,7 +32,7 @@ returns-in-Err-clause-says g c = refused_says finishing c.args.root c.in-Err.ref
 
 pub returns-in-Err-clause-text : goal.returns-in-Err-clause-text
 returns-in-Err-clause-text g c = refused_text finishing c.args.root c.in-Err.refused c.in-Err.ensures.refused
-    (take 1 (texts_in c.args.root))
+    (take 1 (root_texts c.args.root))
 
 pub returns-in-Err-clause-app : goal.returns-in-Err-clause-app
 returns-in-Err-clause-app g c = λ tells app lt at. refused_app finishing c.args.root c.in-Err.refused
@@ -113,7 +113,8 @@ returns-in-Ok-clause-says g c = led_says finishing (c.rows_read_the_root.ensures
     c.write.result c.write.ensures.says
 
 pub returns-in-Ok-clause-text : goal.returns-in-Ok-clause-text
-returns-in-Ok-clause-text g c = led_text c.write.result (c.in-Ok.lone.version.text ∷ []) (take 1 (texts_in c.args.root))
+returns-in-Ok-clause-text g c = led_text c.write.result (c.in-Ok.lone.version.text ∷ [])
+    (take 1 (root_texts c.args.root))
     c.write.ensures.text c.in-Ok.ensures.text
 
 pub returns-in-Ok-clause-app : goal.returns-in-Ok-clause-app

@@ -5,8 +5,8 @@ use Rattle.deploy_rows.specs.Rows.{after, rolling_back}
 use Rattle.deploy.specs.declared.roots.Outcome.{Outcome}
 use Rattle.deploy.specs.declared.leaving.Lone.{Lone}
 use Rattle.deploy.specs.Clauses.{IsNoRootSlot}
-use Rattle.deploy.specs.Leaving.{IsLone, IsRefused, lone_says}
-use Rattle.deploy.specs.Roots.{texts_in}
+use Rattle.deploy.specs.Leaving.{IsLone, IsRootRefused, lone_says}
+use Rattle.deploy.specs.Roots.{root_texts}
 use Rattle.deploy.proofs.RowsInUse.{err_of, led_answers, led_app, led_ok, led_says, led_stands, led_text, led_unchanged}
 use Rattle.deploy.proofs.RowsInUse.{next_clean, not_refused, ok_of, refused_answers, refused_app, refused_root}
 use Rattle.deploy.proofs.RowsInUse.{refused_says, refused_text}
@@ -43,33 +43,33 @@ returns-in_err-lone-clause-time g c = elapses_none (g.met.D.Disk.lawful c.args.d
 
 pub returns-in-Err-clause-root : goal.returns-in-Err-clause-root
 returns-in-Err-clause-root g c =
-    let refused = err_of (IsRefused (rolling_back (option_map (λ n. n.now) c.args.busy)) c.args.root)
+    let refused = err_of (IsRootRefused (rolling_back (option_map (λ n. n.now) c.args.busy)) c.args.root)
     c.in_ok-lone.field-0 c.in-Err.refused c.in-Err.is c.in_ok-lone.ensures.refused in
     λ app lt at. refused_root (rolling_back (option_map (λ n. n.now) c.args.busy)) c.args.root c.in-Err.refused refused
     g.D.Disk.told (g.D.Disk.medium c.args.disk.now).image app at
 
 pub returns-in-Err-clause-refused : goal.returns-in-Err-clause-refused
 returns-in-Err-clause-refused g c =
-    let refused = err_of (IsRefused (rolling_back (option_map (λ n. n.now) c.args.busy)) c.args.root)
+    let refused = err_of (IsRootRefused (rolling_back (option_map (λ n. n.now) c.args.busy)) c.args.root)
     c.in_ok-lone.field-0 c.in-Err.refused c.in-Err.is c.in_ok-lone.ensures.refused in
     refused_answers (rolling_back (option_map (λ n. n.now) c.args.busy)) c.args.root c.in-Err.refused refused
 
 pub returns-in-Err-clause-says : goal.returns-in-Err-clause-says
 returns-in-Err-clause-says g c =
-    let refused = err_of (IsRefused (rolling_back (option_map (λ n. n.now) c.args.busy)) c.args.root)
+    let refused = err_of (IsRootRefused (rolling_back (option_map (λ n. n.now) c.args.busy)) c.args.root)
     c.in_ok-lone.field-0 c.in-Err.refused c.in-Err.is c.in_ok-lone.ensures.refused in
     refused_says (rolling_back (option_map (λ n. n.now) c.args.busy)) c.args.root c.in-Err.refused refused
 
 pub returns-in-Err-clause-text : goal.returns-in-Err-clause-text
 returns-in-Err-clause-text g c =
-    let refused = err_of (IsRefused (rolling_back (option_map (λ n. n.now) c.args.busy)) c.args.root)
+    let refused = err_of (IsRootRefused (rolling_back (option_map (λ n. n.now) c.args.busy)) c.args.root)
     c.in_ok-lone.field-0 c.in-Err.refused c.in-Err.is c.in_ok-lone.ensures.refused in
     refused_text (rolling_back (option_map (λ n. n.now) c.args.busy)) c.args.root c.in-Err.refused refused
-    (drop 1 (texts_in c.args.root))
+    (drop 1 (root_texts c.args.root))
 
 pub returns-in-Err-clause-app : goal.returns-in-Err-clause-app
 returns-in-Err-clause-app g c =
-    let refused = err_of (IsRefused (rolling_back (option_map (λ n. n.now) c.args.busy)) c.args.root)
+    let refused = err_of (IsRootRefused (rolling_back (option_map (λ n. n.now) c.args.busy)) c.args.root)
     c.in_ok-lone.field-0 c.in-Err.refused c.in-Err.is c.in_ok-lone.ensures.refused in
     λ tells app lt at. refused_app (rolling_back (option_map (λ n. n.now) c.args.busy)) c.args.root c.in-Err.refused
     refused (c.rows_read_the_root.ensures.rollback (option_map (λ n. n.now) c.args.busy)) c.one_root.ensures.again
@@ -77,7 +77,7 @@ returns-in-Err-clause-app g c =
 
 pub returns-in-Err-clause-unchanged : goal.returns-in-Err-clause-unchanged
 returns-in-Err-clause-unchanged g c =
-    let refused = err_of (IsRefused (rolling_back (option_map (λ n. n.now) c.args.busy)) c.args.root)
+    let refused = err_of (IsRootRefused (rolling_back (option_map (λ n. n.now) c.args.busy)) c.args.root)
     c.in_ok-lone.field-0 c.in-Err.refused c.in-Err.is c.in_ok-lone.ensures.refused in
     λ some. (refl, refused.same)
 
@@ -151,7 +151,7 @@ returns-in-Ok-clause-says g c =
 
 pub returns-in-Ok-clause-text : goal.returns-in-Ok-clause-text
 returns-in-Ok-clause-text g c =
-    let texts = drop 1 (texts_in c.args.root) in
+    let texts = drop 1 (root_texts c.args.root) in
     let previous = ok_of (λ (l : Lone). l.version.text ∷ [] ≡ texts) c.in_ok-lone.field-0 c.in-Ok.lone c.in-Ok.is
     c.in_ok-lone.ensures.text in
     led_text c.write.result (c.in-Ok.lone.version.text ∷ []) texts c.write.ensures.text previous

@@ -4,7 +4,7 @@ use Rattle.deployment_model.specs.Data.{storage_data}
 use Rattle.deployment_model.specs.declared.configs.StorageConfig.{StorageConfig}
 use Rattle.index_text.specs.Contents.{AreContents}
 use Rattle.element_state.specs.States.{fresh_map, fresh_state, store_at}
-use Rattle.deploy_laws.specs.Places.{shape_of}
+use Rattle.deploy_laws.specs.Places.{storage_shape}
 use Rattle.deploy.proofs.MadeStorages.{few_contents, made_all, making_more, making_none, more_outside, more_time}
 use Rattle.deploy.proofs.MadeStorages.{storage_fits, storage_keeps}
 use Rattle.deploy.proofs.making.create_rest.Goals as goal
@@ -101,7 +101,7 @@ loop-number-preserved g c =
           c.index-contents-number.result c.requires.app c.requires.bank
           (omega (arith, same, within)) here c.index-contents-number.is
           (λ tells. subst (λ (fs : List Fresh). store_at new.image
-          (shape_of c.args.app c.args.bank c.loop-number.number (storage_data c.index-as_slice-number.result))
+          (storage_shape c.args.app c.args.bank c.loop-number.number (storage_data c.index-as_slice-number.result))
           ≡ fresh_state 1 (fresh_map fs))
           c.as_slice-in-loop-number.ensures (c.in_ok-create_one.ensures.made tells))
           c.in_ok-create_one.ensures.clean c.in_ok-create_one.ensures.quiet c.in_ok-create_one.ensures.passes;

@@ -2,7 +2,7 @@ use Rattle.std.proofs.Common.{◌≡◌, ◌≤◌}
 use Rattle.deploy.proofs.MadeStorages.{IsMaking}
 use Rattle.deploy.proofs.making.create_rest.Given as goal
 
--- so many are made, and before the first of them nothing is done
+-- that many are made, and before the first of them nothing is done
 abbrev pub invariant-loop-number : goal.invariant-loop-number
 invariant-loop-number g l = record {
   unmoved : l.number ≤ l.built → l.disk ≡ l.fn.disk;

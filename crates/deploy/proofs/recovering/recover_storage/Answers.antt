@@ -88,7 +88,7 @@ returns-then-needed-config-clause-any_moment g c = λ tells.
     (recovering (storage_data c.args.config.now) c.args.now
     (store_at (g.D.Disk.medium c.args.disk.now).image c.args.shape.now)))
 
--- where it is made anew
+-- where it is rebuilt
 
 pub rebuild_over-requires-clause-contents : goal.rebuild_over-requires-clause-contents
 rebuild_over-requires-clause-contents g c =

@@ -14,7 +14,7 @@ use Rattle.deployment_model.specs.Data.{storage_data}
 use Rattle.element_state.specs.Clean.{IsClean}
 use Rattle.element_state.specs.Kept.{KeptThroughout}
 use Rattle.element_state.specs.States.{State, salvage_of, store_at}
-use Rattle.deploy_rows.specs.Recovering.{after_state, if_fits}
+use Rattle.deploy_rows.specs.Recovering.{after_state, if_contents_fit}
 use Rattle.deploy.proofs.Recoveries.{answers_large, answers_row, at_shape, elements_within, fits_row, fits_worn}
 use Rattle.deploy.proofs.Recoveries.{large_row, look_kept, look_leaves, nothing_changes, rebuilt_as, then_kept}
 use Rattle.deploy.proofs.Recoveries.{then_leaves}
@@ -38,14 +38,15 @@ returns-in_err-view-clause-any_moment g c = λ tells. look_kept (g.D.Disk.medium
     (g.D.Disk.medium c.salvage.new.disk) c.in_err-view.ensures.image c.in_err-view.ensures.idle
     c.untouched_is_kept.ensures.untouched c.args.shape.now c.requires.shape
     (after_state (store_at (g.D.Disk.medium c.args.disk.now).image c.args.shape.now)
-    (if_fits (storage_data c.args.config.now) (store_at (g.D.Disk.medium c.args.disk.now).image c.args.shape.now)
+    (if_contents_fit (storage_data c.args.config.now) (store_at
+    (g.D.Disk.medium c.args.disk.now).image c.args.shape.now)
     c.args.contents.items))
 
 -- what does not fit
 
 pub returns-then-needed-config-clause-refused : goal.returns-then-needed-config-clause-refused
 returns-then-needed-config-clause-refused g c =
-    answers_large (λ (state : State). if_fits (storage_data c.args.config.now) state c.args.contents.items)
+    answers_large (λ (state : State). if_contents_fit (storage_data c.args.config.now) state c.args.contents.items)
     c.in_ok-view.view g.D.Disk.told (store_at (g.D.Disk.medium c.args.disk.now).image c.args.shape.now)
     c.in_ok-view.ensures.view
     (error.OutOfStorageSpace (sum_by fresh_size c.args.contents.items) c.args.config.now.maximum)
@@ -99,10 +100,11 @@ returns-then-needed-config-clause-any_moment g c = λ tells.
     look_kept (g.D.Disk.medium c.args.disk.now) (g.D.Disk.medium c.salvage.new.disk) c.in_ok-view.ensures.image
     c.in_ok-view.ensures.idle c.untouched_is_kept.ensures.untouched c.args.shape.now c.requires.shape
     (after_state (store_at (g.D.Disk.medium c.args.disk.now).image c.args.shape.now)
-    (if_fits (storage_data c.args.config.now) (store_at (g.D.Disk.medium c.args.disk.now).image c.args.shape.now)
+    (if_contents_fit (storage_data c.args.config.now) (store_at
+    (g.D.Disk.medium c.args.disk.now).image c.args.shape.now)
     c.args.contents.items))
 
--- where it is made anew
+-- where it is rebuilt
 
 pub rebuild_over-requires-clause-contents : goal.rebuild_over-requires-clause-contents
 rebuild_over-requires-clause-contents g c =
@@ -117,7 +119,7 @@ rebuild_over-requires-clause-read g c = λ tells. c.in_ok-view.ensures.view tell
 
 pub returns-clause-refused : goal.returns-clause-refused
 returns-clause-refused g c = IfOk-weaker c.rebuild_over.result _ _
-    (answers_row (λ (state : State). if_fits (storage_data c.args.config.now) state c.args.contents.items)
+    (answers_row (λ (state : State). if_contents_fit (storage_data c.args.config.now) state c.args.contents.items)
     c.in_ok-view.view g.D.Disk.told (store_at (g.D.Disk.medium c.args.disk.now).image c.args.shape.now)
     c.in_ok-view.ensures.view c.args.contents.items (λ state read.
     fits_row (storage_data c.args.config.now) c.args.contents.items
@@ -128,7 +130,8 @@ returns-clause-refused g c = IfOk-weaker c.rebuild_over.result _ _
 
 pub returns-clause-state : goal.returns-clause-state
 returns-clause-state g c = λ tells. on_ok_weaker c.rebuild_over.result
-    (λ is. is ∙ (rebuilt_as (λ (state : State). if_fits (storage_data c.args.config.now) state c.args.contents.items)
+    (λ is. is ∙ (rebuilt_as (λ (state : State). if_contents_fit
+    (storage_data c.args.config.now) state c.args.contents.items)
     c.in_ok-view.view c.args.contents.items (λ state read.
     fits_row (storage_data c.args.config.now) c.args.contents.items
     (subst (λ n. n ≤ c.args.config.now.maximum) (c.size_of-needed.ensures
@@ -187,11 +190,12 @@ returns-clause-any_moment g c = λ tells. then_kept (g.D.Disk.medium c.args.disk
     (g.D.Disk.medium c.rebuild_over.new.disk) c.in_ok-view.ensures.time c.rebuild_over.ensures.time
     c.untouched_is_kept.ensures.untouched c.args.shape.now c.requires.shape
     (after_state (store_at (g.D.Disk.medium c.args.disk.now).image c.args.shape.now)
-    (if_fits (storage_data c.args.config.now) (store_at (g.D.Disk.medium c.args.disk.now).image c.args.shape.now)
+    (if_contents_fit (storage_data c.args.config.now) (store_at
+    (g.D.Disk.medium c.args.disk.now).image c.args.shape.now)
     c.args.contents.items))
     (subst (λ (s : State). KeptThroughout c.args.shape.now s (g.D.Disk.medium c.salvage.new.disk)
     (g.D.Disk.medium c.rebuild_over.new.disk)) (rebuilt_as
-    (λ (state : State). if_fits (storage_data c.args.config.now) state c.args.contents.items) c.in_ok-view.view
+    (λ (state : State). if_contents_fit (storage_data c.args.config.now) state c.args.contents.items) c.in_ok-view.view
     c.args.contents.items (λ state read. fits_row (storage_data c.args.config.now) c.args.contents.items
     (subst (λ n. n ≤ c.args.config.now.maximum) (c.size_of-needed.ensures
     ∙ ap (λ (fs : List Fresh). sum_by fresh_size fs) c.as_slice.ensures.value) c.if-needed-config.false)

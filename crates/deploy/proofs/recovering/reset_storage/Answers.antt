@@ -39,7 +39,7 @@ returns-in_err-contents-clause-any_moment g c = λ tells.
     (resetting (storage_data c.args.config.now) c.args.now
     (store_at (g.D.Disk.medium c.args.disk.now).image c.args.shape.now)))
 
--- where it is made anew
+-- where it is rebuilt
 
 pub rebuild_over-requires-clause-contents : goal.rebuild_over-requires-clause-contents
 rebuild_over-requires-clause-contents g c = at_shape c.args.shape.now (storage_data c.args.config.now)

@@ -3,7 +3,7 @@ use Rattle.guarded_cell.specs.declared.looking.Seen.{Seen}
 use Rattle.guarded_cell.specs.Seens.{IsSealable}
 use Rattle.root_text.specs.declared.errors.RootError.{RootError}
 use Rattle.root_text.specs.RootText.{Root, root_of}
-use Rattle.root_text.specs.Views.{Refuses}
+use Rattle.root_text.specs.Views.{FailsToRead}
 use Rattle.deploy_laws.specs.Apps.{says_by, says_in}
 use Rattle.deploy.proofs.Found.{found_is}
 use Rattle.deploy.proofs.standing.root_among.Goals as goal
@@ -13,7 +13,7 @@ returns-in_default-clause-among c = ap says_in (sym c.standing_among.ensures ∙
 
 pub returns-in-Err-NotARoot-clause-among : goal.returns-in-Err-NotARoot-clause-among
 returns-in-Err-NotARoot-clause-among c =
-    let none = subst (λ (e : RootError). Refuses e (root_of c.as_slice.result.now)) c.in-Err-NotARoot.field-0-is
+    let none = subst (λ (e : RootError). FailsToRead e (root_of c.as_slice.result.now)) c.in-Err-NotARoot.field-0-is
     c.in-Err-NotARoot.ensures.read in
     ap says_in (sym c.standing_among.ensures ∙ c.in-Some.is)
     ∙ ap (λ (r : Option Root). says_by c.in-Some.seen.generation r) (ap root_of (sym c.as_slice.ensures) ∙ none)

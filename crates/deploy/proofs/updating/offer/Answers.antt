@@ -5,7 +5,7 @@ use Rattle.per_base.specs.declared.errors.PerError.{PerError}
 use Rattle.per_base.specs.declared.names.Name.{Name}
 use Rattle.deploy_rows.specs.Rows.{deployment_of}
 use Rattle.root_text.specs.declared.versions.VersionText.{VersionText}
-use Rattle.deploy.specs.Versions.{Told}
+use Rattle.deploy.specs.Versions.{TellsRow}
 use Rattle.deploy.proofs.Due.{busy_takes, offer_takes}
 use Rattle.deploy.proofs.Offers.{is_busy, is_offered, is_rejected, none_of, not_finished, not_newer}
 use Rattle.deploy.proofs.updating.offer.Goals as goal
@@ -27,7 +27,8 @@ returns-in-Ok-clause-offered c = not_newer (option_map (λ (n : Bor Name). n.now
     (none_of c.args.root.now.previous c.in_default.not-Some)
     (ap (λ (o : Option (Bor Name)). option_map (λ (n : Bor Name). n.now) o)
     (none_of c.args.busy c.in_default-busy.not-Some))
-    c.in-Ok.version (subst (λ (r : Result VersionText PerError). Told (deployment_of c.args.manifest.now) r) c.in-Ok.is
+    c.in-Ok.version (subst (λ (r : Result VersionText PerError). TellsRow (deployment_of c.args.manifest.now) r)
+    c.in-Ok.is
     c.in_ok-version.ensures.told) (omega arith)
 
 pub returns-in-Ok-2-clause-offered : goal.returns-in-Ok-2-clause-offered
@@ -36,7 +37,8 @@ returns-in-Ok-2-clause-offered c =
     (none_of c.args.root.now.previous c.in_default.not-Some)
     (ap (λ (o : Option (Bor Name)). option_map (λ (n : Bor Name). n.now) o)
     (none_of c.args.busy c.in_default-busy.not-Some))
-    c.in-Ok.version (subst (λ (r : Result VersionText PerError). Told (deployment_of c.args.manifest.now) r) c.in-Ok.is
+    c.in-Ok.version (subst (λ (r : Result VersionText PerError). TellsRow (deployment_of c.args.manifest.now) r)
+    c.in-Ok.is
     c.in_ok-version.ensures.told) (omega arith)
 
 pub returns-in-Err-clause-offered : goal.returns-in-Err-clause-offered
@@ -45,7 +47,7 @@ returns-in-Err-clause-offered c = is_rejected (option_map (λ (n : Bor Name). n.
     (none_of c.args.root.now.previous c.in_default.not-Some)
     (ap (λ (o : Option (Bor Name)). option_map (λ (n : Bor Name). n.now) o)
     (none_of c.args.busy c.in_default-busy.not-Some))
-    c.in-Err.rejected (subst (λ (r : Result VersionText PerError). Told (deployment_of c.args.manifest.now) r)
+    c.in-Err.rejected (subst (λ (r : Result VersionText PerError). TellsRow (deployment_of c.args.manifest.now) r)
     c.in-Err.is c.in_ok-version.ensures.told)
 
 -- ---- no memory

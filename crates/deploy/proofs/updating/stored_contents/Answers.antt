@@ -1,7 +1,7 @@
 use Rattle.std.proofs.Common.{◌≡◌, ℕ, IsTrue, ◌+◌, List, length, get_or, ap, sym, ◌∙◌, subst, arith}
 use Rattle.deployment_model.specs.Data.{storage_data}
 use Rattle.element_state.specs.States.{store_at}
-use Rattle.deploy_laws.specs.Places.{shape_of}
+use Rattle.deploy_laws.specs.Places.{storage_shape}
 use Rattle.deploy_rows.specs.Rows.{contents_of}
 use Rattle.deployment_model.specs.declared.configs.StorageConfig.{StorageConfig}
 use Rattle.update_plan.specs.declared.contents.Stored.{Stored}
@@ -37,7 +37,7 @@ loop-config-preserved g c =
           c.in_ok-read_stored.field-0 c.in_ok-read_stored.ensures.name
           (subst (λ (n : ℕ). IsTrue g.D.Disk.told → contents_of
           (store_at (g.D.Disk.medium c.loop-config.disk).image
-          (shape_of c.args.app c.args.root.now.bank n (storage_data c.config-item.result)))
+          (storage_shape c.args.app c.args.root.now.bank n (storage_data c.config-item.result)))
           ≡ c.in_ok-read_stored.field-0.contents) counts c.in_ok-read_stored.ensures.contents)
           c.in_ok-read_stored.ensures.some c.in_ok-read_stored.ensures.present
           c.in_ok-read_stored.ensures.image c.in_ok-read_stored.ensures.idle c.in_ok-read_stored.ensures.written

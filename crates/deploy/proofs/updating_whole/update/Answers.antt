@@ -8,8 +8,8 @@ use Rattle.migrate_fns.specs.Stored.{answers_of, rules_of}
 use Rattle.deploy_laws.specs.Apps.{IsCleanApp}
 use Rattle.disk_model.specs.Image.{Image}
 use Rattle.deploy.specs.declared.roots.Root.{Root}
-use Rattle.deploy.specs.Roots.{RootAt, texts_in}
-use Rattle.deploy.specs.Building.{root_in}
+use Rattle.deploy.specs.Roots.{RootAt, root_texts}
+use Rattle.deploy.specs.Building.{staged_root}
 use Rattle.deploy.proofs.OneUpdate.{clause_from, clause_of, is_refused, leads_led, leads_nowhere, leaves_led}
 use Rattle.deploy.proofs.OneUpdate.{leaves_read, never, never_ok, none_ok, not_ok, over_root, root_refused, same_error}
 use Rattle.deploy.proofs.OneUpdate.{same_refused, staged_at, updated_not, updated_so, was_offered}
@@ -255,9 +255,9 @@ returns-in_ok-next-in-Ready-clause-updates g c = updated_so (rules_of c.args.mig
 
 pub returns-in_ok-next-in-Ready-clause-text : goal.returns-in_ok-next-in-Ready-clause-text
 returns-in_ok-next-in-Ready-clause-text g c = λ none. c.in_ok-next-in-Ready.ensures.text
-    ∙ ap (λ (t : List ℕ). t ∷ texts_in (root_in c.in-Ready.staged))
+    ∙ ap (λ (t : List ℕ). t ∷ root_texts (staged_root c.in-Ready.staged))
     (c.in_ok-begun.ensures.text c.in-Ready.staged (ap Ok c.in-Ready.is))
-    ∙ ap (λ (r : Root). c.args.manifest.now ∷ texts_in r)
+    ∙ ap (λ (r : Root). c.args.manifest.now ∷ root_texts r)
     (over_root (rules_of c.args.migrations.now) (answers_of c.args.migrations.now) c.args.now
     (option_map (λ (n : Bor Name). n.now) c.args.busy) c.args.manifest.now c.args.app
     g.D.Disk.told (g.D.Disk.medium c.args.disk.now) (g.D.Disk.medium c.begin_update.new.disk) c.args.root

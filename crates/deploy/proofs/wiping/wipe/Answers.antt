@@ -4,7 +4,7 @@ use Rattle.deploy_laws.specs.Apps.{IsCleanApp, app_at}
 use Rattle.deploy_rows.specs.Rows.{after, wiping}
 use Rattle.deploy.specs.declared.roots.Outcome.{Outcome}
 use Rattle.deploy.specs.Clauses.{IsNoRootSlot}
-use Rattle.deploy.specs.Leaving.{IsEmptied, IsRefused, empty_says}
+use Rattle.deploy.specs.Leaving.{IsEmptied, IsRootRefused, empty_says}
 use Rattle.deploy.proofs.RowsInUse.{err_of, if_ok, led_answers, led_app, led_ok, led_says, led_stands, led_unchanged}
 use Rattle.deploy.proofs.RowsInUse.{not_refused, ok_of, refused_answers, refused_app, refused_root, refused_says}
 use Rattle.deploy.proofs.RowsInUse.{refused_some, register_at}
@@ -34,26 +34,30 @@ returns-in_err-register-clause-time g c = elapses_none (g.met.D.Disk.lawful c.ar
 
 pub returns-in-Err-clause-root : goal.returns-in-Err-clause-root
 returns-in-Err-clause-root g c =
-    let refused = err_of (IsRefused (wiping (option_map (λ n. n.now) c.args.busy)) c.args.root) c.in_ok-register.field-0
+    let refused = err_of (IsRootRefused (wiping (option_map (λ n. n.now) c.args.busy)) c.args.root)
+    c.in_ok-register.field-0
     c.in-Err.refused c.in-Err.is c.in_ok-register.ensures.refused in
     refused_root (wiping (option_map (λ n. n.now) c.args.busy)) c.args.root c.in-Err.refused refused g.D.Disk.told
     (g.D.Disk.medium c.args.disk.now).image c.args.app c.requires.root
 
 pub returns-in-Err-clause-refused : goal.returns-in-Err-clause-refused
 returns-in-Err-clause-refused g c =
-    let refused = err_of (IsRefused (wiping (option_map (λ n. n.now) c.args.busy)) c.args.root) c.in_ok-register.field-0
+    let refused = err_of (IsRootRefused (wiping (option_map (λ n. n.now) c.args.busy)) c.args.root)
+    c.in_ok-register.field-0
     c.in-Err.refused c.in-Err.is c.in_ok-register.ensures.refused in
     refused_answers (wiping (option_map (λ n. n.now) c.args.busy)) c.args.root c.in-Err.refused refused
 
 pub returns-in-Err-clause-says : goal.returns-in-Err-clause-says
 returns-in-Err-clause-says g c =
-    let refused = err_of (IsRefused (wiping (option_map (λ n. n.now) c.args.busy)) c.args.root) c.in_ok-register.field-0
+    let refused = err_of (IsRootRefused (wiping (option_map (λ n. n.now) c.args.busy)) c.args.root)
+    c.in_ok-register.field-0
     c.in-Err.refused c.in-Err.is c.in_ok-register.ensures.refused in
     refused_says (wiping (option_map (λ n. n.now) c.args.busy)) c.args.root c.in-Err.refused refused
 
 pub returns-in-Err-clause-app : goal.returns-in-Err-clause-app
 returns-in-Err-clause-app g c =
-    let refused = err_of (IsRefused (wiping (option_map (λ n. n.now) c.args.busy)) c.args.root) c.in_ok-register.field-0
+    let refused = err_of (IsRootRefused (wiping (option_map (λ n. n.now) c.args.busy)) c.args.root)
+    c.in_ok-register.field-0
     c.in-Err.refused c.in-Err.is c.in_ok-register.ensures.refused in
     λ tells. refused_app (wiping (option_map (λ n. n.now) c.args.busy)) c.args.root c.in-Err.refused refused
     (c.rows_read_the_root.ensures.wipe (option_map (λ n. n.now) c.args.busy)) c.one_root.ensures.again
@@ -61,14 +65,16 @@ returns-in-Err-clause-app g c =
 
 pub returns-in-Err-clause-clean : goal.returns-in-Err-clause-clean
 returns-in-Err-clause-clean g c =
-    let refused = err_of (IsRefused (wiping (option_map (λ n. n.now) c.args.busy)) c.args.root) c.in_ok-register.field-0
+    let refused = err_of (IsRootRefused (wiping (option_map (λ n. n.now) c.args.busy)) c.args.root)
+    c.in_ok-register.field-0
     c.in-Err.refused c.in-Err.is c.in_ok-register.ensures.refused in
     λ tells either. ⊎_elim (λ none. absurd (refused_some (wiping (option_map (λ n. n.now) c.args.busy)) c.args.root
     c.in-Err.refused refused none)) (λ clean. clean) either
 
 pub returns-in-Err-clause-unchanged : goal.returns-in-Err-clause-unchanged
 returns-in-Err-clause-unchanged g c =
-    let refused = err_of (IsRefused (wiping (option_map (λ n. n.now) c.args.busy)) c.args.root) c.in_ok-register.field-0
+    let refused = err_of (IsRootRefused (wiping (option_map (λ n. n.now) c.args.busy)) c.args.root)
+    c.in_ok-register.field-0
     c.in-Err.refused c.in-Err.is c.in_ok-register.ensures.refused in
     λ some. (refl, refused.same)
 

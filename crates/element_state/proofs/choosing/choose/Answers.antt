@@ -10,9 +10,9 @@ use Rattle.per_base.specs.declared.elements.Entry.{Entry}
 use Rattle.index_text.specs.declared.entries.IndexEntry.{IndexEntry}
 use Rattle.index_text.specs.Rules.{IsEntry}
 use Rattle.element_state.specs.Fit.{FitText}
-use Rattle.element_state.specs.Views.{entry_view, entries_of}
+use Rattle.element_state.specs.Views.{entry_view, entries_seen}
 use Rattle.element_state.specs.Chosen.{HasBlocks, IsFit, IsReadBy}
-use Rattle.element_state.specs.Surveys.{IsFirst, IsAmong}
+use Rattle.element_state.specs.Surveys.{IsFirstQualified, IsReadText}
 use Rattle.element_state.specs.lemmas.Entrywise.{all_at, all_less}
 use Rattle.element_state.proofs.Finding.{chosen_by, chosen_first, chosen_none, found_chosen, found_read, found_viewed}
 use Rattle.element_state.proofs.choosing.choose.Goals as goal
@@ -24,9 +24,9 @@ returns-in-Some-clause-chosen g c = λ tells.
     let texts = c.args.texts.items in
     let f = c.in_ok-found.found in
     let d : FitText = (f.seen, f.index) in
-    let given = subst (λ (o : Option (ℕ × List Entry)). IsFirst old shape c.deref.result.now o) c.in-Some.is
+    let given = subst (λ (o : Option (ℕ × List Entry)). IsFirstQualified old shape c.deref.result.now o) c.in-Some.is
     (c.in_ok-at.ensures.first tells) in
-    let first = subst (λ (ts : List FitText). IsFirst old shape ts (Some (c.in-Some.at, c.in-Some.entries)))
+    let first = subst (λ (ts : List FitText). IsFirstQualified old shape ts (Some (c.in-Some.at, c.in-Some.entries)))
     c.deref.ensures.value given in
     found_chosen f true (get_or texts c.in-Some.at d) c.in_ok-found.ensures.opens c.in_ok-found.ensures.text
     ∙ sym (chosen_by old shape texts (c.requires.texts tells) (Some (get_or texts c.in-Some.at d)) (first d).0)
@@ -39,13 +39,14 @@ returns-in-Some-clause-viewed g c = λ tells.
     let f = c.in_ok-found.found in
     let d : FitText = (f.seen, f.index) in
     let at = c.in-Some.at in
-    let given = subst (λ (o : Option (ℕ × List Entry)). IsFirst old shape c.deref.result.now o) c.in-Some.is
+    let given = subst (λ (o : Option (ℕ × List Entry)). IsFirstQualified old shape c.deref.result.now o) c.in-Some.is
     (c.in_ok-at.ensures.first tells) in
-    let first = subst (λ (ts : List FitText). IsFirst old shape ts (Some (at, c.in-Some.entries))) c.deref.ensures.value
+    let first = subst (λ (ts : List FitText). IsFirstQualified old shape ts (Some (at, c.in-Some.entries)))
+    c.deref.ensures.value
     given in
-    let inside = subst (λ (o : Option (ℕ × List Entry)). IfSome o (IsAmong shape.place.copies c.deref.result.now))
+    let inside = subst (λ (o : Option (ℕ × List Entry)). IfSome o (IsReadText shape.place.copies c.deref.result.now))
     c.in-Some.is c.in_ok-at.ensures.among in
-    let among = subst (λ (ts : List FitText). IsAmong shape.place.copies ts (at, c.in-Some.entries))
+    let among = subst (λ (ts : List FitText). IsReadText shape.place.copies ts (at, c.in-Some.entries))
     c.deref.ensures.value inside in
     let long : c.len-sole.result ≡ length texts = omega (arith, c.len-sole.ensures, c.args.texts.ok) in
     let chose = found_chosen f true (get_or texts at d) c.in_ok-found.ensures.opens c.in_ok-found.ensures.text
@@ -53,7 +54,7 @@ returns-in-Some-clause-viewed g c = λ tells.
     found_viewed shape texts f at (nat_le c.len-sole.result 1) c.in-Some.entries among.0 c.in_ok-found.ensures.text
     c.in_ok-found.ensures.view old
     (c.requires.texts tells) (c.requires.held tells) (ap (λ (n : ℕ). nat_le n 1) long)
-    ((first d).1 ∙ ap (λ (t : FitText). entries_of old shape t) (sym c.in_ok-found.ensures.text)) chose
+    ((first d).1 ∙ ap (λ (t : FitText). entries_seen old shape t) (sym c.in_ok-found.ensures.text)) chose
 
 pub returns-in-Some-clause-found : goal.returns-in-Some-clause-found
 returns-in-Some-clause-found g c =
@@ -61,9 +62,9 @@ returns-in-Some-clause-found g c =
     let texts = c.args.texts.items in
     let f = c.in_ok-found.found in
     let at = c.in-Some.at in
-    let inside = subst (λ (o : Option (ℕ × List Entry)). IfSome o (IsAmong shape.place.copies c.deref.result.now))
+    let inside = subst (λ (o : Option (ℕ × List Entry)). IfSome o (IsReadText shape.place.copies c.deref.result.now))
     c.in-Some.is c.in_ok-at.ensures.among in
-    let among = subst (λ (ts : List FitText). IsAmong shape.place.copies ts (at, c.in-Some.entries))
+    let among = subst (λ (ts : List FitText). IsReadText shape.place.copies ts (at, c.in-Some.entries))
     c.deref.ensures.value inside in
     found_read shape texts f at (nat_le c.len-sole.result 1) c.in-Some.entries among.0 c.in_ok-found.ensures.text
     c.in_ok-found.ensures.view
@@ -74,9 +75,9 @@ returns-then-is_empty-clause-chosen g c = λ tells.
     let old = (g.D.Disk.medium c.args.disk.now).image in
     let shape = c.args.shape.now in
     let texts = c.args.texts.items in
-    let given = subst (λ (o : Option (ℕ × List Entry)). IsFirst old shape c.deref.result.now o) c.in_default.is
+    let given = subst (λ (o : Option (ℕ × List Entry)). IsFirstQualified old shape c.deref.result.now o) c.in_default.is
     (c.in_ok-at.ensures.first tells) in
-    let first = subst (λ (ts : List FitText). IsFirst old shape ts None) c.deref.ensures.value given in
+    let first = subst (λ (ts : List FitText). IsFirstQualified old shape ts None) c.deref.ensures.value given in
     let zero : c.args.texts.len ≡ 0 = eqb-true c.args.texts.len 0 (sym c.if-is_empty.ensures) in
     let empty : texts ≡ [] = nil_from_length texts (omega (arith, zero, c.args.texts.ok)) in
     sym (chosen_none old shape texts (c.requires.texts tells) first empty)
@@ -100,9 +101,9 @@ returns-clause-chosen g c = λ tells.
     let texts = c.args.texts.items in
     let f = c.in_ok-found-2.found in
     let d : FitText = (f.seen, f.index) in
-    let given = subst (λ (o : Option (ℕ × List Entry)). IsFirst old shape c.deref.result.now o) c.in_default.is
+    let given = subst (λ (o : Option (ℕ × List Entry)). IsFirstQualified old shape c.deref.result.now o) c.in_default.is
     (c.in_ok-at.ensures.first tells) in
-    let first = subst (λ (ts : List FitText). IsFirst old shape ts None) c.deref.ensures.value given in
+    let first = subst (λ (ts : List FitText). IsFirstQualified old shape ts None) c.deref.ensures.value given in
     let some : c.args.texts.len ≢ 0 = (λ e. never_both (c.args.texts.len == 0) (eq-eqb c.args.texts.len 0 e)
     (sym c.if-is_empty.ensures)) in
     let lt : 0 < length texts = omega (arith, some, c.args.texts.ok) in
@@ -117,9 +118,9 @@ returns-clause-viewed g c = λ tells.
     let f = c.in_ok-found-2.found in
     let d : FitText = (f.seen, f.index) in
     let x = c.index.result.now in
-    let given = subst (λ (o : Option (ℕ × List Entry)). IsFirst old shape c.deref.result.now o) c.in_default.is
+    let given = subst (λ (o : Option (ℕ × List Entry)). IsFirstQualified old shape c.deref.result.now o) c.in_default.is
     (c.in_ok-at.ensures.first tells) in
-    let first = subst (λ (ts : List FitText). IsFirst old shape ts None) c.deref.ensures.value given in
+    let first = subst (λ (ts : List FitText). IsFirstQualified old shape ts None) c.deref.ensures.value given in
     let some : c.args.texts.len ≢ 0 = (λ e. never_both (c.args.texts.len == 0) (eq-eqb c.args.texts.len 0 e)
     (sym c.if-is_empty.ensures)) in
     let lt : 0 < length texts = omega (arith, some, c.args.texts.ok) in
@@ -131,7 +132,7 @@ returns-clause-viewed g c = λ tells.
     ∙ ap (λ (image : Image). map (entry_view image shape.place shape.m) c.as_slice.result.now)
     c.first_qualifying.ensures.reads.image
     ∙ ap (λ (es : List IndexEntry). map (entry_view old shape.place shape.m) es) c.as_slice.ensures
-    ∙ ap (λ (t : FitText). entries_of old shape t) same in
+    ∙ ap (λ (t : FitText). entries_seen old shape t) same in
     found_viewed shape texts f 0 (nat_le c.len-sole.result 1) c.new.result lt c.in_ok-found-2.ensures.text
     c.in_ok-found-2.ensures.view old
     (c.requires.texts tells) (c.requires.held tells) (ap (λ (n : ℕ). nat_le n 1) long) reads chose

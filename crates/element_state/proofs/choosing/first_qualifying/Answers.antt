@@ -5,7 +5,7 @@ use Rattle.disk_model.specs.Image.{Image}
 use Rattle.per_base.specs.declared.lists.Sequence.{Sequence}
 use Rattle.per_base.specs.declared.elements.Entry.{Entry}
 use Rattle.element_state.specs.Fit.{FitText}
-use Rattle.element_state.specs.Views.{qualifies, entries_of}
+use Rattle.element_state.specs.Views.{qualifies, entries_seen}
 use Rattle.element_state.specs.Chosen.{IsFit, IsReadBy}
 use Rattle.element_state.specs.Surveys.{IsHeldOn, IsTried}
 use Rattle.element_state.specs.lemmas.Entrywise.{read_on, all_at}
@@ -38,7 +38,8 @@ returns-in-Some-clause-first g c = λ tells d.
     (c.in_ok-tried.ensures.tried tells) in
     let tried = subst (λ (image : Image). IsTried image shape x (Some c.in-Some.entries))
     c.loop-at.invariant.disk.reads.image some in
-    let here = subst (λ (t : FitText). (qualifies old shape t ≡ true) × (c.in-Some.entries ≡ entries_of old shape t)) is
+    let here = subst (λ (t : FitText). (qualifies old shape t ≡ true)
+    × (c.in-Some.entries ≡ entries_seen old shape t)) is
     tried in (
       found_at (qualifies old shape) c.args.texts.now c.loop-at.at d c.loop-at-test.true
           (c.loop-at.invariant.none tells)

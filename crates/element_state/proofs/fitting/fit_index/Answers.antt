@@ -1,5 +1,5 @@
 use Rattle.std.proofs.Common.{Some, None, sym, subst, ◌∙◌}
-use Rattle.index_text.specs.Reading.{Refuses, index_of}
+use Rattle.index_text.specs.Reading.{FailsToRead, index_of}
 use Rattle.element_state.specs.lemmas.Entrywise.{fit_index_by, if_fits_yes, if_fits_no}
 use Rattle.element_state.proofs.fitting.fit_index.Goals as goal
 
@@ -32,5 +32,5 @@ returns-else-fits-clause-index c =
 
 pub returns-in-Err-NotAnIndex-clause-index : goal.returns-in-Err-NotAnIndex-clause-index
 returns-in-Err-NotAnIndex-clause-index c = sym (fit_index_by c.args.shape.now c.args.text.now None
-    (subst (λ e. Refuses e (index_of c.args.text.now)) c.in-Err-NotAnIndex.field-0-is
+    (subst (λ e. FailsToRead e (index_of c.args.text.now)) c.in-Err-NotAnIndex.field-0-is
     c.in-Err-NotAnIndex.ensures.read))

@@ -9,7 +9,7 @@ use Rattle.disk_model.specs.lemmas.Places.{outside_no_slot}
 use Rattle.index_text.specs.lemmas.Lengths.{text_is_short}
 use Rattle.index_text.specs.Spelling.{index_text}
 use Rattle.element_store.specs.Creates.{IsUntorn}
-use Rattle.element_store.specs.Plans.{IsMade, blocks_of_all}
+use Rattle.element_store.specs.Plans.{IsWrittenEntry, blocks_of_all}
 use Rattle.element_store.specs.Spelled.{IsTextOf, ShowsFresh}
 use Rattle.element_store.proofs.Ruled.{blocks_enough}
 use Rattle.element_store.proofs.RebuiltKept.{anew_opens, contents_elsewhere, index_elsewhere}
@@ -54,7 +54,7 @@ returns-clause-clean g c = λ tells. created_clean g.D.Disk.told (g.D.Disk.mediu
 
 pub returns-clause-used : goal.returns-clause-used
 returns-clause-used g c =
-    let P : List Fresh → Type 0 = λ fs. AllZip (IsMade 1) fs c.in_ok-spelled.spelled.index.entries in
+    let P : List Fresh → Type 0 = λ fs. AllZip (IsWrittenEntry 1) fs c.in_ok-spelled.spelled.index.entries in
     let Q : List Fresh → Type 0 = λ fs. IsTrue g.D.Disk.told
     → ShowsFresh (g.D.Disk.medium c.put_contents.new.disk).image c.args.shape.place c.args.shape.m 1 fs
     c.in_ok-spelled.spelled.index.entries in
@@ -77,7 +77,7 @@ returns-clause-format g c = ap (λ (s : Store). s.index.format) c.new-2.ensures 
 
 pub returns-clause-view : goal.returns-clause-view
 returns-clause-view g c =
-    let P : List Fresh → Type 0 = λ fs. AllZip (IsMade 1) fs c.in_ok-spelled.spelled.index.entries in
+    let P : List Fresh → Type 0 = λ fs. AllZip (IsWrittenEntry 1) fs c.in_ok-spelled.spelled.index.entries in
     let Q : List Fresh → Type 0 = λ fs. IsTrue g.D.Disk.told
     → ShowsFresh (g.D.Disk.medium c.put_contents.new.disk).image c.args.shape.place c.args.shape.m 1 fs
     c.in_ok-spelled.spelled.index.entries in

@@ -1,7 +1,7 @@
 use Rattle.std.proofs.Common.{ℕ, ◌*◌, List, sym, subst, arith}
 use Rattle.disk_model.specs.Place.{area, IsNoArea}
 use Rattle.block_files.specs.lemmas.Outcomes.{on_err}
-use Rattle.block_files.specs.Parts.{changed}
+use Rattle.block_files.specs.Parts.{changed_blocks}
 use Rattle.block_files.specs.Areas.{AllFull, HoldsShared}
 use Rattle.block_files.specs.Writes.{Wrote, Tore, IsApartFromChanged}
 use Rattle.element_store.specs.declared.jobs.Job.{Job}
@@ -28,7 +28,7 @@ pub returns-in_err-write_shared-clause-failed : goal.returns-in_err-write_shared
 returns-in_err-write_shared-clause-failed g c =
     let P : List ℕ → Type 0 = λ bs. Tore g.D.Disk.told (IsNoArea c.args.place)
     (IsApartFromChanged bs c.job-item.result.bytes.now c.job-item.result.was.now)
-    (c.args.place.copies * (256 * changed c.job-item.result.bytes.now c.job-item.result.was.now))
+    (c.args.place.copies * (256 * changed_blocks c.job-item.result.bytes.now c.job-item.result.was.now))
     (g.D.Disk.medium c.loop-job.disk) (g.D.Disk.medium c.write_shared.new.disk) in
     on_err c.from_residual.result
     (done_failed g.D.Disk.told c.args.place c.args.jobs.now c.loop-job.job-index
@@ -41,7 +41,7 @@ pub loop-job-preserved : goal.loop-job-preserved
 loop-job-preserved g c =
     let P : List ℕ → Type 0 = λ bs. Wrote g.D.Disk.told (IsNoArea c.args.place)
     (IsApartFromChanged bs c.job-item.result.bytes.now c.job-item.result.was.now)
-    (c.args.place.copies * (256 * changed c.job-item.result.bytes.now c.job-item.result.was.now))
+    (c.args.place.copies * (256 * changed_blocks c.job-item.result.bytes.now c.job-item.result.was.now))
     (g.D.Disk.medium c.loop-job.disk) (g.D.Disk.medium c.write_shared.new.disk) in
     let Q : List ℕ → Type 0 = λ bs. AllFull c.args.place bs c.job-item.result.bytes.now
     (g.D.Disk.medium c.write_shared.new.disk).image in

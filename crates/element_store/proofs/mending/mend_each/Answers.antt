@@ -1,6 +1,6 @@
 use Rattle.std.proofs.Common.{◌≡◌, ℕ, ◌*◌, List, length, get_or, sym, ap, ◌∙◌, subst, arith}
 use Rattle.block_files.specs.Areas.{NamedFull}
-use Rattle.block_files.specs.BlockSets.{IsApart, AreDistinct}
+use Rattle.block_files.specs.BlockSets.{IsNotAmong, AreDistinct}
 use Rattle.block_files.specs.Contents.{AreCopies}
 use Rattle.block_files.specs.Writes.{Wrote, Tore, IsNoneOf}
 use Rattle.index_text.specs.declared.entries.IndexEntry.{IndexEntry}
@@ -71,11 +71,11 @@ returns-in_err-mend-clause-elsewhere g c =
     let is_e = subst (λ (es : List IndexEntry). c.index-entries-i.result
     ≡ get_or es c.loop-i.i c.index-entries-i.result) c.as_slice-entries.ensures c.index-entries-i.is in
     let P : List ℕ → Type 0 = λ bs. Tore g.D.Disk.told (IsNoneOf c.args.shape.now.place
-    c.as_slice-in-loop-i-2.result.now) (IsApart bs)
+    c.as_slice-in-loop-i-2.result.now) (IsNotAmong bs)
     (length c.as_slice-in-loop-i-2.result.now * (256 * length bs)) (g.D.Disk.medium c.loop-i.disk)
     (g.D.Disk.medium c.mend.new.disk) in
     let Q : List ℕ → Type 0 = λ cs. Tore g.D.Disk.told (IsNoneOf c.args.shape.now.place cs)
-    (IsApart c.index-entries-i.result.blocks)
+    (IsNotAmong c.index-entries-i.result.blocks)
     (length cs * (256 * length c.index-entries-i.result.blocks)) (g.D.Disk.medium c.loop-i.disk)
     (g.D.Disk.medium c.mend.new.disk) in
     let tore = subst Q c.as_slice-in-loop-i-2.ensures (subst P blocks_is c.in_err-mend.ensures.failed) in
@@ -93,11 +93,11 @@ returns-in_err-mend-clause-idle g c =
     let is_e = subst (λ (es : List IndexEntry). c.index-entries-i.result
     ≡ get_or es c.loop-i.i c.index-entries-i.result) c.as_slice-entries.ensures c.index-entries-i.is in
     let P : List ℕ → Type 0 = λ bs. Tore g.D.Disk.told (IsNoneOf c.args.shape.now.place
-    c.as_slice-in-loop-i-2.result.now) (IsApart bs)
+    c.as_slice-in-loop-i-2.result.now) (IsNotAmong bs)
     (length c.as_slice-in-loop-i-2.result.now * (256 * length bs)) (g.D.Disk.medium c.loop-i.disk)
     (g.D.Disk.medium c.mend.new.disk) in
     let Q : List ℕ → Type 0 = λ cs. Tore g.D.Disk.told (IsNoneOf c.args.shape.now.place cs)
-    (IsApart c.index-entries-i.result.blocks)
+    (IsNotAmong c.index-entries-i.result.blocks)
     (length cs * (256 * length c.index-entries-i.result.blocks)) (g.D.Disk.medium c.loop-i.disk)
     (g.D.Disk.medium c.mend.new.disk) in
     let tore = subst Q c.as_slice-in-loop-i-2.ensures (subst P blocks_is c.in_err-mend.ensures.failed) in
@@ -117,11 +117,11 @@ returns-in_err-mend-clause-during g c =
     let is_e = subst (λ (es : List IndexEntry). c.index-entries-i.result
     ≡ get_or es c.loop-i.i c.index-entries-i.result) c.as_slice-entries.ensures c.index-entries-i.is in
     let P : List ℕ → Type 0 = λ bs. Tore g.D.Disk.told (IsNoneOf c.args.shape.now.place
-    c.as_slice-in-loop-i-2.result.now) (IsApart bs)
+    c.as_slice-in-loop-i-2.result.now) (IsNotAmong bs)
     (length c.as_slice-in-loop-i-2.result.now * (256 * length bs)) (g.D.Disk.medium c.loop-i.disk)
     (g.D.Disk.medium c.mend.new.disk) in
     let Q : List ℕ → Type 0 = λ cs. Tore g.D.Disk.told (IsNoneOf c.args.shape.now.place cs)
-    (IsApart c.index-entries-i.result.blocks)
+    (IsNotAmong c.index-entries-i.result.blocks)
     (length cs * (256 * length c.index-entries-i.result.blocks)) (g.D.Disk.medium c.loop-i.disk)
     (g.D.Disk.medium c.mend.new.disk) in
     let tore = subst Q c.as_slice-in-loop-i-2.ensures (subst P blocks_is c.in_err-mend.ensures.failed) in
@@ -139,11 +139,11 @@ loop-i-preserved g c =
     let is_e = subst (λ (es : List IndexEntry). c.index-entries-i.result
     ≡ get_or es c.loop-i.i c.index-entries-i.result) c.as_slice-entries.ensures c.index-entries-i.is in
     let P : List ℕ → Type 0 = λ bs. Wrote g.D.Disk.told (IsNoneOf c.args.shape.now.place
-    c.as_slice-in-loop-i-2.result.now) (IsApart bs)
+    c.as_slice-in-loop-i-2.result.now) (IsNotAmong bs)
     (length c.as_slice-in-loop-i-2.result.now * (256 * length bs)) (g.D.Disk.medium c.loop-i.disk)
     (g.D.Disk.medium c.mend.new.disk) in
     let Q : List ℕ → Type 0 = λ cs. Wrote g.D.Disk.told (IsNoneOf c.args.shape.now.place cs)
-    (IsApart c.index-entries-i.result.blocks)
+    (IsNotAmong c.index-entries-i.result.blocks)
     (length cs * (256 * length c.index-entries-i.result.blocks)) (g.D.Disk.medium c.loop-i.disk)
     (g.D.Disk.medium c.mend.new.disk) in
     let wrote = subst Q c.as_slice-in-loop-i-2.ensures (subst P blocks_is c.in_ok-mend.ensures.done) in

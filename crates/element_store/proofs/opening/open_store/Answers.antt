@@ -14,7 +14,7 @@ use Rattle.element_store.proofs.Moments.{second_outside, third_outside}
 use Rattle.element_store.proofs.opening.open_store.Goals as goal
 
 pub returns-in_err-seen-clause-any_moment : goal.returns-in_err-seen-clause-any_moment
-returns-in_err-seen-clause-any_moment g c = λ tells after quiet clean x past.
+returns-in_err-seen-clause-any_moment g c = λ tells after quiet clean x past twins.
     first_kept c.args.shape (g.D.Disk.medium c.args.disk.now) (g.D.Disk.medium c.prepare.new.disk) c.requires clean
     (c.in_err-seen.ensures.idle quiet) c.untouched_is_kept.ensures.untouched after x past
 
@@ -45,7 +45,7 @@ returns-in_err-cell-clause-outside g c = λ tells quiet.
     c.in_ok-seen.ensures.quiet)
 
 pub returns-in_err-cell-clause-any_moment : goal.returns-in_err-cell-clause-any_moment
-returns-in_err-cell-clause-any_moment g c = λ tells after quiet clean x past.
+returns-in_err-cell-clause-any_moment g c = λ tells after quiet clean x past twins.
     second_kept c.args.shape (g.D.Disk.medium c.args.disk.now) (g.D.Disk.medium c.prepare.new.disk) c.requires clean
     (c.in_ok-seen.ensures.idle quiet) c.untouched_is_kept.ensures.untouched after
     (g.D.Disk.medium c.adopt_seen.new.disk) c.adopting_keeps.ensures.adopt c.in_ok-seen.field-0.seen.generation

@@ -5,8 +5,8 @@ use Rattle.index_text.specs.declared.entries.Index.{Index}
 use Rattle.index_text.specs.Rules.{IsIndex}
 use Rattle.index_text.specs.Sizes.{fits}
 use Rattle.element_store.specs.declared.jobs.Job.{Job}
-use Rattle.element_store.specs.Jobs.{HasShared, IsDone, jobs_cost}
-use Rattle.element_store.specs.Plans.{IsMade, ArePlaced, blocks_of_all}
+use Rattle.element_store.specs.Jobs.{HasShared, IsJobWritten, jobs_cost}
+use Rattle.element_store.specs.Plans.{IsWrittenEntry, ArePlacedJobs, blocks_of_all}
 use Rattle.element_store.specs.Spelled.{index_with, ShowsFresh}
 use Rattle.element_store.proofs.PlanSteps.{shared_of_whole, left_of_placed, jobs_to_contents, written_of_plan}
 use Rattle.element_store.proofs.Ruled.{plan_rules, plan_fits}
@@ -51,7 +51,7 @@ pub returns-in-Ok-clause-shown : goal.returns-in-Ok-clause-shown
 returns-in-Ok-clause-shown g c = λ tells. (
     let image = (g.D.Disk.medium c.write_durably.new.disk).image in
     let e : c.deref.result.now ≡ c.in_ok-entries.field-0.jobs.items = cc in
-    let done = subst (λ (js : List Job). All (IsDone image c.args.shape.now.place)
+    let done = subst (λ (js : List Job). All (IsJobWritten image c.args.shape.now.place)
     js) e (c.in-Ok.ensures.written tells) in
     let shown = c.in_ok-entries.ensures.views image c.args.shape.now.place c.args.shape.now.m c.requires.shape.some
     c.requires.shape.enough done in
@@ -64,7 +64,7 @@ returns-in-Ok-clause-during g c = λ x past. (
     jobs_to_contents c.args.shape.now.place c.args.used.now c.plan_contents.new.used
     c.deref.result.now
     (g.D.Disk.medium c.args.disk.now) (g.D.Disk.medium c.write_durably.new.disk) _ _
-    (subst (λ (js : List Job). ArePlaced c.args.used.now c.plan_contents.new.used js) (sym e)
+    (subst (λ (js : List Job). ArePlacedJobs c.args.used.now c.plan_contents.new.used js) (sym e)
     c.in_ok-entries.ensures.placed) (λ is. is) x (c.in-Ok.ensures.during x past))
 
 pub returns-clause-during : goal.returns-clause-during
@@ -73,12 +73,12 @@ returns-clause-during g c = λ x past. (
     jobs_to_contents c.args.shape.now.place c.args.used.now c.plan_contents.new.used
     c.deref.result.now
     (g.D.Disk.medium c.args.disk.now) (g.D.Disk.medium c.write_durably.new.disk) _ _
-    (subst (λ (js : List Job). ArePlaced c.args.used.now c.plan_contents.new.used js) (sym e)
+    (subst (λ (js : List Job). ArePlacedJobs c.args.used.now c.plan_contents.new.used js) (sym e)
     c.in_ok-entries.ensures.placed) (λ is. is) x (c.in-Err.ensures.during x past))
 
 pub returns-in-Ok-clause-made : goal.returns-in-Ok-clause-made
 returns-in-Ok-clause-made g c =
-    subst (λ (i : Index). AllZip (IsMade c.args.generation) c.args.contents.now i.entries)
+    subst (λ (i : Index). AllZip (IsWrittenEntry c.args.generation) c.args.contents.now i.entries)
     (sym c.in_ok-spelled.ensures.index) c.in_ok-entries.ensures.made
 
 pub returns-in-Ok-clause-keeps : goal.returns-in-Ok-clause-keeps
@@ -86,7 +86,7 @@ returns-in-Ok-clause-keeps g c = λ tells. (
     let e : c.deref.result.now ≡ c.in_ok-entries.field-0.jobs.items = cc in
     keeps_less (λ f none. none)
     (λ k taken. left_of_placed c.args.used.now c.plan_contents.new.used c.deref.result.now
-    (subst (λ (js : List Job). ArePlaced c.args.used.now c.plan_contents.new.used js) (sym e)
+    (subst (λ (js : List Job). ArePlacedJobs c.args.used.now c.plan_contents.new.used js) (sym e)
     c.in_ok-entries.ensures.placed) k taken)
     (c.in-Ok.ensures.keeps tells))
 

@@ -1,7 +1,7 @@
 use Rattle.std.proofs.Common.{◌++◌, List, ap, length, subst, ◌∙◌, arith}
 use Rattle.std.specs.List.{AllByRecursion, flat_map}
 use Rattle.per_base.specs.declared.elements.Fresh.{Fresh}
-use Rattle.export_text.specs.Exports.{IsElement, fresh_text, header_text}
+use Rattle.export_text.specs.Exports.{IsExportedElement, fresh_text, header_text}
 use Rattle.export_text.proofs.Each.{short_at}
 use Rattle.export_text.proofs.Whole.{all_written}
 use Rattle.export_text.proofs.writing.body_of.Goals as goal
@@ -20,5 +20,5 @@ returns-clause-body c =
 pub returns-clause-elements : goal.returns-clause-elements
 returns-clause-elements c =
     let contents = c.args.contents.now in
-    subst (λ (fs : List Fresh). AllByRecursion IsElement fs)
+    subst (λ (fs : List Fresh). AllByRecursion IsExportedElement fs)
     (all_written contents c.loop-element.element-index c.loop-element-test.false) c.loop-element.invariant.elements

@@ -1,8 +1,8 @@
 use Rattle.std.proofs.Common.{◌∙◌, ◌↔◌, ◌+◌, ℕ, ap, subst, sym, take}
-use Rattle.system_model.specs.SystemMedium.{Looks, Shows}
+use Rattle.system_model.specs.SystemMedium.{Looks, ShowsBytes}
 use Rattle.folder_disk.specs.declared.range.Range.{Range}
 use Rattle.folder_disk.specs.Knows.{Covered}
-use Rattle.folder_disk.specs.Held.{IsHeld, ShowsAll}
+use Rattle.folder_disk.specs.Held.{IsHeldByte, ShowsAll}
 use Rattle.folder_disk.proofs.Looking.{looks_on}
 use Rattle.folder_disk.proofs.Syncs.{held_skip, held_more, shows_app}
 use Rattle.folder_disk.proofs.syncing.held_of.Goals as goal
@@ -27,8 +27,8 @@ loop-range-preserved g c =
       shows = λ t. elim c.if-range-file.branch [
         | then-range-file+in_ok-part+in-Ok w ↦
             let part = w.in_ok-part.part in
-            let here = subst (λ image. Shows (image file) part.at part.bytes.items) inv.looks.reads.image
-            (subst (λ f. Shows ((medium c.loop-range.system).disk.image f) part.at part.bytes.items)
+            let here = subst (λ image. ShowsBytes (image file) part.at part.bytes.items) inv.looks.reads.image
+            (subst (λ f. ShowsBytes ((medium c.loop-range.system).disk.image f) part.at part.bytes.items)
             w.if-range-file.true
             (w.in_ok-part.ensures.shows t)) in
             subst (λ hs. ShowsAll (old.disk.image file) hs)
@@ -38,12 +38,12 @@ loop-range-preserved g c =
       ];
       held = elim c.if-range-file.branch [
         | then-range-file+in_ok-part+in-Ok w ↦
-            subst (λ hs. (i : ℕ) → IsHeld hs i ↔ Covered (take (k + 1) rs) file i)
+            subst (λ hs. (i : ℕ) → IsHeldByte hs i ↔ Covered (take (k + 1) rs) file i)
             (sym (ap (λ v. v.items) w.held-is ∙ w.in-Ok.ensures.items))
             (held_more rs c.loop-range.held.items k d file w.in_ok-part.part c.loop-range-test.true w.if-range-file.true
             w.in_ok-part.ensures.place.0 w.in_ok-part.ensures.place.1 inv.held)
         | else-range-file w ↦
-            subst (λ v. (i : ℕ) → IsHeld v.items i ↔ Covered (take (k + 1) rs) file i) (sym w.held-is)
+            subst (λ v. (i : ℕ) → IsHeldByte v.items i ↔ Covered (take (k + 1) rs) file i) (sym w.held-is)
             (held_skip rs c.loop-range.held.items k d file c.loop-range-test.true w.if-range-file.false inv.held)
       ];
     }

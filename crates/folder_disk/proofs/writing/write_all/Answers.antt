@@ -1,7 +1,7 @@
 use Rattle.std.proofs.Common.{◌≡◌, ◌+◌, ◌-◌, take, subst, arith, length, drop}
 use Rattle.std.proofs.lemmas.List.{length-drop}
 use Rattle.disk_model.specs.Laws.{reads_none}
-use Rattle.folder_disk.specs.Writes.{Writes}
+use Rattle.folder_disk.specs.Writes.{WritesBytes}
 use Rattle.folder_disk.proofs.Stretch.{writes_none, writes_more, writes_then, again_more, rest_is}
 use Rattle.folder_disk.proofs.writing.write_all.Goals as goal
 
@@ -50,7 +50,7 @@ returns-in-Ok-eq0-clause-writes g c =
     let inv = c.loop-done.invariant in
     let k = c.in-Ok-eq0.field-0 in
     let z : n + k ≡ n = omega (arith, c.in-Ok-eq0.field-0-is) in
-    subst (λ x. Writes told c.args.file c.args.at bytes x old new) z
+    subst (λ x. WritesBytes told c.args.file c.args.at bytes x old new) z
     (writes_more told c.args.file c.args.at bytes old mid new n inv.count inv.writes
     (take (length c.args.bytes.now - c.loop-done.done) (drop c.loop-done.done c.args.bytes.now)) (rest_is
     c.loop-done.done c.args.bytes.now) k

@@ -1,7 +1,7 @@
 use Rattle.std.proofs.Common.{◌≡◌, ◌∙◌, ◌+◌, ◌≤◌, ℕ, true, false, get_or, ap, subst, rules, arith, IsTrue}
 use Rattle.disk_model.specs.Image.{put_image}
 use Rattle.disk_model.specs.Case.{Follows}
-use Rattle.changed_runs.specs.Parts.{IsWhole}
+use Rattle.changed_runs.specs.Parts.{HasNoFailedWrite}
 use Rattle.guarded_cell.specs.Differing.{FrontCase, front_cost}
 use Rattle.guarded_cell.proofs.Putfronts.{putting_skips, putting_puts, cut_during, cut_costs, all_during}
 use Rattle.guarded_cell.proofs.fronts.put_fronts.Goals as goal
@@ -17,7 +17,7 @@ returns-in_err-write_front-clause-during g c =
     let mid = g.D.Disk.medium c.loop-copy.disk in
     let new = g.D.Disk.medium c.write_front.new.disk in
     let flag : get_or c.args.chosen.now c.loop-copy.copy false ≡ true = search rules in
-    let write = subst (λ (f : ℕ). IsTrue g.D.Disk.told → IsWhole f mid
+    let write = subst (λ (f : ℕ). IsTrue g.D.Disk.told → HasNoFailedWrite f mid
     → Follows (FrontCase f c.args.bytes.now) mid.now (new.since mid.moment)) c.slot.ensures
     c.write_front.ensures.during in
     let cost = subst (λ (f : ℕ). IsTrue g.D.Disk.told → new.written
@@ -31,7 +31,7 @@ returns-in_err-write_front-clause-differing g c =
     let mid = g.D.Disk.medium c.loop-copy.disk in
     let new = g.D.Disk.medium c.write_front.new.disk in
     let flag : get_or c.args.chosen.now c.loop-copy.copy false ≡ true = search rules in
-    let write = subst (λ (f : ℕ). IsTrue g.D.Disk.told → IsWhole f mid
+    let write = subst (λ (f : ℕ). IsTrue g.D.Disk.told → HasNoFailedWrite f mid
     → Follows (FrontCase f c.args.bytes.now) mid.now (new.since mid.moment)) c.slot.ensures
     c.write_front.ensures.during in
     let cost = subst (λ (f : ℕ). IsTrue g.D.Disk.told → new.written
@@ -45,7 +45,7 @@ loop-copy-preserved g c =
     let mid = g.D.Disk.medium c.loop-copy.disk in
     let new = g.D.Disk.medium c.write_front.new.disk in
     let flag : get_or c.args.chosen.now c.loop-copy.copy false ≡ true = search rules in
-    let write = subst (λ (f : ℕ). IsTrue g.D.Disk.told → IsWhole f mid
+    let write = subst (λ (f : ℕ). IsTrue g.D.Disk.told → HasNoFailedWrite f mid
     → Follows (FrontCase f c.args.bytes.now) mid.now (new.since mid.moment)) c.slot.ensures
     c.write_front.ensures.during in
     let cost = subst (λ (f : ℕ). IsTrue g.D.Disk.told → new.written

@@ -2,12 +2,12 @@ use Rattle.std.proofs.Common.{ℕ, List, subst}
 use Rattle.std.specs.Prelude.{IfErr}
 use Rattle.file_core.specs.Refusals.{IsRefusal}
 use Rattle.file_handles.specs.Handling as handling
-use Rattle.file_storage.specs.FileSessions.{FileSession}
+use Rattle.file_storage.specs.FileSessions.{FilesInUse}
 use Rattle.run_model.specs.Sessions.{storage_of}
 use Rattle.open_storages.proofs.with_files.written.Goals as goal
 
 pub returns-clause-refused : goal.returns-clause-refused
-returns-clause-refused c = subst (λ (f : FileSession).
+returns-clause-refused c = subst (λ (f : FilesInUse).
     IfErr c.write.result (λ error. IsRefusal (handling.write (storage_of f.config) f.session f.moment c.args.handle
     c.args.bytes.now) error)) c.set_now.ensures
     (subst (λ (bytes : List ℕ). IfErr c.write.result (λ error.

@@ -5,7 +5,7 @@ use Rattle.deployment_model.specs.Data.{storage_data}
 use Rattle.deployment_model.specs.declared.configs.Deployment.{Deployment}
 use Rattle.deployment_model.specs.declared.configs.StorageConfig.{StorageConfig}
 use Rattle.per_audit.specs.Audits.{listed_of, of_storage}
-use Rattle.per_audit.specs.Noted.{Adds, named_in, of_previous, within}
+use Rattle.per_audit.specs.Noted.{AddsNotes, of_previous, version_in_bank, within}
 use Rattle.per_audit.proofs.Applications.{adds_nothing, kept_some}
 use Rattle.per_audit.proofs.Remaining.{few_storages}
 use Rattle.per_audit.proofs.auditing.audit_previous.Goals as goal
@@ -13,8 +13,9 @@ use Rattle.per_audit.proofs.auditing.audit_previous.Goals as goal
 pub returns-in_default-clause-adds : goal.returns-in_default-clause-adds
 returns-in_default-clause-adds g c = λ tells.
     let old = (g.D.Disk.medium c.args.disk.now).image in
-    subst (λ (o : Option Deployment). Adds (of_previous (listed_of c.args.app) old c.args.app (named_in c.args.bank o))
-    (of_previous (of_storage c.args.app) old c.args.app (named_in c.args.bank o))
+    subst (λ (o : Option Deployment). AddsNotes (of_previous (listed_of c.args.app) old c.args.app
+    (version_in_bank c.args.bank o))
+    (of_previous (of_storage c.args.app) old c.args.app (version_in_bank c.args.bank o))
     c.args.notes.now c.args.notes.now) (sym c.in_default.is) (adds_nothing c.args.notes.now)
 
 pub audit_storages-requires-clause-few : goal.audit_storages-requires-clause-few
@@ -33,9 +34,10 @@ audit_storages-requires-clause-each g c =
 pub returns-clause-adds : goal.returns-clause-adds
 returns-clause-adds g c = λ tells.
     let old = (g.D.Disk.medium c.args.disk.now).image in
-    subst (λ (o : Option Deployment). Adds (of_previous (listed_of c.args.app) old c.args.app (named_in c.args.bank o))
-    (of_previous (of_storage c.args.app) old c.args.app (named_in c.args.bank o))
+    subst (λ (o : Option Deployment). AddsNotes (of_previous (listed_of c.args.app) old c.args.app
+    (version_in_bank c.args.bank o))
+    (of_previous (of_storage c.args.app) old c.args.app (version_in_bank c.args.bank o))
     c.args.notes.now c.audit_storages.new.notes) (sym c.in-Some.is)
-    (subst (λ (ds : List StorageConfig). Adds (within (listed_of c.args.app) old c.args.app c.args.bank 0
+    (subst (λ (ds : List StorageConfig). AddsNotes (within (listed_of c.args.app) old c.args.app c.args.bank 0
     (map storage_data ds)) (within (of_storage c.args.app) old c.args.app c.args.bank 0 (map storage_data ds))
     c.args.notes.now c.audit_storages.new.notes) c.as_slice.ensures (c.in_ok-audit_storages.ensures.adds tells))

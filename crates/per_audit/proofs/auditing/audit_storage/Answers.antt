@@ -2,7 +2,7 @@ use Rattle.std.proofs.Common.{ap, ◌∙◌}
 use Rattle.deployment_model.specs.Data.{storage_data}
 use Rattle.element_state.specs.declared.shapes.Shape.{Shape}
 use Rattle.element_state.specs.States.{store_at}
-use Rattle.deploy_laws.specs.Places.{shape_of}
+use Rattle.deploy_laws.specs.Places.{storage_shape}
 use Rattle.per_audit.specs.Audits.{listed_of, of_storage}
 use Rattle.per_audit.specs.Noted.{elements_found, findings_found}
 use Rattle.per_audit.proofs.Others.{adds_as, elements_stand, findings_stand}
@@ -15,7 +15,7 @@ returns-clause-adds g c = λ tells.
     let s = storage_data c.args.config.now in
     let old = (g.D.Disk.medium c.args.disk.now).image in
     let shape = c.in_ok-shape.shape in
-    let there = shape_of app bank c.args.number s in
+    let there = storage_shape app bank c.args.number s in
     let found = c.in_ok-found.found in
     let salvaged = c.in_ok-found.ensures.salvaged tells in
     let viewed = c.in_ok-found.ensures.viewed tells in

@@ -2,9 +2,9 @@ use Rattle.std.proofs.Common.{◌<◌, ◌≤◌, length, refl, subst, rules, ar
 use Rattle.disk_model.specs.Image.{Image}
 use Rattle.deployment_model.specs.Data.{storage_data}
 use Rattle.element_state.specs.States.{store_at}
-use Rattle.deploy_laws.specs.Places.{shape_of}
+use Rattle.deploy_laws.specs.Places.{storage_shape}
 use Rattle.per_audit.specs.Audits.{listed_of, of_storage}
-use Rattle.per_audit.specs.Noted.{Adds}
+use Rattle.per_audit.specs.Noted.{AddsNotes}
 use Rattle.per_audit.proofs.Remaining.{are_left_more, none_are_left, none_seen, seen_on, storage_keeps}
 use Rattle.per_audit.proofs.auditing.audit_storages.Goals as goal
 
@@ -38,8 +38,8 @@ loop-number-preserved g c =
       left = λ tells. are_left_more (g.D.Disk.medium c.args.disk.now).image app bank c.args.storages.now
           c.args.notes.now number c.index-storages-number.result
           c.loop-number.notes c.audit_storage.new.notes within c.index-storages-number.is (it.left tells)
-          (subst (λ (im : Image). Adds (listed_of app bank s (store_at im (shape_of app bank number s)))
-          (of_storage app bank s (store_at im (shape_of app bank number s)))
+          (subst (λ (im : Image). AddsNotes (listed_of app bank s (store_at im (storage_shape app bank number s)))
+          (of_storage app bank s (store_at im (storage_shape app bank number s)))
           c.loop-number.notes c.audit_storage.new.notes) it.seen.image (ok.adds tells));
       seen = seen_on it.seen (record {
         image = ok.image;

@@ -3,7 +3,7 @@ use Rattle.std.proofs.Common.{◌≡◌, ◌∙◌, sym}
 use Rattle.disk_model.specs.Laws.{elapses_on, rose_before}
 use Rattle.run_model.specs.Lives.{looks_unsynced}
 use Rattle.per_backup.specs.Backups.{exporting}
-use Rattle.per_backup.specs.Clauses.{IsSeen, exported_as}
+use Rattle.per_backup.specs.Clauses.{IsAppSeen, exported_as}
 use Rattle.per_backup.proofs.Synced.{each_ok, on_err, on_ok, passes_on, then_looks, then_seen}
 use Rattle.per_backup.proofs.exporting.export.Goals as goal
 
@@ -21,8 +21,8 @@ returns-clause-answer g c =
     let old = g.D.Disk.medium c.args.disk.now in
     let mid = g.D.Disk.medium c.sync.new.self in
     each_ok
-    (λ x. (it : _) × IsSeen g.D.Disk.told mid.image c.args.app it × (exported_as x ≡ exporting it c.args.name.now))
-    (λ x. (it : _) × IsSeen g.D.Disk.told old.image c.args.app it × (exported_as x ≡ exporting it c.args.name.now))
+    (λ x. (it : _) × IsAppSeen g.D.Disk.told mid.image c.args.app it × (exported_as x ≡ exporting it c.args.name.now))
+    (λ x. (it : _) × IsAppSeen g.D.Disk.told old.image c.args.app it × (exported_as x ≡ exporting it c.args.name.now))
     c.export_synced.result
     (λ x given. (
       given.0,

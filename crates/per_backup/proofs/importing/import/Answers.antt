@@ -1,12 +1,12 @@
--- The disk is synchronised, and then the storage is made anew; where the sync fails nothing is.
+-- The disk is synchronised, and then the storage is rebuilt; where the sync fails nothing is.
 use Rattle.std.proofs.Common.{◌∙◌, sym}
 use Rattle.std.specs.Prelude.{IsSome}
 use Rattle.disk_model.specs.Laws.{elapses_on, rose_before}
 use Rattle.deploy.specs.Clauses.{ChangesNothing}
-use Rattle.deploy_rows.specs.Rows.{Answers}
+use Rattle.deploy_rows.specs.Rows.{AnswersRow}
 use Rattle.run_model.specs.Lives.{LooksOnly}
 use Rattle.per_backup.specs.Backups.{importing_into}
-use Rattle.per_backup.specs.Clauses.{IsSeen}
+use Rattle.per_backup.specs.Clauses.{IsAppSeen}
 use Rattle.per_backup.proofs.Synced.{each_ok, on_each, on_err, on_ok, passes_on, then_imported, then_keeps, then_looks}
 use Rattle.per_backup.proofs.Synced.{then_seen, unsynced_keeps}
 use Rattle.per_backup.proofs.importing.import.Goals as goal
@@ -25,10 +25,10 @@ returns-clause-refused g c =
     let old = g.D.Disk.medium c.args.disk.now in
     let mid = g.D.Disk.medium c.sync.new.self in
     each_ok
-    (λ refused. (it : _) × IsSeen g.D.Disk.told mid.image c.args.app it
-    × Answers refused (importing_into it c.args.name.now c.args.bytes.now))
-    (λ refused. (it : _) × IsSeen g.D.Disk.told old.image c.args.app it
-    × Answers refused (importing_into it c.args.name.now c.args.bytes.now))
+    (λ refused. (it : _) × IsAppSeen g.D.Disk.told mid.image c.args.app it
+    × AnswersRow refused (importing_into it c.args.name.now c.args.bytes.now))
+    (λ refused. (it : _) × IsAppSeen g.D.Disk.told old.image c.args.app it
+    × AnswersRow refused (importing_into it c.args.name.now c.args.bytes.now))
     c.import_synced.result
     (λ x given. (
       given.0,

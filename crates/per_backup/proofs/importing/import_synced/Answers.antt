@@ -1,8 +1,8 @@
 use Rattle.std.proofs.Common.{◌≡◌}
 use Rattle.element_state.specs.States.{State}
-use Rattle.deploy_rows.specs.Recovering.{if_fits}
+use Rattle.deploy_rows.specs.Recovering.{if_contents_fit}
 use Rattle.per_backup.specs.Backups.{importing}
-use Rattle.per_backup.specs.Finding.{IsLocated, IsMissing, config_of}
+use Rattle.per_backup.specs.Finding.{IsLocatedAs, IsMissingStorage, config_of}
 use Rattle.per_backup.proofs.Lists.{err_so, ok_so}
 use Rattle.per_backup.proofs.Nothing.{IsRefusedRow, early_refuses, missing_refuses, nothing_imported, nothing_keeps}
 use Rattle.per_backup.proofs.Nothing.{refuses_answers, refuses_there}
@@ -25,7 +25,8 @@ pub returns-in-Err-clause-refused : goal.returns-in-Err-clause-refused
 returns-in-Err-clause-refused g c = refuses_answers g.D.Disk.told (g.D.Disk.medium c.args.disk.now).image c.args.app
     c.args.name.now c.args.bytes.now c.in-Err.error (missing_refuses g.D.Disk.told
     (g.D.Disk.medium c.args.disk.now).image c.args.app c.args.name.now c.args.bytes.now c.in-Err.error
-    (err_so c.in_ok-located.field-0 c.in-Err.error (IsMissing g.D.Disk.told (g.D.Disk.medium c.args.disk.now).image
+    (err_so c.in_ok-located.field-0 c.in-Err.error (IsMissingStorage g.D.Disk.told
+    (g.D.Disk.medium c.args.disk.now).image
     c.args.app c.args.name.now) c.in-Err.is c.in_ok-located.ensures.missing))
 
 pub returns-in-Err-clause-imported : goal.returns-in-Err-clause-imported
@@ -40,7 +41,7 @@ returns-in-Err-clause-imported g c = λ tells. nothing_imported c.storages_stand
     (refuses_there g.D.Disk.told (g.D.Disk.medium c.args.disk.now).image c.args.app c.args.name.now c.args.bytes.now
     c.in-Err.error (missing_refuses g.D.Disk.told (g.D.Disk.medium c.args.disk.now).image c.args.app
     c.args.name.now c.args.bytes.now c.in-Err.error (err_so c.in_ok-located.field-0 c.in-Err.error
-    (IsMissing g.D.Disk.told (g.D.Disk.medium c.args.disk.now).image c.args.app c.args.name.now) c.in-Err.is
+    (IsMissingStorage g.D.Disk.told (g.D.Disk.medium c.args.disk.now).image c.args.app c.args.name.now) c.in-Err.is
     c.in_ok-located.ensures.missing)) tells)
 
 pub returns-in-Err-clause-keeps : goal.returns-in-Err-clause-keeps
@@ -70,7 +71,7 @@ returns-in-Err-2-clause-refused g c = refuses_answers g.D.Disk.told (g.D.Disk.me
     c.args.name.now c.args.bytes.now c.in-Err-2.error (early_refuses g.D.Disk.told
     (g.D.Disk.medium c.args.disk.now).image c.args.app c.args.name.now c.args.bytes.now c.in-Err-2.error
     c.in-Ok.located (ok_so c.in_ok-located.field-0 c.in-Ok.located
-    (IsLocated g.D.Disk.told (g.D.Disk.medium c.args.disk.now).image c.args.app c.args.name.now) c.in-Ok.is
+    (IsLocatedAs g.D.Disk.told (g.D.Disk.medium c.args.disk.now).image c.args.app c.args.name.now) c.in-Ok.is
     c.in_ok-located.ensures.located) (err_so c.in_ok-contents.field-0 c.in-Err-2.error
     (IsRefusedRow (config_of c.in-Ok.located) c.args.bytes.now) c.in-Err-2.is c.in_ok-contents.ensures.refused))
 
@@ -86,7 +87,7 @@ returns-in-Err-2-clause-imported g c = λ tells. nothing_imported c.storages_sta
     (refuses_there g.D.Disk.told (g.D.Disk.medium c.args.disk.now).image c.args.app c.args.name.now c.args.bytes.now
     c.in-Err-2.error (early_refuses g.D.Disk.told (g.D.Disk.medium c.args.disk.now).image c.args.app
     c.args.name.now c.args.bytes.now c.in-Err-2.error c.in-Ok.located
-    (ok_so c.in_ok-located.field-0 c.in-Ok.located (IsLocated g.D.Disk.told
+    (ok_so c.in_ok-located.field-0 c.in-Ok.located (IsLocatedAs g.D.Disk.told
     (g.D.Disk.medium c.args.disk.now).image c.args.app c.args.name.now) c.in-Ok.is
     c.in_ok-located.ensures.located) (err_so c.in_ok-contents.field-0 c.in-Err-2.error
     (IsRefusedRow (config_of c.in-Ok.located) c.args.bytes.now) c.in-Err-2.is
@@ -102,14 +103,14 @@ returns-in-Err-2-clause-keeps g c = λ tells. nothing_keeps c.storages_stand.ens
           c.in_ok-located.ensures.idle;
     })
 
--- it is made anew
+-- it is rebuilt
 
 pub returns-clause-refused : goal.returns-clause-refused
 returns-clause-refused g c = replaced_answers c.storages_stand.ensures g.D.Disk.told c.args.app c.requires
     c.args.name.now c.args.bytes.now c.in-Ok.located c.in-Ok-2.contents.items
     (ok_so c.in_ok-contents.field-0 c.in-Ok-2.contents (λ fs. (state : State)
     → importing (config_of c.in-Ok.located) state c.args.bytes.now
-    ≡ if_fits (config_of c.in-Ok.located) state fs.items) c.in-Ok-2.is c.in_ok-contents.ensures.row)
+    ≡ if_contents_fit (config_of c.in-Ok.located) state fs.items) c.in-Ok-2.is c.in_ok-contents.ensures.row)
     (g.D.Disk.medium c.args.disk.now) (g.D.Disk.medium c.find.new.disk) (g.D.Disk.medium c.replace_contents.new.disk)
     c.in_ok-located.ensures.time (record {
       image = c.in_ok-located.ensures.image;
@@ -117,7 +118,7 @@ returns-clause-refused g c = replaced_answers c.storages_stand.ensures g.D.Disk.
           c.in_ok-located.ensures.written;
       idle = c.in_ok-located.ensures.idle;
     }) c.replace_contents.ensures.time
-    (ok_so c.in_ok-located.field-0 c.in-Ok.located (IsLocated g.D.Disk.told (g.D.Disk.medium c.args.disk.now).image
+    (ok_so c.in_ok-located.field-0 c.in-Ok.located (IsLocatedAs g.D.Disk.told (g.D.Disk.medium c.args.disk.now).image
     c.args.app c.args.name.now) c.in-Ok.is c.in_ok-located.ensures.located) c.replace_contents.result
     (record {
       refused = c.replace_contents.ensures.refused;
@@ -137,7 +138,7 @@ returns-clause-unchanged g c = replaced_unchanged c.storages_stand.ensures g.D.D
     c.args.name.now c.args.bytes.now c.in-Ok.located c.in-Ok-2.contents.items
     (ok_so c.in_ok-contents.field-0 c.in-Ok-2.contents (λ fs. (state : State)
     → importing (config_of c.in-Ok.located) state c.args.bytes.now
-    ≡ if_fits (config_of c.in-Ok.located) state fs.items) c.in-Ok-2.is c.in_ok-contents.ensures.row)
+    ≡ if_contents_fit (config_of c.in-Ok.located) state fs.items) c.in-Ok-2.is c.in_ok-contents.ensures.row)
     (g.D.Disk.medium c.args.disk.now) (g.D.Disk.medium c.find.new.disk) (g.D.Disk.medium c.replace_contents.new.disk)
     c.in_ok-located.ensures.time (record {
       image = c.in_ok-located.ensures.image;
@@ -145,7 +146,7 @@ returns-clause-unchanged g c = replaced_unchanged c.storages_stand.ensures g.D.D
           c.in_ok-located.ensures.written;
       idle = c.in_ok-located.ensures.idle;
     }) c.replace_contents.ensures.time
-    (ok_so c.in_ok-located.field-0 c.in-Ok.located (IsLocated g.D.Disk.told (g.D.Disk.medium c.args.disk.now).image
+    (ok_so c.in_ok-located.field-0 c.in-Ok.located (IsLocatedAs g.D.Disk.told (g.D.Disk.medium c.args.disk.now).image
     c.args.app c.args.name.now) c.in-Ok.is c.in_ok-located.ensures.located) c.replace_contents.result
     (record {
       refused = c.replace_contents.ensures.refused;
@@ -165,7 +166,7 @@ returns-clause-imported g c = λ tells. replaced_imported c.storages_stand.ensur
     c.args.name.now c.args.bytes.now c.in-Ok.located c.in-Ok-2.contents.items
     (ok_so c.in_ok-contents.field-0 c.in-Ok-2.contents (λ fs. (state : State)
     → importing (config_of c.in-Ok.located) state c.args.bytes.now
-    ≡ if_fits (config_of c.in-Ok.located) state fs.items) c.in-Ok-2.is c.in_ok-contents.ensures.row)
+    ≡ if_contents_fit (config_of c.in-Ok.located) state fs.items) c.in-Ok-2.is c.in_ok-contents.ensures.row)
     (g.D.Disk.medium c.args.disk.now) (g.D.Disk.medium c.find.new.disk) (g.D.Disk.medium c.replace_contents.new.disk)
     c.in_ok-located.ensures.time (record {
       image = c.in_ok-located.ensures.image;
@@ -173,7 +174,7 @@ returns-clause-imported g c = λ tells. replaced_imported c.storages_stand.ensur
           c.in_ok-located.ensures.written;
       idle = c.in_ok-located.ensures.idle;
     }) c.replace_contents.ensures.time
-    (ok_so c.in_ok-located.field-0 c.in-Ok.located (IsLocated g.D.Disk.told (g.D.Disk.medium c.args.disk.now).image
+    (ok_so c.in_ok-located.field-0 c.in-Ok.located (IsLocatedAs g.D.Disk.told (g.D.Disk.medium c.args.disk.now).image
     c.args.app c.args.name.now) c.in-Ok.is c.in_ok-located.ensures.located) c.replace_contents.result
     (record {
       refused = c.replace_contents.ensures.refused;
@@ -193,7 +194,7 @@ returns-clause-keeps g c = λ tells. replaced_keeps c.storages_stand.ensures g.D
     c.args.name.now c.args.bytes.now c.in-Ok.located c.in-Ok-2.contents.items
     (ok_so c.in_ok-contents.field-0 c.in-Ok-2.contents (λ fs. (state : State)
     → importing (config_of c.in-Ok.located) state c.args.bytes.now
-    ≡ if_fits (config_of c.in-Ok.located) state fs.items) c.in-Ok-2.is c.in_ok-contents.ensures.row)
+    ≡ if_contents_fit (config_of c.in-Ok.located) state fs.items) c.in-Ok-2.is c.in_ok-contents.ensures.row)
     (g.D.Disk.medium c.args.disk.now) (g.D.Disk.medium c.find.new.disk) (g.D.Disk.medium c.replace_contents.new.disk)
     c.in_ok-located.ensures.time (record {
       image = c.in_ok-located.ensures.image;
@@ -201,7 +202,7 @@ returns-clause-keeps g c = λ tells. replaced_keeps c.storages_stand.ensures g.D
           c.in_ok-located.ensures.written;
       idle = c.in_ok-located.ensures.idle;
     }) c.replace_contents.ensures.time
-    (ok_so c.in_ok-located.field-0 c.in-Ok.located (IsLocated g.D.Disk.told (g.D.Disk.medium c.args.disk.now).image
+    (ok_so c.in_ok-located.field-0 c.in-Ok.located (IsLocatedAs g.D.Disk.told (g.D.Disk.medium c.args.disk.now).image
     c.args.app c.args.name.now) c.in-Ok.is c.in_ok-located.ensures.located) c.replace_contents.result
     (record {
       refused = c.replace_contents.ensures.refused;

@@ -2,14 +2,14 @@ use Rattle.std.proofs.Common.{sym, ap, subst, ◌∙◌}
 use Rattle.deployment_model.specs.Data.{storage_data}
 use Rattle.export_text.specs.declared.errors.ExportError.{ExportError}
 use Rattle.export_text.specs.Exports.{export_of}
-use Rattle.export_text.specs.Views.{Refuses}
+use Rattle.export_text.specs.Views.{FailsToRead}
 use Rattle.per_backup.specs.Backups.{least_mismatch}
 use Rattle.per_backup.proofs.ImportRows.{elements_taken, row_fits, row_other, row_rejected, row_typed}
 use Rattle.per_backup.proofs.importing.importable.Goals as goal
 
 pub returns-in-Err-NotAnExport-clause-refused : goal.returns-in-Err-NotAnExport-clause-refused
 returns-in-Err-NotAnExport-clause-refused c = row_rejected (storage_data c.args.config.now) c.args.bytes.now
-    (subst (λ (e : ExportError). Refuses e (export_of c.args.bytes.now)) c.in-Err-NotAnExport.field-0-is
+    (subst (λ (e : ExportError). FailsToRead e (export_of c.args.bytes.now)) c.in-Err-NotAnExport.field-0-is
     c.in-Err-NotAnExport.ensures.read)
 
 pub returns-then-not-is_of_kind-clause-refused : goal.returns-then-not-is_of_kind-clause-refused

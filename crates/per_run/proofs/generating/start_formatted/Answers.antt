@@ -1,14 +1,14 @@
--- The runtime starts behind the formatting.
+-- The runtime starts after the formatting.
 use Rattle.std.proofs.Common.{Result, Ok, Err, IfOk, OnOk, ℕ, ◌<◌, ◌≡◌, Bool, IsTrue}
 use Rattle.disk_model.specs.Laws.{elapses_on, rose_before}
-use Rattle.disk_model.specs.Medium.{Medium, Elapses}
+use Rattle.disk_model.specs.Medium.{Medium, Quiet, Elapses}
 use Rattle.deploy.specs.declared.errors.Stop.{Stop}
 use Rattle.deploy_laws.specs.Apps.{IsCleanApp}
 use Rattle.per_runtime.specs.Memories.{memory_of}
 use Rattle.per_runtime.specs.declared.runtime.Runtime.{Runtime}
 use Rattle.run_model.specs.Runtimes.{Starts}
 use Rattle.run_model.specs.Worlds.{formatted, world_at}
-use Rattle.per_run.specs.Steps.{IsBegun}
+use Rattle.per_run.specs.Steps.{IsServeBegun}
 use Rattle.per_run.proofs.Fresh.{is_formatted}
 use Rattle.per_run.proofs.generating.start_formatted.Goals as goal
 
@@ -17,20 +17,30 @@ begun_ok : {D : Type 0} (medium : D → Medium) (told : Bool) (r : Result Runtim
     → OnOk r ((medium new).faults ≡ (medium middle).faults)
     → (IsTrue told → world_at (medium middle).image ≡ formatted)
     → (IsTrue told → (app : ℕ) → app < 8 → IsCleanApp app (medium middle).image)
+    → Quiet (medium middle) → Elapses (medium old) (medium middle)
     → (IsTrue told → IfOk r (λ x. Starts (memory_of x) (medium middle) (medium new)))
     → Elapses (medium middle) (medium new)
-    → IfOk r (λ x. (m : D) × IsBegun told (memory_of x) (medium old) (medium m) (medium new))
-begun_ok medium told (Ok x) old middle new passes started world clean starts time = (
+    → IfOk r (λ x. (m : D) × IsServeBegun told (memory_of x) (medium old) (medium m) (medium new))
+begun_ok medium told (Ok x) old middle new passes started world clean quiet formats starts time = (
   middle,
-  record { passes = passes; started = started; world = world; clean = clean; starts = starts; time = time },
+  record {
+    passes = passes;
+    started = started;
+    world = world;
+    clean = clean;
+    quiet = quiet;
+    formats = formats;
+    starts = starts;
+    time = time;
+  },
 )
-begun_ok medium told (Err e) old middle new passes started world clean starts time = tt
+begun_ok medium told (Err e) old middle new passes started world clean quiet formats starts time = tt
 
 pub returns-in-Ok-clause-begun : goal.returns-in-Ok-clause-begun
 returns-in-Ok-clause-begun g c = begun_ok g.D.Disk.medium g.D.Disk.told c.start.result c.args.disk.now
     c.format_all.new.disk c.start.new.disk c.in-Ok.ensures.passes
     c.start.ensures.passes (λ tells. is_formatted _ (c.in-Ok.ensures.apps tells)) c.in-Ok.ensures.clean
-    c.start.ensures.starts c.start.ensures.time
+    c.in-Ok.ensures.quiet c.format_all.ensures.time c.start.ensures.starts c.start.ensures.time
 
 pub returns-in-Ok-clause-cause : goal.returns-in-Ok-clause-cause
 returns-in-Ok-clause-cause g c = λ failed. rose_before _ _ _ c.format_all.ensures.time.faults

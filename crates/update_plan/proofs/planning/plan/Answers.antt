@@ -4,7 +4,7 @@ use Rattle.std.proofs.lemmas.Result.{err_from_is_err_and}
 use Rattle.deployment_model.specs.Conditions.{IsStorage}
 use Rattle.deployment_model.specs.Data.{deployment_data, storage_data}
 use Rattle.migrate_fns.specs.Stored.{answers_of, rules_of}
-use Rattle.update_plan.specs.Plans.{ArePresent, PlansFor, Told, stored_for}
+use Rattle.update_plan.specs.Plans.{ArePresent, PlansFor, UnlessOutOfMemory, stored_for}
 use Rattle.update_plan.proofs.Starts.{item_at}
 use Rattle.update_plan.proofs.AllPlans.{Planning, all_here, ended_fit, ended_plans, next, stopped, stored_of_kind}
 use Rattle.update_plan.proofs.planning.plan.Goals as goal
@@ -37,7 +37,7 @@ returns-in_err-plan-clause-plan g c =
     (item_at storage_data c.as_slice-storage-items.result.now i c.storage-item.result c.loop-storage-test.true
     c.storage-item.is) in
     let at = c.stored_for.ensures ∙ ap (λ xs. stored_for (deployment_data c.args.old.now) xs s) c.as_slice.ensures in
-    let refused = subst (λ t. Told (Err c.in_err-plan.field-0.0)
+    let refused = subst (λ t. UnlessOutOfMemory (Err c.in_err-plan.field-0.0)
     (PlansFor (rules_of c.args.migrations.now) (answers_of c.args.migrations.now) c.args.now s t)) at
     c.in_err-plan.ensures.plan in
     let p = err_from_is_err_and c.from_residual.result c.from_residual.ensures.1 in

@@ -10,10 +10,10 @@ returns-clause-found c =
     found (λ z. (mag z ≤ c.args.max) × (c.args.text.now ≡ signed_decimal z))
     (signed_in (c.args.max + 1) c.args.text.now)
     (λ z e. let read = signed_in_takes (c.args.max + 1) c.args.text.now z e in (omega (arith, read.1), read.0))
-    c.signed_in.result c.signed_in.ensures
+    c.signed_in.result c.signed_in.ensures.read
 
 pub returns-clause-only : goal.returns-clause-only
 returns-clause-only c = λ e z fits same.
-    only (signed_in (c.args.max + 1) c.args.text.now) c.signed_in.result c.signed_in.ensures e z
+    only (signed_in (c.args.max + 1) c.args.text.now) c.signed_in.result c.signed_in.ensures.read e z
     (ap (signed_in (c.args.max + 1)) same ∙ signed_in_again (c.args.max + 1) z (omega (arith, c.requires))
     (omega arith))

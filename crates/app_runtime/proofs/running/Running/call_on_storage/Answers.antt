@@ -3,14 +3,14 @@ use Rattle.migrate_fns.specs.Stored.{answers_of, rules_of}
 use Rattle.app_runtime.specs.declared.running.Stage.{Stage}
 use Rattle.app_runtime.specs.Promises.{Promises}
 use Rattle.app_runtime.specs.Running.{IsStageAt}
-use Rattle.app_runtime.specs.Stages.{root_of}
+use Rattle.app_runtime.specs.Stages.{stage_root}
 use Rattle.app_runtime.proofs.Ended.{rests}
 use Rattle.app_runtime.proofs.LeadOn.{leads_on}
 use Rattle.app_runtime.proofs.StorageCalls.{stored_promises}
 use Rattle.app_runtime.proofs.running.Running.call_on_storage.Goals as goal
 
 pub returns-in_default : goal.returns-in_default
-returns-in_default g c = absurd (c.in_default.not-AtRest (root_of c.args.self.now.stage)
+returns-in_default g c = absurd (c.in_default.not-AtRest (stage_root c.args.self.now.stage)
     (sym (rests c.args.self.now.stage c.requires.rests)))
 
 pub call-requires : goal.call-requires

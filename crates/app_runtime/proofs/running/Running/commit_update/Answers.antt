@@ -3,7 +3,7 @@ use Rattle.command_text.specs.declared.calls.Call.TheVariants as call
 use Rattle.command_text.specs.declared.replies.Answer.TheVariants as answer
 use Rattle.command_text.specs.declared.replies.Reply.{Reply}
 use Rattle.deploy.specs.declared.errors.Stop.{Stop}
-use Rattle.deploy.specs.Building.{StagedAt, progress_in, root_in}
+use Rattle.deploy.specs.Building.{StagedAt, staged_progress, staged_root}
 use Rattle.deploy.specs.Remaining.{IsBesideCommit}
 use Rattle.deploy.specs.Roots.{RootAt, free_bank}
 use Rattle.deploy_laws.specs.Apps.{IsCleanApp, app_at}
@@ -58,13 +58,16 @@ returns-in_err-root g c = λ now.
     let stage_is = an_update s.stage t (sym c.in-Some.ensures.staged) in
     let at = staged_at told old.image s.app s.slots s.stage t stage_is c.requires.memory.stage_at in
     let of_app = at.0.memory.of_app in
-    let calls = λ (tells : IsTrue told). subst (λ n. CallsTo n (updated_app (progress_in t) (app_at old.image n)) old
+    let calls = λ (tells : IsTrue told). subst (λ n. CallsTo n
+    (updated_app (staged_progress t) (app_at old.image n)) old
     new) of_app
-    (calls_to told t.app (updated_app (progress_in t) (app_at old.image t.app))
-    (IsBesideCommit t.app (free_bank (root_in t)) (progress_in t).built (length (progress_in t).contents)) old new
+    (calls_to told t.app (updated_app (staged_progress t) (app_at old.image t.app))
+    (IsBesideCommit t.app (free_bank (staged_root t)) (staged_progress t).built (length (staged_progress t).contents))
+    old new
     tells
-    (λ f is. beside_commit t.app (free_bank (root_in t)) (progress_in t).built (length (progress_in t).contents) f
-    (subst (λ n. n < 8) (sym of_app) at.0.memory.below) (free_low (root_in t)) (contents_few s.app t at.0.memory)
+    (λ f is. beside_commit t.app (free_bank (staged_root t)) (staged_progress t).built
+    (length (staged_progress t).contents) f
+    (subst (λ n. n < 8) (sym of_app) at.0.memory.below) (free_low (staged_root t)) (contents_few s.app t at.0.memory)
     is) c.commit_update.ensures.outside (c.commit_update.ensures.any_moment tells)) in
     let e = c.in_err-root.field-0.0 in
     subst (λ (x : Result Reply Stop). Promises told rules answers now call.UpdateCommit s taken
@@ -90,13 +93,16 @@ returns g c = λ now.
     let stage_is = an_update s.stage t (sym c.in-Some.ensures.staged) in
     let at = staged_at told old.image s.app s.slots s.stage t stage_is c.requires.memory.stage_at in
     let of_app = at.0.memory.of_app in
-    let calls = λ (tells : IsTrue told). subst (λ n. CallsTo n (updated_app (progress_in t) (app_at old.image n)) old
+    let calls = λ (tells : IsTrue told). subst (λ n. CallsTo n
+    (updated_app (staged_progress t) (app_at old.image n)) old
     new) of_app
-    (calls_to told t.app (updated_app (progress_in t) (app_at old.image t.app))
-    (IsBesideCommit t.app (free_bank (root_in t)) (progress_in t).built (length (progress_in t).contents)) old new
+    (calls_to told t.app (updated_app (staged_progress t) (app_at old.image t.app))
+    (IsBesideCommit t.app (free_bank (staged_root t)) (staged_progress t).built (length (staged_progress t).contents))
+    old new
     tells
-    (λ f is. beside_commit t.app (free_bank (root_in t)) (progress_in t).built (length (progress_in t).contents) f
-    (subst (λ n. n < 8) (sym of_app) at.0.memory.below) (free_low (root_in t)) (contents_few s.app t at.0.memory)
+    (λ f is. beside_commit t.app (free_bank (staged_root t)) (staged_progress t).built
+    (length (staged_progress t).contents) f
+    (subst (λ n. n < 8) (sym of_app) at.0.memory.below) (free_low (staged_root t)) (contents_few s.app t at.0.memory)
     is) c.commit_update.ensures.outside (c.commit_update.ensures.any_moment tells)) in
     subst (λ (x : Running). Promises told rules answers now call.UpdateCommit s
     (record x { stage = AtRest c.in_ok-root.root }) (c.commit_update.new.disk ≡ c.args.disk.now) old new
@@ -110,7 +116,7 @@ returns g c = λ now.
     (commit_done told rules answers now s t old new (c.commit_update.new.disk ≡ c.args.disk.now) at.0
     c.requires.memory.below at.1 c.roots_in_use.ensures.app c.rows_lead_on.ensures.update
     c.in_ok-root.root (subst (λ n. RootAt told new.image n c.in_ok-root.root) of_app c.in_ok-root.ensures.root)
-    (λ tells. subst (λ n. app_at new.image n ≡ updated_app (progress_in t) (app_at old.image n)) of_app
+    (λ tells. subst (λ n. app_at new.image n ≡ updated_app (staged_progress t) (app_at old.image n)) of_app
     (c.in_ok-root.ensures.app tells)) calls
     (λ tells. subst (λ n. IsCleanApp n old.image → IsCleanApp n new.image) of_app (c.in_ok-root.ensures.clean tells))
     (λ quiet. c.in_ok-root.ensures.quiet) c.in_ok-root.ensures.passes c.commit_update.ensures.time)))

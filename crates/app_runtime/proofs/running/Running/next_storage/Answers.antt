@@ -3,7 +3,7 @@ use Rattle.command_text.specs.declared.calls.Call.TheVariants as call
 use Rattle.command_text.specs.declared.replies.Answer.TheVariants as answer
 use Rattle.command_text.specs.declared.replies.Reply.{Reply}
 use Rattle.deploy.specs.declared.errors.Stop.{Stop}
-use Rattle.deploy.specs.Building.{StagedAt, progress_in, root_in}
+use Rattle.deploy.specs.Building.{StagedAt, staged_progress, staged_root}
 use Rattle.deploy.specs.Roots.{RootAt, free_bank}
 use Rattle.deploy_laws.specs.Apps.{IsCleanApp, app_at}
 use Rattle.deploy_laws.specs.Places.{IsBeside}
@@ -58,8 +58,9 @@ returns-in_err-staged g c = λ now.
     let at = staged_at told old.image s.app s.slots s.stage t stage_is c.requires.memory.stage_at in
     let of_app = at.0.memory.of_app in
     let calls = λ (tells : IsTrue told). subst (λ n. CallsTo n (app_at old.image n) old new) of_app
-    (calls_to told t.app (app_at old.image t.app) (IsBeside t.app (free_bank (root_in t)) (progress_in t).built) old new
-    tells (λ f is. beside t.app (free_bank (root_in t)) (progress_in t).built f (free_low (root_in t))
+    (calls_to told t.app (app_at old.image t.app) (IsBeside t.app (free_bank (staged_root t))
+    (staged_progress t).built) old new
+    tells (λ f is. beside t.app (free_bank (staged_root t)) (staged_progress t).built f (free_low (staged_root t))
     (built_few s.app t at.0.memory) is) c.next_storage.ensures.outside
     (c.next_storage.ensures.any_moment tells)) in
     let e = c.in_err-staged.field-0.0 in
@@ -87,8 +88,9 @@ returns g c = λ now.
     let at = staged_at told old.image s.app s.slots s.stage t stage_is c.requires.memory.stage_at in
     let of_app = at.0.memory.of_app in
     let calls = λ (tells : IsTrue told). subst (λ n. CallsTo n (app_at old.image n) old new) of_app
-    (calls_to told t.app (app_at old.image t.app) (IsBeside t.app (free_bank (root_in t)) (progress_in t).built) old new
-    tells (λ f is. beside t.app (free_bank (root_in t)) (progress_in t).built f (free_low (root_in t))
+    (calls_to told t.app (app_at old.image t.app) (IsBeside t.app (free_bank (staged_root t))
+    (staged_progress t).built) old new
+    tells (λ f is. beside t.app (free_bank (staged_root t)) (staged_progress t).built f (free_low (staged_root t))
     (built_few s.app t at.0.memory) is) c.next_storage.ensures.outside
     (c.next_storage.ensures.any_moment tells)) in
     subst (λ (x : Running). Promises told rules answers now call.UpdateNext s

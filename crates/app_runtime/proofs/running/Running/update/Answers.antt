@@ -7,7 +7,7 @@ use Rattle.migrate_fns.specs.Stored.{answers_of, rules_of}
 use Rattle.app_runtime.specs.declared.running.Running.{Running}
 use Rattle.app_runtime.specs.declared.running.Stage.TheVariants.{AtRest}
 use Rattle.app_runtime.specs.Promises.{Promises}
-use Rattle.app_runtime.specs.Stages.{Concludes}
+use Rattle.app_runtime.specs.Stages.{ConcludesCall}
 use Rattle.app_runtime.proofs.Ended.{busy_here, on_clean, resting_in, stage_back, starved, starved_promises}
 use Rattle.app_runtime.proofs.Updated.{Updates, updated_promises}
 use Rattle.app_runtime.proofs.running.Running.update.Goals as goal
@@ -71,5 +71,5 @@ returns g c =
       time = c.update-made.ensures.time;
     }))
     c.conclude.new.self c.conclude.result
-    (subst (λ (x : Running). Concludes made x c.conclude.new.self c.conclude.result)
+    (subst (λ (x : Running). ConcludesCall made x c.conclude.new.self c.conclude.result)
     c.take_root-root.ensures.left c.conclude.ensures))

@@ -10,7 +10,7 @@ use Rattle.element_store.specs.Stores.{IsUsed}
 use Rattle.deploy.specs.declared.errors.Stop.{Stop}
 use Rattle.open_storages.specs.declared.opening.Opening.{Opening}
 use Rattle.open_storages.specs.declared.opening.Opening.TheVariants as found
-use Rattle.open_storages.specs.Openings.{IsOpeningOf, IsPlaced, OnCorrupt, OnOpened}
+use Rattle.open_storages.specs.Openings.{IsOpeningOf, IsWhereConfigured, OnCorrupt, OnOpened}
 use Rattle.open_storages.specs.Opens.{store_in}
 use Rattle.command_text.specs.declared.replies.Answer.TheVariants.{Done}
 use Rattle.app_storages.specs.Finding.{IsEarly, config_of, found_on, shape_at}
@@ -84,8 +84,8 @@ returns-in-Ok-Opened g c = λ now.
     open_opened c.storages_stand.ensures told app now root kind name was m l c.in-Ok.ensures.located c.requires
     c.in-Ok.ensures.found c.in-Ok.ensures.named closed new (c.open_storage.new.disk ≡ c.args.disk.now) storing
     o c.in-Ok-Opened.reports c.put.new.self
-    (subst (λ (sh : Shape). IsPlaced sh (config_of l) o) placed_so
-    (subst (λ (x : Opening). OnOpened x (IsPlaced c.in-Ok-shape.shape (config_of l))) given
+    (subst (λ (sh : Shape). IsWhereConfigured sh (config_of l) o) placed_so
+    (subst (λ (x : Opening). OnOpened x (IsWhereConfigured c.in-Ok-shape.shape (config_of l))) given
     c.in-Ok-Opened.ensures.placed))
     (subst (λ (x : Opening). OnOpened x (λ o. IsUsed told new.image (store_in o))) given c.in-Ok-Opened.ensures.used)
     (record { kind = c.invariants.ensures.kind; shows = c.invariants.ensures.synced })

@@ -61,7 +61,7 @@ returns-in_default g c =
     starved_handled laws told app now root (call.RecoverStorage name) was m (c.args.disk.now ≡ c.args.disk.now) refl law
     c.requires was
 
--- ---- it is made anew
+-- ---- it is rebuilt
 
 pub recover_storage-requires : goal.recover_storage-requires
 recover_storage-requires g c =

@@ -61,7 +61,7 @@ returns-in_default g c =
     starved_handled laws told app now root (call.ResetStorage name) was m (c.args.disk.now ≡ c.args.disk.now) refl law
     c.requires was
 
--- ---- it is made anew
+-- ---- it is rebuilt
 
 pub reset_storage-requires : goal.reset_storage-requires
 reset_storage-requires g c =

@@ -2,7 +2,7 @@ use Rattle.std.proofs.Common.{◌≡◌, ℕ, ◌<◌, List, length, sym, ap, su
 use Rattle.per_base.specs.declared.elements.Change.{Change}
 use Rattle.element_state.specs.declared.shapes.Shape.{Shape}
 use Rattle.element_state.specs.declared.shapes.View.{View}
-use Rattle.element_state.specs.Conditions.{AreChanges, size_of}
+use Rattle.element_state.specs.Conditions.{AreCommittable, size_of}
 use Rattle.element_state.specs.States.{greatest_generation}
 use Rattle.element_store.specs.Stores.{shape_of, view_in, entries_of}
 use Rattle.base_tests.specs.Single.{IsAddition}
@@ -20,5 +20,5 @@ returns c =
     let few : length (entries_of store) < 1024 = let same = ap length c.entries.ensures in omega (arith, same) in
     let not_worn : (view_in store).generation < greatest_generation =
     omega (arith, c.generation.ensures, c.if-generation.false) in
-    subst (λ (cs : List Change). AreChanges (shape_of store) (view_in store) cs) (sym c.in_ok-vec.ensures.items)
+    subst (λ (cs : List Change). AreCommittable (shape_of store) (view_in store) cs) (sym c.in_ok-vec.ensures.items)
     (one_change (shape_of store) (view_in store) c.args.change of_shape few not_worn)

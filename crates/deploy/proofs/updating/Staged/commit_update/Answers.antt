@@ -5,7 +5,7 @@ use Rattle.root_text.specs.Views.{version_said}
 use Rattle.deploy_laws.specs.Apps.{App, app_at}
 use Rattle.deploy_laws.specs.Stands.{StandsThroughout}
 use Rattle.deploy_rows.specs.Rows.{updated_app}
-use Rattle.deploy.specs.Building.{progress_in}
+use Rattle.deploy.specs.Building.{staged_progress}
 use Rattle.deploy.specs.Clauses.{Leaves}
 use Rattle.deploy.specs.Next.{next_app}
 use Rattle.deploy.specs.Remaining.{IsBesideCommit}
@@ -25,7 +25,7 @@ returns-in_err-cell-clause-any_moment g c = λ tells. subst
     (subst (λ (cs : List (List Fresh)). next_app (generation_of c.args.self.root.cell + 1) (1 - c.args.self.root.bank)
     (version_said c.args.self.version) (Some (version_said c.args.self.root.active)) cs
     (app_at (g.D.Disk.medium c.args.disk.now).image c.args.self.app)
-    ≡ updated_app (progress_in c.args.self) (app_at (g.D.Disk.medium c.args.disk.now).image c.args.self.app))
+    ≡ updated_app (staged_progress c.args.self) (app_at (g.D.Disk.medium c.args.disk.now).image c.args.self.app))
     (sym c.deref.ensures.value) (next_committed c.one_root.ensures.again c.roots_say.ensures.alone
     (g.D.Disk.medium c.args.disk.now).image c.args.self.app c.args.self.root c.requires.staged.memory.root
     (c.requires.staged.root_on tells) c.requires.staged.memory.no_previous c.args.self.version
@@ -50,7 +50,7 @@ returns-clause-any_moment g c = λ tells. subst (λ (a : App).
     (subst (λ (cs : List (List Fresh)). next_app (generation_of c.args.self.root.cell + 1) (1 - c.args.self.root.bank)
     (version_said c.args.self.version) (Some (version_said c.args.self.root.active)) cs
     (app_at (g.D.Disk.medium c.args.disk.now).image c.args.self.app)
-    ≡ updated_app (progress_in c.args.self) (app_at (g.D.Disk.medium c.args.disk.now).image c.args.self.app))
+    ≡ updated_app (staged_progress c.args.self) (app_at (g.D.Disk.medium c.args.disk.now).image c.args.self.app))
     (sym c.deref.ensures.value) (next_committed c.one_root.ensures.again c.roots_say.ensures.alone
     (g.D.Disk.medium c.args.disk.now).image c.args.self.app c.args.self.root c.requires.staged.memory.root
     (c.requires.staged.root_on tells) c.requires.staged.memory.no_previous c.args.self.version
@@ -74,7 +74,7 @@ returns-clause-app g c = λ tells. c.in_ok-cell.ensures.app tells
     ∙ (subst (λ (cs : List (List Fresh)). next_app (generation_of c.args.self.root.cell + 1) (1 - c.args.self.root.bank)
     (version_said c.args.self.version) (Some (version_said c.args.self.root.active)) cs
     (app_at (g.D.Disk.medium c.args.disk.now).image c.args.self.app)
-    ≡ updated_app (progress_in c.args.self) (app_at (g.D.Disk.medium c.args.disk.now).image c.args.self.app))
+    ≡ updated_app (staged_progress c.args.self) (app_at (g.D.Disk.medium c.args.disk.now).image c.args.self.app))
     (sym c.deref.ensures.value) (next_committed c.one_root.ensures.again c.roots_say.ensures.alone
     (g.D.Disk.medium c.args.disk.now).image c.args.self.app c.args.self.root c.requires.staged.memory.root
     (c.requires.staged.root_on tells) c.requires.staged.memory.no_previous c.args.self.version

@@ -1,5 +1,5 @@
 use Rattle.std.proofs.Common.{◌≡◌, ◌∙◌}
-use Rattle.disk_model.specs.History.{image_of, start_of}
+use Rattle.disk_model.specs.History.{image_of, start_image}
 use Rattle.disk_model.specs.Memory.{synced_image}
 use Rattle.disk_model.proofs.Outcomes.{kept, lost, stable_image}
 use Rattle.disk_model.proofs.memory.MemDisk.crash.Goals as goal
@@ -12,7 +12,8 @@ returns-then-keep-clause-outcome c = kept c.args.self (image_of c.holding.result
 
 is_stable : (c : goal.After-drop-self-2) → image_of c.holding-2.result.files ≡ synced_image c.args.self
 is_stable c = stable_image c.args.self.calls.items c.deref.result.now c.deref-2.result.now c.synced.result
-    (start_of c.args.self.files c.args.self.start) (image_of c.begun-stable.result) (image_of c.holding-2.result.files)
+    (start_image c.args.self.files c.args.self.start) (image_of c.begun-stable.result)
+    (image_of c.holding-2.result.files)
     c.deref.ensures.value c.deref-2.ensures.value c.begun-stable.ensures c.synced.ensures.base
     (c.holding-2.ensures.image ∙ c.in_ok-replay.ensures)
 

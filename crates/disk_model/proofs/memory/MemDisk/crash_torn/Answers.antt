@@ -1,5 +1,5 @@
 use Rattle.std.proofs.Common.{◌≡◌, ◌∙◌}
-use Rattle.disk_model.specs.History.{image_of, start_of}
+use Rattle.disk_model.specs.History.{image_of, start_image}
 use Rattle.disk_model.specs.Memory.{synced_image, torn_image}
 use Rattle.disk_model.proofs.Outcomes.{torn_outcome, torn_long, torn_is, stable_image}
 use Rattle.disk_model.proofs.memory.MemDisk.crash_torn.Goals as goal
@@ -9,7 +9,7 @@ is_torn c =
     let calls = c.args.self.calls.items in
     let stable : image_of c.replay.new.files ≡ synced_image c.args.self =
     stable_image calls c.deref-2.result.now c.deref.result.now c.synced-stable.result
-    (start_of c.args.self.files c.args.self.start) (image_of c.begun-torn.result) (image_of c.replay.new.files)
+    (start_image c.args.self.files c.args.self.start) (image_of c.begun-torn.result) (image_of c.replay.new.files)
     c.deref-2.ensures.value c.deref.ensures.value c.begun-torn.ensures c.synced-stable.ensures.base
     c.in_ok-replay.ensures in
     torn_is c.args.pattern calls c.deref.result.now c.deref-3.result.now c.synced-stable.result

@@ -3,7 +3,7 @@ use Rattle.std.proofs.lemmas.Grind.{common_steps}
 use Rattle.std.proofs.Common.{arith}
 use Rattle.disk_model.specs.declared.history.Call.TheVariants.{Write}
 use Rattle.disk_model.specs.Image.{put_image}
-use Rattle.disk_model.specs.History.{image_of, start_of}
+use Rattle.disk_model.specs.History.{image_of, start_image}
 use Rattle.disk_model.proofs.Answering.{write_tied}
 use Rattle.disk_model.proofs.memory.MemDisk.write.Goals as goal
 
@@ -13,7 +13,7 @@ invariant_of-self-in-Ok c =
     let was = c.keep_start.new.self in
     record {
       tied = write_tied was.calls.items c.push.new.self.items (image_of was.files) (image_of c.put.new.files)
-          (start_of was.files was.start) (start_of c.put.new.files was.start) c.args.file c.args.at
+          (start_image was.files was.start) (start_image c.put.new.files was.start) c.args.file c.args.at
           c.in_ok-from_slice.field-0 c.args.bytes.now
           c.in_ok-from_slice.ensures.items c.in_ok-push.ensures.items (kept c.put.new.files ∙ sym (kept was.files))
           was.tied c.in-Ok.ensures.ok;

@@ -5,7 +5,7 @@ use Rattle.disk_model.specs.Place.{IsNoSlot}
 use Rattle.guarded_cell.specs.Register.{IsAlone}
 use Rattle.index_text.specs.Spelling.{index_text}
 use Rattle.index_text.specs.lemmas.Lengths.{text_is_short}
-use Rattle.element_store.specs.Committing.{IsReady, index_length}
+use Rattle.element_store.specs.Committing.{IsReadyToPut, index_length}
 use Rattle.std.proofs.Common.{[], refl, Err}
 use Rattle.index_text.specs.declared.entries.Index.{Index}
 use Rattle.element_state.specs.Written.{IsWithin, commit_cost}
@@ -14,7 +14,7 @@ use Rattle.element_state.specs.declared.shapes.View.{View}
 use Rattle.element_store.specs.Changing.{KeepsOthers}
 use Rattle.element_store.specs.Stores.{view_in}
 use Rattle.element_store.proofs.Taken.{taken_below, taken_area}
-use Rattle.element_state.specs.Conditions.{AreChanges}
+use Rattle.element_state.specs.Conditions.{AreCommittable}
 use Rattle.element_state.specs.Kept.{KeptThroughout}
 use Rattle.element_state.specs.States.{Opens}
 use Rattle.element_state.specs.Changes.{committed_by, after_changes, entry_name}
@@ -24,7 +24,7 @@ use Rattle.element_store.proofs.CommitKept.{commit_read, commit_length, commit_d
 use Rattle.guarded_cell.specs.Differing.{texts_cost}
 use Rattle.guarded_cell.specs.Register.{own}
 use Rattle.hash_guard.specs.SealedText.{sealed}
-use Rattle.element_store.specs.Stores.{generation_in}
+use Rattle.element_store.specs.Stores.{store_generation}
 use Rattle.element_store.proofs.Finished.{alone_still, small_changes, store_ascends, finished_view, finished_used}
 use Rattle.element_store.proofs.Finished.{of_either, contents_within}
 use Rattle.element_store.proofs.InOrder.{ascends_as}
@@ -35,7 +35,7 @@ use Rattle.element_store.proofs.store.Store.commit.Goals as goal
 
 pub write_in-requires-clause-short : goal.write_in-requires-clause-short
 write_in-requires-clause-short g c =
-    let ready = subst (λ (cs : List Change). IsReady g.D.Disk.told c.args.self cs (g.D.Disk.medium c.args.disk.now)
+    let ready = subst (λ (cs : List Change). IsReadyToPut g.D.Disk.told c.args.self cs (g.D.Disk.medium c.args.disk.now)
     (g.D.Disk.medium c.write_contents.new.disk) c.in-Ok.ready.index c.in-Ok.ready.text c.in-Ok.ready.used)
     c.deref.ensures.value c.in-Ok.ensures.ready in
     let prep = ready.prepared in
@@ -57,7 +57,7 @@ write_in-requires-clause-generation g c = let less = c.requires.changes.not_worn
 
 pub write_in-requires-clause-held : goal.write_in-requires-clause-held
 write_in-requires-clause-held g c = λ tells. (
-    let ready = subst (λ (cs : List Change). IsReady g.D.Disk.told c.args.self cs (g.D.Disk.medium c.args.disk.now)
+    let ready = subst (λ (cs : List Change). IsReadyToPut g.D.Disk.told c.args.self cs (g.D.Disk.medium c.args.disk.now)
     (g.D.Disk.medium c.write_contents.new.disk) c.in-Ok.ready.index c.in-Ok.ready.text c.in-Ok.ready.used)
     c.deref.ensures.value c.in-Ok.ensures.ready in
     let prep = ready.prepared in (
@@ -72,7 +72,7 @@ write_in-requires-clause-held g c = λ tells. (
 
 pub returns-in_default-clause-elsewhere : goal.returns-in_default-clause-elsewhere
 returns-in_default-clause-elsewhere g c = λ tells. (
-    let ready = subst (λ (cs : List Change). IsReady g.D.Disk.told c.args.self cs (g.D.Disk.medium c.args.disk.now)
+    let ready = subst (λ (cs : List Change). IsReadyToPut g.D.Disk.told c.args.self cs (g.D.Disk.medium c.args.disk.now)
     (g.D.Disk.medium c.write_contents.new.disk) c.in-Ok.ready.index c.in-Ok.ready.text c.in-Ok.ready.used)
     c.deref.ensures.value c.in-Ok.ensures.ready in
     let prep = ready.prepared in
@@ -84,7 +84,7 @@ returns-in_default-clause-elsewhere g c = λ tells. (
 
 pub returns-in_default-clause-outside : goal.returns-in_default-clause-outside
 returns-in_default-clause-outside g c = λ tells quiet. (
-    let ready = subst (λ (cs : List Change). IsReady g.D.Disk.told c.args.self cs (g.D.Disk.medium c.args.disk.now)
+    let ready = subst (λ (cs : List Change). IsReadyToPut g.D.Disk.told c.args.self cs (g.D.Disk.medium c.args.disk.now)
     (g.D.Disk.medium c.write_contents.new.disk) c.in-Ok.ready.index c.in-Ok.ready.text c.in-Ok.ready.used)
     c.deref.ensures.value c.in-Ok.ensures.ready in
     let prep = ready.prepared in
@@ -96,7 +96,7 @@ returns-in_default-clause-outside g c = λ tells quiet. (
 
 pub returns-in_default-clause-any_moment : goal.returns-in_default-clause-any_moment
 returns-in_default-clause-any_moment g c = λ tells. (
-    let ready = subst (λ (cs : List Change). IsReady g.D.Disk.told c.args.self cs (g.D.Disk.medium c.args.disk.now)
+    let ready = subst (λ (cs : List Change). IsReadyToPut g.D.Disk.told c.args.self cs (g.D.Disk.medium c.args.disk.now)
     (g.D.Disk.medium c.write_contents.new.disk) c.in-Ok.ready.index c.in-Ok.ready.text c.in-Ok.ready.used)
     c.deref.ensures.value c.in-Ok.ensures.ready in
     let prep = ready.prepared in
@@ -110,7 +110,7 @@ returns-in_default-clause-any_moment g c = λ tells. (
 
 pub returns-clause-elsewhere : goal.returns-clause-elsewhere
 returns-clause-elsewhere g c = λ tells. (
-    let ready = subst (λ (cs : List Change). IsReady g.D.Disk.told c.args.self cs (g.D.Disk.medium c.args.disk.now)
+    let ready = subst (λ (cs : List Change). IsReadyToPut g.D.Disk.told c.args.self cs (g.D.Disk.medium c.args.disk.now)
     (g.D.Disk.medium c.write_contents.new.disk) c.in-Ok.ready.index c.in-Ok.ready.text c.in-Ok.ready.used)
     c.deref.ensures.value c.in-Ok.ensures.ready in
     let prep = ready.prepared in
@@ -122,7 +122,7 @@ returns-clause-elsewhere g c = λ tells. (
 
 pub returns-clause-outside : goal.returns-clause-outside
 returns-clause-outside g c = λ tells quiet. (
-    let ready = subst (λ (cs : List Change). IsReady g.D.Disk.told c.args.self cs (g.D.Disk.medium c.args.disk.now)
+    let ready = subst (λ (cs : List Change). IsReadyToPut g.D.Disk.told c.args.self cs (g.D.Disk.medium c.args.disk.now)
     (g.D.Disk.medium c.write_contents.new.disk) c.in-Ok.ready.index c.in-Ok.ready.text c.in-Ok.ready.used)
     c.deref.ensures.value c.in-Ok.ensures.ready in
     let prep = ready.prepared in
@@ -134,7 +134,7 @@ returns-clause-outside g c = λ tells quiet. (
 
 pub returns-clause-any_moment : goal.returns-clause-any_moment
 returns-clause-any_moment g c = λ tells. (
-    let ready = subst (λ (cs : List Change). IsReady g.D.Disk.told c.args.self cs (g.D.Disk.medium c.args.disk.now)
+    let ready = subst (λ (cs : List Change). IsReadyToPut g.D.Disk.told c.args.self cs (g.D.Disk.medium c.args.disk.now)
     (g.D.Disk.medium c.write_contents.new.disk) c.in-Ok.ready.index c.in-Ok.ready.text c.in-Ok.ready.used)
     c.deref.ensures.value c.in-Ok.ensures.ready in
     let prep = ready.prepared in
@@ -151,7 +151,7 @@ write_contents-requires-clause-used g c = c.requires.used
 
 pub write_contents-requires-clause-changes : goal.write_contents-requires-clause-changes
 write_contents-requires-clause-changes g c = subst (λ (cs : List Change).
-    AreChanges c.args.self.shape (view_in c.args.self) cs) (sym c.deref.ensures.value) c.requires.changes
+    AreCommittable c.args.self.shape (view_in c.args.self) cs) (sym c.deref.ensures.value) c.requires.changes
 
 pub returns-in-Err-OutOfMemory-clause-memory : goal.returns-in-Err-OutOfMemory-clause-memory
 returns-in-Err-OutOfMemory-clause-memory g c = (
@@ -180,7 +180,7 @@ returns-in-Err-OutOfMemory-clause-time g c = c.in-Err-OutOfMemory.ensures.time
 
 pub returns-in_default-clause-cause : goal.returns-in_default-clause-cause
 returns-in_default-clause-cause g c = λ u. (
-    let ready = subst (λ (cs : List Change). IsReady g.D.Disk.told c.args.self cs (g.D.Disk.medium c.args.disk.now)
+    let ready = subst (λ (cs : List Change). IsReadyToPut g.D.Disk.told c.args.self cs (g.D.Disk.medium c.args.disk.now)
     (g.D.Disk.medium c.write_contents.new.disk) c.in-Ok.ready.index c.in-Ok.ready.text c.in-Ok.ready.used)
     c.deref.ensures.value c.in-Ok.ensures.ready in
     let prep = ready.prepared in
@@ -216,7 +216,7 @@ same-used g c = refl
 
 pub returns-clause-used : goal.returns-clause-used
 returns-clause-used g c = (
-    let ready = subst (λ (cs : List Change). IsReady g.D.Disk.told c.args.self cs (g.D.Disk.medium c.args.disk.now)
+    let ready = subst (λ (cs : List Change). IsReadyToPut g.D.Disk.told c.args.self cs (g.D.Disk.medium c.args.disk.now)
     (g.D.Disk.medium c.write_contents.new.disk) c.in-Ok.ready.index c.in-Ok.ready.text c.in-Ok.ready.used)
     c.deref.ensures.value c.in-Ok.ensures.ready in
     let prep = ready.prepared in
@@ -256,7 +256,7 @@ returns-clause-quiet g c = c.in-Ok-write_in.ensures.quiet
 
 pub returns-clause-clean : goal.returns-clause-clean
 returns-clause-clean g c = λ tells clean. (
-    let ready = subst (λ (cs : List Change). IsReady g.D.Disk.told c.args.self cs (g.D.Disk.medium c.args.disk.now)
+    let ready = subst (λ (cs : List Change). IsReadyToPut g.D.Disk.told c.args.self cs (g.D.Disk.medium c.args.disk.now)
     (g.D.Disk.medium c.write_contents.new.disk) c.in-Ok.ready.index c.in-Ok.ready.text c.in-Ok.ready.used)
     c.deref.ensures.value c.in-Ok.ensures.ready in
     let prep = ready.prepared in
@@ -268,7 +268,7 @@ returns-clause-clean g c = λ tells clean. (
 
 pub returns-clause-written : goal.returns-clause-written
 returns-clause-written g c = (
-    let ready = subst (λ (cs : List Change). IsReady g.D.Disk.told c.args.self cs (g.D.Disk.medium c.args.disk.now)
+    let ready = subst (λ (cs : List Change). IsReadyToPut g.D.Disk.told c.args.self cs (g.D.Disk.medium c.args.disk.now)
     (g.D.Disk.medium c.write_contents.new.disk) c.in-Ok.ready.index c.in-Ok.ready.text c.in-Ok.ready.used)
     c.deref.ensures.value c.in-Ok.ensures.ready in
     let prep = ready.prepared in
@@ -283,15 +283,15 @@ returns-clause-written g c = (
 
 pub returns-clause-differing : goal.returns-clause-differing
 returns-clause-differing g c = λ tells. (
-    let ready = subst (λ (cs : List Change). IsReady g.D.Disk.told c.args.self cs (g.D.Disk.medium c.args.disk.now)
+    let ready = subst (λ (cs : List Change). IsReadyToPut g.D.Disk.told c.args.self cs (g.D.Disk.medium c.args.disk.now)
     (g.D.Disk.medium c.write_contents.new.disk) c.in-Ok.ready.index c.in-Ok.ready.text c.in-Ok.ready.used)
     c.deref.ensures.value c.in-Ok.ensures.ready in
     let prep = ready.prepared in
     subst (λ (i : Index). (g.D.Disk.medium c.write_in.new.disk).written
     ≤ (g.D.Disk.medium c.args.disk.now).written + c.args.self.shape.place.copies
     * (commit_cost c.args.self.shape.kind c.args.self.entries.items c.args.changes.items + 44)
-    + texts_cost c.args.self.shape.place (own (generation_in c.args.self + 1))
-    (sealed (generation_in c.args.self + 1) (index_text i)) (g.D.Disk.medium c.args.disk.now).image
+    + texts_cost c.args.self.shape.place (own (store_generation c.args.self + 1))
+    (sealed (store_generation c.args.self + 1) (index_text i)) (g.D.Disk.medium c.args.disk.now).image
     c.args.self.shape.place.copies)
     (sym (ap (λ (st : Store). st.index) c.new.ensures))
     (commit_differs g.D.Disk.told c.args.self c.args.changes.items c.in-Ok.ready.used c.in-Ok.ready.index ready.jobs
@@ -341,7 +341,7 @@ returns-in-Err-Corrupt-clause-time g c = c.in-Err-Corrupt.ensures.time
 
 pub release_replaced-requires-clause-earlier : goal.release_replaced-requires-clause-earlier
 release_replaced-requires-clause-earlier g c = (
-    let ready = subst (λ (cs : List Change). IsReady g.D.Disk.told c.args.self cs (g.D.Disk.medium c.args.disk.now)
+    let ready = subst (λ (cs : List Change). IsReadyToPut g.D.Disk.told c.args.self cs (g.D.Disk.medium c.args.disk.now)
     (g.D.Disk.medium c.write_contents.new.disk) c.in-Ok.ready.index c.in-Ok.ready.text c.in-Ok.ready.used)
     c.deref.ensures.value c.in-Ok.ensures.ready in
     let prep = ready.prepared in
@@ -350,7 +350,7 @@ release_replaced-requires-clause-earlier g c = (
 
 pub release_replaced-requires-clause-later : goal.release_replaced-requires-clause-later
 release_replaced-requires-clause-later g c = (
-    let ready = subst (λ (cs : List Change). IsReady g.D.Disk.told c.args.self cs (g.D.Disk.medium c.args.disk.now)
+    let ready = subst (λ (cs : List Change). IsReadyToPut g.D.Disk.told c.args.self cs (g.D.Disk.medium c.args.disk.now)
     (g.D.Disk.medium c.write_contents.new.disk) c.in-Ok.ready.index c.in-Ok.ready.text c.in-Ok.ready.used)
     c.deref.ensures.value c.in-Ok.ensures.ready in
     let prep = ready.prepared in
@@ -359,7 +359,7 @@ release_replaced-requires-clause-later g c = (
 
 pub release_replaced-requires-clause-either : goal.release_replaced-requires-clause-either
 release_replaced-requires-clause-either g c = (
-    let ready = subst (λ (cs : List Change). IsReady g.D.Disk.told c.args.self cs (g.D.Disk.medium c.args.disk.now)
+    let ready = subst (λ (cs : List Change). IsReadyToPut g.D.Disk.told c.args.self cs (g.D.Disk.medium c.args.disk.now)
     (g.D.Disk.medium c.write_contents.new.disk) c.in-Ok.ready.index c.in-Ok.ready.text c.in-Ok.ready.used)
     c.deref.ensures.value c.in-Ok.ensures.ready in
     let prep = ready.prepared in
@@ -368,7 +368,7 @@ release_replaced-requires-clause-either g c = (
 
 pub returns-clause-carried : goal.returns-clause-carried
 returns-clause-carried g c = (
-    let ready = subst (λ (cs : List Change). IsReady g.D.Disk.told c.args.self cs (g.D.Disk.medium c.args.disk.now)
+    let ready = subst (λ (cs : List Change). IsReadyToPut g.D.Disk.told c.args.self cs (g.D.Disk.medium c.args.disk.now)
     (g.D.Disk.medium c.write_contents.new.disk) c.in-Ok.ready.index c.in-Ok.ready.text c.in-Ok.ready.used)
     c.deref.ensures.value c.in-Ok.ensures.ready in
     let prep = ready.prepared in
@@ -377,7 +377,7 @@ returns-clause-carried g c = (
 
 pub returns-clause-format : goal.returns-clause-format
 returns-clause-format g c = (
-    let ready = subst (λ (cs : List Change). IsReady g.D.Disk.told c.args.self cs (g.D.Disk.medium c.args.disk.now)
+    let ready = subst (λ (cs : List Change). IsReadyToPut g.D.Disk.told c.args.self cs (g.D.Disk.medium c.args.disk.now)
     (g.D.Disk.medium c.write_contents.new.disk) c.in-Ok.ready.index c.in-Ok.ready.text c.in-Ok.ready.used)
     c.deref.ensures.value c.in-Ok.ensures.ready in
     let prep = ready.prepared in
@@ -385,7 +385,7 @@ returns-clause-format g c = (
 
 pub returns-clause-text : goal.returns-clause-text
 returns-clause-text g c = (
-    let ready = subst (λ (cs : List Change). IsReady g.D.Disk.told c.args.self cs (g.D.Disk.medium c.args.disk.now)
+    let ready = subst (λ (cs : List Change). IsReadyToPut g.D.Disk.told c.args.self cs (g.D.Disk.medium c.args.disk.now)
     (g.D.Disk.medium c.write_contents.new.disk) c.in-Ok.ready.index c.in-Ok.ready.text c.in-Ok.ready.used)
     c.deref.ensures.value c.in-Ok.ensures.ready in
     let prep = ready.prepared in
@@ -403,7 +403,7 @@ returns-clause-text g c = (
 
 pub returns-clause-at_most : goal.returns-clause-at_most
 returns-clause-at_most g c = (
-    let ready = subst (λ (cs : List Change). IsReady g.D.Disk.told c.args.self cs (g.D.Disk.medium c.args.disk.now)
+    let ready = subst (λ (cs : List Change). IsReadyToPut g.D.Disk.told c.args.self cs (g.D.Disk.medium c.args.disk.now)
     (g.D.Disk.medium c.write_contents.new.disk) c.in-Ok.ready.index c.in-Ok.ready.text c.in-Ok.ready.used)
     c.deref.ensures.value c.in-Ok.ensures.ready in
     let prep = ready.prepared in
@@ -419,7 +419,7 @@ returns-clause-at_most g c = (
 
 pub returns-in_default-clause-at_most : goal.returns-in_default-clause-at_most
 returns-in_default-clause-at_most g c = (
-    let ready = subst (λ (cs : List Change). IsReady g.D.Disk.told c.args.self cs (g.D.Disk.medium c.args.disk.now)
+    let ready = subst (λ (cs : List Change). IsReadyToPut g.D.Disk.told c.args.self cs (g.D.Disk.medium c.args.disk.now)
     (g.D.Disk.medium c.write_contents.new.disk) c.in-Ok.ready.index c.in-Ok.ready.text c.in-Ok.ready.used)
     c.deref.ensures.value c.in-Ok.ensures.ready in
     let prep = ready.prepared in

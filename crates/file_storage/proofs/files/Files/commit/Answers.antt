@@ -5,23 +5,23 @@ use Rattle.element_state.specs.States.{Opens, greatest_generation}
 use Rattle.element_maps.specs.Sessions.{IsSync}
 use Rattle.element_maps.specs.Storages.{IsStoring}
 use Rattle.element_store.specs.Stores.{shape_of, view_in}
-use Rattle.file_storage.specs.FileSessions.{FileSession, stored_in}
+use Rattle.file_storage.specs.FileSessions.{FilesInUse, stored_in}
 use Rattle.file_storage.specs.Syncs.{IsSynced, WritesAtMost, is_synced, synced_view}
 use Rattle.file_storage.proofs.Synced.{commit_at_most, commit_storing, commit_synced, open_later, stored_then}
 use Rattle.file_storage.proofs.files.Files.commit.Goals as goal
 
 pub commit-requires-clause-changes : goal.commit-requires-clause-changes
 commit-requires-clause-changes g c =
-    let sync = subst (λ (s : FileSession). IsSync (shape_of s.store) (λ bytes. true) (view_in s.store)
+    let sync = subst (λ (s : FilesInUse). IsSync (shape_of s.store) (λ bytes. true) (view_in s.store)
     (stored_in s.store) s.session.files c.args.changes.items) (sym c.self.view_is) c.requires.changes in
-    let left = subst (λ (s : FileSession). (view_in s.store).generation < greatest_generation) (sym c.self.view_is)
+    let left = subst (λ (s : FilesInUse). (view_in s.store).generation < greatest_generation) (sym c.self.view_is)
     c.requires.not_worn in
     c.changes_make_maps.ensures.taken (shape_of c.self.inside.store) (λ bytes. true) (view_in c.self.inside.store)
     (stored_in c.self.inside.store) c.self.inside.table.session.files c.args.changes.items sync left
 
 pub invariant_of-result : goal.invariant_of-result
 invariant_of-result g c =
-    let sync = subst (λ (s : FileSession). IsSync (shape_of s.store) (λ bytes. true) (view_in s.store)
+    let sync = subst (λ (s : FilesInUse). IsSync (shape_of s.store) (λ bytes. true) (view_in s.store)
     (stored_in s.store) s.session.files c.args.changes.items) (sym c.self.view_is) c.requires.changes in
     open_later (storage_data c.self.inside.config) c.self.inside.store c.in-Ok.store c.self.inside.table.storage
     c.self.inside.table.session.files c.self.invariant c.in-Ok.ensures.shape
@@ -31,17 +31,17 @@ invariant_of-result g c =
 
 pub returns-in-Ok-clause-synced : goal.returns-in-Ok-clause-synced
 returns-in-Ok-clause-synced g c =
-    let sync = subst (λ (s : FileSession). IsSync (shape_of s.store) (λ bytes. true) (view_in s.store)
+    let sync = subst (λ (s : FilesInUse). IsSync (shape_of s.store) (λ bytes. true) (view_in s.store)
     (stored_in s.store) s.session.files c.args.changes.items) (sym c.self.view_is) c.requires.changes in
-    let differ = subst (λ (s : FileSession). is_synced s ≡ false) (sym c.self.view_is) c.requires.differ in
-    let before : FileSession = record {
+    let differ = subst (λ (s : FilesInUse). is_synced s ≡ false) (sym c.self.view_is) c.requires.differ in
+    let before : FilesInUse = record {
       config = storage_data c.self.inside.config;
       store =
           c.self.inside.store;
       session = c.self.inside.table.session;
       moment = c.self.inside.table.moment;
     } in
-    subst (λ (s : FileSession). IsSynced g.D.Disk.told s (record before { store = c.in-Ok.store })
+    subst (λ (s : FilesInUse). IsSynced g.D.Disk.told s (record before { store = c.in-Ok.store })
     (g.D.Disk.medium c.args.disk.now) (g.D.Disk.medium c.commit.new.disk)) c.self.view_is
     (commit_synced before c.args.changes.items sync differ c.changes_make_maps.ensures.committed
     c.changes_make_maps.ensures.held c.views_are_maps.ensures.untested c.changes_make_maps.ensures.cost
@@ -53,17 +53,17 @@ returns-in-Ok-clause-synced g c =
 
 pub returns-in-Ok-clause-at_most : goal.returns-in-Ok-clause-at_most
 returns-in-Ok-clause-at_most g c =
-    let sync = subst (λ (s : FileSession). IsSync (shape_of s.store) (λ bytes. true) (view_in s.store)
+    let sync = subst (λ (s : FilesInUse). IsSync (shape_of s.store) (λ bytes. true) (view_in s.store)
     (stored_in s.store) s.session.files c.args.changes.items) (sym c.self.view_is) c.requires.changes in
-    let differ = subst (λ (s : FileSession). is_synced s ≡ false) (sym c.self.view_is) c.requires.differ in
-    let before : FileSession = record {
+    let differ = subst (λ (s : FilesInUse). is_synced s ≡ false) (sym c.self.view_is) c.requires.differ in
+    let before : FilesInUse = record {
       config = storage_data c.self.inside.config;
       store =
           c.self.inside.store;
       session = c.self.inside.table.session;
       moment = c.self.inside.table.moment;
     } in
-    subst (λ (s : FileSession). WritesAtMost s (g.D.Disk.medium c.args.disk.now) (g.D.Disk.medium c.commit.new.disk))
+    subst (λ (s : FilesInUse). WritesAtMost s (g.D.Disk.medium c.args.disk.now) (g.D.Disk.medium c.commit.new.disk))
     c.self.view_is
     (commit_at_most before c.args.changes.items sync differ c.changes_make_maps.ensures.committed
     c.changes_make_maps.ensures.cost (g.D.Disk.medium c.args.disk.now) (g.D.Disk.medium c.commit.new.disk)
@@ -71,17 +71,17 @@ returns-in-Ok-clause-at_most g c =
 
 pub returns-in-Ok-clause-storing : goal.returns-in-Ok-clause-storing
 returns-in-Ok-clause-storing g c =
-    let sync = subst (λ (s : FileSession). IsSync (shape_of s.store) (λ bytes. true) (view_in s.store)
+    let sync = subst (λ (s : FilesInUse). IsSync (shape_of s.store) (λ bytes. true) (view_in s.store)
     (stored_in s.store) s.session.files c.args.changes.items) (sym c.self.view_is) c.requires.changes in
-    let differ = subst (λ (s : FileSession). is_synced s ≡ false) (sym c.self.view_is) c.requires.differ in
-    let before : FileSession = record {
+    let differ = subst (λ (s : FilesInUse). is_synced s ≡ false) (sym c.self.view_is) c.requires.differ in
+    let before : FilesInUse = record {
       config = storage_data c.self.inside.config;
       store =
           c.self.inside.store;
       session = c.self.inside.table.session;
       moment = c.self.inside.table.moment;
     } in
-    subst (λ (s : FileSession). IsStoring g.D.Disk.told (shape_of s.store) (Opens (synced_view s) [])
+    subst (λ (s : FilesInUse). IsStoring g.D.Disk.told (shape_of s.store) (Opens (synced_view s) [])
     (g.D.Disk.medium c.args.disk.now) (g.D.Disk.medium c.commit.new.disk)) c.self.view_is
     (commit_storing before c.args.changes.items sync differ c.changes_make_maps.ensures.committed g.D.Disk.told
     (g.D.Disk.medium c.args.disk.now) (g.D.Disk.medium c.commit.new.disk)
@@ -89,17 +89,17 @@ returns-in-Ok-clause-storing g c =
 
 pub returns-in-Err-Device-clause-at_most : goal.returns-in-Err-Device-clause-at_most
 returns-in-Err-Device-clause-at_most g c =
-    let sync = subst (λ (s : FileSession). IsSync (shape_of s.store) (λ bytes. true) (view_in s.store)
+    let sync = subst (λ (s : FilesInUse). IsSync (shape_of s.store) (λ bytes. true) (view_in s.store)
     (stored_in s.store) s.session.files c.args.changes.items) (sym c.self.view_is) c.requires.changes in
-    let differ = subst (λ (s : FileSession). is_synced s ≡ false) (sym c.self.view_is) c.requires.differ in
-    let before : FileSession = record {
+    let differ = subst (λ (s : FilesInUse). is_synced s ≡ false) (sym c.self.view_is) c.requires.differ in
+    let before : FilesInUse = record {
       config = storage_data c.self.inside.config;
       store =
           c.self.inside.store;
       session = c.self.inside.table.session;
       moment = c.self.inside.table.moment;
     } in
-    subst (λ (s : FileSession). WritesAtMost s (g.D.Disk.medium c.args.disk.now) (g.D.Disk.medium c.commit.new.disk))
+    subst (λ (s : FilesInUse). WritesAtMost s (g.D.Disk.medium c.args.disk.now) (g.D.Disk.medium c.commit.new.disk))
     c.self.view_is
     (commit_at_most before c.args.changes.items sync differ c.changes_make_maps.ensures.committed
     c.changes_make_maps.ensures.cost (g.D.Disk.medium c.args.disk.now) (g.D.Disk.medium c.commit.new.disk)
@@ -107,17 +107,17 @@ returns-in-Err-Device-clause-at_most g c =
 
 pub returns-in-Err-Device-clause-storing : goal.returns-in-Err-Device-clause-storing
 returns-in-Err-Device-clause-storing g c =
-    let sync = subst (λ (s : FileSession). IsSync (shape_of s.store) (λ bytes. true) (view_in s.store)
+    let sync = subst (λ (s : FilesInUse). IsSync (shape_of s.store) (λ bytes. true) (view_in s.store)
     (stored_in s.store) s.session.files c.args.changes.items) (sym c.self.view_is) c.requires.changes in
-    let differ = subst (λ (s : FileSession). is_synced s ≡ false) (sym c.self.view_is) c.requires.differ in
-    let before : FileSession = record {
+    let differ = subst (λ (s : FilesInUse). is_synced s ≡ false) (sym c.self.view_is) c.requires.differ in
+    let before : FilesInUse = record {
       config = storage_data c.self.inside.config;
       store =
           c.self.inside.store;
       session = c.self.inside.table.session;
       moment = c.self.inside.table.moment;
     } in
-    subst (λ (s : FileSession). IsStoring g.D.Disk.told (shape_of s.store) (Opens (synced_view s) [])
+    subst (λ (s : FilesInUse). IsStoring g.D.Disk.told (shape_of s.store) (Opens (synced_view s) [])
     (g.D.Disk.medium c.args.disk.now) (g.D.Disk.medium c.commit.new.disk)) c.self.view_is
     (commit_storing before c.args.changes.items sync differ c.changes_make_maps.ensures.committed g.D.Disk.told
     (g.D.Disk.medium c.args.disk.now) (g.D.Disk.medium c.commit.new.disk)
@@ -126,17 +126,17 @@ returns-in-Err-Device-clause-storing g c =
 
 pub returns-in-Err-OutOfMemory-clause-at_most : goal.returns-in-Err-OutOfMemory-clause-at_most
 returns-in-Err-OutOfMemory-clause-at_most g c =
-    let sync = subst (λ (s : FileSession). IsSync (shape_of s.store) (λ bytes. true) (view_in s.store)
+    let sync = subst (λ (s : FilesInUse). IsSync (shape_of s.store) (λ bytes. true) (view_in s.store)
     (stored_in s.store) s.session.files c.args.changes.items) (sym c.self.view_is) c.requires.changes in
-    let differ = subst (λ (s : FileSession). is_synced s ≡ false) (sym c.self.view_is) c.requires.differ in
-    let before : FileSession = record {
+    let differ = subst (λ (s : FilesInUse). is_synced s ≡ false) (sym c.self.view_is) c.requires.differ in
+    let before : FilesInUse = record {
       config = storage_data c.self.inside.config;
       store =
           c.self.inside.store;
       session = c.self.inside.table.session;
       moment = c.self.inside.table.moment;
     } in
-    subst (λ (s : FileSession). WritesAtMost s (g.D.Disk.medium c.args.disk.now) (g.D.Disk.medium c.commit.new.disk))
+    subst (λ (s : FilesInUse). WritesAtMost s (g.D.Disk.medium c.args.disk.now) (g.D.Disk.medium c.commit.new.disk))
     c.self.view_is
     (commit_at_most before c.args.changes.items sync differ c.changes_make_maps.ensures.committed
     c.changes_make_maps.ensures.cost (g.D.Disk.medium c.args.disk.now) (g.D.Disk.medium c.commit.new.disk)
@@ -144,17 +144,17 @@ returns-in-Err-OutOfMemory-clause-at_most g c =
 
 pub returns-in-Err-OutOfMemory-clause-storing : goal.returns-in-Err-OutOfMemory-clause-storing
 returns-in-Err-OutOfMemory-clause-storing g c =
-    let sync = subst (λ (s : FileSession). IsSync (shape_of s.store) (λ bytes. true) (view_in s.store)
+    let sync = subst (λ (s : FilesInUse). IsSync (shape_of s.store) (λ bytes. true) (view_in s.store)
     (stored_in s.store) s.session.files c.args.changes.items) (sym c.self.view_is) c.requires.changes in
-    let differ = subst (λ (s : FileSession). is_synced s ≡ false) (sym c.self.view_is) c.requires.differ in
-    let before : FileSession = record {
+    let differ = subst (λ (s : FilesInUse). is_synced s ≡ false) (sym c.self.view_is) c.requires.differ in
+    let before : FilesInUse = record {
       config = storage_data c.self.inside.config;
       store =
           c.self.inside.store;
       session = c.self.inside.table.session;
       moment = c.self.inside.table.moment;
     } in
-    subst (λ (s : FileSession). IsStoring g.D.Disk.told (shape_of s.store) (Opens (synced_view s) [])
+    subst (λ (s : FilesInUse). IsStoring g.D.Disk.told (shape_of s.store) (Opens (synced_view s) [])
     (g.D.Disk.medium c.args.disk.now) (g.D.Disk.medium c.commit.new.disk)) c.self.view_is
     (commit_storing before c.args.changes.items sync differ c.changes_make_maps.ensures.committed g.D.Disk.told
     (g.D.Disk.medium c.args.disk.now) (g.D.Disk.medium c.commit.new.disk)

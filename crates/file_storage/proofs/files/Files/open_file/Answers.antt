@@ -4,7 +4,7 @@ use Rattle.per_base.specs.declared.errors.PerError.TheVariants.{OutOfMemory}
 use Rattle.file_core.specs.Refusals.{NeedsMemory}
 use Rattle.file_handles.specs.Opening as opening
 use Rattle.deployment_model.specs.Data.{storage_data}
-use Rattle.file_storage.specs.FileSessions.{FileSession, storage_of}
+use Rattle.file_storage.specs.FileSessions.{FilesInUse, storage_of}
 use Rattle.file_storage.proofs.Keeping.{open_opens, stays_open}
 use Rattle.file_storage.proofs.files.Files.open_file.Goals as goal
 
@@ -16,7 +16,7 @@ invariant_of-self c = stays_open c.self.inside.table c.open_file.new.self c.open
     c.args.name.now c.args.kind c.args.mode c.args.now a (rw e at c.open_file.ensures.ok)).files)
 
 pub returns-clause-ok : goal.returns-clause-ok
-returns-clause-ok c = subst (λ (s : FileSession). IfOk c.open_file.result
+returns-clause-ok c = subst (λ (s : FilesInUse). IfOk c.open_file.result
     (λ number. opening.open_file (storage_of s.config) s.session c.args.name.now c.args.kind c.args.mode c.args.now
     ≡ Ok (number, c.open_file.new.self.session))) c.self.view_is
     (subst (λ storage. IfOk c.open_file.result (λ number.
@@ -24,7 +24,7 @@ returns-clause-ok c = subst (λ (s : FileSession). IfOk c.open_file.result
     ≡ Ok (number, c.open_file.new.self.session))) c.self.invariant.same_storage c.open_file.ensures.ok)
 
 pub returns-clause-memory : goal.returns-clause-memory
-returns-clause-memory c = subst (λ (s : FileSession). IfErr c.open_file.result
+returns-clause-memory c = subst (λ (s : FilesInUse). IfErr c.open_file.result
     (λ error. error ≡ OutOfMemory → NeedsMemory (opening.open_file (storage_of s.config) s.session c.args.name.now
     c.args.kind c.args.mode c.args.now))) c.self.view_is
     (subst (λ storage. IfErr c.open_file.result (λ error. error ≡ OutOfMemory

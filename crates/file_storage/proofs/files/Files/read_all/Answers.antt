@@ -6,7 +6,7 @@ use Rattle.file_core.specs.Places as places
 use Rattle.file_core.specs.Refusals.{IsDue}
 use Rattle.file_handles.specs.Handling as calls
 use Rattle.deployment_model.specs.Data.{storage_data}
-use Rattle.file_storage.specs.FileSessions.{FileSession}
+use Rattle.file_storage.specs.FileSessions.{FilesInUse}
 use Rattle.file_storage.proofs.Keeping.{keeps_same, moving_moves, stays_open}
 use Rattle.file_storage.proofs.files.Files.read_all.Goals as goal
 
@@ -19,6 +19,6 @@ invariant_of-self c = stays_open c.self.inside.table c.read_all.new.self c.read_
     (rw e at c.read_all.ensures.ok)).files)
 
 pub returns-clause-memory : goal.returns-clause-memory
-returns-clause-memory c = subst (λ (s : FileSession). IfErr c.read_all.result
+returns-clause-memory c = subst (λ (s : FilesInUse). IfErr c.read_all.result
     (λ error. error ≡ OutOfMemory → IsDue (calls.read_all s.session c.args.handle))) c.self.view_is
     c.read_all.ensures.memory

@@ -7,7 +7,7 @@ use Rattle.file_core.specs.Refusals.{IsDue, IsRefusal}
 use Rattle.file_handles.specs.ByName as calls
 use Rattle.deployment_model.specs.Lookups.{initial_of}
 use Rattle.deployment_model.specs.Data.{storage_data}
-use Rattle.file_storage.specs.FileSessions.{FileSession, storage_of}
+use Rattle.file_storage.specs.FileSessions.{FilesInUse, storage_of}
 use Rattle.file_storage.proofs.Keeping.{recover_keeps, stays_open}
 use Rattle.file_storage.proofs.files.Files.recover_file.Goals as goal
 
@@ -20,7 +20,7 @@ invariant_of-self c = stays_open c.self.inside.table c.recover_file.new.self c.r
     (rw e at c.recover_file.ensures.ok))
 
 pub returns-clause-refused : goal.returns-clause-refused
-returns-clause-refused c = subst (λ (s : FileSession).
+returns-clause-refused c = subst (λ (s : FilesInUse).
     IfErr c.recover_file.result (λ error. IsRefusal (calls.recover_file (storage_of s.config) s.session
     c.args.name.now c.args.now (initial_of s.config c.args.name.now)) error)) c.self.view_is
     (subst (λ initial. IfErr c.recover_file.result (λ error.
@@ -32,7 +32,7 @@ returns-clause-refused c = subst (λ (s : FileSession).
     c.recover_file.ensures.refused))
 
 pub returns-clause-memory : goal.returns-clause-memory
-returns-clause-memory c = subst (λ (s : FileSession). IfErr c.recover_file.result
+returns-clause-memory c = subst (λ (s : FilesInUse). IfErr c.recover_file.result
     (λ error. error ≡ OutOfMemory → IsDue (calls.recover_file (storage_of s.config) s.session c.args.name.now
     c.args.now (initial_of s.config c.args.name.now)))) c.self.view_is
     (subst (λ initial. IfErr c.recover_file.result (λ error. error ≡ OutOfMemory
@@ -44,7 +44,7 @@ returns-clause-memory c = subst (λ (s : FileSession). IfErr c.recover_file.resu
     c.recover_file.ensures.memory))
 
 pub returns-clause-copies : goal.returns-clause-copies
-returns-clause-copies c = subst (λ (s : FileSession). IfErr c.recover_file.result
+returns-clause-copies c = subst (λ (s : FilesInUse). IfErr c.recover_file.result
     (λ error. error ≡ OutOfMemory → (file : Element) → element_at s.session.files c.args.name.now ≡ Some file
     → calls.TakesInitial (initial_of s.config c.args.name.now) file.content)) c.self.view_is
     (subst (λ initial. IfErr c.recover_file.result (λ error. error ≡ OutOfMemory → (file : Element)

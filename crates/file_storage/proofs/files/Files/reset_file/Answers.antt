@@ -5,7 +5,7 @@ use Rattle.file_core.specs.Refusals.{IsDue}
 use Rattle.file_handles.specs.ByName as calls
 use Rattle.deployment_model.specs.Lookups.{initial_of}
 use Rattle.deployment_model.specs.Data.{storage_data}
-use Rattle.file_storage.specs.FileSessions.{FileSession, storage_of}
+use Rattle.file_storage.specs.FileSessions.{FilesInUse, storage_of}
 use Rattle.file_storage.proofs.Keeping.{reset_keeps, stays_open}
 use Rattle.file_storage.proofs.files.Files.reset_file.Goals as goal
 
@@ -17,7 +17,7 @@ invariant_of-self c = stays_open c.self.inside.table c.reset_file.new.self c.res
     c.args.name.now c.args.now (option_copied c.initial_content-initial.result) (rw e at c.reset_file.ensures.ok))
 
 pub returns-clause-memory : goal.returns-clause-memory
-returns-clause-memory c = subst (λ (s : FileSession). IfErr c.reset_file.result
+returns-clause-memory c = subst (λ (s : FilesInUse). IfErr c.reset_file.result
     (λ error. error ≡ OutOfMemory → IsDue (calls.reset_file (storage_of s.config) s.session c.args.name.now c.args.now
     (initial_of s.config c.args.name.now)))) c.self.view_is
     (subst (λ initial. IfErr c.reset_file.result (λ error. error ≡ OutOfMemory

@@ -4,7 +4,7 @@ use Rattle.flash_disk.specs.declared.table.Place.{Place}
 use Rattle.flash_disk.specs.declared.layer.LayerState.{LayerState}
 use Rattle.flash_disk.specs.Does.{Does}
 use Rattle.flash_disk.specs.PutPart.{PutPart}
-use Rattle.flash_disk.specs.Sound.{files_of, IsSound, FitsIn, LeavesPut, ShowsPage}
+use Rattle.flash_disk.specs.Sound.{files_on, IsSoundLayer, FitsIn, LeavesPut, ShowsPage}
 use Rattle.flash_disk.proofs.Adding.{puts_nothing, added_sound, added_entries, added_put, added_shown, failed_holds}
 use Rattle.flash_disk.proofs.Adding.{add_does}
 use Rattle.flash_disk.proofs.Accounting.{accounts_here, accounts_on}
@@ -37,7 +37,8 @@ returns-in-Ok-clause-stays g c = record {
       let now = g.F.Flash.medium c.program_page.new.self.flash in
       let u = c.program_page.new.self.state in
       let place : Place = record { block = t.current; page = t.fill } in
-      let sound : IsSound m s = subst (λ f. IsSound (g.F.Flash.medium f) s) (sym c.next_sequence.ensures.flash)
+      let sound : IsSoundLayer m s = subst (λ f. IsSoundLayer (g.F.Flash.medium f) s)
+      (sym c.next_sequence.ensures.flash)
       (c.requires.ready.sound told) in
       let fits : FitsIn m s c.args.file c.args.page c.args.len c.args.bytes.now =
       subst (λ f. FitsIn (g.F.Flash.medium f) s c.args.file c.args.page c.args.len c.args.bytes.now)
@@ -49,7 +50,7 @@ returns-in-Ok-clause-stays g c = record {
       z)
       state in
       let at = ap (λ (q : LayerState). let p : Place = record { block = q.current; page = q.fill } in p) state in
-      subst (λ f. IsSound (g.F.Flash.medium f) c.enter.new.self.state) (sym c.enter.ensures.flash)
+      subst (λ f. IsSoundLayer (g.F.Flash.medium f) c.enter.new.self.state) (sym c.enter.ensures.flash)
       (added_sound m now s u place r c.page_with.result sound c.requires.room fits c.requires.bytes at next.0 on
       c.page_with.ensures
       (c.in-Ok.ensures.done told) (c.program_page.ensures.accounts.time told).blocks c.enter.new.self.state
@@ -73,7 +74,7 @@ returns-in-Ok-clause-put g c told =
     let now = g.F.Flash.medium c.program_page.new.self.flash in
     let u = c.program_page.new.self.state in
     let place : Place = record { block = t.current; page = t.fill } in
-    let sound : IsSound m s = subst (λ f. IsSound (g.F.Flash.medium f) s) (sym c.next_sequence.ensures.flash)
+    let sound : IsSoundLayer m s = subst (λ f. IsSoundLayer (g.F.Flash.medium f) s) (sym c.next_sequence.ensures.flash)
     (c.requires.ready.sound told) in
     let fits : FitsIn m s c.args.file c.args.page c.args.len c.args.bytes.now =
     subst (λ f. FitsIn (g.F.Flash.medium f) s c.args.file c.args.page c.args.len c.args.bytes.now)
@@ -84,11 +85,11 @@ returns-in-Ok-clause-put g c told =
     c.program_page.ensures.state ∙ ap (λ (q : LayerState). let z : LayerState = record q { fill = 64 } in z)
     state in
     let at = ap (λ (q : LayerState). let p : Place = record { block = q.current; page = q.fill } in p) state in
-    subst (λ f. PutPart c.args.file (256 * c.args.page) c.args.bytes.now c.args.len (files_of (g.F.Flash.medium f))
-    (files_of (g.F.Flash.medium c.enter.new.self.flash)))
+    subst (λ f. PutPart c.args.file (256 * c.args.page) c.args.bytes.now c.args.len (files_on (g.F.Flash.medium f))
+    (files_on (g.F.Flash.medium c.enter.new.self.flash)))
     c.next_sequence.ensures.flash
-    (subst (λ f. PutPart c.args.file (256 * c.args.page) c.args.bytes.now c.args.len (files_of m)
-    (files_of (g.F.Flash.medium f))) (sym c.enter.ensures.flash)
+    (subst (λ f. PutPart c.args.file (256 * c.args.page) c.args.bytes.now c.args.len (files_on m)
+    (files_on (g.F.Flash.medium f))) (sym c.enter.ensures.flash)
     (added_put m now s u place r c.page_with.result sound c.requires.room fits c.requires.bytes at next.0 on
     c.page_with.ensures
     (c.in-Ok.ensures.done told) (c.program_page.ensures.accounts.time told).blocks))
@@ -109,7 +110,7 @@ returns-in-Ok-clause-shown g c told =
     let now = g.F.Flash.medium c.program_page.new.self.flash in
     let u = c.program_page.new.self.state in
     let place : Place = record { block = t.current; page = t.fill } in
-    let sound : IsSound m s = subst (λ f. IsSound (g.F.Flash.medium f) s) (sym c.next_sequence.ensures.flash)
+    let sound : IsSoundLayer m s = subst (λ f. IsSoundLayer (g.F.Flash.medium f) s) (sym c.next_sequence.ensures.flash)
     (c.requires.ready.sound told) in
     let fits : FitsIn m s c.args.file c.args.page c.args.len c.args.bytes.now =
     subst (λ f. FitsIn (g.F.Flash.medium f) s c.args.file c.args.page c.args.len c.args.bytes.now)
@@ -143,7 +144,7 @@ returns-in-Ok-clause-does g c told =
     let now = g.F.Flash.medium c.program_page.new.self.flash in
     let u = c.program_page.new.self.state in
     let place : Place = record { block = t.current; page = t.fill } in
-    let sound : IsSound m s = subst (λ f. IsSound (g.F.Flash.medium f) s) (sym c.next_sequence.ensures.flash)
+    let sound : IsSoundLayer m s = subst (λ f. IsSoundLayer (g.F.Flash.medium f) s) (sym c.next_sequence.ensures.flash)
     (c.requires.ready.sound told) in
     let fits : FitsIn m s c.args.file c.args.page c.args.len c.args.bytes.now =
     subst (λ f. FitsIn (g.F.Flash.medium f) s c.args.file c.args.page c.args.len c.args.bytes.now)
@@ -182,7 +183,8 @@ returns-in-Err-clause-stays g c = record {
       let now = g.F.Flash.medium c.program_page.new.self.flash in
       let u = c.program_page.new.self.state in
       let place : Place = record { block = t.current; page = t.fill } in
-      let sound : IsSound m s = subst (λ f. IsSound (g.F.Flash.medium f) s) (sym c.next_sequence.ensures.flash)
+      let sound : IsSoundLayer m s = subst (λ f. IsSoundLayer (g.F.Flash.medium f) s)
+      (sym c.next_sequence.ensures.flash)
       (c.requires.ready.sound told) in
       let fits : FitsIn m s c.args.file c.args.page c.args.len c.args.bytes.now =
       subst (λ f. FitsIn (g.F.Flash.medium f) s c.args.file c.args.page c.args.len c.args.bytes.now)
@@ -215,7 +217,7 @@ returns-in-Err-clause-does g c told =
     let now = g.F.Flash.medium c.program_page.new.self.flash in
     let u = c.program_page.new.self.state in
     let place : Place = record { block = t.current; page = t.fill } in
-    let sound : IsSound m s = subst (λ f. IsSound (g.F.Flash.medium f) s) (sym c.next_sequence.ensures.flash)
+    let sound : IsSoundLayer m s = subst (λ f. IsSoundLayer (g.F.Flash.medium f) s) (sym c.next_sequence.ensures.flash)
     (c.requires.ready.sound told) in
     let fits : FitsIn m s c.args.file c.args.page c.args.len c.args.bytes.now =
     subst (λ f. FitsIn (g.F.Flash.medium f) s c.args.file c.args.page c.args.len c.args.bytes.now)
@@ -261,7 +263,7 @@ returns-in-Ok-clause-entries g c told =
     let now = g.F.Flash.medium c.program_page.new.self.flash in
     let u = c.program_page.new.self.state in
     let place : Place = record { block = t.current; page = t.fill } in
-    let sound : IsSound m s = subst (λ f. IsSound (g.F.Flash.medium f) s) (sym c.next_sequence.ensures.flash)
+    let sound : IsSoundLayer m s = subst (λ f. IsSoundLayer (g.F.Flash.medium f) s) (sym c.next_sequence.ensures.flash)
     (c.requires.ready.sound told) in
     let fits : FitsIn m s c.args.file c.args.page c.args.len c.args.bytes.now =
     subst (λ f. FitsIn (g.F.Flash.medium f) s c.args.file c.args.page c.args.len c.args.bytes.now)

@@ -6,8 +6,8 @@ use Rattle.flash_disk.specs.declared.layer.LayerState.{LayerState}
 use Rattle.flash_disk.specs.Known.{known, PutsAll}
 use Rattle.flash_disk.specs.Learnt.{HasPlace}
 use Rattle.flash_disk.specs.Does.{Does}
-use Rattle.flash_disk.specs.Standing.{StandsFor}
-use Rattle.flash_disk.specs.Sound.{IsSound}
+use Rattle.flash_disk.specs.Standing.{DenotesFiles}
+use Rattle.flash_disk.specs.Sound.{IsSoundLayer}
 use Rattle.flash_disk.specs.Moving.{IsMoving}
 use Rattle.flash_disk.specs.Counted.{IsInside, entries_in}
 use Rattle.flash_disk.proofs.Spreading.{light_enough}
@@ -23,8 +23,8 @@ pub returns-then-self-clause-does : goal.returns-then-self-clause-does
 returns-then-self-clause-does g c told =
     let m = g.F.Flash.medium c.args.self.now.flash in
     let lawful = g.met.F.Flash.lawful c.args.self.now.flash in
-    subst (λ f. Does (StandsFor m) m (g.F.Flash.medium f)) (sym c.fault.ensures.flash)
-    (does_nothing m m (StandsFor m) refl (λ x past. lawful.only_now x past)
+    subst (λ f. Does (DenotesFiles m) m (g.F.Flash.medium f)) (sym c.fault.ensures.flash)
+    (does_nothing m m (DenotesFiles m) refl (λ x past. lawful.only_now x past)
     (stands_now m c.args.self.now.state (c.requires.ready.sound told)))
 
 pub returns-in_err-erase_block-clause-ready : goal.returns-in_err-erase_block-clause-ready
@@ -35,9 +35,9 @@ returns-in_err-erase_block-clause-ready g c = record {
       let m = g.F.Flash.medium c.args.self.now.flash in
       let look = g.F.Flash.medium c.erase_block.new.self.flash in
       let e = c.erase_block.ensures in
-      let sound : IsSound m s = c.requires.ready.sound told in
+      let sound : IsSoundLayer m s = c.requires.ready.sound told in
       let agreed : IsFalse s.disputed = c.if-self.false in
-      subst (IsSound look) (sym e.state) (erase_failed m look s sound agreed c.requires.full
+      subst (IsSoundLayer look) (sym e.state) (erase_failed m look s sound agreed c.requires.full
       (c.in_err-erase_block.ensures.failed told) (e.accounts.time told).blocks);
 }
 
@@ -47,7 +47,7 @@ returns-in_err-erase_block-clause-fits g c told =
     let m = g.F.Flash.medium c.args.self.now.flash in
     let look = g.F.Flash.medium c.erase_block.new.self.flash in
     let e = c.erase_block.ensures in
-    let sound : IsSound m s = c.requires.ready.sound told in
+    let sound : IsSoundLayer m s = c.requires.ready.sound told in
     let agreed : IsFalse s.disputed = c.if-self.false in
     fits_kept m look s c.erase_block.new.self.state sound agreed
     (erase_failed_keeps m look s sound agreed c.requires.full (c.in_err-erase_block.ensures.failed told))
@@ -60,7 +60,7 @@ returns-in_err-erase_block-clause-does g c told =
     let m = g.F.Flash.medium c.args.self.now.flash in
     let look = g.F.Flash.medium c.erase_block.new.self.flash in
     let e = c.erase_block.ensures in
-    let sound : IsSound m s = c.requires.ready.sound told in
+    let sound : IsSoundLayer m s = c.requires.ready.sound told in
     let agreed : IsFalse s.disputed = c.if-self.false in
     erase_stands m look s sound agreed c.requires.full c.erase_block.result (e.done told) (e.failed told)
     (e.during told)
@@ -71,7 +71,7 @@ copy_needed-requires-clause-moving g c told =
     let m = g.F.Flash.medium c.args.self.now.flash in
     let look = g.F.Flash.medium c.erase_block.new.self.flash in
     let e = c.erase_block.ensures in
-    let sound : IsSound m s = c.requires.ready.sound told in
+    let sound : IsSoundLayer m s = c.requires.ready.sound told in
     let agreed : IsFalse s.disputed = c.if-self.false in
     let t : LayerState = record c.erase_block.new.self.state { moved = c.clear.new.self } in
     let state : t ≡ record s { moved = c.clear.new.self } =
@@ -93,7 +93,7 @@ returns-in_err-copy_needed-clause-fits g c told =
     let m = g.F.Flash.medium c.args.self.now.flash in
     let look = g.F.Flash.medium c.erase_block.new.self.flash in
     let e = c.erase_block.ensures in
-    let sound : IsSound m s = c.requires.ready.sound told in
+    let sound : IsSoundLayer m s = c.requires.ready.sound told in
     let agreed : IsFalse s.disputed = c.if-self.false in
     let now = g.F.Flash.medium c.copy_needed.new.self.flash in
     let t = c.copy_needed.new.self.state in
@@ -112,7 +112,7 @@ returns-in_err-copy_needed-clause-does g c told =
     let m = g.F.Flash.medium c.args.self.now.flash in
     let look = g.F.Flash.medium c.erase_block.new.self.flash in
     let e = c.erase_block.ensures in
-    let sound : IsSound m s = c.requires.ready.sound told in
+    let sound : IsSoundLayer m s = c.requires.ready.sound told in
     let agreed : IsFalse s.disputed = c.if-self.false in
     let now = g.F.Flash.medium c.copy_needed.new.self.flash in
     let t = c.copy_needed.new.self.state in
@@ -136,7 +136,7 @@ returns-clause-ready g c = record {
       let m = g.F.Flash.medium c.args.self.now.flash in
       let look = g.F.Flash.medium c.erase_block.new.self.flash in
       let e = c.erase_block.ensures in
-      let sound : IsSound m s = c.requires.ready.sound told in
+      let sound : IsSoundLayer m s = c.requires.ready.sound told in
       let agreed : IsFalse s.disputed = c.if-self.false in
       let now = g.F.Flash.medium c.copy_needed.new.self.flash in
       let t = c.copy_needed.new.self.state in
@@ -171,7 +171,7 @@ returns-clause-fits g c told =
     let m = g.F.Flash.medium c.args.self.now.flash in
     let look = g.F.Flash.medium c.erase_block.new.self.flash in
     let e = c.erase_block.ensures in
-    let sound : IsSound m s = c.requires.ready.sound told in
+    let sound : IsSoundLayer m s = c.requires.ready.sound told in
     let agreed : IsFalse s.disputed = c.if-self.false in
     let now = g.F.Flash.medium c.copy_needed.new.self.flash in
     let t = c.copy_needed.new.self.state in
@@ -202,7 +202,7 @@ returns-clause-shown g c told =
     let m = g.F.Flash.medium c.args.self.now.flash in
     let look = g.F.Flash.medium c.erase_block.new.self.flash in
     let e = c.erase_block.ensures in
-    let sound : IsSound m s = c.requires.ready.sound told in
+    let sound : IsSoundLayer m s = c.requires.ready.sound told in
     let agreed : IsFalse s.disputed = c.if-self.false in
     let now = g.F.Flash.medium c.copy_needed.new.self.flash in
     let t = c.copy_needed.new.self.state in
@@ -219,7 +219,7 @@ returns-clause-does g c told =
     let m = g.F.Flash.medium c.args.self.now.flash in
     let look = g.F.Flash.medium c.erase_block.new.self.flash in
     let e = c.erase_block.ensures in
-    let sound : IsSound m s = c.requires.ready.sound told in
+    let sound : IsSoundLayer m s = c.requires.ready.sound told in
     let agreed : IsFalse s.disputed = c.if-self.false in
     let now = g.F.Flash.medium c.copy_needed.new.self.flash in
     let t = c.copy_needed.new.self.state in
@@ -237,7 +237,7 @@ returns-clause-does g c told =
 pub returns-then-self-clause-own : goal.returns-then-self-clause-own
 returns-then-self-clause-own g c told calm =
     let s = c.args.self.now.state in
-    let sound : IsSound (g.F.Flash.medium c.args.self.now.flash) s = c.requires.ready.sound told in
+    let sound : IsSoundLayer (g.F.Flash.medium c.args.self.now.flash) s = c.requires.ready.sound told in
     let light = light_enough (g.F.Flash.medium c.args.self.now.flash).blocks s.table s.spare
     c.given_up-victim.result sound.counted
     c.given_up-victim.ensures.within c.given_up-victim.ensures.light in
@@ -259,7 +259,7 @@ pub returns-clause-light : goal.returns-clause-light
 returns-clause-light g c told =
     let s = c.args.self.now.state in
     let m = g.F.Flash.medium c.args.self.now.flash in
-    let sound : IsSound m s = c.requires.ready.sound told in
+    let sound : IsSoundLayer m s = c.requires.ready.sound told in
     let from = c.given_up-victim.result in
     let light = light_enough m.blocks s.table s.spare from sound.counted c.given_up-victim.ensures.within
     c.given_up-victim.ensures.light in

@@ -1,7 +1,7 @@
 use Rattle.std.proofs.Common.{◌+◌, refl, ap, ◌∙◌, arith}
 use Rattle.flash_disk.specs.declared.layer.LayerState.{LayerState}
 use Rattle.flash_disk.specs.Newest.{places}
-use Rattle.flash_disk.specs.Standing.{StandsFor}
+use Rattle.flash_disk.specs.Standing.{DenotesFiles}
 use Rattle.flash_disk.proofs.Standing.{keeps_refl}
 use Rattle.flash_disk.proofs.Stretches.{does_nothing}
 use Rattle.flash_disk.proofs.Spreading.{copied_in, fewer_copied}
@@ -19,7 +19,7 @@ loop-page-init g c =
       state = refl;
       moving = c.requires.moving;
       keeps = λ told. keeps_refl m.state.pages (places m.blocks);
-      does = λ told. does_nothing m m (StandsFor m) refl (λ x past. lawful.only_now x past)
+      does = λ told. does_nothing m m (DenotesFiles m) refl (λ x past. lawful.only_now x past)
           (stands_now m c.args.self.now.state (c.requires.moving told).sound);
     }
 

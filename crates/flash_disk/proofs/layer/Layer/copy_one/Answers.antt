@@ -8,8 +8,8 @@ use Rattle.flash_disk.specs.declared.layer.LayerState.{LayerState}
 use Rattle.flash_disk.specs.Known.{known}
 use Rattle.flash_disk.specs.Newest.{places}
 use Rattle.flash_disk.specs.Does.{Does}
-use Rattle.flash_disk.specs.Standing.{KeepsRecords, StandsFor}
-use Rattle.flash_disk.specs.Sound.{IsSound}
+use Rattle.flash_disk.specs.Standing.{DenotesFiles, KeepsRecords}
+use Rattle.flash_disk.specs.Sound.{IsSoundLayer}
 use Rattle.flash_disk.proofs.Entering.{as_said}
 use Rattle.flash_disk.specs.Moving.{IsMoving}
 use Rattle.flash_disk.proofs.Moving.{differ, same_places, found_same, on_err, stands_then, looked_up, passed_over}
@@ -147,7 +147,7 @@ returns-in_err-program_page-clause-failed g c told =
     let now = g.F.Flash.medium c.program_page.new.self.flash in
     let long : c.len.result ≡ length s.moved.items = c.len.ensures ∙ s.moved.ok.0 in
     let p = c.program_page.ensures in
-    on_err c.from_residual-in_err-program_page.result (subst (IsSound now) (sym p.state)
+    on_err c.from_residual-in_err-program_page.result (subst (IsSoundLayer now) (sym p.state)
     (copy_failed_sound look s c.args.from.block c.args.to c.args.from.page moving c.requires.page
     c.read_page.new.out read key old is at.0 at.1 c.len.result long now
     (c.in_err-program_page.ensures.failed told) (p.accounts.time told).blocks))
@@ -198,7 +198,7 @@ returns-then-is_err-clause-does g c told =
     let now = g.F.Flash.medium c.program_page.new.self.flash in
     let long : c.len.result ≡ length s.moved.items = c.len.ensures ∙ s.moved.ok.0 in
     let p = c.program_page.ensures in
-    subst (λ f. Does (StandsFor m) m (g.F.Flash.medium f)) (sym c.fault.ensures.flash) (
+    subst (λ f. Does (DenotesFiles m) m (g.F.Flash.medium f)) (sym c.fault.ensures.flash) (
     stands_then m look now (e.looks.time told) (p.accounts.time told)
     (look_stands m look (e.looks.state told) e.blocks c.read_page.ensures.during c.args.self.now.state
     (c.requires.moving told).sound)
@@ -307,8 +307,8 @@ returns-then-is_err-clause-failed g c told =
     let state : c.fault.new.self.state ≡ record s { moved = c.push.new.self } =
     c.fault.ensures.state ∙ ap (λ (q : LayerState). let z : LayerState = record q { moved = c.push.new.self } in z)
     p.state in
-    subst (IsSound (g.F.Flash.medium c.fault.new.self.flash)) (sym state)
-    (subst (λ f. IsSound (g.F.Flash.medium f) (record s { moved = c.push.new.self })) (sym c.fault.ensures.flash)
+    subst (IsSoundLayer (g.F.Flash.medium c.fault.new.self.flash)) (sym state)
+    (subst (λ f. IsSoundLayer (g.F.Flash.medium f) (record s { moved = c.push.new.self })) (sym c.fault.ensures.flash)
     (as_said now.state.pages now.blocks s (record s { moved = c.push.new.self }) sound
     (let same = ap (λ (q : LayerState). vec_capacity q.moved) p.state in let more =
     c.push.ensures.capacity in omega (arith, same, more))))

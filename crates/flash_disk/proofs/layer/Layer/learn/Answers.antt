@@ -1,5 +1,5 @@
 use Rattle.std.specs.Prelude.{vec_capacity}
-use Rattle.flash_disk.specs.Counted.{IsCounted}
+use Rattle.flash_disk.specs.Counted.{IsCountedTable}
 use Rattle.std.proofs.Common.{◌≡◌, ◌<◌, ◌≤◌, true, false, sym, ap, inl, inr, ◌∙◌, subst, arith}
 use Rattle.std.specs.HashMap.{spare}
 use Rattle.flash_disk.specs.Newest.{FindsSpare, IsSpare, places}
@@ -97,10 +97,10 @@ returns-in-Ok-clause-sound g c told usable_now =
     (subst (IsSpare pages n) (sym l.spare) finds.1)
     (subst (IsTop pages n) (sym (l.sequence ∙ f.sequence)) top).most
     (c.measure.ensures.counted blocks
-    (let first_counted : IsCounted blocks first = subst (λ b. IsCounted b first) (sym c.requires.blocks)
-    (e.step.counted (subst (λ b. IsCounted b c.args.self.now.state.table) c.requires.blocks c.requires.counted)) in
-    subst (λ b. IsCounted b left) all_is (l.step.counted (subst (λ b. IsCounted b second) (sym all_is)
-    (subst (IsCounted blocks) (sym f.table) first_counted)))))
+    (let first_counted : IsCountedTable blocks first = subst (λ b. IsCountedTable b first) (sym c.requires.blocks)
+    (e.step.counted (subst (λ b. IsCountedTable b c.args.self.now.state.table) c.requires.blocks c.requires.counted)) in
+    subst (λ b. IsCountedTable b left) all_is (l.step.counted (subst (λ b. IsCountedTable b second) (sym all_is)
+    (subst (IsCountedTable blocks) (sym f.table) first_counted)))))
     (let same : vec_capacity c.leave_spare.new.self.state.moved ≡ vec_capacity c.args.self.now.state.moved =
     ap (λ q. vec_capacity q) (l.step.fill.2 ∙ (f.step.fill.2 ∙ e.step.fill.2)) in
     let enough = c.requires.moved in omega (arith, same, enough))

@@ -1,6 +1,6 @@
 use Rattle.std.proofs.Common.{◌≡◌, ap, refl, sym, subst, ◌∙◌, ⊎_elim, arith, ◌<◌, Some}
 use Rattle.std.specs.Prelude.{IfSome}
-use Rattle.flash_disk.specs.Counted.{IsCounted}
+use Rattle.flash_disk.specs.Counted.{IsCountedTable}
 use Rattle.flash_record.specs.PageRecord.{record_in}
 use Rattle.flash_record.specs.Stated.{stated}
 use Rattle.flash_disk.specs.Newest.{record_at}
@@ -48,7 +48,7 @@ returns-clause-step g c =
       fill = step.fill;
       bounds = bounds_then step.bounds c.put.ensures.bounds;
       counted = λ counted. let inside = counted.inside c.args.key c.args.old c.requires.old in
-          c.put.ensures.counted blocks (subst (IsCounted blocks) (sym table) counted) (record {
+          c.put.ensures.counted blocks (subst (IsCountedTable blocks) (sym table) counted) (record {
             place = inside.place;
             twin = ⊎_elim
                 (λ was. subst (λ t. IfSome t (λ q. q.block < blocks)) (sym was) inside.twin)

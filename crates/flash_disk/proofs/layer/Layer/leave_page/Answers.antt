@@ -1,5 +1,5 @@
 use Rattle.std.specs.Prelude.{IfSome}
-use Rattle.flash_disk.specs.Counted.{IsCounted}
+use Rattle.flash_disk.specs.Counted.{IsCountedTable}
 use Rattle.std.proofs.Common.{◌≡◌, ◌<◌, ◌+◌, ◌*◌, refl, sym, ap, ◌∙◌, subst}
 use Rattle.flash_record.specs.PageRecord.{record_in}
 use Rattle.flash_disk.specs.Newest.{record_at, places}
@@ -99,7 +99,7 @@ returns-clause-step g c =
       only = only_as (only_here refl refl read.only) tt;
       fill = step.fill;
       bounds = bounds_then step.bounds c.put.ensures.bounds;
-      counted = λ counted. let start = subst (IsCounted blocks) (sym (ap (λ s. s.table) read.state)) counted in
+      counted = λ counted. let start = subst (IsCountedTable blocks) (sym (ap (λ s. s.table) read.state)) counted in
           let inside = start.inside c.in-Some.key c.in-Some.old c.in-Some.ensures.known in
           let twin = subst (λ t. IfSome t (λ q. q.block < blocks)) c.in-Some-twin.is inside.twin in
           c.put.ensures.counted blocks start (record { place = twin; twin = inside.twin });

@@ -1,6 +1,6 @@
 use Rattle.std.proofs.Common.{None, refl, sym, subst}
 use Rattle.flash_record.specs.Stated.{stated}
-use Rattle.flash_disk.specs.Sound.{IsSound}
+use Rattle.flash_disk.specs.Sound.{IsSoundLayer}
 use Rattle.flash_disk.proofs.Entering.{sound_holds, nothing_there, one_there}
 use Rattle.flash_disk.proofs.layer.Layer.make_sure.Goals as goal
 
@@ -16,7 +16,7 @@ returns-in-Some-read_record-clause-stays g c = record {
       (e.bytes told)
       (stated c.in-Some-read_record.record) c.in-Some-read_record.ensures.record c.enter.new.self.state
       c.enter.ensures.sound in
-      subst (λ f. IsSound (g.F.Flash.medium f) c.enter.new.self.state) (sym c.enter.ensures.flash) sound;
+      subst (λ f. IsSoundLayer (g.F.Flash.medium f) c.enter.new.self.state) (sym c.enter.ensures.flash) sound;
   failed = λ told. tt;
 }
 

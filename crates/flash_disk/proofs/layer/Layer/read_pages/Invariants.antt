@@ -1,7 +1,7 @@
 use Rattle.std.proofs.Common.{◌≡◌, ℕ, ◌<◌, ◌≤◌, ◌+◌, ◌-◌, length, get_or, true}
 use Rattle.flash_disk.specs.Newest.{places}
 use Rattle.flash_disk.specs.FlashFiles.{file_byte, file_len}
-use Rattle.flash_disk.specs.Learnt.{Knows}
+use Rattle.flash_disk.specs.Learnt.{KnowsLengths}
 use Rattle.flash_disk.proofs.Steps.{LookedOn}
 use Rattle.flash_disk.proofs.layer.Layer.read_pages.Given as goal
 
@@ -12,7 +12,7 @@ abbrev pub invariant-loop-done : goal.invariant-loop-done
 invariant-loop-done g l = record {
   within : l.done ≤ length l.out;
   reads : LookedOn g.F.Flash.told g.F.Flash.medium l.initial.self l.self;
-  read : g.F.Flash.told ≡ true → Knows (g.F.Flash.medium l.initial.self.flash).state.pages
+  read : g.F.Flash.told ≡ true → KnowsLengths (g.F.Flash.medium l.initial.self.flash).state.pages
       (places (g.F.Flash.medium l.initial.self.flash).blocks) l.initial.self.state.table
       → l.at + length l.out ≤ file_len (g.F.Flash.medium l.initial.self.flash).state.pages
       (places (g.F.Flash.medium l.initial.self.flash).blocks) l.file

@@ -1,7 +1,7 @@
 use Rattle.std.proofs.Common.{◌≡◌, ◌*◌, length, sym, ◌∙◌, subst, arith}
 use Rattle.flash_disk.specs.PutPart.{PutPart}
-use Rattle.flash_disk.specs.Standing.{StandsFor}
-use Rattle.flash_disk.specs.Sound.{files_of}
+use Rattle.flash_disk.specs.Standing.{DenotesFiles}
+use Rattle.flash_disk.specs.Sound.{files_on}
 use Rattle.flash_disk.proofs.Writing.{on_ok_both, stands, does_none, files_seen, fits_seen, shown_seen, does_after_look}
 use Rattle.flash_disk.proofs.Writing.{wiped_none, wiped_within, stray_fits, stands_still, wiped_by}
 use Rattle.flash_disk.proofs.Stretches.{does_nothing}
@@ -18,7 +18,7 @@ returns-in_default-clause-wiped g c told =
 pub returns-in_default-clause-does : goal.returns-in_default-clause-does
 returns-in_default-clause-does g c told =
     let a = g.F.Flash.medium c.args.self.now.flash in
-    does_none g.F.Flash.told a (g.met.F.Flash.lawful c.args.self.now.flash) (StandsFor a)
+    does_none g.F.Flash.told a (g.met.F.Flash.lawful c.args.self.now.flash) (DenotesFiles a)
     (stands a c.args.self.now.state (c.requires.ready.sound told))
 
 pub returns-then-end_of_bytes-len-clause-wiped : goal.returns-then-end_of_bytes-len-clause-wiped
@@ -33,7 +33,7 @@ returns-then-end_of_bytes-len-clause-wiped g c told =
 pub returns-then-end_of_bytes-len-clause-does : goal.returns-then-end_of_bytes-len-clause-does
 returns-then-end_of_bytes-len-clause-does g c told =
     let a = g.F.Flash.medium c.args.self.now.flash in
-    does_none g.F.Flash.told a (g.met.F.Flash.lawful c.args.self.now.flash) (StandsFor a)
+    does_none g.F.Flash.told a (g.met.F.Flash.lawful c.args.self.now.flash) (DenotesFiles a)
     (stands a c.args.self.now.state (c.requires.ready.sound told))
 
 pub returns-in_err-content-clause-does : goal.returns-in_err-content-clause-does
@@ -41,7 +41,7 @@ returns-in_err-content-clause-does g c told =
     let a = g.F.Flash.medium c.args.self.now.flash in
     let b = g.F.Flash.medium c.content.new.self.flash in
     let e = c.in_err-content.ensures.reads.only in
-    does_nothing a b (StandsFor a) (e.looks.state told) (e.looks.during told)
+    does_nothing a b (DenotesFiles a) (e.looks.state told) (e.looks.during told)
     (stands a c.args.self.now.state (c.requires.ready.sound told))
 
 pub append-requires-clause-fits : goal.append-requires-clause-fits
@@ -71,7 +71,7 @@ returns-clause-wiped g c told =
     on_ok_both c.append.result
     (λ part shown. wiped_by a s sound c.args.file c.args.page c.args.len (c.requires.len told) was
     (c.in_ok-content.ensures.bytes told sound.knows) d full
-    (subst (λ f. PutPart c.args.file (256 * c.args.page) was c.args.len f (files_of d))
+    (subst (λ f. PutPart c.args.file (256 * c.args.page) was c.args.len f (files_on d))
     (files_seen a b (e.looks.state told) e.blocks) part)
     (shown_seen a b (e.looks.state told) e.blocks d c.args.file c.args.page was shown))
     (c.append.ensures.put told) (c.append.ensures.shown told)
@@ -86,7 +86,7 @@ returns-clause-does g c told =
     let sound = c.requires.ready.sound told in
     let was = c.in_ok-content.content in
     let full : length was ≡ 256 = omega arith in
-    does_after_look a b (e.looks.state told) e.blocks StandsFor c.args.file (256 * c.args.page) was c.args.len d
+    does_after_look a b (e.looks.state told) e.blocks DenotesFiles c.args.file (256 * c.args.page) was c.args.len d
     (stands_still a s sound c.args.file c.args.page c.args.len (c.requires.len told) was
     (c.in_ok-content.ensures.bytes told sound.knows)
     full)

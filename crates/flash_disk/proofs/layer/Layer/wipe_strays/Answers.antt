@@ -1,5 +1,5 @@
 use Rattle.std.proofs.Common.{◌+◌, ◌/◌, ◌∙◌, arith}
-use Rattle.flash_disk.specs.Standing.{StandsFor}
+use Rattle.flash_disk.specs.Standing.{DenotesFiles}
 use Rattle.flash_disk.proofs.Writing.{stands, does_none, stands_then, wiped_start, wiped_more, wiped_nowhere, len_still}
 use Rattle.flash_disk.proofs.Entries.{same_entries, same_entries_then}
 use Rattle.flash_disk.proofs.Accounting.{counted_none, counted_on}
@@ -19,7 +19,7 @@ returns-then-end-len-clause-wiped g c told =
 pub returns-then-end-len-clause-does : goal.returns-then-end-len-clause-does
 returns-then-end-len-clause-does g c told =
     let a = g.F.Flash.medium c.args.self.now.flash in
-    does_none g.F.Flash.told a (g.met.F.Flash.lawful c.args.self.now.flash) (StandsFor a)
+    does_none g.F.Flash.told a (g.met.F.Flash.lawful c.args.self.now.flash) (DenotesFiles a)
     (stands a c.args.self.now.state (c.requires.ready.sound told))
 
 pub loop-page-init : goal.loop-page-init
@@ -30,7 +30,7 @@ loop-page-init g c =
       ready = c.requires.ready;
       wiped = λ told. wiped_start a s (c.requires.ready.sound told) c.args.file (c.len_of-len.result / 256)
           (let len = c.len_of-len.ensures in omega (arith, len));
-      does = λ told. does_none g.F.Flash.told a lawful (StandsFor a) (stands a s (c.requires.ready.sound told));
+      does = λ told. does_none g.F.Flash.told a lawful (DenotesFiles a) (stands a s (c.requires.ready.sound told));
       counts = counted_none (c.len_of-len.result / 256) c.args.self.now lawful;
       entries = λ told. same_entries s.table;
     }

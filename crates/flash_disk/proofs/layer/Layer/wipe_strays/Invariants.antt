@@ -1,6 +1,6 @@
 use Rattle.std.proofs.Common.{◌≡◌, true}
 use Rattle.flash_disk.specs.Does.{Does}
-use Rattle.flash_disk.specs.Standing.{StandsFor}
+use Rattle.flash_disk.specs.Standing.{DenotesFiles}
 use Rattle.flash_disk.specs.Steps.{IsSure}
 use Rattle.flash_disk.specs.Entries.{SameEntries}
 use Rattle.flash_disk.proofs.Writing.{Wiped}
@@ -12,7 +12,7 @@ invariant-loop-page g l = record {
   ready : IsSure g.F.Flash.told g.F.Flash.medium l.self;
   wiped : g.F.Flash.told ≡ true → Wiped (g.F.Flash.medium l.initial.self.flash) (g.F.Flash.medium l.self.flash) l.file
       l.page l.initial.self.state.stray_end;
-  does : g.F.Flash.told ≡ true → Does (StandsFor (g.F.Flash.medium l.initial.self.flash))
+  does : g.F.Flash.told ≡ true → Does (DenotesFiles (g.F.Flash.medium l.initial.self.flash))
       (g.F.Flash.medium l.initial.self.flash) (g.F.Flash.medium l.self.flash);
   counts : Counted g.F.Flash.told g.F.Flash.medium l.page l.initial.self l.self;
   entries : g.F.Flash.told ≡ true → SameEntries l.initial.self.state.table l.self.state.table;

@@ -1,7 +1,7 @@
 use Rattle.std.proofs.Common.{◌≡◌, ◌*◌, ◌+◌, length, subst, arith}
 use Rattle.std.proofs.lemmas.Result.{on_ok_weaker}
 use Rattle.flash_disk.specs.PutPart.{PutPart}
-use Rattle.flash_disk.specs.Sound.{files_of, LeavesPut}
+use Rattle.flash_disk.specs.Sound.{files_on, LeavesPut}
 use Rattle.flash_disk.proofs.Writing.{leaves_nothing, files_seen, fits_seen, does_after_look, page_fits, page_narrower}
 use Rattle.flash_disk.proofs.Writing.{leaves_narrower}
 use Rattle.flash_disk.proofs.Stretches.{does_nothing}
@@ -48,9 +48,9 @@ returns-clause-put g c told =
     on_ok_weaker c.append.result
     (λ put. page_narrower a c.args.file c.args.page c.in_ok-content.content
     (c.in_ok-content.ensures.bytes told sound.knows)
-    c.args.from c.args.len c.args.bytes.now c.copy_part.new.out copied.inside copied.before copied.after (files_of d)
+    c.args.from c.args.len c.args.bytes.now c.copy_part.new.out copied.inside copied.before copied.after (files_on d)
     full c.requires.within
-    (subst (λ f. PutPart c.args.file (256 * c.args.page) c.copy_part.new.out c.args.len f (files_of d))
+    (subst (λ f. PutPart c.args.file (256 * c.args.page) c.copy_part.new.out c.args.len f (files_on d))
     (files_seen a b (e.looks.state told) e.blocks) put))
     (c.append.ensures.put told)
 

@@ -2,7 +2,7 @@ use Rattle.std.proofs.Common.{◌+◌, ◌-◌, ◌/◌, ◌∙◌, length, take
 use Rattle.std.specs.Int.{div_ceil}
 use Rattle.flash_disk.specs.Does.{Does}
 use Rattle.flash_disk.specs.PutPart.{PutPart}
-use Rattle.flash_disk.specs.Sound.{files_of, LeavesPut}
+use Rattle.flash_disk.specs.Sound.{files_on, LeavesPut}
 use Rattle.flash_disk.specs.Writes.{LeavesTorn}
 use Rattle.flash_disk.proofs.Writing.{does_none, torn_nothing, wrote_nothing, wrote_more, torn_then, moved_there}
 use Rattle.flash_disk.proofs.Writing.{wrote_all}
@@ -60,8 +60,8 @@ loop-done-preserved g c =
       ready = record { sure = e.adds.stays.sure; sound = e.adds.stays.sound };
       wrote = λ told. wrote_more a b c.args.file c.args.at c.args.bytes.now c.args.len done (i.wrote told) count d
           (omega arith)
-          (moved_there (λ p k. PutPart c.args.file p (take k (drop done c.args.bytes.now)) c.args.len (files_of b)
-          (files_of d)) start done count (e.put told));
+          (moved_there (λ p k. PutPart c.args.file p (take k (drop done c.args.bytes.now)) c.args.len (files_on b)
+          (files_on d)) start done count (e.put told));
       does = λ told. torn_then a b c.args.file c.args.at c.args.bytes.now c.args.len done (i.wrote told) count d
           (omega arith) (omega arith) (c.requires.len told)
           (i.counts.time told) (e.adds.accounts.time told) (i.does told)

@@ -2,7 +2,7 @@ use Rattle.std.proofs.Common.{ℕ, true, get_or, refl, subst, sym, ap, ◌∙◌
 use Rattle.std.specs.Prelude.{Contains}
 use Rattle.std.proofs.lemmas.Bool.{cases_eq}
 use Rattle.disk_model.specs.Laws.{reads_on, elapses_on}
-use Rattle.system_model.specs.SystemMedium.{IsSafe, IsStill}
+use Rattle.system_model.specs.SystemMedium.{HasNothingFree, IsSafe}
 use Rattle.folder_disk.specs.Knows.{Covered, Knows}
 use Rattle.folder_disk.proofs.Noting.{safe_reads, knows_fresh}
 use Rattle.folder_disk.proofs.Syncs.{contains_next, not_in_end}
@@ -50,7 +50,7 @@ loop-file-preserved g c =
       fresh = e.fresh;
       lost = e.lost;
       others = λ t f none. ⊎_elim
-          (λ same. subst (λ x. IsSafe new.disk x × IsStill new x) (sym same) (e.safe t, e.still t))
+          (λ same. subst (λ x. IsSafe new.disk x × HasNothingFree new x) (sym same) (e.safe t, e.still t))
           (λ ne. let was = inv.others t f (contains_next files k f c.loop-file-test.true ne none) in
           (safe_reads mid.disk new.disk e.reads f was.0, λ i h. was.1 i (e.no_more t f i h)))
           (cases_eq f file);

@@ -1,7 +1,7 @@
 use Rattle.std.proofs.Common.{ℕ, ◌≡◌, ◌⊎◌, ◌↔◌, length, subst, sym}
 use Rattle.std.specs.Prelude.{IsTrue, IfOk}
 use Rattle.disk_model.specs.Medium.{OnlyReads}
-use Rattle.system_model.specs.SystemMedium.{InRange, Shows}
+use Rattle.system_model.specs.SystemMedium.{InRange, ShowsBytes}
 use Rattle.folder_disk.proofs.opened.Opened.write.Goals as goal
 
 pub returns-in-Some-clause-frees : goal.returns-in-Some-clause-frees
@@ -30,9 +30,9 @@ returns-in-Some-clause-again g c =
     let bytes = c.args.bytes.now in
     let new = medium c.write.new.self in
     subst (λ k. (IsTrue told → (i : ℕ) → InRange at (length bytes) i → (medium c.args.self.now).free k i)
-    → (IsTrue told → Shows ((medium c.args.self.now).disk.image k) at bytes)
+    → (IsTrue told → ShowsBytes ((medium c.args.self.now).disk.image k) at bytes)
     → OnlyReads (medium c.args.self.now).disk new.disk) is
     (subst (λ s. (IsTrue told → (i : ℕ) → InRange at (length bytes) i
     → (medium s).free (g.S.System.number c.in-Some.open.now) i)
-    → (IsTrue told → Shows ((medium s).disk.image (g.S.System.number c.in-Some.open.now)) at bytes)
+    → (IsTrue told → ShowsBytes ((medium s).disk.image (g.S.System.number c.in-Some.open.now)) at bytes)
     → OnlyReads (medium s).disk new.disk) c.self.view_is c.write.ensures.again)

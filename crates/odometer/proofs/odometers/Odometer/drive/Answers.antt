@@ -1,13 +1,13 @@
 use Rattle.std.proofs.Common.{◌≡◌, ◌⊎◌, inl, inr, ℕ, Bool, ap}
 use Rattle.std.specs.Prelude.{IfSome, IsTrue, Option, Some, None}
 use Rattle.disk_model.specs.Medium.{IsLawful, Medium}
-use Rattle.kvs_laws.specs.Laws.{IsHeld, StillLaw, SyncLaw}
+use Rattle.kvs_laws.specs.Laws.{OpensWithValue, StillLaw, SyncLaw}
 use Rattle.kvs_store.specs.Storages.{KvsSession, showing}
 use Rattle.odometer.specs.Odometers.{IfOpen, IsOdometer, Saves, TotalThroughout, kilometres, the_total}
 use Rattle.odometer.proofs.odometers.Odometer.drive.Goals as goal
 
 held : (told : Bool) (m : Medium) (kvs : KvsSession) (total : ℕ) → IsTrue told → IsOdometer told m kvs total
-    → IsHeld (the_total kvs.config) m.image kvs (kilometres total)
+    → OpensWithValue (the_total kvs.config) m.image kvs (kilometres total)
 held told m kvs total tells is = record {
   told = told;
   tells = tells;

@@ -6,7 +6,7 @@ use Rattle.element_store.specs.Stores.{shape_of}
 use Rattle.deploy.specs.declared.errors.Stop.{Stop}
 use Rattle.file_storage.specs.declared.syncing.Closed.{Closed}
 use Rattle.per_base.specs.declared.faults.Fault.{Fault}
-use Rattle.file_storage.specs.FileSessions.{FileSession}
+use Rattle.file_storage.specs.FileSessions.{FilesInUse}
 use Rattle.file_storage.specs.Syncs as below
 use Rattle.open_storages.specs.declared.opens.Open.{Open}
 use Rattle.open_storages.specs.declared.opens.Open.TheVariants.{Files}
@@ -38,7 +38,7 @@ returns-in-Ok-Refused-clause-due g c =
     let told = c.close_storage.ensures.due error due in (
       ap (λ (d : Closing). let r : Result Closing Stop = Ok d in r)
           (same_refusal f c.in-Ok-Refused.files c.in-Ok-Refused.error error c.close_storage.result
-          (c.in-Ok-Refused.is ∙ ap (λ (d : Closed). let r : Result Closed (Fault FileSession) = Ok d in r)
+          (c.in-Ok-Refused.is ∙ ap (λ (d : Closed). let r : Result Closed (Fault FilesInUse) = Ok d in r)
           c.in-Ok-Refused.field-0-is) told.0),
       told.1,
     ))

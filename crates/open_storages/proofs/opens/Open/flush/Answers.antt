@@ -10,7 +10,7 @@ use Rattle.open_storages.specs.declared.opens.Open.{Open}
 use Rattle.open_storages.specs.declared.opens.Open.TheVariants.{Files}
 use Rattle.open_storages.specs.declared.syncing.Durable.{Durable}
 use Rattle.open_storages.specs.declared.syncing.Durable.TheVariants as made
-use Rattle.open_storages.specs.Durables.{IsMade}
+use Rattle.open_storages.specs.Durables.{IsDurableOrRefused}
 use Rattle.open_storages.specs.Opens.{store_in}
 use Rattle.open_storages.specs.Refusals.{durable_view, flush_refused}
 use Rattle.open_storages.proofs.Flushed.{flush_due, flush_made, made_or, same_files}
@@ -27,8 +27,9 @@ pub returns-in-Ok-clause-done : goal.returns-in-Ok-clause-done
 returns-in-Ok-clause-done g c =
     let f = c.in-Files.files in
     let image = (g.D.Disk.medium c.sync_to_file.new.disk).image in
-    subst (λ (x : Open). IsMade g.D.Disk.told image x (flush_refused x c.args.handle) c.made.result) (sym c.in-Files.is)
-    (subst (λ (d : Durable). IsMade g.D.Disk.told image (Files f) (flush_refused (Files f) c.args.handle) d)
+    subst (λ (x : Open). IsDurableOrRefused g.D.Disk.told image x (flush_refused x c.args.handle) c.made.result)
+    (sym c.in-Files.is)
+    (subst (λ (d : Durable). IsDurableOrRefused g.D.Disk.told image (Files f) (flush_refused (Files f) c.args.handle) d)
     (sym c.made.ensures)
     (flush_made g.D.Disk.told image f c.args.handle c.in-Ok.field-0 c.in-Ok.ensures.refused c.in-Ok.ensures.stored
     c.in-Ok.ensures.view c.in-Ok.ensures.beside c.in-Ok.ensures.shape c.in-Ok.ensures.used

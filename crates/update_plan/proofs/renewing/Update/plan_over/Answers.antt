@@ -3,7 +3,7 @@ use Rattle.deployment_model.specs.Data.{storage_data}
 use Rattle.migrate_fns.specs.Stored.{answers_of, rules_of}
 use Rattle.update_plan.specs.Merging.{merged}
 use Rattle.update_plan.proofs.Updating.{all_made, all_small, fits_if, plans_over, refused_over}
-use Rattle.update_plan.specs.Views.{items_in}
+use Rattle.update_plan.specs.Views.{viewed_items}
 use Rattle.update_plan.proofs.renewing.Update.plan_over.Goals as goal
 
 pub within_limits-requires : goal.within_limits-requires
@@ -27,7 +27,7 @@ returns-clause-plan g c =
     let self = c.args.self.now in
     let s = storage_data self.storage.now in
     plans_over (rules_of self.migrations.now) (answers_of self.migrations.now) self.moment s c.args.stored.now
-    c.in_ok-contents.contents.items (items_in (λ x. x.items) c.within_limits.result) c.requires.storage
+    c.in_ok-contents.contents.items (viewed_items (λ x. x.items) c.within_limits.result) c.requires.storage
     c.requires.stored c.in_ok-contents.ensures c.within_limits.ensures
 
 pub returns-clause-fits : goal.returns-clause-fits

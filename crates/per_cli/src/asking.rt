@@ -1,0 +1,81 @@
+//! The lines of a person at a terminal.
+
+use crate::help;
+use command_text::{LineError, parse_line};
+use std::alloc::Global;
+use std::io::{self, Input, Read};
+
+/// What stands before each line.
+const PROMPT: &str = "per> ";
+
+/// An input that asks for each line, and again for one that is outside the grammar. A line that a run is given is
+/// answered before it asks for the next.
+#[derive(Drop)]
+pub(crate) struct Asking<'a, R: Input + Print + Eprint> {
+    rt: &'a R,
+    alloc: Global,
+    line: String,
+    /// How many bytes of the line were given.
+    given: usize,
+}
+
+impl<'a, R: Input + Print + Eprint> Asking<'a, R> {
+    pub(crate) fn new(rt: &'a R, alloc: Global) -> Asking<'a, R> {
+        Asking {
+            rt,
+            alloc,
+            line: String::new(alloc),
+            given: 0,
+        }
+    }
+
+    /// Reads the next line that is in the grammar; an empty text at the end of the input.
+    fn ask(&mut self) -> io::Result<()> {
+        for _ in 0..u64::MAX {
+            print!(self.rt; "{PROMPT}")?;
+            self.line.clear();
+            self.given = 0;
+            if self.rt.read_line(&mut self.line)? == 0 {
+                return self.rt.println("");
+            }
+            if self.is_accepted()? {
+                return Ok(());
+            }
+        }
+        Ok(())
+    }
+
+    /// Whether the line is one of the grammar; where it is not, help stands in its place.
+    fn is_accepted(&self) -> io::Result<bool> {
+        let line = self.line.as_str();
+        let line = line.strip_suffix('\n').unwrap_or(line);
+        if line == "help" {
+            help::show_lines(self.rt)?;
+            return Ok(false);
+        }
+        match parse_line(self.alloc, line.as_bytes()) {
+            Ok(_) => Ok(true),
+            Err(LineError::NotALine) => {
+                let _ = self
+                    .rt
+                    .eprintln("per: this is no line; help lists them, and end ends");
+                Ok(false)
+            }
+            Err(LineError::OutOfMemory) => Err(io::Error::from(io::ErrorKind::OutOfMemory)),
+        }
+    }
+}
+
+impl<'a, R: Input + Print + Eprint> Read for Asking<'a, R> {
+    fn read(&mut self, out: &mut [u8]) -> io::Result<usize> {
+        if self.given >= self.line.len() {
+            self.ask()?;
+        }
+        let bytes = self.line.as_str().as_bytes();
+        let rest = bytes.get(self.given..).unwrap_or(&[]);
+        let count = rest.len().min(out.len());
+        out[..count].copy_from_slice(&rest[..count]);
+        self.given = self.given.saturating_add(count);
+        Ok(count)
+    }
+}

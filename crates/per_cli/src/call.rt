@@ -1,0 +1,313 @@
+//! One call from a shell: `per get 0:cockpit volume --dir DIR`.
+//!
+//! It is made by the lines of [`per_words`], which a run of the program handles, one after another. After the first
+//! that is refused no other is given, so that nothing is made durable then. What a reply says is written as a person or
+//! a script wants it: the text of a value alone, the bytes of a file as they are, an error on standard error.
+
+ghost use Rattle.std.specs.Prelude.{◌≤◌, length};
+
+use crate::{NO_DISK, NO_INPUT, NO_MEMORY, REFUSED_CALL, REFUSED_WORDS, program};
+use command_text::LineError;
+use per_run::{JobKind, WordsError, read_words};
+use per_words::{
+    Shown, call_lines, content_lines, manifest_lines, options_in, shown_in, takes_manifest, written,
+};
+use std::alloc::{AllocError, Global};
+use std::cell::Cell;
+use std::fs::{self, File};
+use std::io::{self, Input, Read, Write};
+use std::rt::Files;
+
+/// One byte more than a file may have: of a longer input no more is read.
+const CONTENT_BYTES: u64 = 1_048_577;
+
+/// Why no call was made.
+#[derive(Clone, Copy)]
+enum Unmade {
+    /// The words are no call with what it takes.
+    Refused,
+    /// A file, or the input, cannot be read.
+    Unread(io::Error),
+    OutOfMemory,
+}
+
+impl From<AllocError> for Unmade {
+    fn from(_error: AllocError) -> Unmade {
+        Unmade::OutOfMemory
+    }
+}
+
+impl From<LineError> for Unmade {
+    fn from(error: LineError) -> Unmade {
+        match error {
+            LineError::NotALine => Unmade::Refused,
+            LineError::OutOfMemory => Unmade::OutOfMemory,
+        }
+    }
+}
+
+impl From<io::Error> for Unmade {
+    fn from(error: io::Error) -> Unmade {
+        match error.kind() {
+            io::ErrorKind::OutOfMemory => Unmade::OutOfMemory,
+            _ => Unmade::Unread(error),
+        }
+    }
+}
+
+/// Makes the call that is named among the words, and gives the status.
+pub(crate) fn run<R: Files<File = File> + AllocGlobal + Input + Print + Eprint>(
+    rt: &R,
+    words: &[String],
+    named: &[&[u8]],
+) -> u8 {
+    match made(rt, words, named) {
+        Ok(status) => status,
+        Err(Unmade::Refused) => {
+            let _ = rt.eprintln(
+                "per: the call is refused: its storage is named A:S, its arguments are as in a line, and --dir and --flash alone stand beside it (per --help)",
+            );
+            REFUSED_WORDS
+        }
+        Err(Unmade::Unread(error)) => {
+            let _ = eprintln!(rt; "per: what the call takes cannot be read: {error}");
+            NO_INPUT
+        }
+        Err(Unmade::OutOfMemory) => {
+            let _ = rt.eprintln("per: memory ran out");
+            NO_MEMORY
+        }
+    }
+}
+
+fn made<R: Files<File = File> + AllocGlobal + Input + Print + Eprint>(
+    rt: &R,
+    words: &[String],
+    named: &[&[u8]],
+) -> Result<u8, Unmade> {
+    let alloc = rt.alloc();
+    let options = options_of(alloc, words, named)?;
+    let lines = lines_of_call(rt, alloc, named)?;
+    Ok(status_of_lines(rt, alloc, options.as_slice(), lines.as_slice()))
+}
+
+/// The options of the run that makes the call, none of which asks for another job. An installation makes an empty
+/// folder ready first.
+fn options_of(alloc: Global, words: &[String], named: &[&[u8]]) -> Result<Vec<String>, Unmade> {
+    let mut options = options_in(alloc, words)?;
+    if asks_for_another(alloc, options.as_slice())? {
+        return Err(Unmade::Refused);
+    }
+    if is_first(named, b"install") {
+        let serve = String::from_str(alloc, "--serve")?;
+        options.push(serve).map_err(AllocError::from)?;
+    }
+    Ok(options)
+}
+
+/// Whether the options are those of a job that handles no lines. Where they are refused the run says so.
+fn asks_for_another(alloc: Global, options: &[String]) -> Result<bool, Unmade> {
+    match read_words(alloc, options) {
+        Ok(job) => Ok(!matches!(job.kind, JobKind::Run)),
+        Err(WordsError::Refused) => Ok(false),
+        Err(WordsError::OutOfMemory) => Err(Unmade::OutOfMemory),
+    }
+}
+
+/// Whether this is the first of the words.
+fn is_first(named: &[&[u8]], word: &[u8]) -> bool {
+    match named {
+        [first, ..] => *first == word,
+        _ => false,
+    }
+}
+
+/// Gives the lines to a run with these options, shows its replies, and gives the status.
+fn status_of_lines<R: Files<File = File> + AllocGlobal + Print + Eprint>(
+    rt: &R,
+    alloc: Global,
+    options: &[String],
+    lines: &[u8],
+) -> u8 {
+    let refusal = Refusal::none();
+    let input = LineByLine {
+        rest: lines,
+        in_line: false,
+        refusal: &refusal,
+    };
+    let output = Answers {
+        rt,
+        alloc,
+        refusal: &refusal,
+    };
+    let status = program::run(rt, options, input, output);
+    refusal.status_after(status)
+}
+
+/// The lines of the call: what is named is its word, to what it is made, and its arguments.
+fn lines_of_call<R: Files<File = File> + AllocGlobal + Input>(
+    rt: &R,
+    alloc: Global,
+    named: &[&[u8]],
+) -> Result<Vec<u8>, Unmade> {
+    let [call, target, arguments @ ..] = named else {
+        return Err(Unmade::Refused);
+    };
+    match arguments {
+        [file] if takes_manifest(call) => {
+            let manifest = manifest_in(rt, alloc, file)?;
+            Ok(manifest_lines(alloc, call, target, manifest.as_slice())?)
+        }
+        [file] if is_first(named, b"put") => {
+            let content = input_of(rt, alloc)?;
+            Ok(content_lines(alloc, target, file, content.as_slice())?)
+        }
+        _ => Ok(call_lines(alloc, call, target, arguments)?),
+    }
+}
+
+/// The manifest in this file; the file `-` is standard input.
+fn manifest_in<R: Files<File = File> + AllocGlobal + Input>(
+    rt: &R,
+    alloc: Global,
+    file: &[u8],
+) -> Result<Vec<u8>, Unmade> {
+    match str::from_utf8(file) {
+        Ok("-") => Ok(input_of(rt, alloc)?),
+        Ok(file) => Ok(bytes_in(rt, alloc, file)?),
+        Err(_) => Err(Unmade::Refused),
+    }
+}
+
+/// What standard input has.
+fn input_of<R: AllocGlobal + Input>(rt: &R, alloc: Global) -> io::Result<Vec<u8>> {
+    let mut bytes = Vec::new(alloc);
+    rt.reader().take(CONTENT_BYTES).read_to_end(&mut bytes)?;
+    Ok(bytes)
+}
+
+/// What this file has.
+fn bytes_in<R: Files<File = File>>(rt: &R, alloc: Global, file: &str) -> io::Result<Vec<u8>> {
+    let mut bytes = Vec::new(alloc);
+    fs::open(rt, file)?
+        .take(CONTENT_BYTES)
+        .read_to_end(&mut bytes)?;
+    Ok(bytes)
+}
+
+/// The status of the first refusal, or 0.
+#[derive(Drop)]
+struct Refusal {
+    status: Cell<u8>,
+}
+
+impl Refusal {
+    fn none() -> Refusal {
+        Refusal {
+            status: Cell::new(0),
+        }
+    }
+
+    fn is_some(&self) -> bool {
+        self.status.get() != 0
+    }
+
+    fn note(&self, status: u8) {
+        if !self.is_some() {
+            self.status.set(status);
+        }
+    }
+
+    /// The status where the run ended so.
+    fn status_after(&self, status: u8) -> u8 {
+        if status == 0 {
+            self.status.get()
+        } else {
+            status
+        }
+    }
+}
+
+/// Lines as an input: each read gives one, or a part of one, and none after a refusal.
+#[derive(Drop)]
+struct LineByLine<'a> {
+    rest: &'a [u8],
+    in_line: bool,
+    refusal: &'a Refusal,
+}
+
+impl<'a> Read for LineByLine<'a> {
+    fn read(&mut self, out: &mut [u8]) -> io::Result<usize> {
+        if !self.in_line && self.refusal.is_some() {
+            return Ok(0);
+        }
+        let length = line_length(self.rest);
+        let count = length.min(out.len());
+        let (given, rest) = self.rest.split_at(count);
+        out[..count].copy_from_slice(given);
+        self.rest = rest;
+        self.in_line = count < length;
+        Ok(count)
+    }
+}
+
+/// How many bytes the first line has, with its line feed.
+fn line_length(lines: &[u8]) -> usize
+    ensures { result ≤ length lines.now }
+{
+    match lines.iter().position(|byte| *byte == b'\n') {
+        Some(place) => place + 1,
+        None => lines.len(),
+    }
+}
+
+/// Replies as an output: each write is one, which is shown to a person.
+#[derive(Drop)]
+struct Answers<'a, R: Print + Eprint> {
+    rt: &'a R,
+    alloc: Global,
+    refusal: &'a Refusal,
+}
+
+impl<'a, R: Print + Eprint> Answers<'a, R> {
+    fn show(&self, line: &[u8]) -> io::Result<()> {
+        let (shown, text) = shown_in(line);
+        match shown {
+            Shown::Report => self.tell(text),
+            Shown::Refused => {
+                self.refusal.note(REFUSED_CALL);
+                self.tell(text);
+            }
+            Shown::Failed => {
+                self.refusal.note(NO_DISK);
+                self.tell(text);
+            }
+            Shown::Nothing | Shown::Text | Shown::Names | Shown::Octets => {}
+        }
+        match written(self.alloc, shown, text) {
+            Ok(out) => io::writer(self.rt).write_all(out.as_slice()),
+            Err(_) => Err(io::Error::from(io::ErrorKind::OutOfMemory)),
+        }
+    }
+
+    /// Says a line on standard error.
+    fn tell(&self, text: &[u8]) {
+        if let Ok(text) = str::from_utf8(text) {
+            let _ = eprintln!(self.rt; "per: {text}");
+        }
+    }
+}
+
+impl<'a, R: Print + Eprint> Write for Answers<'a, R> {
+    fn write(&mut self, bytes: &[u8]) -> io::Result<usize> {
+        let lines = bytes.strip_suffix(b"\n").unwrap_or(bytes);
+        for line in lines.split(|byte| *byte == b'\n') {
+            self.show(line)?;
+        }
+        Ok(bytes.len())
+    }
+
+    fn flush(&mut self) -> io::Result<()> {
+        Ok(())
+    }
+}

@@ -1,0 +1,4 @@
+pub mod Apart
+pub mod Samples
+pub mod Shown
+pub mod Words

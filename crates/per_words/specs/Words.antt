@@ -1,0 +1,179 @@
+-- One call from a shell: the lines that make it.
+use Rattle.std.specs.Prelude.{◌≡◌, ℕ, zero, suc, List, [], ◌∷◌, ◌++◌, length, map, take, drop, codes, Bool, true, false}
+use Rattle.std.specs.Prelude.{◌&&◌, nat_eq, nat_le, if◌then◌else◌, Option, Some, None, option_map, Result, OnOk}
+use Rattle.std.specs.Prelude.{IsErrOf}
+use Rattle.std.specs.List.{AllByRecursion, flat_map, list_any}
+use Rattle.std.specs.Str.{bytes_eq}
+use Rattle.value_text.specs.Readers.{◌>>=◌}
+use Rattle.value_text.specs.Texts.{hex_text}
+use Rattle.command_text.specs.Grammar.{IsEventLine, has_feed}
+use Rattle.command_text.specs.declared.errors.LineError.{LineError}
+use Rattle.command_text.specs.declared.errors.LineError.TheVariants as error
+use Rattle.command_text.specs.declared.lines.Line.{Line}
+use Rattle.command_text.specs.declared.lines.Line.TheVariants as line
+use Rattle.per_words.specs.declared.forms.Form.{Form}
+use Rattle.per_words.specs.declared.forms.Form.TheVariants as form
+
+-- ---- lines
+
+-- the digit of an application, and each word after a space
+abbrev pub line_with : ℕ → List (List ℕ) → List ℕ
+line_with digit words = digit ∷ flat_map (λ word. 32 ∷ word) words
+
+-- lines as they are read: each with a line feed
+abbrev pub fed_lines : List (List ℕ) → List ℕ
+fed_lines lines = flat_map (λ line. line ++ 10 ∷ []) lines
+
+abbrev pub is_event : Line → Bool
+is_event line.Nothing = false
+is_event line.End = false
+is_event (line.Event e) = true
+
+-- the text is the line of an event, and one line: no word in it begins another
+pub record IsOneLine (text : List ℕ) : Type 0 where
+  pub event : IsEventLine text
+  pub whole : has_feed text ≡ false
+
+-- the text has these lines and no others, each of which is one of an event
+pub record AreFed (lines : List (List ℕ)) (text : List ℕ) : Type 0 where
+  pub spelled : text ≡ fed_lines lines
+  pub events : AllByRecursion IsOneLine lines
+
+-- a call adds these lines to a text, or refuses one of them
+pub record Adds {T : Type 0} (result : Result T LineError) (old new : List ℕ) (lines : List (List ℕ)) : Type 0 where
+  pub text : OnOk result (new ≡ old ++ fed_lines lines)
+  pub events : OnOk result (AllByRecursion IsOneLine lines)
+  pub refused : IsErrOf result error.NotALine → ¬ (AllByRecursion IsOneLine lines)
+
+-- ---- what a call needs
+
+-- the word is one of these
+abbrev pub is_among : List (List ℕ) → List ℕ → Bool
+is_among words word = list_any (λ other. bytes_eq word other) words
+
+-- calls that take a manifest
+abbrev pub takes_manifest : List ℕ → Bool
+takes_manifest = is_among (codes "install" ∷ codes "update" ∷ [])
+
+-- calls of an application alone
+abbrev pub is_of_application : List ℕ → Bool
+is_of_application = is_among (codes "status" ∷ codes "finish" ∷ codes "rollback" ∷ codes "wipe" ∷ [])
+
+abbrev pub is_of_closed : List ℕ → Bool
+is_of_closed = is_among (codes "recover-storage" ∷ codes "reset-storage" ∷ [])
+
+abbrev pub reads_keys : List ℕ → Bool
+reads_keys = is_among (codes "keys" ∷ codes "exists" ∷ codes "get" ∷ codes "get-as" ∷ [])
+
+abbrev pub changes_keys : List ℕ → Bool
+changes_keys = is_among (codes "set" ∷ codes "remove" ∷ codes "remove-all" ∷ codes "recover-key" ∷ codes "reset-key"
+    ∷ [])
+
+abbrev pub reads_files : List ℕ → Bool
+reads_files = is_among (codes "ls" ∷ codes "files" ∷ codes "file-exists" ∷ codes "size-of" ∷ codes "info" ∷ codes "cat"
+    ∷ [])
+
+abbrev pub changes_files : List ℕ → Bool
+changes_files = is_among (codes "put" ∷ codes "delete" ∷ codes "recover-file" ∷ codes "reset-file" ∷ [])
+
+-- what is done around a call of a storage
+abbrev pub form_of : List ℕ → Option Form
+form_of call =
+    if is_of_closed call then Some form.Closed else (
+    if reads_keys call then Some form.ReadsKeys else (
+    if changes_keys call then Some form.ChangesKeys else (
+    if reads_files call then Some form.ReadsFiles else (
+    if changes_files call then Some form.ChangesFiles else None))))
+
+-- the word of the call in a line
+abbrev pub spelled : List ℕ → List ℕ
+spelled call = if bytes_eq call (codes "ls") then codes "files" else call
+
+-- ---- to what it is made
+
+-- the digits of the eight applications
+abbrev pub is_digit : ℕ → Bool
+is_digit digit = nat_le 48 digit && nat_le digit 55
+
+-- the digit of an application, alone
+abbrev pub application_in : List ℕ → Option ℕ
+application_in (digit ∷ []) = if is_digit digit then Some digit else None
+application_in other = None
+
+-- the digit of an application and a storage, with a colon between them
+abbrev pub place_in : List ℕ → Option (ℕ × List ℕ)
+place_in (digit ∷ colon ∷ storage) = if is_digit digit && nat_eq colon 58 then Some (digit, storage) else None
+place_in other = None
+
+-- ---- the lines of a call
+
+-- the storage is opened, where it is to be open
+abbrev pub opening_lines : Form → ℕ → List ℕ → List (List ℕ)
+opening_lines form.Closed digit storage = []
+opening_lines form.ReadsKeys digit storage = line_with digit (codes "open-kvs" ∷ storage ∷ []) ∷ []
+opening_lines form.ChangesKeys digit storage = line_with digit (codes "open-kvs" ∷ storage ∷ []) ∷ []
+opening_lines form.ReadsFiles digit storage = line_with digit (codes "open-files" ∷ storage ∷ []) ∷ []
+opening_lines form.ChangesFiles digit storage = line_with digit (codes "open-files" ∷ storage ∷ []) ∷ []
+
+-- what the call changed is made durable
+abbrev pub durable_lines : Form → ℕ → List ℕ → List (List ℕ)
+durable_lines form.Closed digit storage = []
+durable_lines form.ReadsKeys digit storage = []
+durable_lines form.ChangesKeys digit storage = line_with digit (codes "sync" ∷ storage ∷ []) ∷ []
+durable_lines form.ReadsFiles digit storage = []
+durable_lines form.ChangesFiles digit storage = line_with digit (codes "close" ∷ storage ∷ []) ∷ []
+
+-- all lines of a call on a storage
+abbrev pub storage_lines : Form → ℕ → List ℕ → (call : List ℕ) → List (List ℕ) → List (List ℕ)
+storage_lines f digit storage call arguments = opening_lines f digit storage
+    ++ line_with digit (spelled call ∷ storage ∷ arguments) ∷ durable_lines f digit storage
+
+-- all lines of the call with this word, to what it is made, and its arguments; none where it cannot be made alone
+abbrev pub call_lines : List ℕ → List ℕ → List (List ℕ) → Option (List (List ℕ))
+call_lines call target arguments =
+    if is_of_application call
+    then option_map (λ digit. line_with digit (call ∷ arguments) ∷ []) (application_in target)
+    else (form_of call >>= λ f. place_in target >>= λ place. Some (storage_lines f place.0 place.1 call arguments))
+
+-- a byte of a manifest, whose line feeds become tabs: as they, white space between its words and not allowed within one
+abbrev pub tabbed : ℕ → ℕ
+tabbed byte = if nat_eq byte 10 then 9 else byte
+
+-- the line of a call with this manifest
+abbrev pub manifest_lines : List ℕ → List ℕ → List ℕ → Option (List (List ℕ))
+manifest_lines call target manifest =
+    if takes_manifest call
+    then option_map (λ digit. line_with digit (call ∷ map tabbed manifest ∷ []) ∷ []) (application_in target)
+    else None
+
+-- ---- the lines that write a content
+
+-- the bytes cut into pieces of this size, and a last one that is no longer; more than so many cuts are not made
+abbrev pub cut_by : (size : ℕ) → (cuts : ℕ) → List ℕ → List (List ℕ)
+cut_by size zero bytes = bytes ∷ []
+cut_by size (suc cuts) bytes =
+    if nat_le (length bytes) size then bytes ∷ [] else take size bytes ∷ cut_by size cuts (drop size bytes)
+
+abbrev pub cut_up : ℕ → List ℕ → List (List ℕ)
+cut_up size bytes = cut_by size (length bytes) bytes
+
+-- the piece is written to the first handle
+abbrev pub piece_line : ℕ → List ℕ → List ℕ → List ℕ
+piece_line digit storage piece = line_with digit (codes "write" ∷ storage ∷ codes "1" ∷ hex_text piece ∷ [])
+
+-- the content becomes that of the file: in one line, or piece by piece
+abbrev pub writing_lines : ℕ → List ℕ → List ℕ → List ℕ → List (List ℕ)
+writing_lines digit storage file content =
+    if nat_le (length content) 65536
+    then line_with digit (codes "put" ∷ storage ∷ file ∷ hex_text content ∷ []) ∷ []
+    else line_with digit (codes "open-file" ∷ storage ∷ file ∷ codes "w" ∷ codes "truncate" ∷ [])
+    ∷ (map (piece_line digit storage) (cut_up 65536 content)
+    ++ line_with digit (codes "close-file" ∷ storage ∷ codes "1" ∷ []) ∷ [])
+
+-- all lines of the call that makes the content that of the file
+unfoldable pub file_lines : ℕ → List ℕ → List ℕ → List ℕ → List (List ℕ)
+file_lines digit storage file content = opening_lines form.ChangesFiles digit storage
+    ++ (writing_lines digit storage file content ++ durable_lines form.ChangesFiles digit storage)
+
+abbrev pub content_lines : List ℕ → List ℕ → List ℕ → Option (List (List ℕ))
+content_lines target file content = place_in target >>= λ place. Some (file_lines place.0 place.1 file content)

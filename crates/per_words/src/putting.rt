@@ -1,0 +1,197 @@
+//! The lines that write the content of a file.
+
+ghost use Rattle.std.specs.Prelude.{◌≡◌, ◌≢◌, ◌++◌, ◌∷◌, [], IfOk, OnOk, IfSome, IsErrOf, None, Some, map, List};
+ghost use Rattle.std.specs.Prelude.{ℕ, codes};
+ghost use Rattle.std.specs.List.{AllByRecursion};
+ghost use Rattle.value_text.specs.Texts.{hex_text};
+ghost use Rattle.command_text.specs.declared.errors.LineError.{LineError};
+ghost use Rattle.per_words.specs.Words.{Adds, AreFed, IsOneLine, content_lines, cut_up, durable_lines, file_lines};
+ghost use Rattle.per_words.specs.Words.{line_with, piece_line, writing_lines};
+ghost use Rattle.per_words.specs.declared.forms.Form.{Form};
+
+use crate::forms::Form;
+use crate::lines::{push_durable, push_opening};
+use crate::places::place_in;
+use crate::pushing::push_call;
+use command_text::LineError;
+use std::alloc::{AllocError, Global};
+use value_text::push_hex;
+
+/// The longest content that one line takes; a longer one is written in pieces of that many bytes.
+const PIECE_BYTES: usize = 65_536;
+
+/// The lines that make a content that of the file, created where it is not there. What is written in pieces becomes
+/// durable with the last line alone.
+///
+/// # Errors
+///
+/// `NotALine` exactly where the target is no storage of an application, or where one of the lines would be none of an
+/// event; `OutOfMemory` only where it is one.
+pub fn content_lines(
+    alloc: Global,
+    target: &[u8],
+    file: &[u8],
+    content: &[u8],
+) -> Result<Vec<u8>, LineError>
+    ensures lines { IfOk result (λ text. (lines : List (List ℕ))
+        × (content_lines target.now file.now content.now ≡ Some lines) × AreFed lines text.items) }
+    ensures refused { IsErrOf result LineError.NotALine → IfSome (content_lines target.now file.now content.now)
+        (λ lines. ¬ (AllByRecursion IsOneLine lines)) }
+    ensures memory { IsErrOf result LineError.OutOfMemory → content_lines target.now file.now content.now ≢ None }
+{
+    let (digit, storage) = place_in(target).ok_or(LineError::NotALine)?;
+    let mut text = Vec::new(alloc);
+    push_file(alloc, &mut text, digit, storage, file, content)?;
+    Ok(text)
+}
+
+/// Adds all lines of the call.
+#[tactic(auto, unfolding(crate::specs::Words::file_lines))]
+fn push_file(
+    alloc: Global,
+    text: &mut Vec<u8>,
+    digit: u8,
+    storage: &[u8],
+    file: &[u8],
+    content: &[u8],
+) -> Result<(), LineError>
+    ensures { Adds result text.old.items text.new.items (file_lines digit storage.now file.now content.now) }
+{
+    match push_opening(alloc, text, Form::ChangesFiles, digit, storage) {
+        Ok(()) => push_durably(alloc, text, digit, storage, file, content),
+        Err(error) => Err(error),
+    }
+}
+
+/// Adds the lines after the opening of the storage.
+fn push_durably(
+    alloc: Global,
+    text: &mut Vec<u8>,
+    digit: u8,
+    storage: &[u8],
+    file: &[u8],
+    content: &[u8],
+) -> Result<(), LineError>
+    ensures { Adds result text.old.items text.new.items (writing_lines digit storage.now file.now content.now
+        ++ durable_lines Form.ChangesFiles digit storage.now) }
+{
+    match push_content(alloc, text, digit, storage, file, content) {
+        Ok(()) => push_durable(alloc, text, Form::ChangesFiles, digit, storage),
+        Err(error) => Err(error),
+    }
+}
+
+/// Adds the lines between the opening and the closing of the storage.
+fn push_content(
+    alloc: Global,
+    text: &mut Vec<u8>,
+    digit: u8,
+    storage: &[u8],
+    file: &[u8],
+    content: &[u8],
+) -> Result<(), LineError>
+    ensures { Adds result text.old.items text.new.items (writing_lines digit storage.now file.now content.now) }
+{
+    if content.len() <= PIECE_BYTES {
+        return push_whole(alloc, text, digit, storage, file, content);
+    }
+    match push_call(
+        alloc,
+        text,
+        digit,
+        &[b"open-file", storage, file, b"w", b"truncate"],
+        &[],
+    ) {
+        Ok(()) => push_and_close(alloc, text, digit, storage, content),
+        Err(error) => Err(error),
+    }
+}
+
+/// Adds the one line that a short content takes.
+fn push_whole(
+    alloc: Global,
+    text: &mut Vec<u8>,
+    digit: u8,
+    storage: &[u8],
+    file: &[u8],
+    content: &[u8],
+) -> Result<(), LineError>
+    ensures { Adds result text.old.items text.new.items
+        (line_with digit (codes "put" ∷ storage.now ∷ file.now ∷ hex_text content.now ∷ []) ∷ []) }
+{
+    let digits = digits_of(alloc, content)?;
+    push_call(
+        alloc,
+        text,
+        digit,
+        &[b"put", storage, file, digits.as_slice()],
+        &[],
+    )
+}
+
+/// Adds the lines that write the content by a handle and close it; the first handle of a storage is 1.
+fn push_and_close(
+    alloc: Global,
+    text: &mut Vec<u8>,
+    digit: u8,
+    storage: &[u8],
+    content: &[u8],
+) -> Result<(), LineError>
+    ensures { Adds result text.old.items text.new.items (map (piece_line digit storage.now) (cut_up 65536 content.now)
+        ++ line_with digit (codes "close-file" ∷ storage.now ∷ codes "1" ∷ []) ∷ []) }
+{
+    match push_pieces(alloc, text, digit, storage, content) {
+        Ok(()) => push_call(alloc, text, digit, &[b"close-file", storage, b"1"], &[]),
+        Err(error) => Err(error),
+    }
+}
+
+/// Adds a line for each piece of the content.
+fn push_pieces(
+    alloc: Global,
+    text: &mut Vec<u8>,
+    digit: u8,
+    storage: &[u8],
+    content: &[u8],
+) -> Result<(), LineError>
+    ensures { Adds result text.old.items text.new.items
+        (map (piece_line digit storage.now) (cut_up 65536 content.now)) }
+{
+    if content.len() <= PIECE_BYTES {
+        return push_piece(alloc, text, digit, storage, content);
+    }
+    let (piece, rest) = content.split_at(PIECE_BYTES);
+    match push_piece(alloc, text, digit, storage, piece) {
+        Ok(()) => push_pieces(alloc, text, digit, storage, rest),
+        Err(error) => Err(error),
+    }
+}
+
+/// Adds the line that writes these bytes at the end of the file.
+fn push_piece(
+    alloc: Global,
+    text: &mut Vec<u8>,
+    digit: u8,
+    storage: &[u8],
+    piece: &[u8],
+) -> Result<(), LineError>
+    ensures { Adds result text.old.items text.new.items (piece_line digit storage.now piece.now ∷ []) }
+{
+    let digits = digits_of(alloc, piece)?;
+    push_call(
+        alloc,
+        text,
+        digit,
+        &[b"write", storage, b"1", digits.as_slice()],
+        &[],
+    )
+}
+
+/// The bytes in two digits each.
+fn digits_of(alloc: Global, bytes: &[u8]) -> Result<Vec<u8>, AllocError>
+    ensures { IfOk result (λ digits. digits.items ≡ hex_text bytes.now) }
+{
+    let mut digits = String::new(alloc);
+    push_hex(&mut digits, bytes)?;
+    Ok(digits.into_bytes())
+}
