@@ -18,7 +18,9 @@ use Rattle.flash_disk.specs.PutPart.{PutPart, PutOrNot}
 use Rattle.flash_disk.specs.Standing.{DenotesFiles}
 use Rattle.flash_disk.specs.Sound.{files_on, Sound, IsSoundLayer, HasFreshPage, FitsIn, Enters, Pends, IsDescribedBy}
 use Rattle.flash_disk.specs.Sound.{LeavesPut}
-use Rattle.flash_disk.specs.Sound.{ShowsSame, ShowsPage}
+use Rattle.flash_disk.specs.Sound.{ShowsSame, ShowsPage, LeavesAdded}
+use Rattle.flash_disk.specs.Apart.{copy_of, KeepsHeld}
+use Rattle.flash_disk.proofs.Holding.{held_refl, held_same, held_added}
 use Rattle.flash_disk.proofs.Standing.{HasSameRecords, records_agreed}
 use Rattle.flash_disk.proofs.Growing.{adds_byte, adds_put, adds_agreed, grown_put}
 use Rattle.flash_disk.proofs.Tearing.{IsTorn, nothing_there, torn_program, torn_is, torn_adds_there, torn_add}
@@ -35,6 +37,20 @@ nothing_put m s sound file at len bytes = record {
       sound_usable m.state.pages m.blocks s sound;
   agreed = λ all. all;
 }
+
+-- nor added
+pub nothing_added : (m : FlashMedium) (s : LayerState) → IsSoundLayer m s → (block file at len : ℕ) (bytes : List ℕ)
+    → LeavesAdded block file at bytes len m m.state.pages
+nothing_added m s sound block file at len bytes = record {
+  put = nothing_put m s sound file at len bytes;
+  held = held_refl (copy_of file) block (places m.blocks) m.state.pages;
+}
+
+pub adds_nothing : (told : Bool) (m : FlashMedium) → IsLawfulFlash told m → (s : LayerState) → IsSoundLayer m s
+    → (block file at len : ℕ) (bytes : List ℕ)
+    → Does (LeavesAdded block file at bytes len m) m m
+adds_nothing told m lawful s sound block file at len bytes = does_nothing m m (LeavesAdded block file at bytes len m)
+    refl (λ x past. lawful.only_now x past) (nothing_added m s sound block file at len bytes)
 
 -- no call was made
 pub puts_nothing : (told : Bool) (m : FlashMedium) → IsLawfulFlash told m → (s : LayerState) → IsSoundLayer m s
@@ -207,10 +223,22 @@ module _ (m now : FlashMedium) (s u : LayerState) (place : Place) (r : PageRecor
       })
 
   abbrev pub Puts : Pages → Type 0
-  Puts = LeavesPut r.file (256 * r.page) r.bytes r.len m
+  Puts = LeavesAdded s.current r.file (256 * r.page) r.bytes r.len m
 
-  leaves : (left : Pages) → HasSameRecords pages left ⊎ AddsRecord pages left n place r → Puts left
-  leaves left grows = record {
+  at_current : number place / 64 ≡ s.current
+  at_current = let few = small in let here = block_is in
+      (let is : number place / 64 ≡ s.current = omega (arith, few, here) in is)
+
+  only_there : (left : Pages) → HasSameRecords pages left ⊎ AddsRecord pages left n place r
+      → KeepsHeld (copy_of r.file) s.current n pages left
+  only_there left grows = ⊎_elim
+      (λ same. held_same pages left (copy_of r.file) s.current n same)
+      (λ added. held_added pages left (copy_of r.file) s.current n place r added at_current refl)
+      grows
+
+  puts : (left : Pages) → HasSameRecords pages left ⊎ AddsRecord pages left n place r
+      → LeavesPut r.file (256 * r.page) r.bytes r.len m left
+  puts left grows = record {
     put = grown_put pages left m.blocks place r grows fits.no_shorter fits.grows full;
     usable = ⊎_elim
         (λ same. records_usable pages left m.blocks same (sound_usable pages m.blocks s sound))
@@ -222,6 +250,9 @@ module _ (m now : FlashMedium) (s u : LayerState) (place : Place) (r : PageRecor
         grows;
   }
 
+  leaves : (left : Pages) → HasSameRecords pages left ⊎ AddsRecord pages left n place r → Puts left
+  leaves left grows = record { put = puts left grows; held = only_there left grows }
+
   -- it was added, or nothing was
   pub add_does : {T E : Type 0} → (result : Result T E)
       → OnOk result (now.state ≡ programmed m.state place.block place.page whole)
@@ -229,7 +260,7 @@ module _ (m now : FlashMedium) (s u : LayerState) (place : Place) (r : PageRecor
       → EachFlashCase (λ c. IsStill m.state c ⊎ (IsStill now.state c
       ⊎ ProgramCase place.block place.page whole m.state c)) m now → Does Puts m now
   add_does result done failed cases = program_does m now Puts place.block place.page whole result done failed cases
-      (nothing_put m s sound r.file (256 * r.page) r.len r.bytes)
+      (nothing_added m s sound s.current r.file (256 * r.page) r.len r.bytes)
       (leaves written (inr adds))
       (λ left torn plain. leaves left (torn_add pages n place whole r small within blank is newer left torn plain))
 
@@ -260,3 +291,15 @@ module _ (a b c : FlashMedium) (first : FlashElapses a b) (early : Does (Denotes
   pub puts_then : FlashElapses b c → Does (LeavesPut file at bytes len b) b c → Does (LeavesPut file at bytes len a) a c
   puts_then second late = does_then a b c (LeavesPut file at bytes len a) first second puts_not
       (does_weaken b c (LeavesPut file at bytes len b) (LeavesPut file at bytes len a) puts_since late)
+
+-- what is put, and what the blocks hold, of a record that was added
+pub added_puts : (block file at : ℕ) (bytes : List ℕ) (len : ℕ) (a b : FlashMedium)
+    → Does (LeavesAdded block file at bytes len a) a b → Does (LeavesPut file at bytes len a) a b
+added_puts block file at bytes len a b = does_weaken a b (LeavesAdded block file at bytes len a)
+    (LeavesPut file at bytes len a) (λ pages added. added.put)
+
+pub added_held : (block file at : ℕ) (bytes : List ℕ) (len : ℕ) (a b : FlashMedium)
+    → Does (LeavesAdded block file at bytes len a) a b
+    → Does (KeepsHeld (copy_of file) block (places a.blocks) a.state.pages) a b
+added_held block file at bytes len a b = does_weaken a b (LeavesAdded block file at bytes len a)
+    (KeepsHeld (copy_of file) block (places a.blocks) a.state.pages) (λ pages added. added.held)

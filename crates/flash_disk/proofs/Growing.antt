@@ -35,7 +35,7 @@ other_page file page r other = ⊎_elim
 
 module _ (old new : Pages) (n : ℕ) (place : Place) (r : PageRecord) (adds : AddsRecord old new n place r) where
   -- the newest record of a page is the one that was added, or the one that it was
-  by_page : (file page : ℕ) → ((file ≡ r.file) × (page ≡ r.page)
+  pub by_page : (file page : ℕ) → ((file ≡ r.file) × (page ≡ r.page)
       × (newest new file page n ≡ Some (placed old new n place r adds)))
       ⊎ ((is_of file page r ≡ false) × (newest new file page n ≡ newest old file page n))
   by_page file page = ⊎_elim

@@ -29,7 +29,7 @@ use Rattle.flash_disk.proofs.Programming.{placed, newest_here, newest_elsewhere}
 page_decides : (a b : FilePage) → Decides (same_page a b) (a ≡ b)
 page_decides a b = (same_page_is a b, λ is. subst (λ k. same_page a k ≡ true) is (same_page_refl a))
 
-page_laws : IsEquivalence same_page
+pub page_laws : IsEquivalence same_page
 page_laws = decided same_page page_decides
 
 -- ---- the pages that have a record

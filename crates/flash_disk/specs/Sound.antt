@@ -18,6 +18,7 @@ use Rattle.flash_disk.specs.Learnt.{number, KnowsLengths, AddsRecord, HasPlace, 
 use Rattle.flash_disk.specs.FlashFiles.{file_byte, file_len, flash_files}
 use Rattle.flash_disk.specs.Standing.{IsAgreed, HasRivals, IsStrayless, MayGrow, StaysAgreed}
 use Rattle.flash_disk.specs.PutPart.{PutOrNot}
+use Rattle.flash_disk.specs.Apart.{copy_of, KeepsHeld}
 
 abbrev pub files_on : FlashMedium → Image
 files_on m = flash_files m.state.pages m.blocks
@@ -107,6 +108,11 @@ pub record LeavesPut (file at : ℕ) (bytes : List ℕ) (len : ℕ) (old : Flash
   pub put : PutOrNot file at bytes len (files_on old) (flash_files pages old.blocks)
   pub usable : IsUsable pages old.blocks
   pub agreed : StaysAgreed old pages
+
+-- and nothing came to be in any block but records of the file's copy in this one
+pub record LeavesAdded (block file at : ℕ) (bytes : List ℕ) (len : ℕ) (old : FlashMedium) (pages : Pages) : Type 0 where
+  pub put : LeavesPut file at bytes len old pages
+  pub held : KeepsHeld (copy_of file) block (places old.blocks) old.state.pages pages
 
 -- no byte of a file shows between its end and this byte
 abbrev pub ShowsZeros : FlashMedium → (file until : ℕ) → Type 0

@@ -15,6 +15,8 @@ ghost use Rattle.flash_disk.specs.PutPart.{PutPart};
 ghost use Rattle.flash_disk.specs.Newest.{places};
 ghost use Rattle.flash_disk.specs.Standing.{DenotesFiles, KeepsRecords};
 ghost use Rattle.flash_disk.specs.Accounts.{Accounts};
+ghost use Rattle.flash_disk.specs.Apart.{copy_of};
+ghost use Rattle.flash_disk.specs.KeepsApart.{KeepsApart, HasHome};
 
 use crate::layer::Layer;
 use crate::opening::newest_at;
@@ -26,9 +28,9 @@ use flash_record::{RECORD_BYTES, Record, read_record, record_page};
 impl<F: Flash> Layer<F> {
     ghost use Rattle.flash_disk.specs.Sound.{files_on, Sound, IsSoundLayer, IsDescribedBy, HasFreshPage, FitsIn};
     ghost use Rattle.flash_disk.specs.Sound.{Enters};
-    ghost use Rattle.flash_disk.specs.Sound.{LeavesPut};
+    ghost use Rattle.flash_disk.specs.Sound.{LeavesPut, LeavesAdded};
     ghost use Rattle.flash_disk.specs.Sound.{ShowsPage, ShowsSame};
-    ghost use Rattle.flash_disk.specs.Moving.{IsMoving};
+    ghost use Rattle.flash_disk.specs.Moving.{IsMoving, StandsMoved};
     ghost use Rattle.flash_disk.specs.Steps.{LearnsNothing, IsSure, StaysSound, AddsRecords};
 
     // Reads again what a failed call may have left anything in.
@@ -89,6 +91,7 @@ impl<F: Flash> Layer<F> {
             page bytes.now) }
         ensures does { IsTrue F.told → Does (LeavesPut file (256 * page) bytes.now len (F.medium self.old.flash))
             (F.medium self.old.flash) (F.medium self.new.flash) }
+        ensures apart { IsTrue F.told → KeepsApart (copy_of file) (F.medium self.old.flash) (F.medium self.new.flash) }
         ensures rises { OnOk result (self.old.state.sequence < self.new.state.sequence) }
         ensures entries { IsTrue F.told → OnOk result (Occupies self.old.state.table self.new.state.table
             (record { file = file; page = page })) }
@@ -109,8 +112,8 @@ impl<F: Flash> Layer<F> {
             (files_on (F.medium self.old.flash)) (files_on (F.medium self.new.flash))) }
         ensures shown { IsTrue F.told → OnOk result (ShowsPage (F.medium self.old.flash) (F.medium self.new.flash) file
             page bytes.now) }
-        ensures does { IsTrue F.told → Does (LeavesPut file (256 * page) bytes.now len (F.medium self.old.flash))
-            (F.medium self.old.flash) (F.medium self.new.flash) }
+        ensures does { IsTrue F.told → Does (LeavesAdded self.old.state.current file (256 * page) bytes.now len
+            (F.medium self.old.flash)) (F.medium self.old.flash) (F.medium self.new.flash) }
         ensures rises { OnOk result (self.old.state.sequence < self.new.state.sequence) }
         ensures accounts { Accounts F.told F.medium 1 self.old self.new result }
         ensures own { IsTrue F.told → (self.new.own ≡ self.old.own) ⊎ (self.new.state.sequence ≡ 18446744073709551615) }
@@ -135,6 +138,10 @@ impl<F: Flash> Layer<F> {
         match self.program_page(place, &page_with(record)) {
             Ok(()) => {
                 self.enter(place, record);
+                self.streams.end_with(FilePage {
+                    file,
+                    page: page as u64,
+                });
                 Ok(())
             }
             Err(e) => {
@@ -180,12 +187,15 @@ impl<F: Flash> Layer<F> {
         ensures does { IsTrue F.told → Does (DenotesFiles (F.medium self.old.flash))
             (F.medium self.old.flash) (F.medium self.new.flash) }
         ensures shown { IsTrue F.told → OnOk result (ShowsSame (F.medium self.old.flash) (F.medium self.new.flash)) }
+        ensures apart { IsTrue F.told → KeepsApart (copy_of file) (F.medium self.old.flash) (F.medium self.new.flash) }
+        ensures home { IsTrue F.told → OnOk result (HasHome (copy_of file) (F.medium self.old.flash)
+            (F.medium self.new.flash) self.new.state.current) }
         ensures sequence { self.new.state.sequence ≡ self.old.state.sequence }
         ensures accounts { Accounts F.told F.medium 0 self.old self.new result }
         ensures own { IsTrue F.told → IsFalse self.old.state.disputed → self.new.own ≡ self.old.own }
         ensures entries { IsTrue F.told → OnOk result (SameEntries self.old.state.table self.new.state.table) }
     {
-        let next = self.streams.next_of(file);
+        let next = self.streams.next_of(&self.state.table, file);
         let fresh = self.is_fresh(next)?;
         if fresh {
             self.state.current = next.block;
@@ -206,6 +216,9 @@ impl<F: Flash> Layer<F> {
         ensures does { IsTrue F.told → Does (DenotesFiles (F.medium self.old.flash))
             (F.medium self.old.flash) (F.medium self.new.flash) }
         ensures shown { IsTrue F.told → OnOk result (ShowsSame (F.medium self.old.flash) (F.medium self.new.flash)) }
+        ensures apart { IsTrue F.told → KeepsApart (copy_of file) (F.medium self.old.flash) (F.medium self.new.flash) }
+        ensures home { IsTrue F.told → OnOk result (HasHome (copy_of file) (F.medium self.old.flash)
+            (F.medium self.new.flash) self.new.state.current) }
         ensures sequence { self.new.state.sequence ≡ self.old.state.sequence }
         ensures accounts { Accounts F.told F.medium 0 self.old self.new result }
         ensures own { IsTrue F.told → IsFalse self.old.state.disputed → self.new.own ≡ self.old.own }
@@ -236,8 +249,8 @@ impl<F: Flash> Layer<F> {
     }
 
     // Moves the newest records of a block into the spare block, which is the current one from then on. It is a block
-    // with records of the same copy as the file's alone, or with none that count; where there is no such block that
-    // leaves a page, it is the one where they are fewest.
+    // with newest records of the file's copy alone, or with none; where there is no such block that leaves a page, it
+    // is the one where they are fewest.
     fn collect(&mut self, file: u32) -> Result<(), DiskFailed>
         requires ready { IsSure F.told F.medium self.old }
         requires full { 64 ≤ self.old.state.fill }
@@ -248,6 +261,9 @@ impl<F: Flash> Layer<F> {
         ensures does { IsTrue F.told → Does (DenotesFiles (F.medium self.old.flash))
             (F.medium self.old.flash) (F.medium self.new.flash) }
         ensures shown { IsTrue F.told → OnOk result (ShowsSame (F.medium self.old.flash) (F.medium self.new.flash)) }
+        ensures apart { IsTrue F.told → KeepsApart (copy_of file) (F.medium self.old.flash) (F.medium self.new.flash) }
+        ensures home { IsTrue F.told → OnOk result (HasHome (copy_of file) (F.medium self.old.flash)
+            (F.medium self.new.flash) self.new.state.current) }
         ensures sequence { self.new.state.sequence ≡ self.old.state.sequence }
         ensures accounts { Accounts F.told F.medium 0 self.old self.new result }
         ensures light { IsTrue F.told → OnOk result (self.new.state.fill < 64) }
@@ -283,7 +299,7 @@ impl<F: Flash> Layer<F> {
         ensures state { self.new.state ≡ record self.old.state { moved = self.new.state.moved } }
         ensures keeps { IsTrue F.told → KeepsRecords (F.medium self.old.flash).state.pages
             (F.medium self.new.flash).state.pages (places (F.medium self.old.flash).blocks) }
-        ensures does { IsTrue F.told → Does (DenotesFiles (F.medium self.old.flash))
+        ensures does { IsTrue F.told → Does (StandsMoved self.old.state.table from to (F.medium self.old.flash))
             (F.medium self.old.flash) (F.medium self.new.flash) }
         ensures accounts { Accounts F.told F.medium 0 self.old self.new result }
         ensures few { vec_len self.new.state.moved ≤ entries_in self.old.state.table from }
@@ -310,8 +326,8 @@ impl<F: Flash> Layer<F> {
         ensures state { self.new.state ≡ record self.old.state { moved = self.new.state.moved } }
         ensures keeps { IsTrue F.told → KeepsRecords (F.medium self.old.flash).state.pages
             (F.medium self.new.flash).state.pages (places (F.medium self.old.flash).blocks) }
-        ensures does { IsTrue F.told → Does (DenotesFiles (F.medium self.old.flash))
-            (F.medium self.old.flash) (F.medium self.new.flash) }
+        ensures does { IsTrue F.told → Does (StandsMoved self.old.state.table from.block to
+            (F.medium self.old.flash)) (F.medium self.old.flash) (F.medium self.new.flash) }
         ensures accounts { Accounts F.told F.medium 0 self.old self.new result }
         ensures few { vec_len self.old.state.moved ≤ copied_below self.old.state.table from.block from.page
             → vec_len self.new.state.moved ≤ copied_below self.old.state.table from.block (from.page + 1) }

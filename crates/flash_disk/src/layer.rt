@@ -10,7 +10,7 @@ ghost use Rattle.flash_disk.specs.Accounts.{Accounts};
 ghost use Rattle.flash_disk.specs.Steps.{LearnsNothing};
 ghost use Rattle.flash_disk.specs.Apart.{IsApart};
 
-use crate::streams::Streams;
+use crate::streams::{Streams, are_apart};
 use crate::table::{FilePage, Newest, Place, Table};
 use disk_model::DiskFailed;
 use flash_model::{BLANK_PAGE, BLOCK_PAGES, Flash, PAGE_BYTES};
@@ -64,7 +64,7 @@ impl<F: Flash> Layer<F> {
         DiskFailed
     }
 
-    // Whether nothing is unsure, and each newest record is in a block with records of its copy alone.
+    // Whether nothing is unsure, and each newest record is in a block with newest records of its copy alone.
     pub(crate) fn is_apart(&self) -> bool
         ensures { IsTrue F.told → IsDescribedBy (F.medium self.now.flash) self.now.state → IsTrue result
             → IsApart (F.medium self.now.flash).state.pages (F.medium self.now.flash).blocks }
@@ -72,7 +72,7 @@ impl<F: Flash> Layer<F> {
         if self.state.unsure.is_some() {
             return false;
         }
-        self.streams.are_apart(&self.state.table)
+        are_apart(&self.state.table)
     }
 
     // Reads a page of the flash; one that the flash does not have reads as blank.

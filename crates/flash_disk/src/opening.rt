@@ -83,12 +83,7 @@ impl<F: Flash> FlashDisk<F> {
                 error: FlashOpenError::OutOfMemory,
             });
         };
-        let Ok(streams) = Streams::new(alloc, blocks) else {
-            return Err(FlashRefused {
-                flash,
-                error: FlashOpenError::OutOfMemory,
-            });
-        };
+        let streams = Streams::new(&state.table);
         let mut layer = Layer {
             flash,
             state,
@@ -173,7 +168,7 @@ impl<F: Flash> Layer<F> {
         self.state.table.measure();
         self.state.stray_end = self.state.table.stray_end();
         self.state.disputed = self.state.table.is_disputed();
-        self.streams.leave_mixed();
+        self.streams.leave_mixed(&self.state.table);
         match self.flash.settle() {
             Ok(()) => Ok(true),
             Err(_) => Err(DiskFailed),
@@ -351,7 +346,11 @@ impl<F: Flash> Layer<F> {
             return Ok(true);
         };
         self.state.sequence = self.state.sequence.max(record.sequence);
-        self.streams.learn(record.file, record.sequence, place);
+        let key = FilePage {
+            file: record.file,
+            page: record.page as u64,
+        };
+        self.streams.learn(key, record.sequence, place);
         self.learn_record(place, record)
     }
 

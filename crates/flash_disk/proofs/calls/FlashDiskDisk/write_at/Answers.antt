@@ -15,6 +15,9 @@ use Rattle.flash_disk.specs.OwnFaults.{FailsAlone, IsAllowed, EndsTooLate, Wants
 use Rattle.flash_disk.proofs.Failing.{fails_alone, allowed_before, takes_before, refused_before}
 use Rattle.flash_disk.proofs.Accounting.{accounts_on}
 use Rattle.std.specs.Int.{div_ceil}
+use Rattle.flash_disk.specs.Apart.{copy_of}
+use Rattle.flash_disk.specs.KeepsApart.{KeepsApart}
+use Rattle.flash_disk.proofs.Holding.{none_apart, look_apart, apart_then}
 use Rattle.flash_disk.proofs.calls.FlashDiskDisk.write_at.Goals as goal
 
 abbrev medium_of : {F : Type 0} → Bool → (F → FlashMedium) → FlashView F → Medium
@@ -339,3 +342,43 @@ returns-clause-takes g c told =
     (takes_before m0 m1 (c.make_sure.ensures.unchanged told) (c.make_sure.ensures.accounts.time told).blocks m2
     c.args.file
     c.args.at n (c.in_ok-write_file.ensures.takes told))
+
+pub returns-then-is_empty-clause-apart : goal.returns-then-is_empty-clause-apart
+returns-then-is_empty-clause-apart g c told =
+    let m = g.F.Flash.medium c.self.inside.layer.flash in
+    let copy = copy_of c.args.file in
+    subst (λ v. KeepsApart copy (g.F.Flash.medium v.flash) (g.F.Flash.medium v.flash)) c.self.view_is
+    (none_apart copy g.F.Flash.told m (g.met.F.Flash.lawful c.self.inside.layer.flash))
+
+pub returns-in_err-make_sure-clause-apart : goal.returns-in_err-make_sure-clause-apart
+returns-in_err-make_sure-clause-apart g c told =
+    let m0 = g.F.Flash.medium c.self.inside.layer.flash in
+    let m1 = g.F.Flash.medium c.make_sure.new.self.flash in
+    let e = c.make_sure.ensures in
+    let copy = copy_of c.args.file in
+    subst (λ v. KeepsApart copy (g.F.Flash.medium v.flash) m1) c.self.view_is
+    (look_apart copy m0 m1 (e.unchanged told) e.during)
+
+pub returns-in_err-write_file-clause-apart : goal.returns-in_err-write_file-clause-apart
+returns-in_err-write_file-clause-apart g c told =
+    let m0 = g.F.Flash.medium c.self.inside.layer.flash in
+    let m1 = g.F.Flash.medium c.make_sure.new.self.flash in
+    let m2 = g.F.Flash.medium c.write_file.new.self.flash in
+    let e = c.make_sure.ensures in
+    let w = c.write_file.ensures in
+    let copy = copy_of c.args.file in
+    subst (λ v. KeepsApart copy (g.F.Flash.medium v.flash) m2) c.self.view_is
+    (apart_then copy m0 m1 m2 (e.accounts.time told) (w.accounts.time told)
+    (look_apart copy m0 m1 (e.unchanged told) e.during) (w.apart told))
+
+pub returns-clause-apart : goal.returns-clause-apart
+returns-clause-apart g c told =
+    let m0 = g.F.Flash.medium c.self.inside.layer.flash in
+    let m1 = g.F.Flash.medium c.make_sure.new.self.flash in
+    let m2 = g.F.Flash.medium c.write_file.new.self.flash in
+    let e = c.make_sure.ensures in
+    let w = c.write_file.ensures in
+    let copy = copy_of c.args.file in
+    subst (λ v. KeepsApart copy (g.F.Flash.medium v.flash) m2) c.self.view_is
+    (apart_then copy m0 m1 m2 (e.accounts.time told) (w.accounts.time told)
+    (look_apart copy m0 m1 (e.unchanged told) e.during) (w.apart told))

@@ -4,8 +4,8 @@ use Rattle.flash_disk.specs.declared.table.Place.{Place}
 use Rattle.flash_disk.specs.declared.layer.LayerState.{LayerState}
 use Rattle.flash_disk.specs.Does.{Does}
 use Rattle.flash_disk.specs.PutPart.{PutPart}
-use Rattle.flash_disk.specs.Sound.{files_on, IsSoundLayer, FitsIn, LeavesPut, ShowsPage}
-use Rattle.flash_disk.proofs.Adding.{puts_nothing, added_sound, added_entries, added_put, added_shown, failed_holds}
+use Rattle.flash_disk.specs.Sound.{files_on, IsSoundLayer, FitsIn, LeavesAdded, ShowsPage}
+use Rattle.flash_disk.proofs.Adding.{adds_nothing, added_sound, added_entries, added_put, added_shown, failed_holds}
 use Rattle.flash_disk.proofs.Adding.{add_does}
 use Rattle.flash_disk.proofs.Accounting.{accounts_here, accounts_on}
 use Rattle.flash_disk.proofs.layer.Layer.add.Goals as goal
@@ -13,10 +13,11 @@ use Rattle.flash_disk.proofs.layer.Layer.add.Goals as goal
 pub returns-in_err-sequence-clause-does : goal.returns-in_err-sequence-clause-does
 returns-in_err-sequence-clause-does g c told =
     let f = c.args.self.now.flash in
-    subst (λ now. Does (LeavesPut c.args.file (256 * c.args.page) c.args.bytes.now c.args.len (g.F.Flash.medium f))
-    (g.F.Flash.medium f) (g.F.Flash.medium now)) (sym c.next_sequence.ensures.flash)
-    (puts_nothing g.F.Flash.told (g.F.Flash.medium f) (g.met.F.Flash.lawful f) c.args.self.now.state
-    (c.requires.ready.sound told) c.args.file (256 * c.args.page) c.args.len c.args.bytes.now)
+    subst (λ now. Does (LeavesAdded c.args.self.now.state.current c.args.file (256 * c.args.page) c.args.bytes.now
+    c.args.len (g.F.Flash.medium f)) (g.F.Flash.medium f) (g.F.Flash.medium now)) (sym c.next_sequence.ensures.flash)
+    (adds_nothing g.F.Flash.told (g.F.Flash.medium f) (g.met.F.Flash.lawful f) c.args.self.now.state
+    (c.requires.ready.sound told) c.args.self.now.state.current c.args.file (256 * c.args.page) c.args.len
+    c.args.bytes.now)
 
 pub returns-in-Ok-clause-stays : goal.returns-in-Ok-clause-stays
 returns-in-Ok-clause-stays g c = record {
@@ -155,10 +156,11 @@ returns-in-Ok-clause-does g c told =
     c.program_page.ensures.state ∙ ap (λ (q : LayerState). let z : LayerState = record q { fill = 64 } in z)
     state in
     let at = ap (λ (q : LayerState). let p : Place = record { block = q.current; page = q.fill } in p) state in
-    subst (λ f. Does (LeavesPut c.args.file (256 * c.args.page) c.args.bytes.now c.args.len (g.F.Flash.medium f))
-    (g.F.Flash.medium f) (g.F.Flash.medium c.enter.new.self.flash)) c.next_sequence.ensures.flash
-    (subst (λ f. Does (LeavesPut c.args.file (256 * c.args.page) c.args.bytes.now c.args.len m) m (g.F.Flash.medium f))
-    (sym c.enter.ensures.flash)
+    subst (λ f. Does (LeavesAdded c.args.self.now.state.current c.args.file (256 * c.args.page) c.args.bytes.now
+    c.args.len (g.F.Flash.medium f)) (g.F.Flash.medium f) (g.F.Flash.medium c.enter.new.self.flash))
+    c.next_sequence.ensures.flash
+    (subst (λ f. Does (LeavesAdded c.args.self.now.state.current c.args.file (256 * c.args.page) c.args.bytes.now
+    c.args.len m) m (g.F.Flash.medium f)) (sym c.enter.ensures.flash)
     (add_does m now s u place r c.page_with.result sound c.requires.room fits c.requires.bytes at next.0 on
     c.page_with.ensures
     c.program_page.result (c.program_page.ensures.done told) (c.program_page.ensures.failed told)
@@ -228,8 +230,8 @@ returns-in-Err-clause-does g c told =
     c.program_page.ensures.state ∙ ap (λ (q : LayerState). let z : LayerState = record q { fill = 64 } in z)
     state in
     let at = ap (λ (q : LayerState). let p : Place = record { block = q.current; page = q.fill } in p) state in
-    subst (λ f. Does (LeavesPut c.args.file (256 * c.args.page) c.args.bytes.now c.args.len (g.F.Flash.medium f))
-    (g.F.Flash.medium f) now) c.next_sequence.ensures.flash
+    subst (λ f. Does (LeavesAdded c.args.self.now.state.current c.args.file (256 * c.args.page) c.args.bytes.now
+    c.args.len (g.F.Flash.medium f)) (g.F.Flash.medium f) now) c.next_sequence.ensures.flash
     (add_does m now s u place r c.page_with.result sound c.requires.room fits c.requires.bytes at next.0 on
     c.page_with.ensures
     c.program_page.result (c.program_page.ensures.done told) (c.program_page.ensures.failed told)
