@@ -24,7 +24,7 @@ use Rattle.element_state.specs.Clean.{IsClean}
 use Rattle.element_state.specs.Fit.{fit_index}
 use Rattle.element_state.specs.Conditions.{IsShape, IsInUse}
 use Rattle.element_store.specs.declared.store.Store.{Store}
-use Rattle.element_store.specs.declared.hashing.Kept.{Kept}
+use Rattle.element_store.specs.declared.hashing.KeptStates.{KeptStates}
 use Rattle.element_store.proofs.Keeping.{none_kept_of}
 use Rattle.element_store.specs.Plans.{IsWrittenEntry}
 use Rattle.element_store.specs.Spelled.{ShowsFresh, IsTextOf}
@@ -80,7 +80,7 @@ module _ (told : Bool) (mid image : Image) (shape : Shape) (generation : ℕ) (c
       (taken : AreTaken (area_blocks shape.allowed) index.entries set)
       (made : AllZip (IsWrittenEntry generation) contents index.entries)
       (filled : entries.items ≡ map (fresh_entry generation) (fresh_map contents)) (least : 1 ≤ generation)
-      (kept : Vec Kept Global) (none : kept.items ≡ []) where
+      (kept : Vec KeptStates Global) (none : kept.items ≡ []) where
     pub created_view : whole_view shape cell.generation entries.items ≡ fresh_view generation (fresh_map contents)
     created_view =
         ap (λ (g : ℕ). whole_view shape g entries.items) of.counts
@@ -88,7 +88,15 @@ module _ (told : Bool) (mid image : Image) (shape : Shape) (generation : ℕ) (c
         ∙ whole_fresh shape generation (fresh_map contents)
 
     abbrev store : Store
-    store = record { alloc = alloc; shape = shape; cell = cell; index = index; entries = entries; used = set; kept = kept }
+    store = record {
+      alloc = alloc;
+      shape = shape;
+      cell = cell;
+      index = index;
+      entries = entries;
+      used = set;
+      kept = kept;
+    }
 
     created_now : IsUsed told image store
     created_now = record {

@@ -20,8 +20,8 @@ use Rattle.element_state.specs.Conditions.{IsChange, IsInUse}
 use Rattle.element_state.specs.States.{whole_view}
 use Rattle.element_state.specs.Written.{commit_cost, IsWithin}
 use Rattle.element_store.specs.declared.store.Store.{Store}
-use Rattle.element_store.specs.declared.hashing.Kept.{Kept}
-use Rattle.element_store.specs.Hashing.{IsKept}
+use Rattle.element_store.specs.declared.hashing.KeptStates.{KeptStates}
+use Rattle.element_store.specs.Hashing.{AreOfElement}
 use Rattle.element_store.specs.Named.{NamesAscend}
 use Rattle.element_store.specs.Changing.{IsSmallChange, IsGrownBy}
 use Rattle.element_store.specs.Committing.{index_length}
@@ -92,7 +92,7 @@ contents_within store changes slice before after same cost =
 
 -- the storage that a commit hands up
 module _ (told : Bool) (store s : Store) (changes : List Change) (alloc : Global) (cell : Cell) (index : Index)
-    (entries : Vec Entry Global) (used : List Bool) (kept : Vec Kept Global)
+    (entries : Vec Entry Global) (used : List Bool) (kept : Vec KeptStates Global)
     (is : s ≡ record {
       alloc = alloc;
       shape = store.shape;
@@ -122,7 +122,7 @@ module _ (told : Bool) (store s : Store) (changes : List Change) (alloc : Global
       → AllZip (IsReadBy store.shape.place.copies) index.entries
       (after_changes (store_generation store + 1) store.entries.items changes)
       → AreTaken (area_blocks store.shape.allowed) index.entries used
-      → All (IsKept (after_changes (store_generation store + 1) store.entries.items changes)) kept.items
+      → All (AreOfElement (after_changes (store_generation store + 1) store.entries.items changes)) kept.items
       → (IsTrue told → IsInUse store.shape image index (committed_by store.shape (view_in store) changes))
       → IsUsed told image s
   finished_used image text read taken states in_use = record {
@@ -134,7 +134,7 @@ module _ (told : Bool) (store s : Store) (changes : List Change) (alloc : Global
       entries = subst (λ (es : List Entry). AllZip (IsReadBy store.shape.place.copies) index.entries es) (sym after_is)
           read;
       taken = taken;
-      kept = subst (λ (es : List Entry). All (IsKept es) kept.items) (sym after_is) states;
+      kept = subst (λ (es : List Entry). All (AreOfElement es) kept.items) (sym after_is) states;
     });
     disk = λ tells. subst (λ (v : View). IsInUse s.shape image s.index v) (sym finished_view)
         (subst (λ (t : Store). IsInUse t.shape image t.index (committed_by store.shape (view_in store) changes))

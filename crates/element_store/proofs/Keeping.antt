@@ -1,5 +1,6 @@
 -- States of the hasher that are kept, and what changes leave of them.
-use Rattle.std.proofs.Common.{◌≡◌, ◌≢◌, ℕ, zero, suc, ◌+◌, ◌<◌, List, [], ◌∷◌, ◌++◌, length, get_or, map, take, drop, Vec, Global, Some}
+use Rattle.std.proofs.Common.{◌≡◌, ◌≢◌, ℕ, zero, suc, ◌+◌, ◌<◌, List, [], ◌∷◌, ◌++◌, length, get_or, map, take}
+use Rattle.std.proofs.Common.{drop, Vec, Global, Some}
 use Rattle.std.proofs.Common.{true, false, refl, sym, ap, ◌∙◌, subst, arith, inl, inr}
 use Rattle.std.specs.Prelude.{filter, not}
 use Rattle.std.specs.List.{All, AllByRecursion, AllZip}
@@ -19,13 +20,14 @@ use Rattle.element_state.specs.Changes.{touched}
 use Rattle.element_state.specs.Changes.{after_changes}
 use Rattle.element_state.specs.States.{fresh_entry, fresh_element}
 use Rattle.element_store.specs.declared.hashing.Hashed.{Hashed}
-use Rattle.element_store.specs.declared.hashing.Kept.{Kept}
-use Rattle.element_store.specs.Hashing.{AreStatesOf, IsKept}
+use Rattle.element_store.specs.declared.hashing.KeptStates.{KeptStates}
+use Rattle.element_store.specs.Hashing.{AreStatesOf, AreOfElement}
 use Rattle.element_store.proofs.InOrder.{eq_names, apart_without}
 use Rattle.element_store.proofs.Places.{fold_push}
 use Rattle.element_store.proofs.Traced.{other_without, other_insert}
 
-pub none_kept_of : (entries : List Entry) (kept : Vec Kept Global) → kept.items ≡ [] → All (IsKept entries) kept.items
+pub none_kept_of : (entries : List Entry) (kept : Vec KeptStates Global) → kept.items ≡ []
+    → All (AreOfElement entries) kept.items
 none_kept_of entries kept none k d lt = absurd (let l = ap length none in omega (arith, lt, l))
 
 -- ---- the entry of a name
@@ -49,32 +51,33 @@ touched_content generation name info n (e ∷ es) f found = elim (cases_Bool (by
       let one : Some (touched generation name info e) ≡ Some f = sym (first_touched t) ∙ found in
       let same : touched generation name info e ≡ f = cc in
       (e, first t, sym same_content ∙ ap (λ (x : Entry). x.content) same))
-  | inr no ↦ (
-      let rest = touched_content generation name info n es f (sym (later no) ∙ found) in
-      (rest.0, skipped no ∙ rest.1, rest.2))
+  | inr other ↦ (
+      let rest = touched_content generation name info n es f (sym (later other) ∙ found) in
+      (rest.0, skipped other ∙ rest.1, rest.2))
 ]
   where
     same_content : (touched generation name info e).content ≡ e.content
-    same_content = elim (cases_Bool (bytes_eq e.name name)) [ inl t ↦ rw t refl | inr no ↦ rw no refl ]
+    same_content = elim (cases_Bool (bytes_eq e.name name)) [ inl t ↦ rw t refl | inr other ↦ rw other refl ]
 
     first : bytes_eq e.name n ≡ true → entry_by_name n (e ∷ es) ≡ Some e
     first t = rw t refl
 
     skipped : bytes_eq e.name n ≡ false → entry_by_name n (e ∷ es) ≡ entry_by_name n es
-    skipped no = rw no refl
+    skipped other = rw other refl
 
     first_touched : bytes_eq e.name n ≡ true
         → entry_by_name n (map (touched generation name info) (e ∷ es)) ≡ Some (touched generation name info e)
-    first_touched t = elim (cases_Bool (bytes_eq e.name name)) [ inl y ↦ rw (y, t) refl | inr no ↦ rw (no, t) refl ]
+    first_touched t =
+        elim (cases_Bool (bytes_eq e.name name)) [ inl y ↦ rw (y, t) refl | inr other ↦ rw (other, t) refl ]
 
     later : bytes_eq e.name n ≡ false → entry_by_name n (map (touched generation name info) (e ∷ es))
         ≡ entry_by_name n (map (touched generation name info) es)
-    later f = elim (cases_Bool (bytes_eq e.name name)) [ inl y ↦ rw (y, f) refl | inr no ↦ rw (no, f) refl ]
+    later f = elim (cases_Bool (bytes_eq e.name name)) [ inl y ↦ rw (y, f) refl | inr other ↦ rw (other, f) refl ]
 
 -- ---- one change
 
-pub kept_put : (generation : ℕ) (es : List Entry) (f : Fresh) (k : Kept) → k.name ≡ f.name
-    → AreStatesOf f.bytes k.states.items → IsKept (after_change generation es (Put f)) k
+pub kept_put : (generation : ℕ) (es : List Entry) (f : Fresh) (k : KeptStates) → k.name ≡ f.name
+    → AreStatesOf f.bytes k.states.items → AreOfElement (after_change generation es (Put f)) k
 kept_put generation es f k named states e bytes found content =
     let here = inserted_here entry_name (fresh_entry generation (fresh_element f))
     (without_item entry_name f.name es) (apart_without entry_name f.name es) in
@@ -85,34 +88,35 @@ kept_put generation es f k named states e bytes found content =
     let is : f.bytes ≡ bytes = cc in
     subst (λ (bs : List ℕ). AreStatesOf bs k.states.items) is states
 
-kept_beside : (generation : ℕ) (es : List Entry) (f : Fresh) (k : Kept) → k.name ≢ f.name → IsKept es k
-    → IsKept (after_change generation es (Put f)) k
+kept_beside : (generation : ℕ) (es : List Entry) (f : Fresh) (k : KeptStates) → k.name ≢ f.name → AreOfElement es k
+    → AreOfElement (after_change generation es (Put f)) k
 kept_beside generation es f k apart kept e bytes found content =
     let same = other_insert entry_name k.name (fresh_entry generation (fresh_element f))
     (without_item entry_name f.name es) (λ s. apart (sym s))
     ∙ other_without entry_name k.name f.name es (λ s. apart (sym s)) in
     kept e bytes (sym same ∙ found) content
 
-kept_without : (name : List ℕ) (es : List Entry) (k : Kept) → k.name ≢ name → IsKept es k
-    → IsKept (without_item entry_name name es) k
+kept_without : (name : List ℕ) (es : List Entry) (k : KeptStates) → k.name ≢ name → AreOfElement es k
+    → AreOfElement (without_item entry_name name es) k
 kept_without name es k apart kept e bytes found content =
     kept e bytes (sym (other_without entry_name k.name name es (λ s. apart (sym s))) ∙ found) content
 
-kept_touched : (generation : ℕ) (name : List ℕ) (info : FileInfo) (es : List Entry) (k : Kept) → IsKept es k
-    → IsKept (map (touched generation name info) es) k
+kept_touched : (generation : ℕ) (name : List ℕ) (info : FileInfo) (es : List Entry) (k : KeptStates)
+    → AreOfElement es k → AreOfElement (map (touched generation name info) es) k
 kept_touched generation name info es k kept e bytes found content =
     let was = touched_content generation name info k.name es e found in
     kept was.0 bytes was.1 (was.2 ∙ content)
 
 -- ---- all that are kept
 
-all_more : (P : Kept → Type 0) (k : Kept) (ks : List Kept) → P k → All P ks → All P (k ∷ ks)
+all_more : (P : KeptStates → Type 0) (k : KeptStates) (ks : List KeptStates) → P k → All P ks → All P (k ∷ ks)
 all_more P k ks is all zero d lt = is
 all_more P k ks is all (suc i) d lt = all i d (omega (arith, lt))
 
-forgotten : (P Q : Kept → Type 0) (name : List ℕ) (ks : List Kept) → ((k : Kept) → k.name ≢ name → P k → Q k)
-    → All P ks → All Q (filter (λ (k : Kept). not (bytes_eq k.name name)) ks)
-forgotten P Q name [] to all i d lt = absurd (omega (arith, lt))
+forgotten : (P Q : KeptStates → Type 0) (name : List ℕ) (ks : List KeptStates)
+    → ((k : KeptStates) → k.name ≢ name → P k → Q k)
+    → All P ks → All Q (filter (λ (k : KeptStates). not (bytes_eq k.name name)) ks)
+forgotten P Q name [] to all = λ i d lt. absurd (omega (arith, lt))
 forgotten P Q name (k ∷ ks) to all =
     let rest = forgotten P Q name ks to (λ i d lt. all (suc i) d (omega (arith, lt))) in
     elim (cases_Bool (bytes_eq k.name name)) [
@@ -123,18 +127,19 @@ forgotten P Q name (k ∷ ks) to all =
     apart : k.name ≡ name → bytes_eq k.name name ≡ false → ⊥
     apart same f = let e : true ≡ false = sym (eq_names k.name name same) ∙ f in cc
 
-pub forgotten_put : (generation : ℕ) (es : List Entry) (f : Fresh) (ks : List Kept) → All (IsKept es) ks
-    → All (IsKept (after_change generation es (Put f))) (filter (λ (k : Kept). not (bytes_eq k.name f.name)) ks)
-forgotten_put generation es f ks all = forgotten (IsKept es) (IsKept (after_change generation es (Put f))) f.name ks
-    (λ k apart is. kept_beside generation es f k apart is) all
+pub forgotten_put : (generation : ℕ) (es : List Entry) (f : Fresh) (ks : List KeptStates) → All (AreOfElement es) ks
+    → All (AreOfElement (after_change generation es (Put f)))
+    (filter (λ (k : KeptStates). not (bytes_eq k.name f.name)) ks)
+forgotten_put generation es f ks all = forgotten (AreOfElement es) (AreOfElement (after_change generation es (Put f)))
+    f.name ks (λ k apart is. kept_beside generation es f k apart is) all
 
-pub forgotten_remove : (name : List ℕ) (es : List Entry) (ks : List Kept) → All (IsKept es) ks
-    → All (IsKept (without_item entry_name name es)) (filter (λ (k : Kept). not (bytes_eq k.name name)) ks)
-forgotten_remove name es ks all = forgotten (IsKept es) (IsKept (without_item entry_name name es)) name ks
+pub forgotten_remove : (name : List ℕ) (es : List Entry) (ks : List KeptStates) → All (AreOfElement es) ks
+    → All (AreOfElement (without_item entry_name name es)) (filter (λ (k : KeptStates). not (bytes_eq k.name name)) ks)
+forgotten_remove name es ks all = forgotten (AreOfElement es) (AreOfElement (without_item entry_name name es)) name ks
     (λ k apart is. kept_without name es k apart is) all
 
-pub touched_kept : (generation : ℕ) (name : List ℕ) (info : FileInfo) (es : List Entry) (ks : List Kept)
-    → All (IsKept es) ks → All (IsKept (map (touched generation name info) es)) ks
+pub touched_kept : (generation : ℕ) (name : List ℕ) (info : FileInfo) (es : List Entry) (ks : List KeptStates)
+    → All (AreOfElement es) ks → All (AreOfElement (map (touched generation name info) es)) ks
 touched_kept generation name info es ks all i d lt = kept_touched generation name info es (get_or ks i d) (all i d lt)
 
 -- ---- the changes with their hashes, from one on
@@ -157,16 +162,17 @@ zip_done R (c ∷ cs) zero zip = absurd zip
 zip_done R (c ∷ cs) (suc at) zip = ap (λ (xs : List Change). c ∷ xs) (zip_done R cs at zip)
 
 -- what is kept after one change more
-pub kept_more : (changes : List Change) (at : ℕ) (c : Change) (before now next : List Kept) → at < length changes
+pub kept_more : (changes : List Change) (at : ℕ) (c : Change) (before now next : List KeptStates) → at < length changes
     → c ≡ get_or changes at c
-    → ((g : ℕ) (es : List Entry) → All (IsKept es) before → All (IsKept (after_changes g es (take at changes))) now)
-    → ((g : ℕ) (es : List Entry) → All (IsKept es) now → All (IsKept (after_change g es c)) next)
-    → (g : ℕ) (es : List Entry) → All (IsKept es) before
-    → All (IsKept (after_changes g es (take (at + 1) changes))) next
+    → ((g : ℕ) (es : List Entry) → All (AreOfElement es) before
+    → All (AreOfElement (after_changes g es (take at changes))) now)
+    → ((g : ℕ) (es : List Entry) → All (AreOfElement es) now → All (AreOfElement (after_change g es c)) next)
+    → (g : ℕ) (es : List Entry) → All (AreOfElement es) before
+    → All (AreOfElement (after_changes g es (take (at + 1) changes))) next
 kept_more changes at c before now next lt is so_far step g es all =
     let more : take (at + 1) changes ≡ take at changes ++ c ∷ [] = take_more changes at c lt
     ∙ ap (λ (x : Change). take at changes ++ x ∷ []) (sym is) in
     let after : after_changes g es (take (at + 1) changes) ≡ after_change g (after_changes g es (take at changes)) c =
     ap (after_changes g es) more ∙ fold_push (after_change g) es (take at changes) c in
-    subst (λ (fs : List Entry). All (IsKept fs) next) (sym after) (step g (after_changes g es (take at changes))
+    subst (λ (fs : List Entry). All (AreOfElement fs) next) (sym after) (step g (after_changes g es (take at changes))
     (so_far g es all))

@@ -51,7 +51,7 @@ use Rattle.element_laws.specs.lemmas.Fits.{In-fit, fit-spelled}
 use Rattle.element_laws.specs.lemmas.Frames.{slot_no_area, area_no_slot}
 use Rattle.element_store.specs.declared.opening.OpeningPlan.{OpeningPlan}
 use Rattle.element_store.specs.declared.store.Store.{Store}
-use Rattle.element_store.specs.declared.hashing.Kept.{Kept}
+use Rattle.element_store.specs.declared.hashing.KeptStates.{KeptStates}
 use Rattle.element_store.proofs.Keeping.{none_kept_of}
 use Rattle.element_store.specs.Mends.{IsAsBefore, IsWholeIn, AreShown, SparesOthers}
 use Rattle.element_store.specs.Opened.{IsOpeningPlan, IsFoundOn, OpensBy}
@@ -519,7 +519,7 @@ module _ (told : Bool) (start now image : Image) (shape : Shape) (r : OpeningPla
       law clean (subst (λ (t : List ℕ). OpensAt shape start r.seen.generation t r.index) text_is
       (opened shape start (r.seen, r.index) (found tells).first))
 
-  abbrev store : Global → Vec Kept Global → Store
+  abbrev store : Global → Vec KeptStates Global → Store
   store alloc kept = record {
     alloc = alloc;
     shape = shape;
@@ -531,18 +531,18 @@ module _ (told : Bool) (start now image : Image) (shape : Shape) (r : OpeningPla
     kept = kept;
   }
 
-  view_is : (alloc : Global) (kept : Vec Kept Global) → view_in (store alloc kept) ≡ whole_view shape r.seen.generation
-      (map mended_entry r.before.entries)
+  view_is : (alloc : Global) (kept : Vec KeptStates Global) → view_in (store alloc kept)
+      ≡ whole_view shape r.seen.generation (map mended_entry r.before.entries)
   view_is alloc kept = ap (λ (g : ℕ). whole_view shape g r.entries.items) of.counts
       ∙ ap (λ (fs : List Entry). whole_view shape r.seen.generation fs) ready.entries
 
-  pub opening_view : (alloc : Global) (kept : Vec Kept Global) (s : Store) → s ≡ store alloc kept
+  pub opening_view : (alloc : Global) (kept : Vec KeptStates Global) (s : Store) → s ≡ store alloc kept
       → view_in s ≡ mended_view shape r.before
   unfolding mended_view
   opening_view alloc kept s e = ap (λ (x : Store). view_in x) e ∙ view_is alloc kept
       ∙ ap (λ (g : ℕ). whole_view shape g (map mended_entry r.before.entries)) (sym ready.generation)
 
-  used_now : (alloc : Global) (kept : Vec Kept Global) → kept.items ≡ [] → IsUsed told image (store alloc kept)
+  used_now : (alloc : Global) (kept : Vec KeptStates Global) → kept.items ≡ [] → IsUsed told image (store alloc kept)
   used_now alloc kept none = record {
     memory = record {
       place = of.lies;
@@ -557,8 +557,8 @@ module _ (told : Bool) (start now image : Image) (shape : Shape) (r : OpeningPla
     disk = λ tells. subst (λ (v : View). IsInUse shape image r.index v) (sym (view_is alloc kept)) (in_use tells);
   }
 
-  pub opening_used : (alloc : Global) (kept : Vec Kept Global) → kept.items ≡ [] → (s : Store) → s ≡ store alloc kept
-      → IsUsed told image s
+  pub opening_used : (alloc : Global) (kept : Vec KeptStates Global) → kept.items ≡ [] → (s : Store)
+      → s ≡ store alloc kept → IsUsed told image s
   opening_used alloc kept none s e = subst (λ (x : Store). IsUsed told image x) (sym e) (used_now alloc kept none)
 
 -- ---- what the moments of an opening ask

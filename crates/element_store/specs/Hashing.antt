@@ -9,7 +9,7 @@ use Rattle.per_base.specs.declared.elements.Change.{Change}
 use Rattle.per_base.specs.declared.elements.Change.TheVariants.{Put, Remove, Touch}
 use Rattle.element_state.specs.Changes.{entry_by_name}
 use Rattle.element_store.specs.declared.hashing.Hashed.{Hashed}
-use Rattle.element_store.specs.declared.hashing.Kept.{Kept}
+use Rattle.element_store.specs.declared.hashing.KeptStates.{KeptStates}
 
 -- each state is that of the hasher after that many times 32 KiB of the bytes
 abbrev pub AreStatesOf : (bytes : List ℕ) → List Sha256 → Type 0
@@ -23,6 +23,6 @@ IsHashedAs (Remove name) hashed = ⊤
 IsHashedAs (Touch name info) hashed = ⊤
 
 -- states of the content that the element of their name has, where it can be read
-abbrev pub IsKept : List Entry → Kept → Type 0
-IsKept entries kept = (f : Entry) (bytes : List ℕ) → entry_by_name kept.name entries ≡ Some f → f.content ≡ Good bytes
-    → AreStatesOf bytes kept.states.items
+abbrev pub AreOfElement : List Entry → KeptStates → Type 0
+AreOfElement entries kept = (f : Entry) (bytes : List ℕ) → entry_by_name kept.name entries ≡ Some f
+    → f.content ≡ Good bytes → AreStatesOf bytes kept.states.items

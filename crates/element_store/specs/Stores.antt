@@ -15,7 +15,7 @@ use Rattle.element_state.specs.declared.shapes.View.{View}
 use Rattle.element_state.specs.States.{whole_view}
 use Rattle.element_state.specs.Chosen.{IsReadBy}
 use Rattle.element_state.specs.Conditions.{IsShape, IsInUse}
-use Rattle.element_store.specs.Hashing.{IsKept}
+use Rattle.element_store.specs.Hashing.{AreOfElement}
 use Rattle.element_store.specs.Spelled.{IsTextOf}
 use Rattle.element_store.specs.declared.store.Store.{Store}
 
@@ -50,7 +50,7 @@ pub record IsStore (store : Store) : Type 0 where
   pub index : IsTextOf store.shape (index_text store.index) store.index
   pub entries : AllZip (IsReadBy store.shape.place.copies) store.index.entries store.entries.items
   pub taken : AreTaken (area_blocks store.shape.allowed) store.index.entries store.used
-  pub kept : All (IsKept store.entries.items) store.kept.items
+  pub kept : All (AreOfElement store.entries.items) store.kept.items
 
 -- the storage is in use on a disk: where the disk's bytes are modelled, these are its own
 pub record IsUsed (told : Bool) (image : Image) (store : Store) : Type 0 where

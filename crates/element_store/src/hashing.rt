@@ -7,8 +7,8 @@ ghost use Rattle.sha2.specs.Sha256.{sha256};
 ghost use Rattle.sha2.specs.Hashers.{Holds256};
 ghost use Rattle.per_base.specs.declared.elements.Entry.{Entry};
 ghost use Rattle.element_state.specs.Changes.{after_change, after_changes};
-ghost use Rattle.element_store.specs.declared.hashing.Kept.{Kept};
-ghost use Rattle.element_store.specs.Hashing.{AreStatesOf, IsHashedAs, IsKept};
+ghost use Rattle.element_store.specs.declared.hashing.KeptStates.{KeptStates};
+ghost use Rattle.element_store.specs.Hashing.{AreStatesOf, IsHashedAs, AreOfElement};
 ghost use Rattle.element_store.specs.Stores.{IsStore};
 
 use crate::store::Store;
@@ -21,7 +21,7 @@ const STEP: usize = 32_768;
 
 /// States of the hasher after each 32 KiB of the content of an element.
 #[derive(Debug, Drop)]
-pub(crate) struct Kept {
+pub(crate) struct KeptStates {
     pub(crate) name: Name,
     pub(crate) states: Vec<Sha256>,
 }
@@ -82,9 +82,9 @@ impl Store {
     }
 
     // The content of the element for which states are kept.
-    fn known_of<'a>(&'a self, kept: &'a Kept) -> Known<'a>
+    fn known_of<'a>(&'a self, kept: &'a KeptStates) -> Known<'a>
         requires store { IsStore self.now }
-        requires kept { IsKept self.now.entries.items kept.now }
+        requires kept { AreOfElement self.now.entries.items kept.now }
         ensures { AreStatesOf result.bytes.now result.states.now }
     {
         let Some(entry) = self.entry(&kept.name) else {
@@ -214,10 +214,14 @@ fn keep_state(states: &mut Vec<Sha256>, at: usize, state: &Sha256)
 }
 
 // What is kept after the changes.
-pub(crate) fn kept_after(kept: Vec<Kept>, changes: &[Change], hashed: Vec<Hashed>) -> Vec<Kept>
+pub(crate) fn kept_after(
+    kept: Vec<KeptStates>,
+    changes: &[Change],
+    hashed: Vec<Hashed>,
+) -> Vec<KeptStates>
     requires { AllZip IsHashedAs changes.now hashed.items }
-    ensures { (generation : ℕ) (entries : List Entry) → All (IsKept entries) kept.items
-        → All (IsKept (after_changes generation entries changes.now)) result.items }
+    ensures { (generation : ℕ) (entries : List Entry) → All (AreOfElement entries) kept.items
+        → All (AreOfElement (after_changes generation entries changes.now)) result.items }
 {
     let mut kept = kept;
     let mut at: usize = 0;
@@ -229,10 +233,10 @@ pub(crate) fn kept_after(kept: Vec<Kept>, changes: &[Change], hashed: Vec<Hashed
 }
 
 // Keeps the states of what a change puts, and none of what it takes away.
-fn keep(kept: &mut Vec<Kept>, change: &Change, hashed: Hashed)
+fn keep(kept: &mut Vec<KeptStates>, change: &Change, hashed: Hashed)
     requires { IsHashedAs change.now hashed }
-    ensures { (generation : ℕ) (entries : List Entry) → All (IsKept entries) kept.old.items
-        → All (IsKept (after_change generation entries change.now)) kept.new.items }
+    ensures { (generation : ℕ) (entries : List Entry) → All (AreOfElement entries) kept.old.items
+        → All (AreOfElement (after_change generation entries change.now)) kept.new.items }
 {
     match change {
         Change::Put(fresh) => {
@@ -245,22 +249,22 @@ fn keep(kept: &mut Vec<Kept>, change: &Change, hashed: Hashed)
 }
 
 // Lets the states of a name go.
-fn forget(kept: &mut Vec<Kept>, name: &Name)
+fn forget(kept: &mut Vec<KeptStates>, name: &Name)
     ensures { kept.new.items ≡ filter (λ k. not (bytes_eq k.name name.now)) kept.old.items }
 {
     kept.retain(|one| one.name != *name);
 }
 
 // Keeps states for a name, where there are any and memory lasts.
-fn remember(kept: &mut Vec<Kept>, name: &Name, states: Vec<Sha256>)
-    ensures { (entries : List Entry) → All (IsKept entries) kept.old.items
-        → ((k : Kept) → k.name ≡ name.now → k.states.items ≡ states.items → IsKept entries k)
-        → All (IsKept entries) kept.new.items }
+fn remember(kept: &mut Vec<KeptStates>, name: &Name, states: Vec<Sha256>)
+    ensures { (entries : List Entry) → All (AreOfElement entries) kept.old.items
+        → ((k : KeptStates) → k.name ≡ name.now → k.states.items ≡ states.items → AreOfElement entries k)
+        → All (AreOfElement entries) kept.new.items }
 {
     if states.is_empty() {
         return;
     }
     if let Ok(name) = name.copy() {
-        let _ = kept.push(Kept { name, states });
+        let _ = kept.push(KeptStates { name, states });
     }
 }

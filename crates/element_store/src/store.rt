@@ -2,7 +2,7 @@
 
 ghost use Rattle.std.specs.Prelude.{◌≡◌};
 
-use crate::hashing::Kept;
+use crate::hashing::KeptStates;
 use crate::named::place_of;
 use block_files::BlockSet;
 use element_state::Shape;
@@ -22,7 +22,7 @@ pub struct Store {
     /// The blocks of the index.
     pub(crate) used: BlockSet,
     /// States of the hasher after parts of contents.
-    pub(crate) kept: Vec<Kept>,
+    pub(crate) kept: Vec<KeptStates>,
 }
 
 impl Store {
@@ -40,7 +40,7 @@ impl Store {
         index: Index,
         entries: Vec<Entry>,
         used: BlockSet,
-        kept: Vec<Kept>,
+        kept: Vec<KeptStates>,
     ) -> Store
         ensures { result ≡ record {
           alloc = alloc;

@@ -1,4 +1,5 @@
-use Rattle.std.proofs.Common.{◌≡◌, ℕ, ◌+◌, ◌≤◌, List, [], ◌∷◌, ◌++◌, take, get_or, refl, sym, ap, subst, ◌∙◌, inl, arith}
+use Rattle.std.proofs.Common.{◌≡◌, ℕ, ◌+◌, ◌≤◌, List, [], ◌∷◌, ◌++◌, take, get_or, refl, sym, ap, subst, ◌∙◌, inl}
+use Rattle.std.proofs.Common.{arith}
 use Rattle.std.specs.Prelude.{sum_by}
 use Rattle.std.proofs.lemmas.List.{take_more}
 use Rattle.index_text.specs.declared.entries.IndexEntry.{IndexEntry}
@@ -60,7 +61,8 @@ loop-i-preserved c =
     ∙ ap (λ (x : Change). take c.loop-i.i c.args.changes.now ++ x ∷ []) (sym c.index-changes-i.is) in
     let after : after_changes generation views (take (c.loop-i.i + 1) c.args.changes.now)
     ≡ after_change generation (after_changes generation views before) c.index-changes-i.result =
-    ap (after_changes generation views) is ∙ fold_push (after_change generation) views before c.index-changes-i.result in
+    ap (after_changes generation views) is
+    ∙ fold_push (after_change generation) views before c.index-changes-i.result in
     let planned = c.in_ok-plan_change.ensures.planned c.args.used.now (after_changes generation views before)
     c.loop-i.invariant.0 in
     let blocks = more c.args.changes.now c.loop-i.i c.index-changes-i.result is change_blocks in

@@ -4,4 +4,7 @@ use Rattle.element_store.specs.Hashing.{AreStatesOf}
 use Rattle.element_store.proofs.hashing.hash_from.Given as goal
 
 abbrev pub invariant-loop-i : goal.invariant-loop-i
-invariant-loop-i l = record { state : Holds256 l.hasher (take (32768 * l.i) l.bytes); kept : AreStatesOf l.bytes l.kept.items }
+invariant-loop-i l = record {
+  state : Holds256 l.hasher (take (32768 * l.i) l.bytes);
+  kept : AreStatesOf l.bytes l.kept.items;
+}
