@@ -1,7 +1,7 @@
 -- A storage that was opened: its elements after they were mended, and that it is in use.
 use Rattle.std.proofs.Common.{◌≡◌, ◌⊎◌, ℕ, zero, suc, ◌+◌, ◌-◌, ◌<◌, ◌≤◌, List, [], ◌∷◌, length, get_or, Bool, true}
 use Rattle.std.proofs.Common.{false, IsTrue, Option, Some, None, inl, inr, refl, sym, ap, ◌∙◌, subst, arith, ⊎_elim}
-use Rattle.std.proofs.Common.{Global}
+use Rattle.std.proofs.Common.{Global, Vec}
 use Rattle.std.specs.Prelude.{map, is_some, find, cond}
 use Rattle.std.specs.List.{AllZip, AllByRecursion, Contains, list_all}
 use Rattle.std.specs.Str.{bytes_eq}

@@ -25,8 +25,8 @@ use Rattle.guarded_cell.specs.Differing.{texts_cost}
 use Rattle.guarded_cell.specs.Register.{own}
 use Rattle.hash_guard.specs.SealedText.{sealed}
 use Rattle.element_store.specs.Stores.{store_generation}
-use Rattle.std.specs.List.{All}
-use Rattle.element_store.specs.Hashing.{AreOfElement}
+use Rattle.std.specs.List.{All, AllZip}
+use Rattle.element_store.specs.Hashing.{IsHashedAs, AreOfElement}
 use Rattle.element_store.proofs.Finished.{alone_still, small_changes, store_ascends, finished_view, finished_used}
 use Rattle.element_store.proofs.Finished.{of_either, contents_within}
 use Rattle.element_store.proofs.InOrder.{ascends_as}
@@ -56,6 +56,10 @@ write_in-requires-clause-room g c =
 
 pub write_in-requires-clause-generation : goal.write_in-requires-clause-generation
 write_in-requires-clause-generation g c = let less = c.requires.changes.not_worn in omega (arith, less)
+
+pub kept_after-kept-requires : goal.kept_after-kept-requires
+kept_after-kept-requires g c = subst (λ (cs : List Change). AllZip IsHashedAs cs c.in-Ok.ready.hashed.items)
+    (c.deref.ensures.value ∙ sym c.deref-2.ensures.value) c.in-Ok.ensures.hashed
 
 pub write_in-requires-clause-held : goal.write_in-requires-clause-held
 write_in-requires-clause-held g c = λ tells. (
