@@ -2,8 +2,10 @@ use Rattle.std.proofs.Common.{◌≡◌, ◌+◌, ℕ, suc, List, [], drop, take
 use Rattle.std.specs.List.{All, AllZip}
 use Rattle.std.proofs.lemmas.List.{nil_from_length}
 use Rattle.per_base.specs.declared.elements.Change.{Change}
+use Rattle.per_base.specs.declared.elements.Entry.{Entry}
 use Rattle.element_state.specs.Changes.{after_changes}
 use Rattle.element_store.specs.declared.hashing.Hashed.{Hashed}
+use Rattle.element_store.specs.declared.hashing.KeptStates.{KeptStates}
 use Rattle.element_store.specs.Hashing.{IsHashedAs, AreOfElement}
 use Rattle.element_store.proofs.Keeping.{zip_from, zip_done, kept_more}
 use Rattle.element_store.proofs.hashing.kept_after.Goals as goal
