@@ -1,7 +1,7 @@
 -- A storage that was opened: its elements after they were mended, and that it is in use.
 use Rattle.std.proofs.Common.{◌≡◌, ◌⊎◌, ℕ, zero, suc, ◌+◌, ◌-◌, ◌<◌, ◌≤◌, List, [], ◌∷◌, length, get_or, Bool, true}
 use Rattle.std.proofs.Common.{false, IsTrue, Option, Some, None, inl, inr, refl, sym, ap, ◌∙◌, subst, arith, ⊎_elim}
-use Rattle.std.proofs.Common.{Global}
+use Rattle.std.proofs.Common.{Global, Vec}
 use Rattle.std.specs.Prelude.{map, is_some, find, cond}
 use Rattle.std.specs.List.{AllZip, AllByRecursion, Contains, list_all}
 use Rattle.std.specs.Str.{bytes_eq}
@@ -51,6 +51,8 @@ use Rattle.element_laws.specs.lemmas.Fits.{In-fit, fit-spelled}
 use Rattle.element_laws.specs.lemmas.Frames.{slot_no_area, area_no_slot}
 use Rattle.element_store.specs.declared.opening.OpeningPlan.{OpeningPlan}
 use Rattle.element_store.specs.declared.store.Store.{Store}
+use Rattle.element_store.specs.declared.hashing.KeptStates.{KeptStates}
+use Rattle.element_store.proofs.Keeping.{none_kept_of}
 use Rattle.element_store.specs.Mends.{IsAsBefore, IsWholeIn, AreShown, SparesOthers}
 use Rattle.element_store.specs.Opened.{IsOpeningPlan, IsFoundOn, OpensBy}
 use Rattle.element_store.specs.Stores.{IsUsed, view_in}
@@ -517,8 +519,8 @@ module _ (told : Bool) (start now image : Image) (shape : Shape) (r : OpeningPla
       law clean (subst (λ (t : List ℕ). OpensAt shape start r.seen.generation t r.index) text_is
       (opened shape start (r.seen, r.index) (found tells).first))
 
-  abbrev store : Global → Store
-  store alloc = record {
+  abbrev store : Global → Vec KeptStates Global → Store
+  store alloc kept = record {
     alloc = alloc;
     shape = shape;
     cell = cell;
@@ -526,20 +528,22 @@ module _ (told : Bool) (start now image : Image) (shape : Shape) (r : OpeningPla
     entries = r.entries;
     used =
         r.used;
+    kept = kept;
   }
 
-  view_is : (alloc : Global) → view_in (store alloc) ≡ whole_view shape r.seen.generation
-      (map mended_entry r.before.entries)
-  view_is alloc = ap (λ (g : ℕ). whole_view shape g r.entries.items) of.counts
+  view_is : (alloc : Global) (kept : Vec KeptStates Global) → view_in (store alloc kept)
+      ≡ whole_view shape r.seen.generation (map mended_entry r.before.entries)
+  view_is alloc kept = ap (λ (g : ℕ). whole_view shape g r.entries.items) of.counts
       ∙ ap (λ (fs : List Entry). whole_view shape r.seen.generation fs) ready.entries
 
-  pub opening_view : (alloc : Global) (s : Store) → s ≡ store alloc → view_in s ≡ mended_view shape r.before
+  pub opening_view : (alloc : Global) (kept : Vec KeptStates Global) (s : Store) → s ≡ store alloc kept
+      → view_in s ≡ mended_view shape r.before
   unfolding mended_view
-  opening_view alloc s e = ap (λ (x : Store). view_in x) e ∙ view_is alloc
+  opening_view alloc kept s e = ap (λ (x : Store). view_in x) e ∙ view_is alloc kept
       ∙ ap (λ (g : ℕ). whole_view shape g (map mended_entry r.before.entries)) (sym ready.generation)
 
-  used_now : (alloc : Global) → IsUsed told image (store alloc)
-  used_now alloc = record {
+  used_now : (alloc : Global) (kept : Vec KeptStates Global) → kept.items ≡ [] → IsUsed told image (store alloc kept)
+  used_now alloc kept none = record {
     memory = record {
       place = of.lies;
       shape = is;
@@ -548,12 +552,14 @@ module _ (told : Bool) (start now image : Image) (shape : Shape) (r : OpeningPla
       entries = subst (λ (fs : List Entry). AllZip (IsReadBy shape.place.copies) r.index.entries fs) (sym ready.entries)
           (read_mended shape.place.copies r.index.entries r.before.entries ready.read);
       taken = ready.taken;
+      kept = none_kept_of r.entries.items kept none;
     };
-    disk = λ tells. subst (λ (v : View). IsInUse shape image r.index v) (sym (view_is alloc)) (in_use tells);
+    disk = λ tells. subst (λ (v : View). IsInUse shape image r.index v) (sym (view_is alloc kept)) (in_use tells);
   }
 
-  pub opening_used : (alloc : Global) (s : Store) → s ≡ store alloc → IsUsed told image s
-  opening_used alloc s e = subst (λ (x : Store). IsUsed told image x) (sym e) (used_now alloc)
+  pub opening_used : (alloc : Global) (kept : Vec KeptStates Global) → kept.items ≡ [] → (s : Store)
+      → s ≡ store alloc kept → IsUsed told image s
+  opening_used alloc kept none s e = subst (λ (x : Store). IsUsed told image x) (sym e) (used_now alloc kept none)
 
 -- ---- what the moments of an opening ask
 

@@ -2,7 +2,7 @@ use Rattle.std.proofs.Common.{◌≤◌, ◌∙◌, ℕ, List, sym, ap, subst, l
 use Rattle.block_files.specs.BlockSets.{free_of, IsAdded, SharesBlocks, AreDistinct}
 use Rattle.block_files.proofs.FreeBlocks.{chosen_free, length-chosen}
 use Rattle.block_files.specs.lemmas.Sharing.{shares, distinct, added_merged}
-use Rattle.block_files.proofs.putting.reserve_shared.Goals as goal
+use Rattle.block_files.proofs.putting.reserve_hashed.Goals as goal
 
 pub merge-requires-clause-enough : goal.merge-requires-clause-enough
 merge-requires-clause-enough c =
