@@ -1,6 +1,7 @@
 pub mod Matched
 pub mod Known
 pub mod Splits
+pub mod Fronts
 pub mod Gives
 pub mod Goes
 pub mod Courses

@@ -1,11 +1,11 @@
--- How far the input of a run that stays is handled: byte by byte, piece by piece, and to its end.
-use Rattle.std.proofs.Common.{ℕ, List, [], ◌∷◌, ◌++◌, length, take, ◌≡◌, ◌≤◌, ◌<◌, ◌+◌, ◌-◌, ◌^◌, min, get_or, refl}
+-- How far the input of a run that stays is handled: line by line, piece by piece, and to its end.
+use Rattle.std.proofs.Common.{ℕ, List, [], ◌∷◌, ◌++◌, length, take, ◌≡◌, ◌≤◌, ◌<◌, ◌+◌, ◌-◌, ◌^◌, min, refl}
 use Rattle.std.proofs.Common.{sym}
-use Rattle.std.proofs.Common.{◌∙◌, ap, subst, arith, Option, Bool, true, false, nat_eq, append_assoc, append-nil}
+use Rattle.std.proofs.Common.{◌∙◌, ap, subst, arith, Option, Bool, true, false, append_assoc, append-nil}
 use Rattle.std.proofs.Common.{length-append}
 use Rattle.std.specs.List.{AllByRecursion, flat_map}
-use Rattle.std.proofs.lemmas.List.{length-take-le, take_all}
-use Rattle.std.proofs.KnownBytes.{Appends-nil, Consumes-kept, Consumes-nil, Consumes-trans}
+use Rattle.std.proofs.lemmas.List.{length-take-le}
+use Rattle.std.proofs.KnownBytes.{Consumes-kept, Consumes-nil, Consumes-trans}
 use Rattle.std.specs.Io.KnownBytes.{Consumes, IsAtEnd, Keeps}
 use Rattle.disk_model.specs.Medium.{Medium}
 use Rattle.migrate_fns.specs.Rules.{Rule, Answers}
@@ -22,8 +22,7 @@ use Rattle.per_run.specs.Serving.{Hearing, HearsOne, Listened, Served, Service}
 use Rattle.per_run.specs.Steps.{HasNoFeed, IsBroken, ending_of, with_feed}
 use Rattle.per_run.proofs.Hears.{lines_on, service, service_along, service_memory}
 use Rattle.per_run.proofs.Inputs.{not_seen}
-use Rattle.per_run.proofs.Reaches.{piece_more}
-use Rattle.per_run.proofs.Splits.{all_clean_more, clean_more, lines_false, lines_next, lines_whole, with_line}
+use Rattle.per_run.proofs.Splits.{all_clean_more, clean_append, lines_false, lines_next, lines_whole, with_line}
 
 module _ (told : Bool) (rules : List Rule) (answers : Answers) (start : Medium) (before : Option (List ℕ)) where
   -- nothing is handled yet
@@ -56,7 +55,7 @@ module _ (told : Bool) (rules : List Rule) (answers : Answers) (start : Medium) 
       → Hearing told rules answers start before heard now memory old
       → Service told rules answers ending start before (lines_in heard ++ text ∷ more) later new
 
-  -- ---- one more byte
+  -- ---- more bytes
 
   -- a line feed
   listened_feed : (given : List ℕ) (now later : Option (List ℕ)) (memory after : Memory) (old new : Medium)
@@ -85,35 +84,38 @@ module _ (told : Bool) (rules : List Rule) (answers : Answers) (start : Medium) 
         hearing = one.2;
       }
 
-  pub listened_at_feed : (given : List ℕ) (now later : Option (List ℕ)) (memory after : Memory) (old new : Medium)
-      (kept kept_later : List ℕ) (number number_later byte : ℕ) → byte ≡ 10
-      → Listened told rules answers start before given now memory old kept number
-      → Hears now later memory after old new kept number
-      → number_later ≡ min (number + 1) (2 ^ 64 - 1) → kept_later ≡ []
-      → Listened told rules answers start before (given ++ byte ∷ []) later after new kept_later number_later
-  listened_at_feed given now later memory after old new kept kept_later number number_later byte is l goes_on counts
-      clears =
-      subst (λ (b : ℕ). Listened told rules answers start before (given ++ b ∷ []) later after new kept_later
-      number_later) (sym is)
-      (listened_feed given now later memory after old new kept kept_later number number_later l goes_on counts clears)
-
-  -- another byte
-  pub listened_byte : (given : List ℕ) (now : Option (List ℕ)) (memory : Memory) (medium : Medium)
-      (kept kept_later : List ℕ) (number byte : ℕ)
-      → Listened told rules answers start before given now memory medium kept number → nat_eq byte 10 ≡ false
-      → ((rest : List ℕ) → kept ≡ take 262145 rest → kept_later ≡ take 262145 (rest ++ byte ∷ []))
-      → Listened told rules answers start before (given ++ byte ∷ []) now memory medium kept_later number
-  listened_byte given now memory medium kept kept_later number byte l apart keeps = record {
+  -- bytes among which is no line feed
+  pub listened_bytes : (given bytes : List ℕ) (now : Option (List ℕ)) (memory : Memory) (medium : Medium)
+      (kept kept_later : List ℕ) (number : ℕ)
+      → Listened told rules answers start before given now memory medium kept number → HasNoFeed bytes
+      → ((rest : List ℕ) → kept ≡ take 262145 rest → kept_later ≡ take 262145 (rest ++ bytes))
+      → Listened told rules answers start before (given ++ bytes) now memory medium kept_later number
+  listened_bytes given bytes now memory medium kept kept_later number l clean keeps = record {
     heard = l.heard;
-    rest = l.rest ++ byte ∷ [];
-    split = ap (λ (bytes : List ℕ). bytes ++ byte ∷ []) l.split
-        ∙ append_assoc (flat_map with_feed (lines_in l.heard)) l.rest (byte ∷ []);
+    rest = l.rest ++ bytes;
+    split = ap (λ (front : List ℕ). front ++ bytes) l.split
+        ∙ append_assoc (flat_map with_feed (lines_in l.heard)) l.rest bytes;
     clean = l.clean;
-    clean_rest = clean_more l.rest byte l.clean_rest apart;
+    clean_rest = clean_append l.rest bytes l.clean_rest clean;
     kept_is = keeps l.rest l.kept_is;
     number_is = l.number_is;
     hearing = l.hearing;
   }
+
+  -- a line with its line feed
+  pub listened_line : (given line : List ℕ) (now later : Option (List ℕ)) (memory after : Memory) (old new : Medium)
+      (kept kept_line kept_later : List ℕ) (number number_later : ℕ)
+      → Listened told rules answers start before given now memory old kept number → HasNoFeed line
+      → ((rest : List ℕ) → kept ≡ take 262145 rest → kept_line ≡ take 262145 (rest ++ line))
+      → Hears now later memory after old new kept_line number
+      → number_later ≡ min (number + 1) (2 ^ 64 - 1) → kept_later ≡ []
+      → Listened told rules answers start before (given ++ (line ++ 10 ∷ [])) later after new kept_later number_later
+  listened_line given line now later memory after old new kept kept_line kept_later number number_later l clean keeps
+      goes_on counts clears =
+      subst (λ (bytes : List ℕ). Listened told rules answers start before bytes later after new kept_later
+      number_later) (append_assoc given line (10 ∷ []))
+      (listened_feed (given ++ line) now later memory after old new kept_line kept_later number number_later
+      (listened_bytes given line now memory old kept kept_line number l clean keeps) goes_on counts clears)
 
   -- ---- endings within the input
 
@@ -131,58 +133,44 @@ module _ (told : Bool) (rules : List Rule) (answers : Answers) (start : Medium) 
       service_along told rules answers start before ending _ _ later new is
       (ends l.heard (split_lines others).0 l.rest l.kept_is l.number_is l.hearing)
 
-  pub ends_at_feed : (ending : endings.Ending) (given others : List ℕ) (now later : Option (List ℕ)) (memory : Memory)
-      (old new : Medium) (kept : List ℕ) (number byte : ℕ) → byte ≡ 10
-      → Listened told rules answers start before given now memory old kept number
-      → EndsAt ending now later memory old new kept number
-      → Service told rules answers ending start before (lines_of false (given ++ byte ∷ others)) later new
-  ends_at_feed ending given others now later memory old new kept number byte is l ends =
-      subst (λ (b : ℕ). Service told rules answers ending start before (lines_of false (given ++ b ∷ others)) later
-      new) (sym is) (ends_feed ending given others now later memory old new kept number l ends)
+  -- at the line feed of a line
+  pub ends_line : (ending : endings.Ending) (given line others : List ℕ) (now later : Option (List ℕ)) (memory : Memory)
+      (old new : Medium) (kept kept_line : List ℕ) (number : ℕ)
+      → Listened told rules answers start before given now memory old kept number → HasNoFeed line
+      → ((rest : List ℕ) → kept ≡ take 262145 rest → kept_line ≡ take 262145 (rest ++ line))
+      → EndsAt ending now later memory old new kept_line number
+      → Service told rules answers ending start before (lines_of false (given ++ (line ++ 10 ∷ others))) later new
+  ends_line ending given line others now later memory old new kept kept_line number l clean keeps ends =
+      subst (λ (bytes : List ℕ). Service told rules answers ending start before (lines_of false bytes) later new)
+      (append_assoc given line (10 ∷ others))
+      (ends_feed ending (given ++ line) others now later memory old new kept_line number
+      (listened_bytes given line now memory old kept kept_line number l clean keeps) ends)
 
-  -- at another byte, for which there is no memory
-  pub ends_byte : AppLaws → (ending : Ending) (given others : List ℕ) (now : Option (List ℕ)) (memory : Memory)
-      (medium : Medium) (kept : List ℕ) (number byte : ℕ) → ending ≡ OutOfMemory
+  -- at bytes for which there is no memory
+  pub ends_short : AppLaws → (ending : Ending) (given more : List ℕ) (now : Option (List ℕ)) (memory : Memory)
+      (medium : Medium) (kept : List ℕ) (number : ℕ) → ending ≡ OutOfMemory
       → Listened told rules answers start before given now memory medium kept number
-      → Service told rules answers (ending_of ending) start before (lines_of false (given ++ byte ∷ others)) now medium
-  ends_byte laws way given others now memory medium kept number byte short l =
-      let is : lines_of false (given ++ byte ∷ others) ≡ lines_in l.heard
-      ++ (split_lines (l.rest ++ byte ∷ others)).0 =
-      ap (λ (bytes : List ℕ). lines_of false (bytes ++ byte ∷ others)) l.split
-      ∙ ap (lines_of false) (append_assoc (flat_map with_feed (lines_in l.heard)) l.rest (byte ∷ others))
-      ∙ lines_false (lines_in l.heard) (l.rest ++ byte ∷ others) l.clean in
-      subst (λ (e : Ending). Service told rules answers (ending_of e) start before
-      (lines_of false (given ++ byte ∷ others)) now medium) (sym short)
+      → Service told rules answers (ending_of ending) start before (lines_of false (given ++ more)) now medium
+  ends_short laws way given more now memory medium kept number short l =
+      let is : lines_of false (given ++ more) ≡ lines_in l.heard ++ (split_lines (l.rest ++ more)).0 =
+      ap (λ (bytes : List ℕ). lines_of false (bytes ++ more)) l.split
+      ∙ ap (lines_of false) (append_assoc (flat_map with_feed (lines_in l.heard)) l.rest more)
+      ∙ lines_false (lines_in l.heard) (l.rest ++ more) l.clean in
+      subst (λ (e : Ending). Service told rules answers (ending_of e) start before (lines_of false (given ++ more)) now
+      medium) (sym short)
       (service_along told rules answers start before endings.memory _ _ now medium is
       (service_memory told rules answers start before laws l.heard _ now memory medium l.hearing))
 
   -- ---- a piece of the input
 
-  listened_along : (given same : List ℕ) (now : Option (List ℕ)) (memory : Memory) (medium : Medium) (kept : List ℕ)
-      (number : ℕ) → same ≡ given
+  -- the same bytes
+  pub listened_along : (given same : List ℕ) (now : Option (List ℕ)) (memory : Memory) (medium : Medium)
+      (kept : List ℕ) (number : ℕ) → same ≡ given
       → Listened told rules answers start before given now memory medium kept number
       → Listened told rules answers start before same now memory medium kept number
   listened_along given same now memory medium kept number is l =
       subst (λ (bytes : List ℕ). Listened told rules answers start before bytes now memory medium kept number) (sym is)
       l
-
-  pub listened_more : (given piece : List ℕ) (i : ℕ) (now : Option (List ℕ)) (memory : Memory) (medium : Medium)
-      (kept : List ℕ) (number : ℕ) → i < length piece
-      → Listened told rules answers start before ((given ++ take i piece) ++ get_or piece i 0 ∷ []) now memory medium
-      kept number
-      → Listened told rules answers start before (given ++ take (i + 1) piece) now memory medium kept number
-  listened_more given piece i now memory medium kept number within l =
-      listened_along _ _ now memory medium kept number
-      (ap (λ (bytes : List ℕ). given ++ bytes) (piece_more piece i within)
-      ∙ sym (append_assoc given (take i piece) (get_or piece i 0 ∷ []))) l
-
-  pub listened_whole : (given piece : List ℕ) (i : ℕ) (now : Option (List ℕ)) (memory : Memory) (medium : Medium)
-      (kept : List ℕ) (number : ℕ) → length piece ≤ i
-      → Listened told rules answers start before (given ++ take i piece) now memory medium kept number
-      → Listened told rules answers start before (given ++ piece) now memory medium kept number
-  listened_whole given piece i now memory medium kept number all l =
-      listened_along _ _ now memory medium kept number
-      (ap (λ (bytes : List ℕ). given ++ bytes) (sym (take_all i piece all))) l
 
 -- ---- the input as a whole
 

@@ -1,10 +1,8 @@
--- How far the input is handled: byte by byte, and to its end.
-use Rattle.std.proofs.Common.{ℕ, List, [], ◌∷◌, ◌++◌, length, take, ◌≡◌, ◌≤◌, ◌<◌, ◌+◌, ◌-◌, ◌^◌, min, get_or, drop}
-use Rattle.std.proofs.Common.{add-one, refl, sym, ◌∙◌, ap, subst, arith, Option, Bool, true, false, nat_eq}
+-- How far the input is handled: line by line, and to its end.
+use Rattle.std.proofs.Common.{ℕ, List, [], ◌∷◌, ◌++◌, length, take, ◌≡◌, ◌≤◌, ◌<◌, ◌+◌, ◌-◌, ◌^◌, min}
+use Rattle.std.proofs.Common.{refl, sym, ◌∙◌, ap, subst, arith, Option, Bool, true, false}
 use Rattle.std.proofs.Common.{append_assoc, append-nil, length-append}
 use Rattle.std.specs.List.{flat_map}
-use Rattle.std.proofs.Math.Seq.{drop-cons, take-suc}
-use Rattle.std.proofs.lemmas.List.{length-take, take-append-drop, take_all}
 use Rattle.std.proofs.KnownBytes.{Appends-nil}
 use Rattle.disk_model.specs.Medium.{Medium}
 use Rattle.migrate_fns.specs.Rules.{Rule, Answers}
@@ -14,9 +12,9 @@ use Rattle.run_model.specs.Lines.{lines_of, last_line, split_lines}
 use Rattle.run_model.specs.Runtimes.{Memory}
 use Rattle.per_run.specs.declared.endings.Ending.{Ending}
 use Rattle.per_run.specs.declared.endings.Ending.TheVariants.{OutOfMemory}
-use Rattle.per_run.specs.Steps.{Course, Handled, Reached, ending_of, with_feed}
+use Rattle.per_run.specs.Steps.{Course, Handled, HasNoFeed, Reached, ending_of, with_feed}
 use Rattle.per_run.proofs.Courses.{course_along, course_memory, course_read}
-use Rattle.per_run.proofs.Splits.{all_clean_more, clean_more, lines_false, lines_next, lines_short, lines_true}
+use Rattle.per_run.proofs.Splits.{all_clean_more, clean_append, lines_false, lines_next, lines_short, lines_true}
 use Rattle.per_run.proofs.Splits.{with_line}
 
 module _ (told : Bool) (rules : List Rule) (answers : Answers) (start : Medium) (before : Option (List ℕ)) where
@@ -42,7 +40,7 @@ module _ (told : Bool) (rules : List Rule) (answers : Answers) (start : Medium) 
       subst (λ (bytes : List ℕ). length reached.lines ≤ length bytes) (sym reached.split)
       (lines_short reached.lines reached.rest)
 
-  -- ---- one more byte
+  -- ---- more bytes
 
   -- a line feed, after a line that is handled
   reached_feed : (given : List ℕ) (now later : Option (List ℕ)) (memory after : Memory) (old new : Medium)
@@ -68,36 +66,38 @@ module _ (told : Bool) (rules : List Rule) (answers : Answers) (start : Medium) 
         handled = goes_on reached.lines reached.rest reached.kept_is reached.handled;
       }
 
-  pub reached_at_feed : (given : List ℕ) (now later : Option (List ℕ)) (memory after : Memory) (old new : Medium)
-      (kept kept_later : List ℕ) (number number_later byte : ℕ)
-      → byte ≡ 10 → length given < 2 ^ 63 → Reached told rules answers start before given now memory old kept number
-      → HandlesOne now later memory after old new kept
-      → number_later ≡ min (number + 1) (2 ^ 64 - 1) → kept_later ≡ []
-      → Reached told rules answers start before (given ++ byte ∷ []) later after new kept_later number_later
-  reached_at_feed given now later memory after old new kept kept_later number number_later byte is small reached goes_on
-      counts clears =
-      subst (λ (b : ℕ). Reached told rules answers start before (given ++ b ∷ []) later after new kept_later
-      number_later) (sym is)
-      (reached_feed given now later memory after old new kept kept_later number number_later small reached goes_on
-      counts clears)
-
-  -- another byte
-  pub reached_byte : (given : List ℕ) (now : Option (List ℕ)) (memory : Memory) (medium : Medium)
-      (kept kept_later : List ℕ) (number byte : ℕ)
-      → Reached told rules answers start before given now memory medium kept number → nat_eq byte 10 ≡ false
-      → ((rest : List ℕ) → kept ≡ take 262145 rest → kept_later ≡ take 262145 (rest ++ byte ∷ []))
-      → Reached told rules answers start before (given ++ byte ∷ []) now memory medium kept_later number
-  reached_byte given now memory medium kept kept_later number byte reached apart keeps = record {
+  -- bytes among which is no line feed
+  pub reached_bytes : (given bytes : List ℕ) (now : Option (List ℕ)) (memory : Memory) (medium : Medium)
+      (kept kept_later : List ℕ) (number : ℕ)
+      → Reached told rules answers start before given now memory medium kept number → HasNoFeed bytes
+      → ((rest : List ℕ) → kept ≡ take 262145 rest → kept_later ≡ take 262145 (rest ++ bytes))
+      → Reached told rules answers start before (given ++ bytes) now memory medium kept_later number
+  reached_bytes given bytes now memory medium kept kept_later number reached clean keeps = record {
     lines = reached.lines;
-    rest = reached.rest ++ byte ∷ [];
-    split = ap (λ (bytes : List ℕ). bytes ++ byte ∷ []) reached.split
-        ∙ append_assoc (flat_map with_feed reached.lines) reached.rest (byte ∷ []);
+    rest = reached.rest ++ bytes;
+    split = ap (λ (front : List ℕ). front ++ bytes) reached.split
+        ∙ append_assoc (flat_map with_feed reached.lines) reached.rest bytes;
     clean = reached.clean;
-    clean_rest = clean_more reached.rest byte reached.clean_rest apart;
+    clean_rest = clean_append reached.rest bytes reached.clean_rest clean;
     kept_is = keeps reached.rest reached.kept_is;
     number_is = reached.number_is;
     handled = reached.handled;
   }
+
+  -- a line with its line feed
+  pub reached_line : (given line : List ℕ) (now later : Option (List ℕ)) (memory after : Memory) (old new : Medium)
+      (kept kept_line kept_later : List ℕ) (number number_later : ℕ)
+      → length (given ++ line) < 2 ^ 63 → Reached told rules answers start before given now memory old kept number
+      → HasNoFeed line → ((rest : List ℕ) → kept ≡ take 262145 rest → kept_line ≡ take 262145 (rest ++ line))
+      → HandlesOne now later memory after old new kept_line
+      → number_later ≡ min (number + 1) (2 ^ 64 - 1) → kept_later ≡ []
+      → Reached told rules answers start before (given ++ (line ++ 10 ∷ [])) later after new kept_later number_later
+  reached_line given line now later memory after old new kept kept_line kept_later number number_later small reached
+      clean keeps goes_on counts clears =
+      subst (λ (bytes : List ℕ). Reached told rules answers start before bytes later after new kept_later number_later)
+      (append_assoc given line (10 ∷ []))
+      (reached_feed (given ++ line) now later memory after old new kept_line kept_later number number_later small
+      (reached_bytes given line now memory old kept kept_line number reached clean keeps) goes_on counts clears)
 
   -- ---- endings within the input
 
@@ -117,29 +117,31 @@ module _ (told : Bool) (rules : List Rule) (answers : Answers) (start : Medium) 
       (ends reached.lines (split_lines others).0 reached.rest reached.kept_is reached.number_is
       (omega (arith, few, small)) reached.handled)
 
-  pub ends_at_feed : (ending : endings.Ending) (given others : List ℕ) (now later : Option (List ℕ)) (memory : Memory)
-      (old new : Medium) (kept : List ℕ) (number byte : ℕ)
-      → byte ≡ 10 → length given < 2 ^ 63 → Reached told rules answers start before given now memory old kept number
-      → EndsAt ending now later memory old new kept number
-      → Course told rules answers ending start before (lines_of false (given ++ byte ∷ others)) later new
-  ends_at_feed ending given others now later memory old new kept number byte is small reached ends =
-      subst (λ (b : ℕ). Course told rules answers ending start before (lines_of false (given ++ b ∷ others)) later new)
-      (sym is)
-      (ends_feed ending given others now later memory old new kept number small reached ends)
+  -- at the line feed of a line
+  pub ends_line : (ending : endings.Ending) (given line others : List ℕ) (now later : Option (List ℕ)) (memory : Memory)
+      (old new : Medium) (kept kept_line : List ℕ) (number : ℕ)
+      → length (given ++ line) < 2 ^ 63 → Reached told rules answers start before given now memory old kept number
+      → HasNoFeed line → ((rest : List ℕ) → kept ≡ take 262145 rest → kept_line ≡ take 262145 (rest ++ line))
+      → EndsAt ending now later memory old new kept_line number
+      → Course told rules answers ending start before (lines_of false (given ++ (line ++ 10 ∷ others))) later new
+  ends_line ending given line others now later memory old new kept kept_line number small reached clean keeps ends =
+      subst (λ (bytes : List ℕ). Course told rules answers ending start before (lines_of false bytes) later new)
+      (append_assoc given line (10 ∷ others))
+      (ends_feed ending (given ++ line) others now later memory old new kept_line number small
+      (reached_bytes given line now memory old kept kept_line number reached clean keeps) ends)
 
-  -- at another byte, for which there is no memory
-  pub ends_byte : AppLaws → (ending : Ending) (given others : List ℕ) (now : Option (List ℕ)) (memory : Memory)
-      (medium : Medium) (kept : List ℕ) (number byte : ℕ) → ending ≡ OutOfMemory
+  -- at bytes for which there is no memory
+  pub ends_short : AppLaws → (ending : Ending) (given more : List ℕ) (now : Option (List ℕ)) (memory : Memory)
+      (medium : Medium) (kept : List ℕ) (number : ℕ) → ending ≡ OutOfMemory
       → Reached told rules answers start before given now memory medium kept number
-      → Course told rules answers (ending_of ending) start before (lines_of false (given ++ byte ∷ others)) now medium
-  ends_byte laws way given others now memory medium kept number byte short reached =
-      let is : lines_of false (given ++ byte ∷ others) ≡ reached.lines
-      ++ (split_lines (reached.rest ++ byte ∷ others)).0 =
-      ap (λ (bytes : List ℕ). lines_of false (bytes ++ byte ∷ others)) reached.split
-      ∙ ap (lines_of false) (append_assoc (flat_map with_feed reached.lines) reached.rest (byte ∷ others))
-      ∙ lines_false reached.lines (reached.rest ++ byte ∷ others) reached.clean in
-      subst (λ (e : Ending). Course told rules answers (ending_of e) start before
-      (lines_of false (given ++ byte ∷ others)) now medium) (sym short)
+      → Course told rules answers (ending_of ending) start before (lines_of false (given ++ more)) now medium
+  ends_short laws way given more now memory medium kept number short reached =
+      let is : lines_of false (given ++ more) ≡ reached.lines ++ (split_lines (reached.rest ++ more)).0 =
+      ap (λ (bytes : List ℕ). lines_of false (bytes ++ more)) reached.split
+      ∙ ap (lines_of false) (append_assoc (flat_map with_feed reached.lines) reached.rest more)
+      ∙ lines_false reached.lines (reached.rest ++ more) reached.clean in
+      subst (λ (e : Ending). Course told rules answers (ending_of e) start before (lines_of false (given ++ more)) now
+      medium) (sym short)
       (course_along told rules answers start before endings.memory _ _ now medium is
       (course_memory told rules answers start before laws reached.lines _ now now memory medium reached.handled
       (Appends-nil now)))
@@ -199,56 +201,12 @@ module _ (told : Bool) (rules : List Rule) (answers : Answers) (start : Medium) 
 
 -- ---- a piece of the input
 
--- the next byte of a piece
-pub piece_more : (piece : List ℕ) (i : ℕ) → i < length piece
-    → take (i + 1) piece ≡ take i piece ++ get_or piece i 0 ∷ []
-piece_more piece i within = ap (λ (n : ℕ). take n piece) (add-one i) ∙ take-suc piece i 0 within
-
-pub piece_is : (piece : List ℕ) (i : ℕ) → i < length piece
-    → take i piece ++ get_or piece i 0 ∷ drop (i + 1) piece ≡ piece
-piece_is piece i within =
-    ap (λ (l : List ℕ). take i piece ++ l) (ap (λ (n : ℕ). get_or piece i 0 ∷ drop n piece) (add-one i)
-    ∙ sym (drop-cons piece i 0 within)) ∙ take-append-drop i piece
-
-pub piece_whole : (given piece : List ℕ) (i : ℕ) → i < length piece
-    → (given ++ take i piece) ++ get_or piece i 0 ∷ drop (i + 1) piece ≡ given ++ piece
-piece_whole given piece i within = append_assoc given (take i piece) (get_or piece i 0 ∷ drop (i + 1) piece)
-    ∙ ap (λ (l : List ℕ). given ++ l) (piece_is piece i within)
-
-pub piece_small : (given piece : List ℕ) (i limit : ℕ) → length (given ++ piece) < limit
-    → length (given ++ take i piece) < limit
-piece_small given piece i limit small = omega (
-  arith,
-  length-append given piece,
-  length-append given (take i piece),
-  length-take i piece,
-)
-
 module _ (told : Bool) (rules : List Rule) (answers : Answers) (start : Medium) (before : Option (List ℕ)) where
-  reached_along : (given same : List ℕ) (now : Option (List ℕ)) (memory : Memory) (medium : Medium) (kept : List ℕ)
+  -- the same bytes
+  pub reached_along : (given same : List ℕ) (now : Option (List ℕ)) (memory : Memory) (medium : Medium) (kept : List ℕ)
       (number : ℕ) → same ≡ given
       → Reached told rules answers start before given now memory medium kept number
       → Reached told rules answers start before same now memory medium kept number
   reached_along given same now memory medium kept number is reached =
       subst (λ (bytes : List ℕ). Reached told rules answers start before bytes now memory medium kept number) (sym is)
-      reached
-
-  -- one byte more of a piece
-  pub reached_more : (given piece : List ℕ) (i : ℕ) (now : Option (List ℕ)) (memory : Memory) (medium : Medium)
-      (kept : List ℕ) (number : ℕ) → i < length piece
-      → Reached told rules answers start before ((given ++ take i piece) ++ get_or piece i 0 ∷ []) now memory medium
-      kept number
-      → Reached told rules answers start before (given ++ take (i + 1) piece) now memory medium kept number
-  reached_more given piece i now memory medium kept number within reached =
-      reached_along _ _ now memory medium kept number
-      (ap (λ (l : List ℕ). given ++ l) (piece_more piece i within)
-      ∙ sym (append_assoc given (take i piece) (get_or piece i 0 ∷ []))) reached
-
-  -- all of it
-  pub reached_whole : (given piece : List ℕ) (i : ℕ) (now : Option (List ℕ)) (memory : Memory) (medium : Medium)
-      (kept : List ℕ) (number : ℕ) → length piece ≤ i
-      → Reached told rules answers start before (given ++ take i piece) now memory medium kept number
-      → Reached told rules answers start before (given ++ piece) now memory medium kept number
-  reached_whole given piece i now memory medium kept number all reached =
-      reached_along _ _ now memory medium kept number (ap (λ (l : List ℕ). given ++ l) (sym (take_all i piece all)))
       reached

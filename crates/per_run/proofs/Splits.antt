@@ -16,6 +16,9 @@ clean_tail b bytes clean = grind arith
 pub clean_more : (bytes : List ℕ) (b : ℕ) → HasNoFeed bytes → nat_eq b 10 ≡ false → HasNoFeed (bytes ++ b ∷ [])
 clean_more bytes b clean apart = rw (list_any-append, clean, apart) refl
 
+pub clean_append : (front rest : List ℕ) → HasNoFeed front → HasNoFeed rest → HasNoFeed (front ++ rest)
+clean_append front rest clean more = rw (list_any-append, clean, more) refl
+
 pub all_clean_more : (lines : List (List ℕ)) (line : List ℕ) → AllByRecursion HasNoFeed lines → HasNoFeed line
     → AllByRecursion HasNoFeed (lines ++ line ∷ [])
 all_clean_more [] line all clean = (clean, tt)

@@ -1,7 +1,7 @@
 //! From bytes to lines, and from lines to replies.
 
 ghost use Rattle.std.specs.Prelude.{◌≡◌, ◌⊎◌, ◌<◌, ◌+◌, ◌-◌, ◌^◌, ◌++◌, ℕ, List, [], ◌∷◌, true, false, Option, IfOk};
-ghost use Rattle.std.specs.Prelude.{IfErr, OnOk, length, min, take};
+ghost use Rattle.std.specs.Prelude.{IfErr, IfNone, IfSome, OnOk, length, min, take};
 ghost use Rattle.disk_model.specs.Medium.{Elapses};
 ghost use Rattle.migrate_fns.specs.Stored.{answers_of, rules_of};
 ghost use Rattle.command_text.specs.Replies.{HasText, reply_text};
@@ -9,7 +9,8 @@ ghost use Rattle.run_model.specs.AppLaws.{AppLaws};
 ghost use Rattle.run_model.specs.Endings.{bad_line_text};
 ghost use Rattle.run_model.specs.Lines.{lines_of};
 ghost use Rattle.per_runtime.specs.Memories.{IsRuntime, memory_of};
-ghost use Rattle.per_run.specs.Steps.{Blamed, Blames, Course, Handled, IsBadLineAnswer, IsBroken, PutsOutput, Reached};
+ghost use Rattle.per_run.specs.Steps.{Blamed, Blames, Course, Handled, HasNoFeed, IsBadLineAnswer, IsBroken};
+ghost use Rattle.per_run.specs.Steps.{PutsOutput, Reached};
 ghost use Rattle.per_run.specs.Steps.{ending_of};
 
 use crate::answering::{Outcome, answer_line};
@@ -75,13 +76,31 @@ pub fn feed<D: Disk, K: Sink>(
     ensures blames { Blames (K.faults sink.old) (K.faults sink.new) result }
     ensures time { Elapses (D.medium disk.old) (D.medium disk.new) }
 {
-    for byte in piece {
-        match feed_byte(reader, migrations, sink, disk, *byte) {
-            Ok(()) => {}
+    let mut rest = piece;
+    while let Some((line, others)) = first_line(rest) {
+        match feed_line(reader, migrations, sink, disk, line) {
+            Ok(()) => rest = others,
             Err(ending) => return Err(ending),
         }
     }
-    Ok(())
+    match keep(&mut reader.kept, rest) {
+        Ok(()) => Ok(()),
+        Err(ending) => Err(ending),
+    }
+}
+
+/// The bytes before the first line feed, and those after it.
+pub(crate) fn first_line(bytes: &[u8]) -> Option<(&[u8], &[u8])>
+    ensures parts { IfSome result (λ parts. bytes.now ≡ parts.0.now ++ 10 ∷ parts.1.now) }
+    ensures clean { IfSome result (λ parts. HasNoFeed parts.0.now) }
+    ensures none { IfNone result (HasNoFeed bytes.now) }
+{
+    for (at, byte) in bytes.iter().enumerate() {
+        if *byte == b'\n' {
+            return Some((&bytes[..at], &bytes[at + 1..]));
+        }
+    }
+    None
 }
 
 /// Handles the last line, where the input ends and no line feed stands after it.
@@ -111,56 +130,54 @@ pub fn finish<D: Disk, K: Sink>(
     }
 }
 
-/// Handles one byte.
-fn feed_byte<D: Disk, K: Sink>(
+/// Handles the line that ends with these bytes, among which is no line feed, and with the line feed after them.
+fn feed_line<D: Disk, K: Sink>(
     reader: &mut Reader,
     migrations: &Migrations,
     sink: &mut K,
     disk: &mut D,
-    byte: u8,
+    line: &[u8],
 ) -> Result<(), Ending>
-    requires { IsRuntime D.told (D.medium disk.old) reader.old.runtime }
-    ensures goes_on { OnOk result ((start : D) (before : Option (List ℕ)) (given : List ℕ) → length given < 2 ^ 63
+    requires memory { IsRuntime D.told (D.medium disk.old) reader.old.runtime }
+    requires clean { HasNoFeed line.now }
+    ensures goes_on { OnOk result ((start : D) (before : Option (List ℕ)) (given : List ℕ)
+        → length (given ++ line.now) < 2 ^ 63
         → Reached D.told (rules_of migrations.now) (answers_of migrations.now) (D.medium start) before given
         (K.written sink.old) (memory_of reader.old.runtime) (D.medium disk.old) reader.old.kept.items
         reader.old.number
         → Reached D.told (rules_of migrations.now) (answers_of migrations.now) (D.medium start) before
-        (given ++ byte ∷ []) (K.written sink.new) (memory_of reader.new.runtime) (D.medium disk.new)
+        (given ++ (line.now ++ 10 ∷ [])) (K.written sink.new) (memory_of reader.new.runtime) (D.medium disk.new)
         reader.new.kept.items reader.new.number) }
     ensures ends { IfErr result (λ ending. AppLaws → (start : D) (before : Option (List ℕ)) (given others : List ℕ)
-        → length given < 2 ^ 63
+        → length (given ++ line.now) < 2 ^ 63
         → Reached D.told (rules_of migrations.now) (answers_of migrations.now) (D.medium start) before given
         (K.written sink.old) (memory_of reader.old.runtime) (D.medium disk.old) reader.old.kept.items
         reader.old.number
         → Course D.told (rules_of migrations.now) (answers_of migrations.now) (ending_of ending) (D.medium start) before
-        (lines_of false (given ++ byte ∷ others)) (K.written sink.new) (D.medium disk.new)) }
+        (lines_of false (given ++ (line.now ++ 10 ∷ others))) (K.written sink.new) (D.medium disk.new)) }
     ensures memory { OnOk result (IsRuntime D.told (D.medium disk.new) reader.new.runtime) }
     ensures blames { Blames (K.faults sink.old) (K.faults sink.new) result }
     ensures time { Elapses (D.medium disk.old) (D.medium disk.new) }
 {
-    if byte == b'\n' {
-        match handle_line(reader, migrations, sink, disk) {
-            Ok(()) => Ok(()),
-            Err(ending) => Err(ending),
-        }
-    } else {
-        match keep(&mut reader.kept, byte) {
-            Ok(()) => Ok(()),
-            Err(ending) => Err(ending),
-        }
+    match keep(&mut reader.kept, line) {
+        Ok(()) => {}
+        Err(ending) => return Err(ending),
+    }
+    match handle_line(reader, migrations, sink, disk) {
+        Ok(()) => Ok(()),
+        Err(ending) => Err(ending),
     }
 }
 
-/// Puts a byte after the prefix of the line that is kept, as long as the line may still be one.
-pub fn keep(kept: &mut Vec<u8>, byte: u8) -> Result<(), Ending>
+/// Puts bytes after the prefix of the line that is kept, as long as the line may still be one.
+pub fn keep(kept: &mut Vec<u8>, bytes: &[u8]) -> Result<(), Ending>
     ensures kept { OnOk result ((rest : List ℕ) → kept.old.items ≡ take 262145 rest
-        → kept.new.items ≡ take 262145 (rest ++ byte ∷ [])) }
+        → kept.new.items ≡ take 262145 (rest ++ bytes.now)) }
     ensures memory { IfErr result (λ ending. ending ≡ Ending.OutOfMemory) }
 {
-    if kept.len() > LINE_BYTES {
-        return Ok(());
-    }
-    match kept.push(byte) {
+    let room = (LINE_BYTES + 1).saturating_sub(kept.len());
+    let count = bytes.len().min(room);
+    match kept.extend_from_slice(&bytes[..count]) {
         Ok(()) => Ok(()),
         Err(_) => Err(Ending::OutOfMemory),
     }

@@ -10,13 +10,13 @@ ghost use Rattle.run_model.specs.Lines.{lines_of};
 ghost use Rattle.per_runtime.specs.Memories.{IsRuntime, memory_of};
 ghost use Rattle.per_run.specs.Serves.{Heard, Serves, lines_in, number_behind};
 ghost use Rattle.per_run.specs.Serving.{Hearing, HearsOne, Listened, Served, Service};
-ghost use Rattle.per_run.specs.Steps.{Blamed, Blames, Goes, ending_of};
+ghost use Rattle.per_run.specs.Steps.{Blamed, Blames, Goes, HasNoFeed, ending_of};
 
 use crate::answering::{Outcome, answer_line};
 use crate::endings::{DEVICE, Ending, OUT_OF_MEMORY};
 use crate::input::{PIECE_BYTES, read_piece, zeros};
 use crate::preparing::prepare;
-use crate::reader::{Reader, keep, print_bad_line, write_reply};
+use crate::reader::{Reader, first_line, keep, print_bad_line, write_reply};
 use crate::writing::write_made;
 use deploy::Stop;
 use disk_model::Disk;
@@ -144,51 +144,53 @@ fn serve_piece<D: Disk, K: Sink>(
     ensures blames { Blames (K.faults sink.old) (K.faults sink.new) result }
     ensures time { Elapses (D.medium disk.old) (D.medium disk.new) }
 {
-    for byte in piece {
-        match serve_byte(reader, migrations, sink, disk, *byte) {
-            Ok(()) => {}
+    let mut rest = piece;
+    while let Some((line, others)) = first_line(rest) {
+        match serve_next(reader, migrations, sink, disk, line) {
+            Ok(()) => rest = others,
             Err(ending) => return Err(ending),
         }
     }
-    Ok(())
+    match keep(&mut reader.kept, rest) {
+        Ok(()) => Ok(()),
+        Err(ending) => Err(ending),
+    }
 }
 
-/// Handles one byte.
-fn serve_byte<D: Disk, K: Sink>(
+/// Handles the line that ends with these bytes, among which is no line feed, and with the line feed after them.
+fn serve_next<D: Disk, K: Sink>(
     reader: &mut Reader,
     migrations: &Migrations,
     sink: &mut K,
     disk: &mut D,
-    byte: u8,
+    line: &[u8],
 ) -> Result<(), Ending>
-    requires { IsRuntime D.told (D.medium disk.old) reader.old.runtime }
+    requires memory { IsRuntime D.told (D.medium disk.old) reader.old.runtime }
+    requires clean { HasNoFeed line.now }
     ensures goes_on { OnOk result ((start : D) (before : Option (List ℕ)) (given : List ℕ)
         → Listened D.told (rules_of migrations.now) (answers_of migrations.now) (D.medium start) before given
         (K.written sink.old) (memory_of reader.old.runtime) (D.medium disk.old) reader.old.kept.items
         reader.old.number
         → Listened D.told (rules_of migrations.now) (answers_of migrations.now) (D.medium start) before
-        (given ++ byte ∷ []) (K.written sink.new) (memory_of reader.new.runtime) (D.medium disk.new)
+        (given ++ (line.now ++ 10 ∷ [])) (K.written sink.new) (memory_of reader.new.runtime) (D.medium disk.new)
         reader.new.kept.items reader.new.number) }
     ensures ends { IfErr result (λ ending. AppLaws → (start : D) (before : Option (List ℕ)) (given others : List ℕ)
         → Listened D.told (rules_of migrations.now) (answers_of migrations.now) (D.medium start) before given
         (K.written sink.old) (memory_of reader.old.runtime) (D.medium disk.old) reader.old.kept.items
         reader.old.number
         → Service D.told (rules_of migrations.now) (answers_of migrations.now) (ending_of ending) (D.medium start)
-        before (lines_of false (given ++ byte ∷ others)) (K.written sink.new) (D.medium disk.new)) }
+        before (lines_of false (given ++ (line.now ++ 10 ∷ others))) (K.written sink.new) (D.medium disk.new)) }
     ensures memory { OnOk result (IsRuntime D.told (D.medium disk.new) reader.new.runtime) }
     ensures blames { Blames (K.faults sink.old) (K.faults sink.new) result }
     ensures time { Elapses (D.medium disk.old) (D.medium disk.new) }
 {
-    if byte == b'\n' {
-        match serve_line(reader, migrations, sink, disk) {
-            Ok(()) => Ok(()),
-            Err(ending) => Err(ending),
-        }
-    } else {
-        match keep(&mut reader.kept, byte) {
-            Ok(()) => Ok(()),
-            Err(ending) => Err(ending),
-        }
+    match keep(&mut reader.kept, line) {
+        Ok(()) => {}
+        Err(ending) => return Err(ending),
+    }
+    match serve_line(reader, migrations, sink, disk) {
+        Ok(()) => Ok(()),
+        Err(ending) => Err(ending),
     }
 }
 

@@ -1,37 +1,71 @@
--- Where a byte ends the run, the rest of the piece stands after it.
-use Rattle.std.proofs.Common.{ap, sym, take, drop, false, ◌++◌, ◌+◌, arith}
-use Rattle.disk_model.specs.Laws.{elapses_on}
+-- Where a line ends the run, the rest of the piece stands after it.
+use Rattle.std.proofs.Common.{[], ◌∷◌, ◌++◌, ap, refl, sym, arith, false, append-nil, append_assoc}
+use Rattle.disk_model.specs.Laws.{elapses_none, elapses_on}
 use Rattle.run_model.specs.Lines.{lines_of}
 use Rattle.per_run.specs.Steps.{ending_of}
 use Rattle.per_run.proofs.Courses.{course_along}
-use Rattle.per_run.proofs.Reaches.{piece_small, piece_whole, reached_more, reached_whole}
+use Rattle.per_run.proofs.Fronts.{front_more, given_at_line, given_whole, line_small, rest_less}
+use Rattle.per_run.proofs.Reaches.{ends_short, reached_along, reached_bytes}
 use Rattle.per_run.proofs.reader.feed.Goals as goal
+
+pub loop-line-init : goal.loop-line-init
+loop-line-init g c = record {
+  front = [];
+  parts = refl;
+  goes_on = λ start before given small reached. reached_along _ _ _ _ before _ _ _ _ _ _ _ (append-nil given) reached;
+  in_use = c.requires;
+  time = elapses_none (g.met.D.Disk.lawful _);
+  sink_later = omega arith;
+}
+
+pub loop-line-smaller : goal.loop-line-smaller
+loop-line-smaller g c = rest_less c.loop-line.rest.now c.in-Some.line.now c.in-Some.others.now c.in-Some.ensures.parts
+
+pub loop-line-preserved : goal.loop-line-preserved
+loop-line-preserved g c =
+    let so_far = c.loop-line.invariant in
+    let line = c.in-Some.line.now in
+    record {
+      front = so_far.front ++ (line ++ 10 ∷ []);
+      parts = front_more c.args.piece.now so_far.front c.loop-line.rest.now line c.in-Some.others.now so_far.parts
+          c.in-Some.ensures.parts;
+      goes_on = λ start before given small reached.
+          reached_along _ _ _ _ before _ _ _ _ _ _ _ (sym (append_assoc given so_far.front (line ++ 10 ∷ [])))
+          (c.in-Ok.ensures.goes_on start before (given ++ so_far.front)
+          (line_small given c.args.piece.now so_far.front c.loop-line.rest.now line c.in-Some.others.now _ small
+          so_far.parts c.in-Some.ensures.parts)
+          (so_far.goes_on start before given small reached));
+      in_use = c.in-Ok.ensures.memory;
+      time = elapses_on so_far.time c.feed_line.ensures.time;
+      sink_later = omega (arith, so_far.sink_later, c.feed_line.ensures.blames.later);
+    }
 
 pub returns-in-Err-clause-ends : goal.returns-in-Err-clause-ends
 returns-in-Err-clause-ends g c = λ laws start before given small reached.
+    let so_far = c.loop-line.invariant in
     course_along _ _ _ _ before (ending_of c.in-Err.ending) _ _ _ _
-    (ap (lines_of false) (sym (piece_whole given c.args.piece.now c.loop-byte.byte-index c.loop-byte-test.true)))
-    (c.in-Err.ensures.ends laws start before (given ++ take c.loop-byte.byte-index c.args.piece.now)
-    (drop (c.loop-byte.byte-index + 1) c.args.piece.now)
-    (piece_small given c.args.piece.now c.loop-byte.byte-index _ small)
-    (c.loop-byte.invariant.goes_on start before given small reached))
+    (ap (lines_of false) (sym (given_at_line given c.args.piece.now so_far.front c.loop-line.rest.now
+    c.in-Some.line.now c.in-Some.others.now so_far.parts c.in-Some.ensures.parts)))
+    (c.in-Err.ensures.ends laws start before (given ++ so_far.front) c.in-Some.others.now
+    (line_small given c.args.piece.now so_far.front c.loop-line.rest.now c.in-Some.line.now c.in-Some.others.now _
+    small so_far.parts c.in-Some.ensures.parts)
+    (so_far.goes_on start before given small reached))
 
 pub returns-in-Err-clause-time : goal.returns-in-Err-clause-time
-returns-in-Err-clause-time g c = elapses_on c.loop-byte.invariant.time c.in-Err.ensures.time
+returns-in-Err-clause-time g c = elapses_on c.loop-line.invariant.time c.in-Err.ensures.time
 
-pub returns-clause-goes_on : goal.returns-clause-goes_on
-returns-clause-goes_on g c = λ start before given small reached.
-    reached_whole _ _ _ _ before given c.args.piece.now c.loop-byte.byte-index _ _ _ _ _
-    (omega (arith, c.loop-byte-test.false)) (c.loop-byte.invariant.goes_on start before given small reached)
+pub returns-in-Ok-keep-clause-goes_on : goal.returns-in-Ok-keep-clause-goes_on
+returns-in-Ok-keep-clause-goes_on g c = λ start before given small reached.
+    let so_far = c.loop-line.invariant in
+    reached_along _ _ _ _ before _ _ _ _ _ _ _
+    (sym (given_whole given c.args.piece.now so_far.front c.loop-line.rest.now so_far.parts))
+    (reached_bytes _ _ _ _ before (given ++ so_far.front) c.loop-line.rest.now _ _ _ _ _ _
+    (so_far.goes_on start before given small reached) c.in_default.ensures.none c.in-Ok-keep.ensures.kept)
 
-pub loop-byte-preserved : goal.loop-byte-preserved
-loop-byte-preserved g c = record {
-  goes_on = λ start before given small reached.
-      reached_more _ _ _ _ before given c.args.piece.now c.loop-byte.byte-index _ _ _ _ _ c.loop-byte-test.true
-      (c.in-Ok.ensures.goes_on start before (given ++ take c.loop-byte.byte-index c.args.piece.now)
-      (piece_small given c.args.piece.now c.loop-byte.byte-index _ small)
-      (c.loop-byte.invariant.goes_on start before given small reached));
-  in_use = c.in-Ok.ensures.memory;
-  time = elapses_on c.loop-byte.invariant.time c.feed_byte.ensures.time;
-  sink_later = omega (arith, c.loop-byte.invariant.sink_later, c.feed_byte.ensures.blames.later);
-}
+pub returns-in-Err-keep-clause-ends : goal.returns-in-Err-keep-clause-ends
+returns-in-Err-keep-clause-ends g c = λ laws start before given small reached.
+    let so_far = c.loop-line.invariant in
+    course_along _ _ _ _ before (ending_of c.in-Err-keep.ending) _ _ _ _
+    (ap (lines_of false) (sym (given_whole given c.args.piece.now so_far.front c.loop-line.rest.now so_far.parts)))
+    (ends_short _ _ _ _ before laws c.in-Err-keep.ending (given ++ so_far.front) c.loop-line.rest.now _ _ _ _ _
+    c.in-Err-keep.ensures.memory (so_far.goes_on start before given small reached))
