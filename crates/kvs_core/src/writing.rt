@@ -142,7 +142,7 @@ impl KeySession {
     pub(crate) fn is_full(&self, name: &Name) -> bool
         ensures { result ≡ (not (has self.now.visible name.now) && nat_le 1024 (length self.now.visible)) }
     {
-        !self.maps.has(name) && self.maps.count() >= KEYS
+        self.maps.count() >= KEYS && !self.maps.has(name)
     }
 
     /// Puts an encoding under a name that has a place, where there is room for it.

@@ -5,6 +5,7 @@ pub mod Faults
 pub mod FieldLaws
 pub mod FieldLoops
 pub mod Fields
+pub mod Lists
 pub mod Maps
 pub mod Modes
 pub mod Names
