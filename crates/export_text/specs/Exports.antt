@@ -123,3 +123,9 @@ unfoldable pub export_of : List ℕ → Option Export
 export_of text = do
   body ← body_hashed text
   body_read body
+
+-- what stands before the elements of a text that ends in the hash of the rest
+unfoldable pub header_in : List ℕ → Option (Header × List ℕ)
+header_in text = do
+  body ← body_hashed text
+  header_at body
