@@ -15,7 +15,7 @@ use Rattle.per_base.specs.declared.errors.PerError.{PerError}
 use Rattle.per_base.specs.declared.errors.PerError.TheVariants as error
 use Rattle.per_base.specs.declared.errors.Unit.TheVariants as unit
 use Rattle.index_text.specs.Contents.{fresh_size}
-use Rattle.value_model.specs.Kinds.{Kind}
+use Rattle.value_model.specs.Kinds.{Kind, same_kind}
 use Rattle.value_model.specs.Trees.{Tree, type_of}
 use Rattle.value_code.specs.Reading.{decoded}
 use Rattle.deployment_model.specs.Data.{DeploymentData, ElementData, StorageData}
@@ -25,7 +25,6 @@ use Rattle.manifest.specs.Reading.{broken_rule, deployment_in}
 use Rattle.migrate_fns.specs.Chains.{chain_of}
 use Rattle.migrate_fns.specs.Rules.{Rule}
 use Rattle.migrate_fns.specs.Rules as fns
-use Rattle.migrate_fns.specs.SameKind.{same_kind}
 use Rattle.update_plan.specs.declared.contents.StorageContents.{StorageContents}
 use Rattle.update_plan.specs.declared.contents.StorageContents.TheVariants.{Damaged, Missing, Present}
 use Rattle.update_plan.specs.Fates.{gets, by_chain, by_row, fate, of_bytes, of_content, of_type, of_value, refusal}

@@ -15,13 +15,12 @@ use Rattle.deploy_laws.specs.Apps.{App, installed, app_at, says_at, shapes_named
 use Rattle.deploy_laws.specs.Pieces.{IsSoundApp, DecaysApp}
 use Rattle.deploy_laws.specs.Places.{Named, root_place, storage_file}
 use Rattle.deploy_laws.specs.Stands.{StandsThroughout}
-use Rattle.deploy_rows.specs.Rows.{InProgress, BeginsUpdate, offered}
+use Rattle.deploy_rows.specs.Rows.{InProgress, BeginsUpdate, offered, one_more}
 use Rattle.deploy.specs.declared.errors.Stop.{Stop}
 use Rattle.deploy.specs.declared.errors.Stop.TheVariants as stop
 use Rattle.deploy.specs.declared.roots.Outcome.{Outcome}
 use Rattle.deploy.specs.declared.roots.Root.{Root}
 use Rattle.deploy.specs.declared.updating.Begin.{Begin}
-use Rattle.deploy.specs.Building.{one_more}
 use Rattle.deploy.specs.Clauses.{IsNoRootSlot, Leaves}
 use Rattle.deploy.specs.Refusals.{TakesNoMemory}
 use Rattle.deploy.specs.Remaining.{IsBesideCommit}

@@ -31,7 +31,7 @@ use Rattle.element_state.specs.Clean.{where_of, counting_at, IsNamed, IsPiece, I
 use Rattle.element_state.specs.Chosen.{chosen}
 use Rattle.element_state.specs.Conditions.{IsMended, IsInUse}
 use Rattle.index_text.specs.Spelling.{index_text}
-use Rattle.element_state.specs.Kept.{heading, Kept, IsKeptCase, IsKeptMending}
+use Rattle.element_state.specs.Kept.{Kept, IsKeptCase, IsKeptMending, IsHeaded}
 
 -- ---- what nobody touched
 
@@ -152,10 +152,6 @@ abbrev pub AllWhole : Shape → Image → IndexEntry → List ℕ → Type 0
 AllWhole shape image e value = (copy : ℕ) → copy < shape.place.copies
     → (counting_at image shape.place copy (where_of e) ≡ Some value)
     × (within (image (area shape.place copy)) e.blocks e.len ≡ true)
-
--- the same name, info, length and number
-abbrev pub IsHeaded : IndexEntry → Entry → Type 0
-IsHeaded e f = (e.name, e.info, e.len, e.changed) ≡ heading f
 
 -- a content that was written, in every copy
 pub record IsContentWritten (shape : Shape) (now : Image) (e : IndexEntry) (f : Entry) : Type 0 where

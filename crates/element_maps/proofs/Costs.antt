@@ -14,15 +14,15 @@ use Rattle.per_base.specs.Maps.{Map, element_at}
 use Rattle.per_base.specs.declared.elements.Change.{Change}
 use Rattle.per_base.specs.declared.elements.Change.TheVariants.{Remove}
 use Rattle.per_base.specs.Changes.{changed_name, change_at}
+use Rattle.per_base.specs.Contents.{HasLength, blocks_for, bytes_of, same_content}
 use Rattle.index_text.specs.Rules.{has_info}
-use Rattle.block_files.specs.Parts.{blocks_for, changed_below, changed_blocks, is_changed}
+use Rattle.block_files.specs.Parts.{changed_below, changed_blocks, is_changed}
 use Rattle.element_state.specs.declared.shapes.Shape.{Shape}
 use Rattle.element_state.specs.declared.shapes.View.{View}
-use Rattle.element_state.specs.Changes.{item_at, entry_by_name, entry_name, same_content, same_element, same_info}
-use Rattle.element_state.specs.Chosen.{HasLength}
+use Rattle.element_state.specs.Changes.{item_at, entry_by_name, entry_name, same_element, same_info}
 use Rattle.element_state.specs.Read.{IsEntryOf}
 use Rattle.element_state.specs.Views.{judged_content}
-use Rattle.element_state.specs.Written.{bytes_of, whole_cost, cost_over, cost_beside, change_cost, commit_cost}
+use Rattle.element_state.specs.Written.{whole_cost, cost_over, cost_beside, change_cost, commit_cost}
 use Rattle.element_state.specs.Written.{element_cost, map_cost}
 use Rattle.element_maps.specs.Differences.{difference, replacement, touch, put, same_bytes, same_value}
 use Rattle.element_maps.specs.Laws.{IsUntested}
@@ -98,7 +98,7 @@ put_alone kind name new es found = ap (λ o. cost_beside kind (content_of o) (by
 -- what the cost rests on of an entry that is read
 record IsRead (kind : StoreKind) (e : Entry) : Type 0 where
   pub info : IsTrue (has_info kind e.info)
-  pub length : HasLength e.len e.content
+  pub length : HasLength e.content e.len
 
 -- the same bytes are the same content
 bytes_content : (old new : Content) (bytes : List ℕ) → new ≡ Good bytes → same_value old new ≡ true
@@ -139,7 +139,7 @@ replaced_cost kind test name es e new found read other differs =
         let is : judged_content test e.content ≡ Good other.bytes =
         content_is (judged_content test e.content) new.content same ∙ other.good in
         let good : e.content ≡ Good other.bytes = judged_good test e.content other.bytes is in
-        let long : length other.bytes ≡ e.len = subst (λ (c : Content). HasLength e.len c) good read.length in
+        let long : length other.bytes ≡ e.len = subst (λ (c : Content). HasLength c e.len) good read.length in
         let len : e.len ≡ new.len = sym long ∙ other.writable.length in
         with_both _ _ (subst (λ (n : ℕ). nat_eq e.len n ≡ true) len (number_itself e.len))
         (subst (λ (c : Content). same_value (judged_content test e.content) c ≡ true) (sym other.good)

@@ -13,12 +13,12 @@ use Rattle.per_base.specs.declared.elements.Entry.{Entry}
 use Rattle.per_base.specs.declared.elements.FileInfo.{FileInfo}
 use Rattle.per_base.specs.declared.elements.Change.{Change}
 use Rattle.per_base.specs.declared.elements.Change.TheVariants.{Remove}
+use Rattle.per_base.specs.Contents.{bytes_of}
 use Rattle.index_text.specs.Rules.{has_info, max_len}
 use Rattle.element_state.specs.Changes.{same_element, is_same, kept_or_fresh, entry_by_name}
 use Rattle.element_state.specs.Conditions.{IsChange, IsGoodEntry}
 use Rattle.element_state.specs.States.{fresh_entry, fresh_element}
 use Rattle.element_state.specs.Views.{judged_content}
-use Rattle.element_state.specs.Written.{bytes_of}
 use Rattle.element_maps.specs.Differences.{difference, replacement, touch, put, same_bytes, same_value}
 use Rattle.element_maps.specs.Sessions.{IsHeldElement, IsWritable}
 use Rattle.element_maps.specs.lemmas.Names.{false_true}

@@ -45,7 +45,8 @@ use Rattle.element_state.specs.Views.{qualifies}
 use Rattle.element_state.specs.States.{Opens, whole_view}
 use Rattle.element_state.specs.Clean.{where_of, counting_at, IsClean}
 use Rattle.element_state.specs.Conditions.{IsShape, IsMended, IsInUse, IsGoodEntry}
-use Rattle.element_laws.specs.Phases.{IsHeaded, AreAgreed}
+use Rattle.element_state.specs.Kept.{IsHeaded}
+use Rattle.element_laws.specs.Phases.{AreAgreed}
 use Rattle.element_laws.specs.lemmas.Lists.{In, Contains-In, map-In, all_in, all_by, zip_with, zip_find, some_is}
 use Rattle.element_laws.specs.lemmas.Lists.{not_none}
 use Rattle.element_laws.specs.lemmas.Lists.{both_true, In-list_all, list_all-In}

@@ -14,6 +14,7 @@ use Rattle.per_base.specs.declared.elements.Content.{Content}
 use Rattle.per_base.specs.declared.elements.Content.TheVariants.{Good, Bad}
 use Rattle.per_base.specs.declared.elements.Scope.{Scope}
 use Rattle.per_base.specs.declared.elements.Scope.TheVariants as scope
+use Rattle.per_base.specs.Contents.{HasLength}
 use Rattle.disk_model.specs.declared.place.Place.{Place}
 use Rattle.disk_model.specs.Image.{Image}
 use Rattle.disk_model.specs.Frame.{Spares}
@@ -40,7 +41,7 @@ use Rattle.element_state.specs.Fit.{FitText, fit_index, fit_texts}
 use Rattle.element_state.specs.Views.{entry_view, given, counts, content_of, holds_text, holds_all, supporters}
 use Rattle.element_state.specs.Views.{qualifies, view_of}
 use Rattle.element_state.specs.States.{Opens, store_at, whole_view, mended_by, mended_entry, mended_view}
-use Rattle.element_state.specs.Chosen.{HasLength, IsReadBy, opened_of}
+use Rattle.element_state.specs.Chosen.{IsReadBy, opened_of}
 use Rattle.element_state.specs.Conditions.{IsShape, IsMended, IsInUse}
 use Rattle.element_laws.specs.Phases.{CleanLaw, AreAgreed, IsSparing, TakesMend, KeepsBlocksWhole, OpensAt, OpenedLaw}
 use Rattle.element_laws.specs.lemmas.Copies.{filtered_that, named_Contains, Contains_named, voted_given}
@@ -189,7 +190,7 @@ module _ (shape : Shape) (start now image : Image) (is : IsShape shape)
 
     module _ (v : List ℕ) (good : (seen e).content ≡ Good v) where
       long : length v ≡ e.len
-      long = subst (HasLength e.len) good read.value
+      long = subst (λ (c : Content). HasLength c e.len) good read.value
 
       hashed : sha256 v ≡ e.hash
       unfolding counting

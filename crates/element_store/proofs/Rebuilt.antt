@@ -24,14 +24,13 @@ use Rattle.element_state.specs.Chosen.{chosen, or_first}
 use Rattle.element_state.specs.Clean.{IsClean}
 use Rattle.element_state.specs.Conditions.{IsInUse, IsShape}
 use Rattle.element_state.specs.Fit.{FitText, fit_index, fit_texts}
-use Rattle.element_state.specs.Kept.{heading, IsKeptCase, KeptThroughout}
+use Rattle.element_state.specs.Kept.{heading, IsKeptCase, KeptThroughout, IsHeaded}
 use Rattle.element_state.specs.States.{State, store_at, fresh_entry, fresh_map, fresh_view, fresh_state}
 use Rattle.element_state.specs.Views.{entry_view, qualifies}
 use Rattle.element_laws.specs.Phases.{IsOfPlace, UntouchedLaw, OpensAt, OpenedLaw, IsCorruptAt, CorruptLaw, IsSalvageAt}
 use Rattle.element_laws.specs.Phases.{IsAdopted, IsGivenUp, AdoptLaw, KeepLaw, ContentsLaw, ContentsDoneLaw, IndexLaw}
 use Rattle.element_laws.specs.Phases.{GivenUpLaw, TakesNamed, TakenBlocksLaw, AnewContentsLaw, AnewDoneLaw}
-use Rattle.element_laws.specs.Phases.{AnewIndexLaw}
-use Rattle.element_laws.specs.Phases.{IsHeaded, IsContentWritten, IsCarried}
+use Rattle.element_laws.specs.Phases.{AnewIndexLaw, IsContentWritten, IsCarried}
 use Rattle.element_laws.specs.lemmas.Lists.{In, zip_with, some_is, not_false, not_none}
 use Rattle.element_laws.specs.lemmas.Fits.{fit_at, fit-In, fit-spelled}
 use Rattle.element_store.specs.Plans.{HasAll}

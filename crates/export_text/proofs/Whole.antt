@@ -16,6 +16,7 @@ use Rattle.per_base.specs.Fields.{◌>>=◌, byte_at, bytes_at, many, number_at}
 use Rattle.per_base.specs.FieldLaws.{IsBytes, IsBytes-take, IsReader, Takes, Takes-then, bind_some, byte_reader}
 use Rattle.per_base.specs.FieldLaws.{bytes_reader, many_reader, moved, number_reader, only_some, only_true, some_is}
 use Rattle.per_base.specs.FieldLaws.{wide_16}
+use Rattle.value_code.specs.Reading.{is_content}
 use Rattle.index_text.specs.Reading.{ascends, coded_kind, info_at, len_at, name_at}
 use Rattle.index_text.specs.Rules.{max_len}
 use Rattle.index_text.specs.Spelling.{info_text, name_text, store_kind_code}
@@ -25,7 +26,7 @@ use Rattle.export_text.specs.declared.exports.Export.{Export}
 use Rattle.export_text.specs.declared.reading.Header.{Header}
 use Rattle.export_text.specs.Exports.{IsExport, IsExportable, IsExportedElement, body_hashed, body_read, content_at}
 use Rattle.export_text.specs.Exports.{export_body, export_of, export_text, fresh_at, fresh_text, header_at, header_text}
-use Rattle.export_text.specs.Exports.{is_content, mark, marked_at, names_of}
+use Rattle.export_text.specs.Exports.{mark, marked_at, names_of}
 use Rattle.export_text.specs.Views.{Gives}
 use Rattle.export_text.proofs.FieldReaders.{coded_kind_again, info_reader, kind_back, len_reader, name_reader}
 use Rattle.export_text.proofs.Order.{ascends_from_sorted, sorted_from_ascends}

@@ -1,5 +1,5 @@
 -- A file: an element with an info, whose length is that of its content; and what writing and cutting make of it.
-use Rattle.std.specs.Prelude.{◌≡◌, ℕ, ◌+◌, ◌<◌, ◌≤◌, List, [], length, take, Bool, true, false, not, cond, ◌==◌, nat_lt}
+use Rattle.std.specs.Prelude.{ℕ, ◌+◌, ◌<◌, ◌≤◌, List, length, take, not, cond, ◌==◌, nat_lt}
 use Rattle.std.specs.Prelude.{Option, Some, None, IsSome, option_map, Result, Ok}
 use Rattle.per_base.specs.declared.elements.Cause.{Cause}
 use Rattle.per_base.specs.declared.elements.Cause.TheVariants.{Application}
@@ -11,32 +11,18 @@ use Rattle.per_base.specs.declared.errors.Limit.TheVariants.{FileBytes}
 use Rattle.per_base.specs.declared.errors.PerError.{PerError}
 use Rattle.per_base.specs.declared.errors.PerError.TheVariants.{IllegalWriteAccess, InvalidSize, LimitReached}
 use Rattle.per_base.specs.declared.errors.PerError.TheVariants.{OutOfStorageSpace}
+use Rattle.per_base.specs.Contents.{bytes_of, HasLength}
+use Rattle.per_base.specs.Refusals.{refuse, refused_by}
 use Rattle.file_core.specs.declared.cursor.Cursor.{Cursor}
 use Rattle.file_core.specs.declared.room.Room.{Room}
 use Rattle.file_core.specs.Infos.{info_changed, opened_info}
 use Rattle.file_core.specs.Places.{writes, moved, write_place, overwritten, within}
-use Rattle.file_core.specs.Refusals.{refuse, refused_by}
-
-abbrev pub is_good : Content → Bool
-is_good (Good bytes) = true
-is_good (Bad salvage) = false
-
--- the bytes of a readable content; an unreadable one gives none
-abbrev pub bytes_of : Content → List ℕ
-bytes_of (Good bytes) = bytes
-bytes_of (Bad salvage) = []
 
 -- a content that is readable, or of which nothing verifies
 abbrev pub NoSalvage : Content → Type 0
 NoSalvage (Good bytes) = Unit {0}
 NoSalvage (Bad None) = Unit {0}
 NoSalvage (Bad (Some salvage)) = ⊥
-
--- what there is of the content, and the salvage likewise, has this length
-abbrev pub HasLength : Content → ℕ → Type 0
-HasLength (Good bytes) len = length bytes ≡ len
-HasLength (Bad None) len = Unit {0}
-HasLength (Bad (Some salvage)) len = length salvage ≡ len
 
 -- an element that is a file
 pub record IsFile (file : Element) : Type 0 where

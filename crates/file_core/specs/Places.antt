@@ -10,8 +10,8 @@ use Rattle.per_base.specs.declared.opening.OpenMode.{OpenMode}
 use Rattle.per_base.specs.declared.opening.Origin.{Origin}
 use Rattle.per_base.specs.declared.opening.Origin.TheVariants.{Beginning, Current, End}
 use Rattle.per_base.specs.Modes.{at_beginning, at_end, truncates, appends}
+use Rattle.per_base.specs.Refusals.{refuse}
 use Rattle.file_core.specs.declared.cursor.Cursor.{Cursor}
-use Rattle.file_core.specs.Refusals.{refuse}
 
 abbrev pub reads : OpenKind → Bool
 reads Read = true

@@ -2,7 +2,8 @@
 
 ghost use Rattle.std.specs.Prelude.{◌≡◌, ◌<◌, ◌≤◌, ◌+◌, length, take, List, ℕ, IfOk, IfSome, IfNone, IsTrue, OnOk};
 ghost use Rattle.std.specs.Prelude.{OnErr};
-ghost use Rattle.file_core.specs.Files.{NoSalvage, bytes_of, is_good};
+ghost use Rattle.per_base.specs.Contents.{bytes_of, is_readable};
+ghost use Rattle.file_core.specs.Files.{NoSalvage};
 ghost use Rattle.file_core.specs.Places.{overwritten};
 
 use per_base::{Bytes, Content};
@@ -15,7 +16,7 @@ pub fn overwrite_content(
     from: usize,
     piece: &[u8],
 ) -> Result<usize, AllocError>
-    requires good { IsTrue (is_good content.old) }
+    requires good { IsTrue (is_readable content.old) }
     requires inside { from ≤ length (bytes_of content.old) }
     ensures ok { OnOk result (content.new ≡ Content.Good (overwritten from piece.now (bytes_of content.old))) }
     ensures len { IfOk result (λ len. len ≡ length (overwritten from piece.now (bytes_of content.old))) }
@@ -35,7 +36,7 @@ pub fn overwrite_content(
 
 /// Keeps that many bytes of a readable content.
 pub fn truncate_content(content: &mut Content, size: usize)
-    requires { IsTrue (is_good content.old) }
+    requires { IsTrue (is_readable content.old) }
     ensures { content.new ≡ Content.Good (take size (bytes_of content.old)) }
 {
     if let Content::Good(bytes) = mem::replace(content, Content::Bad(None)) {

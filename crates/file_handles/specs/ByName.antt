@@ -6,12 +6,12 @@ use Rattle.per_base.specs.declared.elements.Content.TheVariants.{Good, Bad}
 use Rattle.per_base.specs.declared.elements.Element.{Element}
 use Rattle.per_base.specs.declared.elements.FileInfo.{FileInfo}
 use Rattle.per_base.specs.declared.errors.PerError.{PerError}
-use Rattle.per_base.specs.declared.errors.PerError.TheVariants.{FileNotFound, IllegalWriteAccess, InitValueNotAvailable}
+use Rattle.per_base.specs.declared.errors.PerError.TheVariants.{FileNotFound, IllegalWriteAccess}
 use Rattle.per_base.specs.declared.opening.OpenKind.TheVariants.{Write}
 use Rattle.per_base.specs.Maps.{Map, element_at, with_element, without}
+use Rattle.per_base.specs.Refusals.{with_initial, refuse, refused_by}
 use Rattle.file_core.specs.Files.{changed_to, file_of, too_long}
 use Rattle.file_core.specs.Infos.{made}
-use Rattle.file_core.specs.Refusals.{refuse, refused_by}
 use Rattle.file_handles.specs.declared.storage.Storage.{Storage}
 use Rattle.file_handles.specs.Opening.{busy, too_many}
 use Rattle.file_handles.specs.Sessions.{Session, blocking, room_for}
@@ -87,10 +87,6 @@ recover_file storage s name now initial = unless_held storage s name
 abbrev pub reset : ℕ → List ℕ → Option Element → Element
 reset now bytes None = file_of (Some (made now Reset)) bytes
 reset now bytes (Some file) = changed_to bytes now Reset file
-
-abbrev pub with_initial : {A : Type 0} → Option (List ℕ) → (List ℕ → Result A PerError) → Result A PerError
-with_initial None call = Err InitValueNotAvailable
-with_initial (Some bytes) call = call bytes
 
 abbrev pub reset_file : Storage → Session → List ℕ → ℕ → Option (List ℕ) → Result Session PerError
 reset_file storage s name now initial =

@@ -11,9 +11,10 @@ use Rattle.per_base.specs.declared.errors.PerError.{PerError}
 use Rattle.per_base.specs.declared.opening.OpenKind.{OpenKind}
 use Rattle.per_base.specs.Maps.{Map, element_at, with_element, size_of}
 use Rattle.per_base.specs.Names.{name_cmp}
+use Rattle.per_base.specs.Contents.{is_readable}
 use Rattle.file_core.specs.declared.cursor.Cursor.{Cursor}
 use Rattle.file_core.specs.declared.room.Room.{Room}
-use Rattle.file_core.specs.Files.{IsFile, is_good}
+use Rattle.file_core.specs.Files.{IsFile}
 use Rattle.file_core.specs.Places.{writes}
 use Rattle.file_handles.specs.declared.handle.Handle.{Handle}
 
@@ -59,7 +60,7 @@ blocking kind name handles = option_map (λ e. e.0) (find (λ e. blocks kind nam
 -- a file with a handle is readable
 abbrev pub readable : Handle → Option Element → Option (Handle × Element)
 readable handle None = None
-readable handle (Some file) = cond (is_good file.content) (Some (handle, file)) None
+readable handle (Some file) = cond (is_readable file.content) (Some (handle, file)) None
 
 abbrev pub with_file : Map → Option Handle → Option (Handle × Element)
 with_file files None = None
@@ -68,7 +69,7 @@ with_file files (Some handle) = readable handle (element_at files handle.name)
 -- there is a file, it is readable, and the position is in it
 abbrev pub IsHeldAt : Option Element → ℕ → Type 0
 IsHeldAt None position = ⊥
-IsHeldAt (Some file) position = IsTrue (is_good file.content) × (position ≤ file.len)
+IsHeldAt (Some file) position = IsTrue (is_readable file.content) × (position ≤ file.len)
 
 -- what stands there is a file, where anything does
 abbrev pub IsFileAt : Option Element → Type 0

@@ -2,8 +2,8 @@
 
 ghost use Rattle.std.specs.Prelude.{◌≡◌, ◌≢◌, ◌≤◌, ◌^◌, None, Some, IfErr, IfOk, IsTrue, OnErr, OnOk};
 ghost use Rattle.per_base.specs.Maps.{element_at, has};
+ghost use Rattle.per_base.specs.Refusals.{IsRefusal, NeedsMemory};
 ghost use Rattle.file_handles.specs.Sessions.{room_for};
-ghost use Rattle.file_core.specs.Refusals.{IsRefusal, NeedsMemory};
 ghost use Rattle.file_handles.specs.Opening as opening;
 
 use crate::handle::{blocking, free_number};

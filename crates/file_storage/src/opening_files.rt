@@ -2,7 +2,7 @@
 
 ghost use Rattle.std.specs.Prelude.{◌≡◌, ◌≢◌, IfErr, IfOk, OnErr, OnOk, Ok, Err, Some, None};
 ghost use Rattle.per_base.specs.declared.errors.Unit.TheVariants.{Part};
-ghost use Rattle.file_core.specs.Refusals.{IsRefusal, NeedsMemory};
+ghost use Rattle.per_base.specs.Refusals.{IsRefusal, NeedsMemory};
 ghost use Rattle.file_handles.specs.Opening as opening;
 ghost use Rattle.file_storage.specs.FileSessions.{storage_of};
 

@@ -12,8 +12,7 @@ use Rattle.index_text.specs.declared.entries.Index.{Index}
 use Rattle.index_text.specs.declared.reading.Header.{Header}
 use Rattle.index_text.specs.declared.errors.IndexError.{IndexError}
 use Rattle.index_text.specs.declared.errors.IndexError.TheVariants as errors
-use Rattle.index_text.specs.Rules.{EntriesInRange, EntryInRange, IsEntry, IsIndex, block_count, blocks_of, is_format}
-use Rattle.index_text.specs.Rules.{names_of}
+use Rattle.index_text.specs.Rules.{EntriesInRange, EntryInRange, IsEntry, IsIndex, blocks_of, is_format, names_of}
 use Rattle.index_text.specs.Spelling.{changed_text, entry_text, header_text, index_text, info_text, store_kind_code}
 use Rattle.index_text.specs.Spelling.{name_text}
 use Rattle.per_base.specs.Fields.{byte_at, bytes_at, many, number_at}
@@ -21,6 +20,7 @@ use Rattle.index_text.specs.Reading.{Gives, are_distinct, ascends, changed_at, e
 use Rattle.index_text.specs.Reading.{coded_kind, len_at, name_at}
 use Rattle.per_base.specs.FieldLaws.{IsBytes, IsReader, Takes, Takes-then, bind_some, byte_reader, bytes_reader}
 use Rattle.per_base.specs.FieldLaws.{many_reader, moved, number_reader, only_some, only_true, some_is, wide_16, wide_32}
+use Rattle.per_base.specs.Contents.{blocks_for}
 use Rattle.index_text.proofs.FieldReaders.{changed_reader, info_reader, coded_kind_again, kind_back, len_reader}
 use Rattle.index_text.proofs.FieldReaders.{name_reader}
 use Rattle.index_text.specs.lemmas.Order.{apart_from_test, ascends_from_sorted, sorted_from_ascends, test_from_apart}
@@ -43,13 +43,13 @@ entry_takes format kind bytes x rest fits e =
     let changed = bind_some (changed_at format info.0.1) _ (x, rest) info.2 in
     let len = bind_some (len_at kind changed.0.1) _ (x, rest) changed.2 in
     let hash = bind_some (bytes_at 32 len.0.1) _ (x, rest) len.2 in
-    let blocks = bind_some (many (number_at w32) (block_count len.0.0) hash.0.1) _ (x, rest) hash.2 in
+    let blocks = bind_some (many (number_at w32) (blocks_for len.0.0) hash.0.1) _ (x, rest) hash.2 in
     let t0 = name_reader.takes bytes name.0.0 name.0.1 fits name.1 in
     let t1 = (info_reader kind).takes name.0.1 info.0.0 info.0.1 t0.0.rest_fits info.1 in
     let t2 = (changed_reader format).takes info.0.1 changed.0.0 changed.0.1 t1.0.rest_fits changed.1 in
     let t3 = (len_reader kind).takes changed.0.1 len.0.0 len.0.1 t2.0.rest_fits len.1 in
     let t4 = (bytes_reader 32).takes len.0.1 hash.0.0 hash.0.1 t3.0.rest_fits hash.1 in
-    let t5 = (numbers (block_count len.0.0)).takes hash.0.1 blocks.0.0 blocks.0.1 t4.0.rest_fits blocks.1 in
+    let t5 = (numbers (blocks_for len.0.0)).takes hash.0.1 blocks.0.0 blocks.0.1 t4.0.rest_fits blocks.1 in
     let from_blocks : List ℕ = flat_map (to_le_bytes w32) blocks.0.0 in
     let from_hash : List ℕ = hash.0.0 ++ from_blocks in
     let from_len : List ℕ = to_le_bytes w32 len.0.0 ++ from_hash in
@@ -111,7 +111,7 @@ entry_again format kind x rest good =
     let changed = (changed_reader format).again x.changed from_len (good.0.changed, good.1.changed) in
     let len = (len_reader kind).again x.len from_hash good.0.len in
     let hash = (bytes_reader 32).again x.hash from_blocks good.0.hash in
-    let numbers_again = (numbers (block_count x.len)).again x.blocks rest (good.0.blocks, good.1.blocks) in
+    let numbers_again = (numbers (blocks_for x.len)).again x.blocks rest (good.0.blocks, good.1.blocks) in
     ap (entry_at format kind) (regroup_6 (name_text x.name) (info_text x.info) (changed_text format x.changed)
     (to_le_bytes w32 x.len) x.hash blocks rest)
     ∙ rw (name, info, changed, len, hash, numbers_again) refl

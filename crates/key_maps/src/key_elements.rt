@@ -2,9 +2,10 @@
 
 ghost use Rattle.std.specs.Prelude.{◌≡◌, ◌≤◌, IfOk, IfSome, IsTrue, None, Some, Option, length, option_copied, is_some};
 ghost use Rattle.per_base.specs.declared.elements.Content.TheVariants.{Bad, Good};
-ghost use Rattle.key_maps.specs.Changes as changes;
-ghost use Rattle.key_maps.specs.Changes.{bytes_of, same_key};
-ghost use Rattle.key_maps.specs.KeyElements.{IsKey, IsKeyEntry, entry_element, is_readable, judged, judged_key_content};
+ghost use Rattle.per_base.specs.Contents as contents;
+ghost use Rattle.per_base.specs.Contents.{bytes_of, is_readable};
+ghost use Rattle.key_maps.specs.Changes.{same_key};
+ghost use Rattle.key_maps.specs.KeyElements.{IsKey, IsKeyEntry, entry_element, judged, judged_key_content};
 ghost use Rattle.key_maps.specs.KeyElements.{judged_salvage, key_of};
 ghost use Rattle.key_maps.specs.Shown.{content_shown, good_bytes, salvage_in};
 
@@ -147,7 +148,7 @@ fn read(alloc: Global, bytes: &[u8]) -> Result<Option<Stored>, AllocError>
 }
 
 fn same_content(here: &KeyContent, there: &KeyContent) -> bool
-    ensures { result ≡ changes.same_content (content_shown here.now) (content_shown there.now) }
+    ensures { result ≡ contents.same_content (content_shown here.now) (content_shown there.now) }
 {
     match here {
         KeyContent::Good(here) => match there {
@@ -162,7 +163,7 @@ fn same_content(here: &KeyContent, there: &KeyContent) -> bool
 }
 
 fn same_salvage(here: &Option<Stored>, there: &Option<Stored>) -> bool
-    ensures { result ≡ changes.same_salvage here.now there.now }
+    ensures { result ≡ contents.same_salvage here.now there.now }
 {
     match here {
         Some(here) => match there {

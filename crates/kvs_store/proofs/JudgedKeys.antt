@@ -16,6 +16,7 @@ use Rattle.per_base.specs.declared.elements.Scope.TheVariants as scope
 use Rattle.per_base.specs.declared.reports.Report.{Report}
 use Rattle.per_base.specs.Maps.{Map, element_at}
 use Rattle.per_base.specs.Names.{name_cmp}
+use Rattle.per_base.specs.Contents.{is_readable}
 use Rattle.element_state.specs.declared.shapes.Shape.{Shape}
 use Rattle.element_state.specs.declared.shapes.View.{View}
 use Rattle.element_state.specs.Reports.{element_failed, element_reports, is_readable_by, recovered_reports, report_of}
@@ -58,12 +59,12 @@ all_stand (e ∷ es) sorted = (
 -- ---- reports
 
 readable_is : (c : Content)
-    → is_readable_by (λ bytes. true) (cond (keys.is_readable (keys.judged_key_content c)) c (Bad None))
+    → is_readable_by (λ bytes. true) (cond (is_readable (keys.judged_key_content c)) c (Bad None))
     ≡ is_readable_by is_encoding c
 readable_is (Good value) = by (is_encoding value)
   where
     by : (b : Bool)
-        → is_readable_by (λ bytes. true) (cond (keys.is_readable (cond b (Good value) (Bad None))) (Good value)
+        → is_readable_by (λ bytes. true) (cond (is_readable (cond b (Good value) (Bad None))) (Good value)
         (Bad None))
         ≡ b
     by true = refl

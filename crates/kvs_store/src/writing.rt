@@ -3,11 +3,11 @@
 ghost use Rattle.std.specs.Prelude.{◌≡◌, ◌⊎◌, IfErr, OnErr, OnOk, Some};
 ghost use Rattle.per_base.specs.declared.elements.Element.{Element};
 ghost use Rattle.per_base.specs.Maps.{element_at};
+ghost use Rattle.per_base.specs.Refusals.{IsRefusal, NeedsMemory};
 ghost use Rattle.value_model.specs.Trees.{type_of};
 ghost use Rattle.per_value.specs.Memory.{TakesMemory};
 ghost use Rattle.deployment_model.specs.Lookups.{initial_of};
 ghost use Rattle.kvs_core.specs.Calls as calls;
-ghost use Rattle.kvs_core.specs.Refusals.{IsRefusal, NeedsMemory};
 ghost use Rattle.kvs_store.specs.Storages.{kvs_session, showing};
 
 use crate::storages::Kvs;

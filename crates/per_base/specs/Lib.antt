@@ -1,5 +1,6 @@
 pub mod Causes
 pub mod Changes
+pub mod Contents
 pub mod Errors
 pub mod Faults
 pub mod FieldLaws
@@ -8,4 +9,5 @@ pub mod Fields
 pub mod Maps
 pub mod Modes
 pub mod Names
+pub mod Refusals
 pub mod Streams

@@ -6,9 +6,10 @@ use Rattle.std.proofs.Math.Nat.{mul-le-mul_left}
 use Rattle.per_base.specs.declared.elements.Content.{Content}
 use Rattle.per_base.specs.declared.elements.Entry.{Entry}
 use Rattle.per_base.specs.declared.elements.StoreKind.TheVariants.{Files}
+use Rattle.per_base.specs.Contents.{blocks_for}
 use Rattle.disk_model.specs.Image.{Image}
 use Rattle.disk_model.specs.Medium.{Medium}
-use Rattle.block_files.specs.Parts.{blocks_for, changed_blocks}
+use Rattle.block_files.specs.Parts.{changed_blocks}
 use Rattle.element_state.specs.declared.shapes.Shape.{Shape}
 use Rattle.element_state.specs.declared.shapes.View.{View}
 use Rattle.element_state.specs.Conditions.{IsMended}

@@ -10,20 +10,19 @@ use Rattle.per_base.specs.declared.elements.Fresh.{Fresh}
 use Rattle.per_base.specs.declared.elements.StoreKind.{StoreKind}
 use Rattle.per_base.specs.declared.elements.StoreKind.TheVariants.{Keys, Files}
 use Rattle.per_base.specs.declared.errors.PerError.{PerError}
-use Rattle.per_base.specs.declared.errors.PerError.TheVariants.{IntegrityCorrupted, DataTypeMismatch, OutOfMemory}
+use Rattle.per_base.specs.declared.errors.PerError.TheVariants.{IntegrityCorrupted, OutOfMemory}
 use Rattle.per_base.specs.declared.errors.Unit.TheVariants.{Part}
 use Rattle.file_core.specs.Infos.{made, info_changed}
-use Rattle.value_model.specs.Kinds.{Kind, kind_fits}
+use Rattle.value_model.specs.Kinds.{Kind, kind_fits, same_kind}
 use Rattle.value_model.specs.Trees.{Tree, type_of}
 use Rattle.value_model.specs.Encoding.{encoding}
 use Rattle.value_code.specs.Reading.{decoded}
-use Rattle.value_text.specs.Texts.{type_text}
+use Rattle.value_text.specs.Texts.{mismatch}
 use Rattle.deployment_model.specs.Data.{ElementData, StorageData}
 use Rattle.deployment_model.specs.declared.configs.ElementStrategy.{ElementStrategy}
 use Rattle.deployment_model.specs.declared.configs.ElementStrategy.TheVariants as own
 use Rattle.migrate_fns.specs.Chains.{chain_of}
 use Rattle.migrate_fns.specs.Rules.{Rule, Answers, ConvertsTo}
-use Rattle.migrate_fns.specs.SameKind.{same_kind}
 use Rattle.update_plan.specs.Rows.{Row, nothing, initial, kept, row_by}
 
 -- it goes, gets this element, gets what the converters at these places make of this value, or is refused
@@ -53,9 +52,6 @@ initial_info Files None stored now = Some (made now Update)
 
 abbrev pub unreadable : List ℕ → List ℕ → Fate
 unreadable storage name = refused (IntegrityCorrupted (Part storage name))
-
-abbrev pub mismatch : Kind → Kind → PerError
-mismatch stored asked = DataTypeMismatch (type_text stored) (type_text asked)
 
 abbrev pub by_chain : Tree → Kind → Option (List ℕ) → Fate
 by_chain v to None = refused (mismatch (type_of v) to)

@@ -14,11 +14,12 @@ use Rattle.per_base.specs.declared.elements.Element.{Element}
 use Rattle.per_base.specs.declared.elements.Entry.{Entry}
 use Rattle.per_base.specs.Maps.{Map, size_of}
 use Rattle.per_base.specs.Names.{name_cmp}
+use Rattle.per_base.specs.Contents.{HasLength}
 use Rattle.key_maps.specs.declared.extents.Extent.{Extent}
 use Rattle.key_maps.specs.KeyStates.{AreKeyStates, AreMeasured, KeyStates, IsKeyState, Measures, opened_states}
 use Rattle.key_maps.specs.KeyStates.{opened_state}
 use Rattle.key_maps.specs.KeyStates.{synced_map, visible_map, with_state}
-use Rattle.key_maps.specs.KeyElements.{Encodes, HasLength, IsKey, IsKeyEntry, entry_element, entry_names, judged}
+use Rattle.key_maps.specs.KeyElements.{Encodes, IsKey, IsKeyEntry, entry_element, entry_names, judged}
 use Rattle.key_maps.specs.KeyElements.{judged_key_content, judged_map}
 use Rattle.value_code.specs.Reading.{is_encoding}
 use Rattle.key_maps.specs.lemmas.Ordered.{AllValues, insert_last, sorted_front}

@@ -10,9 +10,10 @@ use Rattle.std.proofs.lemmas.List.{get_or-take, get_or_past}
 use Rattle.std.proofs.lemmas.Nat.{le_bytes_2, le_bytes_4, le_bytes_8, from_le_bytes-to_le_bytes_2}
 use Rattle.std.proofs.lemmas.Nat.{from_le_bytes-to_le_bytes_4, from_le_bytes-to_le_bytes_8}
 use Rattle.std.proofs.lemmas.Str.{IsUtf8-from_is_utf8, is_utf8-from_IsUtf8}
+use Rattle.per_base.specs.Fields.{◌>>=◌, byte_at}
 use Rattle.value_model.specs.Kinds.{Size, one, two, four, eight, width}
 use Rattle.value_model.specs.Validity.{unsigned_limit}
-use Rattle.value_code.specs.Reading.{◌>>=◌, byte_at, number_at, counted_at, text_of}
+use Rattle.value_code.specs.Reading.{number_at, counted_at, text_of}
 use Rattle.value_code.specs.lemmas.Lengths.{number_length}
 
 -- ---- bytes

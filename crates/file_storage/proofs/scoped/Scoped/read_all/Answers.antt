@@ -1,4 +1,4 @@
-use Rattle.file_core.specs.Files.{bytes_of}
+use Rattle.per_base.specs.Contents.{bytes_of}
 use Rattle.file_core.specs.Places as places
 use Rattle.file_storage.proofs.Keeping.{moving_moves, same_others}
 use Rattle.file_storage.proofs.scoped.Scoped.read_all.Goals as goal
