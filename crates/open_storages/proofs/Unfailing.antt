@@ -18,7 +18,6 @@ use Rattle.per_base.specs.declared.opening.Origin.{Origin}
 use Rattle.per_base.specs.Maps.{Map, element_at, has, size_of, with_element, without}
 use Rattle.per_base.specs.Refusals.{with_initial, IsRefusal, refuse, refused_by, or_next}
 use Rattle.per_base.specs.Contents.{bytes_of}
-use Rattle.per_base.specs.Refusals as refusals
 use Rattle.per_base.specs.Modes.{plain, truncating}
 use Rattle.value_model.specs.Encoding.{encoding}
 use Rattle.value_model.specs.Kinds.{Kind, same_kind}
@@ -247,11 +246,6 @@ fine_file_recovered storage s name now initial file (Bad (Some salvage)) = tt
 fine_file_recovered storage s name now (Some bytes) file (Bad None) = fine_content storage s name _
 fine_file_recovered storage s name now None file (Bad None) = tt
 
-fine_file_initial : {A : Type 0} (initial : Option (List ℕ)) (call : List ℕ → Result A PerError)
-    → ((bytes : List ℕ) → IsFine (call bytes)) → IsFine (refusals.with_initial initial call)
-fine_file_initial None call fine = tt
-fine_file_initial (Some bytes) call fine = fine bytes
-
 fine_many : (files : Map) (name : List ℕ) → IsFineOption (opening.too_many files name)
 fine_many files name = fine_when (not (has files name) && nat_le 1024 (length files))
     (error.LimitReached limit.Elements) tt
@@ -259,7 +253,7 @@ fine_many files name = fine_when (not (has files name) && nat_le 1024 (length fi
 fine_file_reset : (storage : Storage) (s : Session) (name : List ℕ) (now : ℕ) (initial : Option (List ℕ))
     → IsFine (by_name.reset_file storage s name now initial)
 fine_file_reset storage s name now initial = fine_refuse storage.read_only error.IllegalWriteAccess _ tt
-    (fine_file_initial initial _ (λ bytes. fine_refused_by (opening.busy (blocking Write name s.handles)) _
+    (fine_initial initial _ (λ bytes. fine_refused_by (opening.busy (blocking Write name s.handles)) _
     (fine_busy (blocking Write name s.handles))
     (fine_refused_by (opening.too_many s.files name) _ (fine_many s.files name)
     (fine_content storage s name (by_name.reset now bytes (element_at s.files name))))))

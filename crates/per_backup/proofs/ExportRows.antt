@@ -11,7 +11,6 @@ use Rattle.per_base.specs.declared.elements.Content.TheVariants.{Good, Bad}
 use Rattle.per_base.specs.declared.elements.Entry.{Entry}
 use Rattle.per_base.specs.declared.elements.Fresh.{Fresh}
 use Rattle.per_base.specs.declared.elements.StoreKind.{StoreKind}
-use Rattle.per_base.specs.declared.elements.StoreKind.TheVariants.{Keys, Files}
 use Rattle.per_base.specs.declared.errors.PerError.{PerError}
 use Rattle.per_base.specs.declared.errors.PerError.TheVariants as error
 use Rattle.per_base.specs.declared.errors.Unit.TheVariants as unit
@@ -104,10 +103,6 @@ fresh_bad s e salvage is = ap (λ (c : Content). fresh_by s.name e (judged_conte
 
 -- ---- what is exported is an export
 
-pub agrees : (kind : StoreKind) (bytes : List ℕ) → is_content kind bytes ≡ is_content kind bytes
-agrees Keys bytes = refl
-agrees Files bytes = refl
-
 -- an element that is exported
 record IsOne (kind : StoreKind) (e : Entry) (f : Fresh) : Type 0 where
   pub name : f.name ≡ e.name
@@ -136,7 +131,7 @@ module _ (shape : Shape) (s : StorageData) (kind : shape.kind ≡ s.kind) where
               info = subst (λ (k : StoreKind). IsTrue (has_info k e.info)) kind entry.info;
               len =
                   long;
-              content = agrees s.kind bytes ∙ counts;
+              content = counts;
             };
           })
       by false fails = absurd (no_ok (error.IntegrityCorrupted (unit.Part s.name e.name)) f

@@ -33,7 +33,7 @@ use Rattle.run_model.specs.Found.{Found, found_at, found_in, found_with, storage
 use Rattle.per_backup.specs.Backups.{export_for, exported_contents, exported_from, exporting, fresh_of, importing}
 use Rattle.per_backup.specs.Backups.{importing_into, least_mismatch, text_from}
 use Rattle.per_backup.specs.Laws.{AgainLaw, ExportedLaw, ImportsLaw}
-use Rattle.per_backup.proofs.ExportRows.{agrees, fresh_counts}
+use Rattle.per_backup.proofs.ExportRows.{fresh_counts}
 use Rattle.per_backup.proofs.Lists.{get_set, no_ok, ok_same, some_same}
 use Rattle.per_backup.proofs.Rows.{exporting_found, importing_found, importing_missing, with_row}
 
@@ -201,7 +201,7 @@ contents_again s generation (f ∷ fs) each =
     ap (λ (r : Result Fresh PerError). r >>= λ g. exported_contents s
     (map (fresh_entry generation) (fresh_map fs)) >>= λ gs.
     Ok (g ∷ gs))
-    (fresh_again s generation f (sym (agrees s.kind f.bytes) ∙ each.0.content))
+    (fresh_again s generation f each.0.content)
     ∙ ap (λ (r : Result (List Fresh) PerError). r >>= λ gs. Ok (f ∷ gs)) (contents_again s generation fs each.1)
 
 text_again : (s : StorageData) (generation : ℕ) (x : Export) → IsExport x → x.kind ≡ s.kind
