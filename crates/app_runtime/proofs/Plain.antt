@@ -28,7 +28,7 @@ use Rattle.migrate_fns.specs.Rules as fns
 use Rattle.update_plan.specs.declared.contents.StorageContents.{StorageContents}
 use Rattle.update_plan.specs.declared.contents.StorageContents.TheVariants.{Damaged, Missing, Present}
 use Rattle.update_plan.specs.Fates.{gets, by_chain, by_row, fate, of_bytes, of_content, of_type, of_value, refusal}
-use Rattle.update_plan.specs.Fates.{strategy_of, initial_in, type_in}
+use Rattle.update_plan.specs.Fates.{strategy_of, initial_configured, type_configured}
 use Rattle.update_plan.specs.Plans.{Continues, PlansAll, PlansFor, PlansOver, entry_refusal, first_or_none}
 use Rattle.update_plan.specs.Plans.{first_refusal}
 use Rattle.update_plan.specs.Plans.{stored_for, with_first, within_limits}
@@ -208,11 +208,11 @@ row_plain : (rules : List Rule) (now : ℕ) (s : StorageData) (name : List ℕ) 
 row_plain rules now s name configured stored update_rows.nothing = tt
 row_plain rules now s name configured stored (update_rows.initial bytes) = tt
 row_plain rules now s name configured stored (update_rows.kept e) =
-    content_plain rules s.kind s.name name e.info (type_in configured) e.content
+    content_plain rules s.kind s.name name e.info (type_configured configured) e.content
 
 entry_plain : (rules : List Rule) (now : ℕ) (s : StorageData) (e : Entry) → IfSome (entry_refusal rules now s e) IsPlain
 entry_plain rules now s e = row_plain rules now s e.name (element_named s e.name) (Some e)
-    (row_by (strategy_of (element_named s e.name)) s.strategy (initial_in (element_named s e.name)) (Some e))
+    (row_by (strategy_of (element_named s e.name)) s.strategy (initial_configured (element_named s e.name)) (Some e))
 
 first_by : (refused : Option PerError) (others : List PerError) → IfSome refused IsPlain
     → IfSome (first_or_none others) IsPlain → IfSome (first_or_none (cons_option refused others)) IsPlain

@@ -27,7 +27,7 @@ use Rattle.deploy.specs.Building.{StagedAt, staged_progress, staged_root}
 use Rattle.deploy.specs.Building as building
 use Rattle.deploy.specs.Laws.{RootInUseLaw}
 use Rattle.deploy.specs.Roots.{RootAt, free_bank, root_app, root_says}
-use Rattle.deploy_laws.specs.Apps.{App, IsCleanApp, Says, absent, app_at, installed, named, nothing}
+use Rattle.deploy_laws.specs.Apps.{App, IsCleanApp, Says, absent, app_at, installed, named_in_bank, nothing}
 use Rattle.deploy_laws.specs.Laws.{UntouchedAppLaw}
 use Rattle.deploy_laws.specs.Places.{Named}
 use Rattle.deploy_laws.specs.Stands.{IsLater, StandsThroughout}
@@ -291,8 +291,8 @@ module _ (told : Bool) (rules : List Rule) (answers : Answers) (now : ℕ) (b : 
   unfolding app_step
   install_row text tells = sym (ap (λ (row : Result App PerError). concluded r (done_with r row))
       (installed_by now text r.disk.says r.disk.lacking r.disk.states (generation_of s.root.cell)
-      (named s.root.bank (version_said s.root.active))
-      (option_map (λ v. named (1 - s.root.bank) (version_said v)) s.root.previous)
+      (named_in_bank s.root.bank (version_said s.root.active))
+      (option_map (λ v. named_in_bank (1 - s.root.bank) (version_said v)) s.root.previous)
       (says_in_use in_use told old.image b.app (staged_root s) (record { memory = is.memory.root; disk = is.root_on })
       tells)))
 

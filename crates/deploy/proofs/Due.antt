@@ -12,7 +12,7 @@ use Rattle.guarded_cell.specs.Cells.{generation_of}
 use Rattle.manifest.specs.Reading.{broken_rule, deployment_in}
 use Rattle.root_text.specs.declared.versions.VersionText.{VersionText}
 use Rattle.root_text.specs.Views.{version_said}
-use Rattle.deploy_laws.specs.Apps.{App, absent, named}
+use Rattle.deploy_laws.specs.Apps.{App, absent, named_in_bank}
 use Rattle.deploy_laws.specs.Places.{Named}
 use Rattle.deploy_rows.specs.Rows.{◌>>=◌, Offer, deployment_of, installed_app, installing, newer_version, not_worn}
 use Rattle.deploy_rows.specs.Rows.{offered}
@@ -79,7 +79,7 @@ module _ (busy : Option (List ℕ)) (text : List ℕ) (i : Installed) (none : i.
 
   pub offer_takes : busy ≡ None → TakesMemory (offered busy text (root_app (root.Installed i) []))
   offer_takes free =
-      let active : Named = named i.bank (version_said i.active) in
+      let active : Named = named_in_bank i.bank (version_said i.active) in
       takes_by (offered busy text (root_app (root.Installed i) []))
       (deployment_of text >>= newer_version active (generation_of i.cell))
       (by_text busy text i none free (deployment_of text) refl)
@@ -99,7 +99,8 @@ open_refuses : (name : List ℕ) (i : Installed) (v : VersionText) → i.previou
 unfolding rolling_back
 open_refuses name i v is = ap (λ (p : Option VersionText).
     rollback_with (Some name) (root_app (root.Installed i) []) (generation_of i.cell)
-    (named i.bank (version_said i.active)) (option_map (λ (w : VersionText). named (1 - i.bank) (version_said w)) p)) is
+    (named_in_bank i.bank (version_said i.active)) (option_map
+        (λ (w : VersionText). named_in_bank (1 - i.bank) (version_said w)) p)) is
 
 unless_open : (busy : Option (List ℕ)) (i : Installed) (v : VersionText) → i.previous ≡ Some v → (busy ≡ None → ⊥)
     → TakesMemory (rolling_back busy (root_app (root.Installed i) []))

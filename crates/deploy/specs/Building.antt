@@ -8,7 +8,7 @@ use Rattle.guarded_cell.specs.Cells.{generation_of}
 use Rattle.update_plan.specs.Plans.{AllFit}
 use Rattle.root_text.specs.Views.{version_said}
 use Rattle.deploy_laws.specs.Places.{Named, shapes_in}
-use Rattle.deploy_laws.specs.Apps.{named}
+use Rattle.deploy_laws.specs.Apps.{named_in_bank}
 use Rattle.deploy_rows.specs.Rows.{InProgress}
 use Rattle.deploy.specs.declared.roots.Root.{Root}
 use Rattle.deploy.specs.declared.roots.Root.TheVariants.{Installed}
@@ -37,7 +37,7 @@ staged_root s = Installed s.root
 
 -- the next version, in the other bank
 abbrev pub offered_in : Staged → Named
-offered_in s = named (1 - s.root.bank) (version_said s.version)
+offered_in s = named_in_bank (1 - s.root.bank) (version_said s.version)
 
 -- what it keeps in memory
 pub record IsStaged (app : ℕ) (s : Staged) : Type 0 where

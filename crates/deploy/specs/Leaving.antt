@@ -6,7 +6,8 @@ use Rattle.guarded_cell.specs.Cells.{CellAt, generation_of}
 use Rattle.guarded_cell.specs.declared.cell.Cell.{Cell}
 use Rattle.element_state.specs.States.{greatest_generation, store_at}
 use Rattle.root_text.specs.Views.{version_said}
-use Rattle.deploy_laws.specs.Apps.{App, AreClean, Says, absent, installed, named, nothing, says_at, shapes_named}
+use Rattle.deploy_laws.specs.Apps.{App, AreClean, Says, absent, installed, named_in_bank, nothing, says_at}
+use Rattle.deploy_laws.specs.Apps.{shapes_named}
 use Rattle.deploy.specs.declared.leaving.Lone.{Lone}
 use Rattle.deploy.specs.declared.roots.Outcome.{Outcome}
 use Rattle.deploy.specs.declared.roots.Root.{Root}
@@ -19,7 +20,7 @@ app_saying image app says = record { says = says; lacking = []; states = map (st
 
 -- what the next root says in which a version stands alone
 abbrev pub lone_says : Lone → Says
-lone_says l = installed (generation_of l.cell + 1) (named l.bank (version_said l.version)) None
+lone_says l = installed (generation_of l.cell + 1) (named_in_bank l.bank (version_said l.version)) None
 
 -- what the next root says in which none does: one without a register is formatted
 abbrev pub empty_says : Option Cell → Says

@@ -16,7 +16,7 @@ use Rattle.per_base.specs.Refusals.{refuse, refused_by}
 use Rattle.file_core.specs.declared.cursor.Cursor.{Cursor}
 use Rattle.file_core.specs.declared.room.Room.{Room}
 use Rattle.file_core.specs.Infos.{info_changed, opened_info}
-use Rattle.file_core.specs.Places.{writes, moved, write_place, overwritten, within}
+use Rattle.file_core.specs.Places.{writes, moved, write_place, overwritten, moved_within}
 
 -- a content that is readable, or of which nothing verifies
 abbrev pub NoSalvage : Content → Type 0
@@ -69,4 +69,4 @@ abbrev pub cut : Cursor → Element → ℕ → ℕ → Result (Cursor × Elemen
 cut cursor file size now =
     refuse (not (writes cursor.kind)) IllegalWriteAccess
     (refuse (nat_lt (length (bytes_of file.content)) size) InvalidSize
-    (Ok (within cursor size, changed_to (take size (bytes_of file.content)) now Application file)))
+    (Ok (moved_within cursor size, changed_to (take size (bytes_of file.content)) now Application file)))

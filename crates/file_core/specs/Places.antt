@@ -87,8 +87,8 @@ abbrev pub overwritten : ℕ → List ℕ → List ℕ → List ℕ
 overwritten from piece bytes = take from bytes ++ piece ++ drop (from + length piece) bytes
 
 -- a place beyond the size becomes the size
-abbrev pub within : Cursor → ℕ → Cursor
-within cursor size = moved cursor (min cursor.position size)
+abbrev pub moved_within : Cursor → ℕ → Cursor
+moved_within cursor size = moved cursor (min cursor.position size)
 
 abbrev pub set_position : Cursor → ℕ → ℕ → Result Cursor PerError
 set_position cursor size at = refuse (nat_lt size at) InvalidPosition (Ok (moved cursor at))

@@ -24,7 +24,7 @@ use Rattle.per_base.specs.Refusals.{refuse, refused_by, with_initial}
 use Rattle.file_core.specs.declared.cursor.Cursor.{Cursor}
 use Rattle.file_core.specs.declared.room.Room.{Room}
 use Rattle.file_core.specs.Files.{written, cut, changed_to, opened_at, too_long}
-use Rattle.file_core.specs.Places.{writes, write_place, overwritten, moved, within, is_bad_mode, opening_place}
+use Rattle.file_core.specs.Places.{writes, write_place, overwritten, moved, moved_within, is_bad_mode, opening_place}
 use Rattle.file_handles.specs.declared.handle.Handle.{Handle}
 use Rattle.file_handles.specs.declared.storage.Storage.{Storage}
 use Rattle.file_handles.specs.Sessions.{Session, open_at, with_file, readable, with_cursor, with_handle, with_changed}
@@ -255,7 +255,7 @@ cut_good : (cursor : Cursor) (file : Element) (size now : ℕ) (new : Cursor × 
     → cut cursor file size now ≡ Ok new → is_readable new.1.content ≡ true
 cut_good cursor file size now new is =
     let after : Cursor × Element = (
-      within cursor size,
+      moved_within cursor size,
       changed_to (take size (bytes_of file.content)) now Application
           file,
     ) in

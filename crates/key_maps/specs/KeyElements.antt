@@ -47,8 +47,8 @@ abbrev pub judged_key_content : Content → Content
 judged_key_content (Good bytes) = cond (is_encoding bytes) (Good bytes) (Bad None)
 judged_key_content (Bad salvage) = Bad (judged_salvage salvage)
 
-abbrev pub judged : Element → Element
-judged element = record element { content = judged_key_content element.content }
+abbrev pub key_judged : Element → Element
+key_judged element = record element { content = judged_key_content element.content }
 
 -- an entry of a storage of keys
 pub record IsKeyEntry (entry : Entry) : Type 0 where
@@ -58,7 +58,7 @@ pub record IsKeyEntry (entry : Entry) : Type 0 where
 
 -- the keys that these entries are
 abbrev pub judged_map : List Entry → Map
-judged_map entries = map (λ (e : Entry). (e.name, judged (entry_element e))) entries
+judged_map entries = map (λ (e : Entry). (e.name, key_judged (entry_element e))) entries
 
 abbrev pub entry_names : List Entry → List (List ℕ)
 entry_names entries = map (λ (e : Entry). e.name) entries

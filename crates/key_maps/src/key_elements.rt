@@ -5,7 +5,7 @@ ghost use Rattle.per_base.specs.declared.elements.Content.TheVariants.{Bad, Good
 ghost use Rattle.per_base.specs.Contents as contents;
 ghost use Rattle.per_base.specs.Contents.{bytes_of, is_readable};
 ghost use Rattle.key_maps.specs.Changes.{same_key};
-ghost use Rattle.key_maps.specs.KeyElements.{IsKey, IsKeyEntry, entry_element, judged, judged_key_content};
+ghost use Rattle.key_maps.specs.KeyElements.{IsKey, IsKeyEntry, entry_element, judged_key_content, key_judged};
 ghost use Rattle.key_maps.specs.KeyElements.{judged_salvage, key_of};
 ghost use Rattle.key_maps.specs.Shown.{content_shown, good_bytes, salvage_in};
 
@@ -59,7 +59,7 @@ impl KeyElement {
     /// The key that this entry is: bytes that encode no value are unreadable, and no salvage.
     pub fn judge(alloc: Global, entry: &Entry) -> Result<KeyElement, AllocError>
         requires { IsKeyEntry entry.now }
-        ensures { IfOk result (λ key. key ≡ judged (entry_element entry.now)) }
+        ensures { IfOk result (λ key. key ≡ key_judged (entry_element entry.now)) }
     {
         let content = judge_content(alloc, &entry.content)?;
         Ok(KeyElement {
@@ -124,7 +124,7 @@ impl KeyElement {
 
 /// The content that this one is: bytes that encode no value are unreadable, and no salvage.
 fn judge_content(alloc: Global, content: &Content) -> Result<KeyContent, AllocError>
-    ensures { IfOk result (λ judged. content_shown judged ≡ judged_key_content content.now) }
+    ensures { IfOk result (λ answer. content_shown answer ≡ judged_key_content content.now) }
 {
     match content {
         Content::Good(bytes) => match read(alloc, bytes.as_slice())? {

@@ -19,16 +19,16 @@ use Rattle.deployment_model.specs.Data.{StorageData}
 use Rattle.deployment_model.specs.Lookups.{initial_of}
 use Rattle.key_maps.specs.KeyElements.{key_of}
 use Rattle.key_maps.specs.Shown.{good_bytes}
-use Rattle.kvs_core.specs.Calls.{as_kind, get_any, get_as, read, reset_key, stored_kind, takes_any, with_placed}
+use Rattle.kvs_core.specs.Calls.{as_kind, get_any, get_as, read_key, reset_key, stored_kind, takes_any, with_placed}
 use Rattle.kvs_core.specs.Calls.{unless_differ, unless_refused, unless_typed, with_place, with_room}
 
 pub read_stored : (c : StorageData) (name : List ℕ) (content : Content) (bytes : List ℕ) (value : Tree)
-    → Some bytes ≡ good_bytes content → decoded bytes ≡ Some value → read c name content ≡ Ok value
+    → Some bytes ≡ good_bytes content → decoded bytes ≡ Some value → read_key c name content ≡ Ok value
 read_stored c name (Good there) bytes value is reads = let same : there ≡ bytes = cc in rw (same, reads) refl
 read_stored c name (Bad salvage) bytes value is reads = absurd (cc)
 
 pub read_bad : (c : StorageData) (name : List ℕ) (content : Content) → None ≡ good_bytes content
-    → read c name content ≡ Err (IntegrityCorrupted (Part c.name name))
+    → read_key c name content ≡ Err (IntegrityCorrupted (Part c.name name))
 read_bad c name (Good there) is = absurd (cc)
 read_bad c name (Bad salvage) is = refl
 

@@ -39,12 +39,12 @@ abbrev pub readable_value : Option Tree → Result Tree PerError
 readable_value None = Err KeyNotFound
 readable_value (Some value) = Ok value
 
-abbrev pub read : StorageData → List ℕ → Content → Result Tree PerError
-read c name (Good bytes) = readable_value (decoded bytes)
-read c name (Bad salvage) = Err (IntegrityCorrupted (Part c.name name))
+abbrev pub read_key : StorageData → List ℕ → Content → Result Tree PerError
+read_key c name (Good bytes) = readable_value (decoded bytes)
+read_key c name (Bad salvage) = Err (IntegrityCorrupted (Part c.name name))
 
 abbrev pub get_any : StorageData → Map → List ℕ → Result Tree PerError
-get_any c m name = found (element_at m name) (λ key. read c name key.content)
+get_any c m name = found (element_at m name) (λ key. read_key c name key.content)
 
 -- refused where the types differ, with both
 abbrev pub unless_differ : {A : Type 0} → Kind → Kind → Result A PerError → Result A PerError

@@ -117,12 +117,12 @@ fine_value : (value : Option Tree) → IsFine (kvs.readable_value value)
 fine_value None = tt
 fine_value (Some value) = tt
 
-fine_read : (c : StorageData) (name : List ℕ) (content : Content) → IsFine (kvs.read c name content)
+fine_read : (c : StorageData) (name : List ℕ) (content : Content) → IsFine (kvs.read_key c name content)
 fine_read c name (Good bytes) = fine_value (decoded bytes)
 fine_read c name (Bad salvage) = tt
 
 fine_get : (c : StorageData) (m : Map) (name : List ℕ) → IsFine (kvs.get_any c m name)
-fine_get c m name = fine_found (element_at m name) (λ key. kvs.read c name key.content)
+fine_get c m name = fine_found (element_at m name) (λ key. kvs.read_key c name key.content)
     (λ key. fine_read c name key.content)
 
 fine_as : (asked : Kind) (row : Result Tree PerError) → IsFine row → IsFine (kvs.as_kind asked row)

@@ -35,11 +35,11 @@ pub data Fate : Type 0 where
 abbrev pub strategy_of : Option ElementData → Option ElementStrategy
 strategy_of configured = option_and_then (λ (e : ElementData). e.strategy) configured
 
-abbrev pub initial_in : Option ElementData → Option (List ℕ)
-initial_in configured = option_and_then (λ (e : ElementData). e.initial) configured
+abbrev pub initial_configured : Option ElementData → Option (List ℕ)
+initial_configured configured = option_and_then (λ (e : ElementData). e.initial) configured
 
-abbrev pub type_in : Option ElementData → Option Kind
-type_in configured = option_and_then (λ (e : ElementData). e.value_type) configured
+abbrev pub type_configured : Option ElementData → Option Kind
+type_configured configured = option_and_then (λ (e : ElementData). e.value_type) configured
 
 -- a stored file that is overwritten changes now, and any other file that gets its initial content is made now
 abbrev pub initial_info : StoreKind → Option ElementStrategy → Option Entry → ℕ → Option FileInfo
@@ -81,13 +81,14 @@ abbrev pub by_row : List Rule → ℕ → StorageData → List ℕ → Option El
 by_row rules now s name configured stored nothing = goes
 by_row rules now s name configured stored (initial bytes) =
     gets (record { name = name; info = initial_info s.kind (strategy_of configured) stored now; bytes = bytes })
-by_row rules now s name configured stored (kept e) = of_content rules s.kind s.name name e.info (type_in configured)
+by_row rules now s name configured stored (kept e) = of_content rules s.kind s.name name e.info
+    (type_configured configured)
     e.content
 
 -- of a name in a storage, by what the storage configures and what is stored
 abbrev pub fate : List Rule → ℕ → StorageData → List ℕ → Option ElementData → Option Entry → Fate
 fate rules now s name configured stored = by_row rules now s name configured stored
-    (row_by (strategy_of configured) s.strategy (initial_in configured) stored)
+    (row_by (strategy_of configured) s.strategy (initial_configured configured) stored)
 
 abbrev pub refusal : Fate → Option PerError
 refusal goes = None
