@@ -20,6 +20,6 @@
 mod laws;
 
 pub use laws::{
-    adopting_keeps, contents_keep, index_keeps, rebuilding_keeps, mending_keeps,
-    outcomes_are_refused, places_are_clean, places_stand_apart, untouched_is_kept, use_is_adopted,
+    adopting_keeps, contents_keep, index_keeps, mending_keeps, outcomes_are_refused,
+    places_are_clean, places_stand_apart, rebuilding_keeps, untouched_is_kept, use_is_adopted,
 };

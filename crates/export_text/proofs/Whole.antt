@@ -28,7 +28,7 @@ use Rattle.export_text.specs.Exports.{IsExport, IsExportable, IsExportedElement,
 use Rattle.export_text.specs.Exports.{export_body, export_of, export_text, fresh_at, fresh_text, header_at, header_text}
 use Rattle.export_text.specs.Exports.{mark, marked_at, names_of}
 use Rattle.export_text.specs.Views.{Gives}
-use Rattle.export_text.proofs.FieldReaders.{coded_kind_again, info_reader, kind_back, len_reader, name_reader}
+use Rattle.index_text.specs.lemmas.FieldReaders.{coded_kind_again, info_reader, kind_back, len_reader, name_reader}
 use Rattle.export_text.proofs.Order.{ascends_from_sorted, sorted_from_ascends}
 
 -- ---- an element

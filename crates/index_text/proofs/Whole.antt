@@ -21,8 +21,8 @@ use Rattle.index_text.specs.Reading.{coded_kind, len_at, name_at}
 use Rattle.per_base.specs.FieldLaws.{IsBytes, IsReader, Takes, Takes-then, bind_some, byte_reader, bytes_reader}
 use Rattle.per_base.specs.FieldLaws.{many_reader, moved, number_reader, only_some, only_true, some_is, wide_16, wide_32}
 use Rattle.per_base.specs.Contents.{blocks_for}
-use Rattle.index_text.proofs.FieldReaders.{changed_reader, info_reader, coded_kind_again, kind_back, len_reader}
-use Rattle.index_text.proofs.FieldReaders.{name_reader}
+use Rattle.index_text.specs.lemmas.FieldReaders.{changed_reader, info_reader, coded_kind_again, kind_back, len_reader}
+use Rattle.index_text.specs.lemmas.FieldReaders.{name_reader}
 use Rattle.index_text.specs.lemmas.Order.{apart_from_test, ascends_from_sorted, sorted_from_ascends, test_from_apart}
 
 -- ---- an entry

@@ -1,9 +1,9 @@
--- The fields of an element are read exactly.
-use Rattle.std.proofs.Common.{◌≡◌, ℕ, zero, suc, ◌^◌, ◌<◌, ◌≤◌, true, leb, List, [], ◌∷◌, ◌++◌, length, Option, Some}
-use Rattle.std.proofs.Common.{None, refl, sym, ap, subst, ◌∙◌, append_assoc, arith}
-use Rattle.std.specs.Prelude.{IsTrue}
+-- The fields of an element, its name, info and length, are read exactly.
+use Rattle.std.proofs.Common.{◌≡◌, ℕ, zero, suc, ◌^◌, ◌<◌, ◌≤◌, true, false, cond, eqb, leb, List, [], ◌∷◌, ◌++◌}
+use Rattle.std.proofs.Common.{length, Option, Some, None, refl, sym, ap, subst, ◌∙◌, append_assoc, arith}
+use Rattle.std.specs.Prelude.{◌||◌, IsTrue}
 use Rattle.std.specs.Int.{w32, w64, to_le_bytes}
-use Rattle.std.proofs.lemmas.Bool.{and_parts, cond-false, false_from_ne_true, le-leb, leb-true}
+use Rattle.std.proofs.lemmas.Bool.{and_parts, cond-false, eqb-true, false_from_ne_true, le-leb, leb-true}
 use Rattle.std.proofs.lemmas.Bool.Decides.{nat_tests}
 use Rattle.std.proofs.lemmas.Str.{IsUtf8-from_ascii}
 use Rattle.std.specs.List.{list_all}
@@ -14,10 +14,11 @@ use Rattle.per_base.specs.declared.elements.StoreKind.{StoreKind}
 use Rattle.per_base.specs.declared.elements.StoreKind.TheVariants.{Keys, Files}
 use Rattle.per_base.specs.declared.elements.FileInfo.{FileInfo}
 use Rattle.per_base.specs.Names.{IsName, in_name, is_name}
-use Rattle.index_text.specs.Rules.{InfoInRange, InfoIsInRange, has_info, max_len}
-use Rattle.index_text.specs.Spelling.{cause_code, file_info_text, info_text, name_text, store_kind_code}
+use Rattle.index_text.specs.Rules.{InfoInRange, InfoIsInRange, has_changed, has_info, max_len}
+use Rattle.index_text.specs.Spelling.{cause_code, changed_text, file_info_text, info_text, name_text, store_kind_code}
 use Rattle.per_base.specs.Fields.{byte_at, bytes_at, number_at, only_if}
-use Rattle.index_text.specs.Reading.{cause_at, coded_cause, file_info_at, info_at, coded_kind, len_at, name_at}
+use Rattle.index_text.specs.Reading.{cause_at, coded_cause, changed_at, file_info_at, info_at, coded_kind, len_at}
+use Rattle.index_text.specs.Reading.{name_at}
 use Rattle.per_base.specs.FieldLaws.{IsBytes, IsReader, Takes, Takes-then, bind_some, byte_reader, bytes_reader}
 use Rattle.per_base.specs.FieldLaws.{code_step, number_reader, only_some, moved, only_true, wide_32, wide_64}
 
@@ -184,6 +185,34 @@ info_again Files (Some i) rest fits = rw (file_info_again i rest fits.1) refl
 pub info_reader : (kind : StoreKind) → IsReader (info_at kind) info_text
     (λ i. IsTrue (has_info kind i) × InfoIsInRange i)
 info_reader kind = record { takes = info_takes kind; again = info_again kind }
+
+-- ---- the number of the last change
+
+changed_takes : (format : ℕ) (bytes : List ℕ) (n : ℕ) (rest : List ℕ) → IsBytes bytes
+    → changed_at format bytes ≡ Some (n, rest) → Takes bytes (changed_text format n) rest
+    × (IsTrue (has_changed format n) × (n < 2 ^ 64))
+unfolding changed_at
+changed_takes format bytes n rest fits =
+    elim (eqb format 2) as (λ b. cond b (number_at w64 bytes) (Some (0, bytes)) ≡ Some (n, rest)
+    → Takes bytes (cond b (to_le_bytes w64 n) []) rest × (IsTrue (b || eqb n 0) × (n < 2 ^ 64))) [
+      | true ↦ λ e. let t = moment.takes bytes n rest fits e in (t.0, (refl, t.1))
+      | false ↦ λ e. moved (λ (p : ℕ × List ℕ). Takes bytes [] p.1 × (IsTrue (eqb p.0 0) × (p.0 < 2 ^ 64))) (0, bytes)
+          (n, rest) e (record { parts = refl; rest_fits = fits }, (refl, omega arith))
+    ]
+
+changed_again : (format n : ℕ) (rest : List ℕ) → IsTrue (has_changed format n) × (n < 2 ^ 64)
+    → changed_at format (changed_text format n ++ rest) ≡ Some (n, rest)
+unfolding changed_at
+changed_again format n rest fits =
+    elim (eqb format 2) as (λ b. IsTrue (b || eqb n 0) → cond b (number_at w64 (cond b (to_le_bytes w64 n) [] ++ rest))
+    (Some (0, cond b (to_le_bytes w64 n) [] ++ rest)) ≡ Some (n, rest)) [
+      | true ↦ λ e. moment.again n rest fits.1
+      | false ↦ λ e. ap (λ (k : ℕ). Some (k, rest)) (sym (eqb-true n 0 e))
+    ] fits.0
+
+pub changed_reader : (format : ℕ) → IsReader (changed_at format) (changed_text format)
+    (λ n. IsTrue (has_changed format n) × (n < 2 ^ 64))
+changed_reader format = record { takes = changed_takes format; again = changed_again format }
 
 -- ---- the length
 
