@@ -36,7 +36,7 @@ lacks (Some value) (Some given) inside = not (inside && bytes_eq given value)
 abbrev pub lacking : (value : Option (List ℕ)) → Place → (blocks : List ℕ) (len : ℕ) (hash : List ℕ) → Image → List ℕ
 lacking value place blocks len hash image = map suc (filter
     (λ c. lacks value (counting (image (area place c)) blocks len hash)
-        (has_all_bytes (image (area place c)) blocks len))
+    (has_all_bytes (image (area place c)) blocks len))
     (range_with_len 0 place.copies))
 
 -- the same, by what each copy gives and whether its file has it all

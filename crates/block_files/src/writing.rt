@@ -1,4 +1,4 @@
-//! Writes of contents into the areas of copies. Nothing here takes memory.
+//! Writes of contents into the areas of copies. Nothing here allocates.
 
 ghost use Rattle.std.specs.Prelude.{◌≡◌, ◌≢◌, ◌<◌, ◌≤◌, ◌+◌, ◌-◌, ◌*◌, ℕ, IsTrue, OnOk, OnErr, length};
 ghost use Rattle.std.specs.Prelude.{slice_index, true};

@@ -1,4 +1,4 @@
--- A refusal that the root alone decides is due at once; what is due after it takes memory.
+-- A refusal that the root alone decides is due at once; what is due after it allocates.
 use Rattle.std.proofs.Common.{◌≡◌, ◌⊎◌, ⊎_elim, ℕ, ◌-◌, List, [], Bool, true, false, Option, None, Some, refl, sym, ap}
 use Rattle.std.proofs.Common.{◌∙◌, subst}
 use Rattle.std.specs.Prelude.{Result, Ok, Err, cond, nat_le, option_map}
@@ -100,7 +100,7 @@ unfolding rolling_back
 open_refuses name i v is = ap (λ (p : Option VersionText).
     rollback_with (Some name) (root_app (root.Installed i) []) (generation_of i.cell)
     (named_in_bank i.bank (version_said i.active)) (option_map
-        (λ (w : VersionText). named_in_bank (1 - i.bank) (version_said w)) p)) is
+    (λ (w : VersionText). named_in_bank (1 - i.bank) (version_said w)) p)) is
 
 unless_open : (busy : Option (List ℕ)) (i : Installed) (v : VersionText) → i.previous ≡ Some v → (busy ≡ None → ⊥)
     → TakesMemory (rolling_back busy (root_app (root.Installed i) []))

@@ -55,7 +55,7 @@ module _ (busy : Option (List ℕ)) (text : List ℕ) (i : Installed) where
         ≡ Err (error.ResourceBusy (holder.Storage name))
     is_busy name is = over busy text i None none
         ∙ ap (λ (b : Option (List ℕ)). offer_over b text (generation_of i.cell)
-            (named_in_bank i.bank (version_said i.active))
+        (named_in_bank i.bank (version_said i.active))
         None) is
 
     abbrev pub active : Named

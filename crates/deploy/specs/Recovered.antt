@@ -1,4 +1,4 @@
--- What is made of a closed storage by what was read of it.
+-- What a closed storage is rebuilt to from what was read of it.
 use Rattle.std.specs.Prelude.{◌≤◌, ℕ, List, length, map, Option}
 use Rattle.std.specs.List.{AllByRecursion}
 use Rattle.std.specs.List.Sorted.{IsStrictlySortedBy}

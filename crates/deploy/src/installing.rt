@@ -39,7 +39,7 @@ use std::alloc::Global;
 /// initial contents, and then the root is written.
 ///
 /// Refusals, the first that holds: `IntegrityCorrupted` with the root where it is bad; `AlreadyInstalled`;
-/// `ManifestRejected` with the least rule that is broken; `LimitReached` with `Generations` where the root has none
+/// `ManifestRejected` with the first violated rule; `LimitReached` with `Generations` where the root has none
 /// left. They come before any call of the disk.
 ///
 /// # Errors

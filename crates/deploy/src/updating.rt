@@ -68,7 +68,7 @@ pub enum Begin {
 ///
 /// Refusals, the first that holds: `IntegrityCorrupted` with the root where it is bad; `NotInstalled`;
 /// `UpdateNotFinished` with the previous version; `ResourceBusy` where `busy` names an open storage; `ManifestRejected`
-/// with the least rule that is broken; `VersionNotNewer`; those of the plan; `LimitReached` with `Generations`. Those
+/// with the first violated rule; `VersionNotNewer`; those of the plan; `LimitReached` with `Generations`. Those
 /// before the plan come before any call of the disk.
 ///
 /// # Errors

@@ -64,7 +64,7 @@ pub fn wipe<D: Disk>(
     ensures early { (e : PerError) → wiping (option_map (λ n. n.now) busy.entry) (root_app root []) ≡ Err e
         → disk.new ≡ disk.old }
 
-    // Where no storage is open, no refusal takes memory.
+    // Where no storage is open, no refusal allocates.
     ensures due { (e : PerError) → wiping (option_map (λ n. n.now) busy.entry) (root_app root []) ≡ Err e
         → busy.entry ≡ None → IsOk result }
     ensures cause { IsErrOf result Stop.Device → Rose (D.medium disk.old).faults (D.medium disk.new).faults }

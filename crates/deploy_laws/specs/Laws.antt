@@ -123,7 +123,7 @@ OthersCaseLaw = (one other : ℕ) (start : Image) (c : Case) → ¬ (one ≡ oth
 
 -- ---- chance and damage
 
--- what is granted of an application holds of each storage that its root names after a stop and damage
+-- what is assumed of an application holds of each storage that its root names after a stop and damage
 abbrev pub CoveredLaw : Type 0
 CoveredLaw = (app : ℕ) (c : Case) (damaged : List ℕ) (image : Image) (shape : Shape) → IsSoundApp app c
     → DecaysApp app damaged c.left image

@@ -43,7 +43,7 @@ said_or_broken (Some d) rule = Ok d
 said_or_broken None None = Err (error.ManifestRejected 0)
 said_or_broken None (Some rule) = Err (error.ManifestRejected rule)
 
--- the deployment that a manifest says, or the least rule that it breaks
+-- the deployment that a manifest says, or the first rule that it violates
 unfoldable pub deployment_of : List ℕ → Result DeploymentData PerError
 deployment_of text = said_or_broken (deployment_in text) (broken_rule text)
 

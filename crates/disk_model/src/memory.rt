@@ -19,7 +19,8 @@ use crate::orders::Orders;
 use std::alloc::{AllocError, Global};
 use std::collections::BTreeMap;
 
-/// A disk in memory. It tells all of its bytes, and keeps a record of its calls, so that it answers for every moment.
+/// A disk in memory. All of its bytes are modelled, and it keeps a record of its calls, so that it answers for every
+/// moment.
 #[derive(Drop)]
 pub struct MemDisk {
     alloc: Global,

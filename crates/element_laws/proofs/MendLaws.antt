@@ -250,7 +250,7 @@ listed (x ∷ xs) b (suc i) lt e = listed xs b i (omega (arith, lt)) e
 still_there : AsideLaw → (e : IndexEntry) (place : Place) (copy : ℕ) (now : Image) (file : List ℕ) → copy < place.copies
     → e.len ≤ 256 * length e.blocks
     → KeepsBlockBytes e.blocks (now (area place copy)) file → has_all_bytes (now (area place copy)) e.blocks e.len
-        ≡ true
+    ≡ true
     → (counting file e.blocks e.len e.hash ≡ counting (now (area place copy)) e.blocks e.len e.hash)
     × (has_all_bytes file e.blocks e.len ≡ true)
 still_there aside e place copy now file lt enough keeps is =

@@ -39,7 +39,7 @@ abbrev pub opened_of : State → Option View
 opened_of (Opens v others) = Some v
 opened_of (Corrupt salvage others) = None
 
--- ---- what is so of all that is read, whatever the disk tells
+-- ---- what holds of all that is read, whether or not the disk is modelled
 
 -- an element that was read by an entry of an index
 pub record IsReadBy (copies : ℕ) (e : IndexEntry) (f : Entry) : Type 0 where
@@ -68,7 +68,7 @@ pub record IsFit (shape : Shape) (text : FitText) : Type 0 where
 abbrev pub HasBlocks : IndexEntry → Type 0
 HasBlocks e = length e.blocks ≡ blocks_for e.len
 
--- ---- what is so where the disk's bytes are modelled
+-- ---- what holds where the disk's bytes are modelled
 
 -- the content of an entry counts in each copy that does not lack the element
 abbrev pub Vouches : Image → Place → IndexEntry → Entry → Type 0

@@ -1,4 +1,4 @@
--- What is so of every view that is read, whatever the disk tells.
+-- What holds of every view that is read, whether or not the disk is modelled.
 use Rattle.std.specs.Prelude.{◌≤◌, length, map, IsTrue}
 use Rattle.std.specs.List.{AllByRecursion}
 use Rattle.std.specs.List.Sorted.{IsStrictlySortedBy}

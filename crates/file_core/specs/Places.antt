@@ -40,7 +40,7 @@ advanced cursor by = moved cursor (cursor.position + by)
 abbrev pub is_eof : Cursor → List ℕ → Bool
 is_eof cursor bytes = nat_le (length bytes) cursor.position
 
--- what is made of the bytes that are left, or the refusals of reading
+-- what a call gives for the bytes that are left, or the refusals of reading
 abbrev pub reading : {A : Type 0} → Cursor → List ℕ → (List ℕ → A) → Result A PerError
 reading cursor bytes use_rest =
     refuse (not (reads cursor.kind)) IllegalReadAccess

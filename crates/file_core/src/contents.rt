@@ -67,7 +67,7 @@ pub fn recover_content(content: &mut Content) -> Option<usize>
 
 /// Puts the piece into the bytes from there on: it overwrites what stands there, and extends the bytes at their end.
 ///
-/// Takes memory only for what reaches past the end. After an error the bytes are as they were.
+/// Allocates only for what reaches past the end. After an error the bytes are as they were.
 fn overwrite(bytes: &mut Vec<u8>, from: usize, piece: &[u8]) -> Result<(), AllocError>
     requires { from ≤ length bytes.old.items }
     ensures ok { OnOk result (bytes.new.items ≡ overwritten from piece.now bytes.old.items) }

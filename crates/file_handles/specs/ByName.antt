@@ -16,7 +16,7 @@ use Rattle.file_handles.specs.declared.storage.Storage.{Storage}
 use Rattle.file_handles.specs.Opening.{busy, too_many}
 use Rattle.file_handles.specs.Sessions.{Session, blocking, room_for}
 
--- what is made of the file of a name, or that there is none
+-- what a call gives for the file of a name, or that there is none
 abbrev pub found : {A : Type 0} → Option Element → (Element → Result A PerError) → Result A PerError
 found None call = Err FileNotFound
 found (Some file) call = call file
@@ -31,8 +31,8 @@ info_or (Some info) = Ok info
 abbrev pub file_info : Map → List ℕ → Result FileInfo PerError
 file_info files name = found (element_at files name) (λ file. info_or file.info)
 
--- the refusals of each call that changes a file by its name, and what it makes of the file: any handle on it stands in
--- the way
+-- the refusals of each call that changes a file by its name, and what it makes of the file: any handle on it
+-- conflicts
 abbrev pub unless_held : {A : Type 0} → Storage → Session → List ℕ → (Element → Result A PerError) → Result A PerError
 unless_held storage s name call =
     refuse storage.read_only IllegalWriteAccess

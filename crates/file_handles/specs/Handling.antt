@@ -14,7 +14,7 @@ use Rattle.file_handles.specs.declared.storage.Storage.{Storage}
 use Rattle.file_handles.specs.Sessions.{Session, open_at, with_cursor, with_handle, with_changed, without_handle}
 use Rattle.file_handles.specs.Sessions.{room_for}
 
--- what is made of an open handle and its file; a number that no handle has is not open
+-- what a call gives for an open handle and its file; a number that no handle has is not open
 abbrev pub on_open : {A : Type 0} → Option (Handle × Element) → (Handle → Element → Result A PerError)
     → Result A PerError
 on_open None call = Err NotOpen

@@ -49,11 +49,11 @@ abbrev pub lowest : Handles → Option ℕ
 lowest [] = None
 lowest (e ∷ es) = Some e.0
 
--- whether a handle stands in the way of an opening of this kind: a writer is alone with its file
+-- whether a handle conflicts with an opening of this kind: a writer is alone with its file
 abbrev pub blocks : OpenKind → List ℕ → Handle → Bool
 blocks kind name handle = bytes_eq handle.name name && (writes kind || writes handle.cursor.kind)
 
--- the lowest handle that stands in the way
+-- the lowest conflicting handle
 abbrev pub blocking : OpenKind → List ℕ → Handles → Option ℕ
 blocking kind name handles = option_map (λ e. e.0) (find (λ e. blocks kind name e.1) handles)
 

@@ -15,7 +15,7 @@ use Rattle.file_handles.specs.Handling.{write}
 use Rattle.file_handles.specs.Opening.{can_open, open_file, would_fit}
 use Rattle.file_handles.specs.Sessions.{Session, without_handle}
 
--- what is made of an answer; a refusal stays
+-- what the next call gives for an answer; a refusal stays
 abbrev pub and_then : {A B : Type 0} → Result A PerError → (A → Result B PerError) → Result B PerError
 and_then (Ok answer) next = next answer
 and_then (Err error) next = Err error

@@ -15,7 +15,8 @@ use crate::record::{FlashCall, PageList, blank_block, blank_pages, page_in, set_
 use disk_model::Orders;
 use std::alloc::{AllocError, Global};
 
-/// A flash in memory. It tells all of its pages, and keeps a record of its calls, so that it answers for every moment.
+/// A flash in memory. All of its pages are modelled, and it keeps a record of its calls, so that it answers for every
+/// moment.
 #[derive(Drop)]
 pub struct MemFlash {
     alloc: Global,

@@ -173,7 +173,7 @@ fn add_pending(
     add(states, name, state)
 }
 
-/// Puts a readable key at a name. Takes memory only for a name that has no state.
+/// Puts a readable key at a name. Allocates only for a name that has no state.
 pub fn put(
     states: &mut BTreeMap<Name, KeyState>,
     name: &Name,

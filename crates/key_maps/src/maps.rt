@@ -116,7 +116,7 @@ impl KeyMaps {
         }
     }
 
-    /// Puts a readable key under this name. Takes memory only for a name that stands in neither map.
+    /// Puts a readable key under this name. Allocates only for a name that stands in neither map.
     pub fn put(&mut self, name: &Name, key: KeyElement) -> Result<(), AllocError>
         requires readable { IsTrue (is_readable key.content) }
         requires place { element_at self.old.visible name.now ≡ None → length self.old.visible < KEYS }

@@ -22,7 +22,7 @@ use Rattle.deployment_model.specs.Data.{ElementData, StorageData}
 use Rattle.deployment_model.specs.Lookups.{element_named, initial_of}
 use Rattle.key_maps.specs.KeyElements.{key_of}
 
--- what is made of the key of a name, or that there is none
+-- what a call gives for the key of a name, or that there is none
 abbrev pub found : {A : Type 0} → Option Element → (Element → Result A PerError) → Result A PerError
 found None call = Err KeyNotFound
 found (Some key) call = call key

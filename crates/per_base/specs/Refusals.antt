@@ -22,7 +22,7 @@ abbrev pub or_next : Option PerError → Option PerError → Option PerError
 or_next None next = next
 or_next (Some error) next = Some error
 
--- what is made of initial bytes, or that there are none
+-- what a call gives for initial bytes, or that there are none
 abbrev pub with_initial : {A : Type 0} → Option (List ℕ) → (List ℕ → Result A PerError) → Result A PerError
 with_initial None call = Err InitValueNotAvailable
 with_initial (Some bytes) call = call bytes

@@ -250,7 +250,7 @@ module _ (told : Bool) (rules : List Rule) (answers : Answers) (start : Medium) 
   -- in the text of a line, of which the sink took a prefix, or for which there was no memory
   service_cut : AppLaws → (ending : Ending) (heard : List Heard) (h : Heard) (number : ℕ) (others : List (List ℕ))
       (now later : Option (List ℕ)) (memory after : Memory) (old new : Medium) → number
-          ≡ next_line_number (length heard)
+      ≡ next_line_number (length heard)
       → 0 < length (heard_text number h)
       → Hearing told rules answers start before heard now memory old → IsHeard h
       → PutsOutput {T = Unit {0}} (heard_text number h) now later (Err ending)

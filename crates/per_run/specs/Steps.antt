@@ -190,7 +190,7 @@ pub record Breaks (left_before left_now : Option (List ℕ)) (ending : Ending) :
   pub taken : IsInputTaken left_before left_now given false
   pub cut : IsCut ending (length given)
 
--- ---- an input that is made of a number
+-- ---- a synthetic workload, generated from a number
 
 -- the replies of each sort are counted, and the first number that one gave is kept
 pub record Tallies (replies : List Reply) (tally : Tally) : Type 0 where

@@ -1,4 +1,4 @@
--- Where making a thing a value takes memory.
+-- Where making a thing a value allocates.
 use Rattle.value_model.specs.Kinds.{Kind, bool_kind, unsigned_kind, signed_kind}
 
 -- what is no truth value and no number: its text, bytes, items or fields are copied

@@ -51,7 +51,7 @@ module _ (name : List ℕ) where
       let later = rest (sym (ap (λ (b : Bool). cond b (Some e.1) (handle_at es number)) key) ∙ is) in
       (later.0, ap (λ (b : Bool). cond b (Some e) (find stands es)) at ∙ later.1)
 
-  -- a handle that stands in the way is found, or another one is
+  -- a conflicting handle is found, or another one is
   found_by : (handles : Handles) (number : ℕ) (h : Handle) → handle_at handles number ≡ Some h
       → blocks kind.Write name h ≡ true → (e : ℕ × Handle) × (find stands handles ≡ Some e)
   found_by [] number h is blocked = absurd (no_handle h is)

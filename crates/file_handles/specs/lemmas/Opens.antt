@@ -76,7 +76,7 @@ both_false true true c p e = absurd (cc)
 both_false true false true p e = absurd (cc)
 both_false false b c p e = absurd (cc)
 
--- where no handle stands in the way, those on the file only read, and so will the new one
+-- where no handle conflicts, those on the file only read, and so will the new one
 pub not_blocked : (kind : OpenKind) (name : List ℕ) (handles : Handles) → blocking kind name handles ≡ None
     → (number : ℕ) (handle : Handle) → handle_at handles number ≡ Some handle → handle.name ≡ name
     → (writes handle.cursor.kind ≡ false) × (writes kind ≡ false)

@@ -47,7 +47,7 @@ returns-clause-named c = λ states state at.
     let there = config_there i.active.deployment.storages c.as_slice.result.now n c.index-as_slice-number.result
     c.as_slice.ensures c.in-Some.ensures.bound c.index-as_slice-number.is in
     is_asked (named_in_bank i.bank (version_said i.active)) states None _ n _ state (sym c.number.ensures.found
-        ∙ c.in-Some.is)
+    ∙ c.in-Some.is)
     there refl at
 
 pub returns-clause-kind : goal.returns-clause-kind
