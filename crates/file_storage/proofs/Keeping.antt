@@ -42,7 +42,8 @@ use Rattle.file_storage.specs.FileSessions.{FilesInUse, IsOpen}
 use Rattle.file_storage.specs.Scopes.{without_open_handle}
 
 pub record Keeps (files later : Map) : Type 0 where
-  pub unreadable : (name : List ℕ) (file : Element) → element_at later name ≡ Some file → is_readable file.content ≡ false
+  pub unreadable : (name : List ℕ) (file : Element) → element_at later name ≡ Some file → is_readable file.content
+      ≡ false
       → element_at files name ≡ Some file
 
 pub keeps_same : (files later : Map) → later ≡ files → Keeps files later

@@ -145,7 +145,8 @@ made_by s state text next None read is = absurd (no_ok ExportRejected next is)
 made_by s state text next (Some x) read is = by (is_kind s.kind x.kind) refl is
   where
     by : (b : Bool) → is_kind s.kind x.kind ≡ b → (cond b (Ok x) (Err ExportRejected) >>= λ y.
-        refused_by (least_mismatch s y.contents) (if_contents_fit s state y.contents)) ≡ Ok next → IsMade s state text next
+        refused_by (least_mismatch s y.contents) (if_contents_fit s state y.contents)) ≡ Ok next
+            → IsMade s state text next
     by false kind is = absurd (no_ok ExportRejected next is)
     by true kind is = record {
       spelled = x;
