@@ -6,7 +6,6 @@ use Rattle.flash_model.specs.Pages.{Pages, TornPage, program_page, blank_page}
 use Rattle.flash_model.specs.State.{FlashState, IsStill, ProgramCase, FailsToProgram, programmed}
 use Rattle.flash_model.specs.FlashMedium.{FlashMedium, IsLawfulFlash, FlashElapses, EachFlashCase}
 use Rattle.flash_record.specs.PageRecord.{PageRecord, record_in}
-use Rattle.flash_disk.specs.declared.table.FlashPage.{FlashPage}
 use Rattle.flash_disk.specs.declared.layer.LayerState.{LayerState}
 use Rattle.flash_disk.specs.Newest.{record_at, places}
 use Rattle.flash_disk.specs.Known.{page_of}
@@ -25,6 +24,7 @@ use Rattle.flash_disk.proofs.Tearing.{IsTorn, nothing_there, torn_program, torn_
 use Rattle.flash_disk.proofs.Tearing.{whole_add, whole_torn}
 use Rattle.flash_disk.proofs.Stretches.{does_nothing, does_then, does_weaken, program_does}
 use Rattle.flash_disk.proofs.Entering.{sound_usable, records_usable, adds_usable}
+use Rattle.flash_disk.specs.declared.table.FlashPage.{FlashPage}
 
 -- nothing was put yet
 pub nothing_put : (m : FlashMedium) (s : LayerState) → IsSoundLayer m s → (file at len : ℕ) (bytes : List ℕ)

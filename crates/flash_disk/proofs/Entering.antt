@@ -9,7 +9,6 @@ use Rattle.flash_model.specs.Pages.{Pages, TornPage}
 use Rattle.flash_model.specs.FlashMedium.{FlashMedium}
 use Rattle.flash_record.specs.PageRecord.{PageRecord, record_in}
 use Rattle.flash_disk.specs.declared.table.FilePage.{FilePage}
-use Rattle.flash_disk.specs.declared.table.FlashPage.{FlashPage}
 use Rattle.flash_disk.specs.declared.table.Newest.{Newest}
 use Rattle.flash_disk.specs.declared.table.Table.{Table}
 use Rattle.flash_disk.specs.declared.layer.LayerState.{LayerState}
@@ -29,6 +28,7 @@ use Rattle.flash_disk.proofs.Growing.{adds_agreed, adds_len, adds_other_len, add
 use Rattle.flash_disk.proofs.Programming.{IsItsEntry, added, same_led, either}
 use Rattle.flash_disk.proofs.Learning.{same_page_is, record_at_place}
 use Rattle.flash_disk.proofs.PageCount.{count_adds}
+use Rattle.flash_disk.specs.declared.table.FlashPage.{FlashPage}
 
 -- an entry that leads to the newest record of a page
 by_entry : (pages : Pages) (n : ℕ) (o : Option Newest) (best : Option Placed) (x : Placed) → best ≡ Some x

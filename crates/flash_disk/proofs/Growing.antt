@@ -10,7 +10,6 @@ use Rattle.std.proofs.lemmas.Option.{same_Some}
 use Rattle.std.proofs.lemmas.List.{get_or_past}
 use Rattle.flash_model.specs.Pages.{Pages}
 use Rattle.flash_record.specs.PageRecord.{PageRecord}
-use Rattle.flash_disk.specs.declared.table.FlashPage.{FlashPage}
 use Rattle.flash_disk.specs.Newest.{is_of, newest, places, IsSpare}
 use Rattle.flash_disk.specs.FlashFiles.{byte_in, file_byte, file_len, flash_files}
 use Rattle.flash_disk.proofs.FlashFilesLaws.{file_len_is, one_len, length-flash_files, byte-flash_files}
@@ -20,6 +19,7 @@ use Rattle.flash_disk.specs.PutPart.{in_range, PutPart, PutOrNot}
 use Rattle.flash_disk.proofs.Programming.{placed, still, either, newest_here, newest_elsewhere}
 use Rattle.flash_disk.proofs.Standing.{HasSameRecords, records_files}
 use Rattle.flash_disk.proofs.Sparing.{LiesElsewhere, spare_of}
+use Rattle.flash_disk.specs.declared.table.FlashPage.{FlashPage}
 
 -- the page of a record is one page
 is_of_parts : (file page : ℕ) (r : PageRecord) → is_of file page r ≡ true → (r.file ≡ file) × (r.page ≡ page)

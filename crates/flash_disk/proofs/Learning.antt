@@ -10,7 +10,6 @@ use Rattle.std.proofs.lemmas.Option.{same_Some, none-some}
 use Rattle.flash_model.specs.Pages.{Pages}
 use Rattle.flash_record.specs.PageRecord.{PageRecord, record_in}
 use Rattle.flash_disk.specs.declared.table.FilePage.{FilePage}
-use Rattle.flash_disk.specs.declared.table.FlashPage.{FlashPage}
 use Rattle.flash_disk.specs.declared.table.Newest.{Newest}
 use Rattle.flash_disk.specs.declared.table.Table.{Table}
 use Rattle.flash_disk.specs.Newest.{Placed, record_at, is_of, newer, with_record, newest, opens_page, page_count}
@@ -20,6 +19,7 @@ use Rattle.flash_disk.specs.Known.{same_page, page_of, known, page_len, limit_of
 use Rattle.flash_disk.specs.Learnt.{number, TwinSays, Unrivalled, Learns, LearnsOf, HasLearnt, LearnsNext, SaysTheSame}
 use Rattle.flash_disk.specs.Learnt.{TwinAt, RivalledAt}
 use Rattle.flash_disk.specs.Standing.{IsRivalled}
+use Rattle.flash_disk.specs.declared.table.FlashPage.{FlashPage}
 
 pub below_suc : (j n : ℕ) → j < suc n → (j < n) ⊎ (j ≡ n)
 below_suc j n within = ⊎_elim inl (λ past. inr (let e : j ≡ n = omega arith in e)) (cases_lt j n)

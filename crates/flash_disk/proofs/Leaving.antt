@@ -7,7 +7,6 @@ use Rattle.std.proofs.lemmas.Option.{same_Some, none-some}
 use Rattle.flash_model.specs.Pages.{Pages}
 use Rattle.flash_record.specs.PageRecord.{PageRecord}
 use Rattle.flash_disk.specs.declared.table.FilePage.{FilePage}
-use Rattle.flash_disk.specs.declared.table.FlashPage.{FlashPage}
 use Rattle.flash_disk.specs.declared.table.Newest.{Newest}
 use Rattle.flash_disk.specs.declared.table.Table.{Table}
 use Rattle.flash_disk.specs.Newest.{Placed, record_at, is_of, newest, IsCopyOf, IsNewest, IsNewestOf, IsSpare, places}
@@ -20,6 +19,7 @@ use Rattle.flash_disk.specs.Sound.{LeavesOut}
 use Rattle.flash_disk.specs.Standing.{IsAgreed, HasRivals, IsStrayless}
 use Rattle.flash_disk.specs.FlashFiles.{byte_in, file_len}
 use Rattle.flash_disk.proofs.Learning.{same_page_is, same_page_refl}
+use Rattle.flash_disk.specs.declared.table.FlashPage.{FlashPage}
 
 -- two places that a test tells apart, or not
 pub places_differ : (a b c d : ℕ) (ne : Bool) → ne ≡ not (nat_eq a b && nat_eq c d) → ne ≡ true → a ≡ b → c ≡ d → ⊥

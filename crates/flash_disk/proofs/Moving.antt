@@ -12,7 +12,6 @@ use Rattle.flash_model.specs.State.{programmed, erased}
 use Rattle.flash_model.specs.FlashMedium.{FlashMedium, FlashElapses, EachFlashCase}
 use Rattle.flash_record.specs.PageRecord.{PageRecord, record_in}
 use Rattle.flash_disk.specs.declared.table.FilePage.{FilePage}
-use Rattle.flash_disk.specs.declared.table.FlashPage.{FlashPage}
 use Rattle.flash_disk.specs.declared.table.Newest.{Newest}
 use Rattle.flash_disk.specs.declared.table.Table.{Table}
 use Rattle.flash_disk.specs.declared.layer.LayerState.{LayerState}
@@ -33,6 +32,7 @@ use Rattle.flash_disk.proofs.Tearing.{torn_erase, whole_erase, erase_keeps}
 use Rattle.flash_disk.proofs.Stretches.{does_then, does_weaken, does_nothing, program_does, erase_does}
 use Rattle.flash_disk.proofs.Entering.{as_said, sound_usable, lies_elsewhere}
 use Rattle.flash_disk.proofs.PageCount.{count_keeps}
+use Rattle.flash_disk.specs.declared.table.FlashPage.{FlashPage}
 
 -- the newest record of a page to which an entry leads
 by_best : (pages : Pages) (n : ℕ) (key : FilePage) (e : Newest) (best : Option Placed)

@@ -13,7 +13,6 @@ use Rattle.flash_model.specs.Pages.{Pages}
 use Rattle.flash_record.specs.PageRecord.{PageRecord}
 use Rattle.flash_disk.specs.declared.table.FilePage.{FilePage}
 use Rattle.flash_disk.specs.declared.table.Newest.{Newest}
-use Rattle.flash_disk.specs.declared.table.FlashPage.{FlashPage}
 use Rattle.flash_disk.specs.declared.table.Table.{Table}
 use Rattle.flash_disk.specs.Newest.{Placed, record_at, is_of, newer, with_record, newest, opens_page, page_count}
 use Rattle.flash_disk.specs.Newest.{IsNewestOf}
@@ -25,6 +24,7 @@ use Rattle.flash_disk.specs.Counted.{missing}
 use Rattle.flash_disk.specs.OwnFaults.{unrecorded}
 use Rattle.flash_disk.proofs.Learning.{same_page_is, same_page_refl}
 use Rattle.flash_disk.proofs.Programming.{placed, newest_here, newest_elsewhere}
+use Rattle.flash_disk.specs.declared.table.FlashPage.{FlashPage}
 
 page_decides : (a b : FilePage) → Decides (same_page a b) (a ≡ b)
 page_decides a b = (same_page_is a b, λ is. subst (λ k. same_page a k ≡ true) is (same_page_refl a))

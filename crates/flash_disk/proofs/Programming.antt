@@ -9,13 +9,13 @@ use Rattle.flash_record.specs.PageRecord.{PageRecord}
 use Rattle.flash_disk.specs.Newest.{Placed, record_at, is_of, newest, IsNewest, IsNewestOf}
 use Rattle.flash_disk.proofs.NewestLaws.{newest_is}
 use Rattle.flash_disk.specs.declared.table.FilePage.{FilePage}
-use Rattle.flash_disk.specs.declared.table.FlashPage.{FlashPage}
 use Rattle.flash_disk.specs.declared.table.Newest.{Newest}
 use Rattle.flash_disk.specs.declared.table.Table.{Table}
 use Rattle.flash_disk.specs.Known.{same_page, page_of, known, limit_of, SetsEntry}
 use Rattle.flash_disk.specs.Learnt.{number, Led, LedOf, IsLed, AddsRecord}
 use Rattle.flash_disk.proofs.Learning.{same_page_is}
 use Rattle.flash_disk.proofs.Leading.{same_newest}
+use Rattle.flash_disk.specs.declared.table.FlashPage.{FlashPage}
 
 module _ (pages : Pages) (file page n : ℕ) where
   same_place : (x y : Placed) → IsNewest pages file page n x → IsNewest pages file page n y → x.place < y.place → ⊥

@@ -6,13 +6,13 @@ use Rattle.flash_record.specs.PageRecord.{PageRecord}
 use Rattle.flash_disk.specs.Newest.{Placed, record_at, newest, IsSpare}
 use Rattle.flash_disk.specs.declared.table.FilePage.{FilePage}
 use Rattle.flash_disk.specs.declared.table.Newest.{Newest}
-use Rattle.flash_disk.specs.declared.table.FlashPage.{FlashPage}
 use Rattle.flash_disk.specs.declared.table.Table.{Table}
 use Rattle.flash_disk.specs.Known.{known}
 use Rattle.flash_disk.specs.Learnt.{number, LedOf, IsLed}
 use Rattle.flash_disk.specs.Sound.{LeavesOut}
 use Rattle.flash_disk.specs.Standing.{IsAgreed, KeepsRecords}
 use Rattle.flash_disk.proofs.Standing.{said_before, keeps_said}
+use Rattle.flash_disk.specs.declared.table.FlashPage.{FlashPage}
 
 -- each newest record, or an equal one, is outside the block
 abbrev pub LiesElsewhere : Pages → (n block : ℕ) → Type 0

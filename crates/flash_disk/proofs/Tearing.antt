@@ -9,13 +9,13 @@ use Rattle.flash_model.specs.Pages.{Pages, blank_page, program_page, erase_block
 use Rattle.flash_record.specs.PageRecord.{PageRecord, record_in}
 use Rattle.flash_record.specs.Blank.{blank_is_none}
 use Rattle.flash_record.specs.lemmas.Bodies.{record_in-plain}
-use Rattle.flash_disk.specs.declared.table.FlashPage.{FlashPage}
 use Rattle.flash_disk.specs.Newest.{record_at}
 use Rattle.flash_disk.specs.Learnt.{number, AddsRecord}
 use Rattle.flash_disk.specs.Standing.{KeepsRecords}
 use Rattle.flash_disk.proofs.Learning.{record_at_place}
 use Rattle.flash_disk.proofs.Standing.{is_newest_of, HasSameRecords}
 use Rattle.flash_disk.proofs.Sparing.{LiesElsewhere}
+use Rattle.flash_disk.specs.declared.table.FlashPage.{FlashPage}
 
 -- a page is no record, or the one that it was, or the one that the call done whole leaves there
 pub plain_page : (before whole left : Pages) → IsPlain before whole left → (b p : ℕ)

@@ -8,7 +8,6 @@ use Rattle.flash_model.specs.State.{IsStill, settle_pages}
 use Rattle.flash_model.specs.FlashMedium.{FlashMedium, IsLawfulFlash, FlashElapses, EachFlashCase}
 use Rattle.flash_record.specs.PageRecord.{PageRecord}
 use Rattle.flash_disk.specs.declared.table.Newest.{Newest}
-use Rattle.flash_disk.specs.declared.table.FlashPage.{FlashPage}
 use Rattle.flash_disk.specs.declared.layer.LayerState.{LayerState}
 use Rattle.flash_disk.specs.Newest.{record_at, newest, places, page_count, page_limit, IsSpare, IsUsable}
 use Rattle.flash_disk.specs.Known.{page_of, known, page_len, limit_of}
@@ -22,6 +21,7 @@ use Rattle.flash_disk.proofs.PageCount.{led_none, count_adds}
 use Rattle.flash_disk.proofs.Sparing.{number_block}
 use Rattle.flash_disk.proofs.Standing.{HasSameRecords, records_count, records_spare}
 use Rattle.flash_disk.proofs.Tearing.{torn_same, torn_page}
+use Rattle.flash_disk.specs.declared.table.FlashPage.{FlashPage}
 
 -- ---- what is kept
 

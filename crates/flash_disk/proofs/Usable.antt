@@ -6,7 +6,6 @@ use Rattle.std.proofs.lemmas.Bool.{cases_lt}
 use Rattle.std.proofs.lemmas.Option.{same_Some, none-some}
 use Rattle.flash_model.specs.Pages.{Pages}
 use Rattle.flash_record.specs.PageRecord.{PageRecord}
-use Rattle.flash_disk.specs.declared.table.FlashPage.{FlashPage}
 use Rattle.flash_disk.specs.declared.table.Newest.{Newest}
 use Rattle.flash_disk.specs.declared.table.Table.{Table}
 use Rattle.flash_disk.specs.Newest.{Placed, record_at, newest, page_count, IsCopyOf, IsNewest, IsNewestOf, IsNeeded}
@@ -15,6 +14,7 @@ use Rattle.flash_disk.proofs.NewestLaws.{newest_is}
 use Rattle.flash_disk.specs.Known.{page_of, known, limit_of}
 use Rattle.flash_disk.specs.Learnt.{number, TwinSays, Learns, LearnsOf, HasLearnt, LearnsNext, LearnsAll}
 use Rattle.flash_disk.proofs.Learning.{best_of}
+use Rattle.flash_disk.specs.declared.table.FlashPage.{FlashPage}
 
 -- more places have no fewer pages
 pub more_pages : (pages : Pages) (k m limit : ℕ) → limit < page_count pages m → limit < page_count pages (k + m)

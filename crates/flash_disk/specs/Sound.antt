@@ -8,7 +8,6 @@ use Rattle.flash_model.specs.FlashMedium.{FlashMedium}
 use Rattle.flash_record.specs.PageRecord.{PageRecord}
 use Rattle.flash_disk.specs.declared.table.FilePage.{FilePage}
 use Rattle.flash_disk.specs.declared.table.Newest.{Newest}
-use Rattle.flash_disk.specs.declared.table.FlashPage.{FlashPage}
 use Rattle.flash_disk.specs.declared.table.Table.{Table}
 use Rattle.flash_disk.specs.declared.layer.LayerState.{LayerState}
 use Rattle.flash_disk.specs.Newest.{record_at, places, page_count, page_limit, IsSpare, IsUsable}
@@ -18,6 +17,7 @@ use Rattle.flash_disk.specs.Learnt.{number, KnowsLengths, AddsRecord, HasPlace, 
 use Rattle.flash_disk.specs.FlashFiles.{file_byte, file_len, flash_files}
 use Rattle.flash_disk.specs.Standing.{IsAgreed, HasRivals, IsStrayless, MayGrow, StaysAgreed}
 use Rattle.flash_disk.specs.PutPart.{PutOrNot}
+use Rattle.flash_disk.specs.declared.table.FlashPage.{FlashPage}
 
 abbrev pub files_on : FlashMedium → Image
 files_on m = flash_files m.state.pages m.blocks

@@ -12,8 +12,8 @@ use Rattle.per_base.specs.declared.errors.PerError.{PerError}
 use Rattle.per_base.specs.declared.errors.Limit.TheVariants as limit
 use Rattle.per_base.specs.declared.errors.PerError.TheVariants as error
 use Rattle.per_base.specs.declared.errors.PerError.TheVariants.{ExportRejected}
-use Rattle.per_base.specs.FieldLaws.{IsBytes}
 use Rattle.per_base.specs.Refusals.{refused_by}
+use Rattle.per_base.specs.Fields.{AreBytes}
 use Rattle.value_code.specs.Reading.{is_content}
 use Rattle.index_text.specs.Contents.{SuitsKind, fresh_size}
 use Rattle.deployment_model.specs.Data.{StorageData}
@@ -146,7 +146,7 @@ made_by s state text next (Some x) read is = by (is_kind s.kind x.kind) refl is
   where
     by : (b : Bool) → is_kind s.kind x.kind ≡ b → (cond b (Ok x) (Err ExportRejected) >>= λ y.
         refused_by (least_mismatch s y.contents) (if_contents_fit s state y.contents)) ≡ Ok next
-            → IsMade s state text next
+        → IsMade s state text next
     by false kind is = absurd (no_ok ExportRejected next is)
     by true kind is = record {
       spelled = x;
@@ -174,7 +174,7 @@ abbrev pub SpelledLaw : Type 0
 SpelledLaw = (x : Export) → IsExport x → export_of (export_text x) ≡ Some x
 
 abbrev pub TakenLaw : Type 0
-TakenLaw = (text : List ℕ) (x : Export) → IsBytes text → export_of text ≡ Some x → IsExport x × (text ≡ export_text x)
+TakenLaw = (text : List ℕ) (x : Export) → AreBytes text → export_of text ≡ Some x → IsExport x × (text ≡ export_text x)
 
 kind_from : (from : StorageData) (old : State) (x : Export) → exported_from from old ≡ Ok x → x.kind ≡ from.kind
 kind_from from (Corrupt salvage others) x is = absurd (no_ok _ x is)
@@ -250,7 +250,7 @@ row_done : (a : App) (f : Found) (row : Result State PerError) (b : App) → wit
 row_done a f (Ok next) b is = (next, refl, sym (ok_same (with_storage_state a f next) b is))
 row_done a f (Err e) b is = absurd (no_ok e b is)
 
-again_found : TakenLaw → (a b : App) (name text : List ℕ) → IsBytes text → (f : Found) → storage_in a name None ≡ Ok f
+again_found : TakenLaw → (a b : App) (name text : List ℕ) → AreBytes text → (f : Found) → storage_in a name None ≡ Ok f
     → importing_into a name text ≡ Ok b → exporting b name ≡ Ok text
 again_found taken a b name text bytes f found is =
     let done = row_done a f (importing f.config f.state text) b (sym (importing_found a name text f found) ∙ is) in
@@ -263,7 +263,7 @@ again_found taken a b name text bytes f found is =
     ∙ text_again f.config (next_generation (salvage_of f.state)) made.spelled spelled.0 made.kind
     ∙ ap (λ (t : List ℕ). Ok t) (sym spelled.1)
 
-again_by : TakenLaw → (a b : App) (name text : List ℕ) → IsBytes text → (found : Result Found PerError)
+again_by : TakenLaw → (a b : App) (name text : List ℕ) → AreBytes text → (found : Result Found PerError)
     → storage_in a name None ≡ found → importing_into a name text ≡ Ok b
     → exporting b name ≡ Ok text
 again_by taken a b name text bytes (Ok f) found is = again_found taken a b name text bytes f found is

@@ -1,8 +1,8 @@
 -- What an import makes of an export: the statements of the laws.
 use Rattle.std.specs.Prelude.{◌≡◌, ℕ, List, true, Some, Ok, IfErr, IsSome}
 use Rattle.per_base.specs.Errors.{error_number}
-use Rattle.per_base.specs.FieldLaws.{IsBytes}
 use Rattle.per_base.specs.Refusals.{refused_by}
+use Rattle.per_base.specs.Fields.{AreBytes}
 use Rattle.deployment_model.specs.Data.{StorageData}
 use Rattle.element_state.specs.States.{State, fresh_map, fresh_state, next_generation, salvage_of}
 use Rattle.update_plan.specs.Plans.{is_kind}
@@ -28,7 +28,7 @@ ExportedLaw = (from into : StorageData) (old state : State) (x : Export) → exp
 
 -- what was imported is exported again as the same text, byte for byte
 abbrev pub AgainLaw : Type 0
-AgainLaw = (a b : App) (name text : List ℕ) → IsBytes text → importing_into a name text ≡ Ok b
+AgainLaw = (a b : App) (name text : List ℕ) → AreBytes text → importing_into a name text ≡ Ok b
     → exporting b name ≡ Ok text
 
 -- every refusal has a number, and so a line that says it

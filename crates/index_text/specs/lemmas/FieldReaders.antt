@@ -16,15 +16,15 @@ use Rattle.per_base.specs.declared.elements.FileInfo.{FileInfo}
 use Rattle.per_base.specs.Names.{IsName, in_name, is_name}
 use Rattle.index_text.specs.Rules.{InfoInRange, InfoIsInRange, has_changed, has_info, max_len}
 use Rattle.index_text.specs.Spelling.{cause_code, changed_text, file_info_text, info_text, name_text, store_kind_code}
-use Rattle.per_base.specs.Fields.{byte_at, bytes_at, number_at, only_if}
+use Rattle.per_base.specs.Fields.{AreBytes, byte_at, bytes_at, number_at, only_if}
 use Rattle.index_text.specs.Reading.{cause_at, coded_cause, changed_at, file_info_at, info_at, coded_kind, len_at}
 use Rattle.index_text.specs.Reading.{name_at}
-use Rattle.per_base.specs.FieldLaws.{IsBytes, IsReader, Takes, Takes-then, bind_some, byte_reader, bytes_reader}
+use Rattle.per_base.specs.FieldLaws.{IsReader, Takes, Takes-then, bind_some, byte_reader, bytes_reader}
 use Rattle.per_base.specs.FieldLaws.{code_step, number_reader, only_some, moved, only_true, wide_32, wide_64}
 
 -- ---- names
 
-name_takes : (bytes name rest : List ℕ) → IsBytes bytes → name_at bytes ≡ Some (name, rest)
+name_takes : (bytes name rest : List ℕ) → AreBytes bytes → name_at bytes ≡ Some (name, rest)
     → Takes bytes (name_text name) rest × IsName name
 unfolding name_at
 name_takes bytes name rest fits e =
@@ -87,7 +87,7 @@ coded_cause_again Reset = refl
 coded_cause_again Recovery = refl
 coded_cause_again Application = refl
 
-cause_takes : (bytes : List ℕ) (cause : Cause) (rest : List ℕ) → IsBytes bytes → cause_at bytes ≡ Some (cause, rest)
+cause_takes : (bytes : List ℕ) (cause : Cause) (rest : List ℕ) → AreBytes bytes → cause_at bytes ≡ Some (cause, rest)
     → Takes bytes (cause_code cause ∷ []) rest × Unit {0}
 unfolding cause_at
 cause_takes bytes cause rest fits e =
@@ -111,7 +111,7 @@ cause_reader = record { takes = cause_takes; again = cause_again }
 moment : IsReader (number_at w64) (to_le_bytes w64) (λ n. n < 2 ^ 64)
 moment = number_reader w64 (2 ^ 64) wide_64
 
-file_info_takes : (bytes : List ℕ) (i : FileInfo) (rest : List ℕ) → IsBytes bytes → file_info_at bytes ≡ Some (i, rest)
+file_info_takes : (bytes : List ℕ) (i : FileInfo) (rest : List ℕ) → AreBytes bytes → file_info_at bytes ≡ Some (i, rest)
     → Takes bytes (file_info_text i) rest × InfoInRange i
 unfolding file_info_at
 file_info_takes bytes i rest fits e =
@@ -159,7 +159,7 @@ file_info_again i rest fits =
       cause_again i.modification rest tt,
     ) refl
 
-info_takes : (kind : StoreKind) (bytes : List ℕ) (i : Option FileInfo) (rest : List ℕ) → IsBytes bytes
+info_takes : (kind : StoreKind) (bytes : List ℕ) (i : Option FileInfo) (rest : List ℕ) → AreBytes bytes
     → info_at kind bytes ≡ Some (i, rest) → Takes bytes (info_text i) rest
     × (IsTrue (has_info kind i) × InfoIsInRange i)
 unfolding info_at
@@ -188,7 +188,7 @@ info_reader kind = record { takes = info_takes kind; again = info_again kind }
 
 -- ---- the number of the last change
 
-changed_takes : (format : ℕ) (bytes : List ℕ) (n : ℕ) (rest : List ℕ) → IsBytes bytes
+changed_takes : (format : ℕ) (bytes : List ℕ) (n : ℕ) (rest : List ℕ) → AreBytes bytes
     → changed_at format bytes ≡ Some (n, rest) → Takes bytes (changed_text format n) rest
     × (IsTrue (has_changed format n) × (n < 2 ^ 64))
 unfolding changed_at
@@ -223,7 +223,7 @@ pub max_len_fits : (kind : StoreKind) → max_len kind < 2 ^ 32
 max_len_fits Keys = omega arith
 max_len_fits Files = omega arith
 
-len_takes : (kind : StoreKind) (bytes : List ℕ) (n : ℕ) (rest : List ℕ) → IsBytes bytes
+len_takes : (kind : StoreKind) (bytes : List ℕ) (n : ℕ) (rest : List ℕ) → AreBytes bytes
     → len_at kind bytes ≡ Some (n, rest) → Takes bytes (to_le_bytes w32 n) rest × (n ≤ max_len kind)
 unfolding len_at
 len_takes kind bytes n rest fits e =

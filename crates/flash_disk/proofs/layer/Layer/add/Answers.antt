@@ -1,6 +1,5 @@
 use Rattle.std.proofs.Common.{◌≡◌, ◌+◌, ◌*◌, refl, sym, ap, inl, inr, subst, ◌∙◌, arith}
 use Rattle.flash_record.specs.PageRecord.{PageRecord}
-use Rattle.flash_disk.specs.declared.table.FlashPage.{FlashPage}
 use Rattle.flash_disk.specs.declared.layer.LayerState.{LayerState}
 use Rattle.flash_disk.specs.Does.{Does}
 use Rattle.flash_disk.specs.PutPart.{PutPart}
@@ -9,6 +8,7 @@ use Rattle.flash_disk.proofs.Adding.{puts_nothing, added_sound, added_entries, a
 use Rattle.flash_disk.proofs.Adding.{add_does}
 use Rattle.flash_disk.proofs.Accounting.{accounts_here, accounts_on}
 use Rattle.flash_disk.proofs.layer.Layer.add.Goals as goal
+use Rattle.flash_disk.specs.declared.table.FlashPage.{FlashPage}
 
 pub returns-in_err-sequence-clause-does : goal.returns-in_err-sequence-clause-does
 returns-in_err-sequence-clause-does g c told =

@@ -1,7 +1,6 @@
 use Rattle.std.proofs.Common.{arith, ◌≡◌, ◌++◌, ◌∷◌, [], length, cond, true, Some, sym, ap, subst, refl, ◌∙◌}
 use Rattle.std.specs.Prelude.{is_ok, not, vec_len, vec_capacity}
 use Rattle.flash_disk.proofs.Spreading.{few_same, few_more, of_err}
-use Rattle.flash_disk.specs.declared.table.FlashPage.{FlashPage}
 use Rattle.flash_disk.specs.declared.table.FilePage.{FilePage}
 use Rattle.flash_disk.specs.declared.table.Newest.{Newest}
 use Rattle.flash_disk.specs.declared.layer.LayerState.{LayerState}
@@ -17,6 +16,7 @@ use Rattle.flash_disk.proofs.Moving.{copy_failed_keeps, copy_failed_sound, copy_
 use Rattle.flash_disk.proofs.Moving.{copied, looked, look_keeps, keeps_since, look_stands}
 use Rattle.flash_disk.proofs.Accounting.{accounts_fails, accounts_here, accounts_on}
 use Rattle.flash_disk.proofs.layer.Layer.copy_one.Goals as goal
+use Rattle.flash_disk.specs.declared.table.FlashPage.{FlashPage}
 
 pub returns-in_err-read_page-clause-keeps : goal.returns-in_err-read_page-clause-keeps
 returns-in_err-read_page-clause-keeps g c told =
