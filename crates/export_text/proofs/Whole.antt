@@ -170,7 +170,8 @@ header_again h rest few =
 ends_there : (bytes text rest : List ℕ) → Takes bytes text rest → rest ≡ [] → bytes ≡ text
 ends_there bytes text rest took nothing = took.parts ∙ ap (λ (r : List ℕ). text ++ r) nothing ∙ append-nil text
 
-body_takes : (body : List ℕ) (x : Export) → AreBytes body → body_read body ≡ Some x → IsExport x × (body ≡ export_body x)
+body_takes : (body : List ℕ) (x : Export) → AreBytes body → body_read body ≡ Some x → IsExport x
+    × (body ≡ export_body x)
 unfolding body_read
 body_takes body x fits e =
     let header = bind_some (header_at body) _ x e in
@@ -261,7 +262,8 @@ pub read_keeps_rules : (text : List ℕ) (r : Result Export ExportError) → Are
 read_keeps_rules text (Ok x) fits given = (export_takes text x fits given).0
 read_keeps_rules text (Err e) fits given = tt
 
-pub read_is_spelled : (text : List ℕ) (r : Result Export ExportError) → AreBytes text → Gives (λ x. x) r (export_of text)
+pub read_is_spelled : (text : List ℕ) (r : Result Export ExportError) → AreBytes text
+    → Gives (λ x. x) r (export_of text)
     → IfOk r (λ x. text ≡ export_text x)
 read_is_spelled text (Ok x) fits given = (export_takes text x fits given).1
 read_is_spelled text (Err e) fits given = tt
