@@ -76,6 +76,10 @@ app_at image app = record {
   states = map (store_at image) (shapes_named app (says_at image app));
 }
 
+-- the application whose root says this in every copy, with its storages as they are on an image
+abbrev pub app_saying : Image → ℕ → Says → App
+app_saying image app says = record { says = says; lacking = []; states = map (store_at image) (shapes_named app says) }
+
 -- no text is held in the root's place beside the one that stands
 abbrev pub root_sole : Image → ℕ → Bool
 root_sole image app = nat_le (length (held image (root_place app))) 1
