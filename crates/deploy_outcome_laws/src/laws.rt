@@ -1,7 +1,7 @@
 //! The laws: this function does nothing when it runs.
 
 ghost use Rattle.migrate_fns.specs.Stored.{answers_of, rules_of};
-ghost use Rattle.deploy_outcome_laws.specs.Calls.{DueWantsMemory, LookMends, MadeAgain, MadeTwice, RefusalWrote};
+ghost use Rattle.deploy_outcome_laws.specs.Calls.{DueAllocates, LookMends, MadeAgain, MadeTwice, RefusalWrote};
 ghost use Rattle.deploy_outcome_laws.specs.Calls.{RefusedDone, RootFirst, RootStamped};
 ghost use Rattle.deploy_outcome_laws.specs.Rows.{ActiveBankTaken, BadRootFormatted, CopyLeft, GenerationsFirst};
 ghost use Rattle.deploy_outcome_laws.specs.Rows.{InitialWhereConverted};
@@ -28,7 +28,7 @@ pub fn outcomes_are_refused<D: Disk>(_migrations: &Migrations)
     ensures opening_stamps_the_root { RootStamped D.medium }
     ensures look_mends_the_root { LookMends D.medium }
     ensures refusal_has_written { RefusalWrote D.medium }
-    ensures due_refusal_wants_memory { DueWantsMemory }
+    ensures due_refusal_wants_memory { DueAllocates }
     ensures refused_update_answered_done { RefusedDone (rules_of _migrations.now) (answers_of _migrations.now) }
     ensures storage_made_twice { MadeTwice }
     ensures made_again_by_a_commit { MadeAgain D.medium }

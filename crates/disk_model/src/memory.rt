@@ -40,7 +40,7 @@ impl MemDisk {
     ghost use Rattle.disk_model.specs.Orders.{named_in};
     ghost use Rattle.disk_model.specs.Memory.{mem_medium, starved_count, synced_image, torn_image, is_planned};
     ghost use Rattle.disk_model.specs.Memory.{is_stopped, IsFresh, IsUnchanged, KeepsCounts, Shows, SameRecord, Begins};
-    ghost use Rattle.disk_model.specs.Memory.{Succeeds, Wants, Passes, Fails};
+    ghost use Rattle.disk_model.specs.Memory.{Succeeds, RunsOut, Passes, Fails};
 
     /// A disk whose files are all empty.
     pub fn new(alloc: Global) -> MemDisk
@@ -201,7 +201,7 @@ impl MemDisk {
     // Counts a failed allocation.
     fn starve(&mut self) -> DiskFailed
         ensures record { SameRecord self.old self.new }
-        ensures wants { Wants self.old self.new }
+        ensures wants { RunsOut self.old self.new }
     {
         self.faults = self.faults.saturating_add(1);
         self.starved = self.starved.saturating_add(1);
@@ -214,7 +214,7 @@ impl MemDisk {
         ensures ok { OnOk result (Shows self.new (image_of self.old.files) (start_image self.old.files self.old.start)
             (self.old.calls.items ++ call ∷ []) self.old.written) }
         ensures err { OnErr result (SameRecord self.old self.new) }
-        ensures answer { MatchResult result (λ _. Succeeds self.old self.new) (λ _. Wants self.old self.new) }
+        ensures answer { MatchResult result (λ _. Succeeds self.old self.new) (λ _. RunsOut self.old self.new) }
     {
         match self.calls.push(call) {
             Ok(()) => Ok(()),

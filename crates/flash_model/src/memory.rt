@@ -33,7 +33,7 @@ pub struct MemFlash {
 
 impl MemFlash {
     ghost use Rattle.flash_model.specs.Memory.{mem_flash, starved_count, is_planned, is_stopped, HasNoOrders, IsFresh};
-    ghost use Rattle.flash_model.specs.Memory.{IsUnchanged, KeepsCounts, Shows, SameRecord, Begins, Succeeds, Wants};
+    ghost use Rattle.flash_model.specs.Memory.{IsUnchanged, KeepsCounts, Shows, SameRecord, Begins, Succeeds, RunsOut};
     ghost use Rattle.flash_model.specs.Memory.{Passes, Fails};
 
     /// A flash of that many blocks, all blank.
@@ -128,7 +128,7 @@ impl MemFlash {
     // Counts a failed allocation.
     fn starve(&mut self) -> FlashFailed
         ensures record { SameRecord self.old self.new }
-        ensures wants { Wants self.old self.new }
+        ensures wants { RunsOut self.old self.new }
     {
         self.faults = self.faults.saturating_add(1);
         self.starved = self.starved.saturating_add(1);

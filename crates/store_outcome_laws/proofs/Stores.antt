@@ -19,7 +19,7 @@ use Rattle.element_state.specs.Written.{commit_cost, cost_beside}
 use Rattle.element_laws.specs.Refused.{IndexFirst, OldOverwritten, SalvageLost}
 use Rattle.element_store.specs.Stores.{view_in}
 use Rattle.store_outcome_laws.specs.Stores.{BlankedFirst, ContentsNotDurable, CopyLacks, EqualBlocksWritten}
-use Rattle.store_outcome_laws.specs.Stores.{FailureAsWant}
+use Rattle.store_outcome_laws.specs.Stores.{FailureAsNoMemory}
 use Rattle.store_outcome_laws.specs.Stores.{FewCopies, IsMomentOfCall, StandingOverwritten, TextsNotGivenUp}
 use Rattle.store_outcome_laws.specs.Stores.{UnchangedWritten}
 
@@ -45,7 +45,7 @@ pub unchanged_written : UnchangedWritten
 unfolding commit_cost
 unchanged_written copies index old new kind entries within more = omega (arith, within, more)
 
-pub failure_as_want : FailureAsWant
+pub failure_as_want : FailureAsNoMemory
 failure_as_want result before after fed rose below want = let same = fed want in omega (arith, same, rose, below)
 
 -- ---- what is in the copies

@@ -52,8 +52,8 @@ UnchangedWritten = (copies index old new : ℕ) (kind : StoreKind) (entries : Li
     → IsWithin copies (commit_cost kind entries []) index old new → ¬ (old + copies * (index + 88) < new)
 
 -- a failed write, which counts, is answered as one for which there was no memory
-abbrev pub FailureAsWant : Type 0
-FailureAsWant = (result : Result Store StoreError) (before after : ℕ)
+abbrev pub FailureAsNoMemory : Type 0
+FailureAsNoMemory = (result : Result Store StoreError) (before after : ℕ)
     → (IsErrOf result store.OutOfMemory → after ≡ before) → Rose before after → before < 2 ^ 64 - 1
     → ¬ (IsErrOf result store.OutOfMemory)
 
