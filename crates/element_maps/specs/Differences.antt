@@ -11,7 +11,7 @@ use Rattle.per_base.specs.Names.{name_cmp}
 use Rattle.per_base.specs.declared.elements.Change.{Change}
 use Rattle.per_base.specs.declared.elements.Change.TheVariants.{Put, Touch}
 use Rattle.per_base.specs.Changes.{changed_name, change_at, removal}
-use Rattle.per_base.specs.Contents.{bytes_of}
+use Rattle.per_base.specs.Contents.{readable_bytes}
 use Rattle.element_state.specs.Changes.{same_element}
 
 -- both can be read, and have the same bytes
@@ -25,7 +25,7 @@ same_bytes old new = nat_eq old.len new.len && same_value old.content new.conten
 
 -- all of an element
 abbrev pub put : List ℕ → Element → Change
-put name new = Put (record { name = name; info = new.info; bytes = bytes_of new.content })
+put name new = Put (record { name = name; info = new.info; bytes = readable_bytes new.content })
 
 -- its info, where it has one
 abbrev pub touch : List ℕ → Element → Option FileInfo → Change

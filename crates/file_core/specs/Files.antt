@@ -11,7 +11,7 @@ use Rattle.per_base.specs.declared.errors.Limit.TheVariants.{FileBytes}
 use Rattle.per_base.specs.declared.errors.PerError.{PerError}
 use Rattle.per_base.specs.declared.errors.PerError.TheVariants.{IllegalWriteAccess, InvalidSize, LimitReached}
 use Rattle.per_base.specs.declared.errors.PerError.TheVariants.{OutOfStorageSpace}
-use Rattle.per_base.specs.Contents.{bytes_of, HasLength}
+use Rattle.per_base.specs.Contents.{readable_bytes, HasLength}
 use Rattle.per_base.specs.Refusals.{refuse, refused_by}
 use Rattle.file_core.specs.declared.cursor.Cursor.{Cursor}
 use Rattle.file_core.specs.declared.room.Room.{Room}
@@ -49,12 +49,13 @@ too_long room len =
 
 -- a piece that is written reaches past the end
 abbrev pub GrowsBy : Cursor → Element → List ℕ → Type 0
-GrowsBy cursor file piece = length (bytes_of file.content) < write_place cursor (bytes_of file.content) + length piece
+GrowsBy cursor file piece = length (readable_bytes file.content) < write_place cursor
+    (readable_bytes file.content) + length piece
 
 -- a piece overwrites and extends from the place of writing, and the place is then past it
 abbrev pub written : Cursor → Element → List ℕ → ℕ → Room → Result (Cursor × Element) PerError
 written cursor file piece now room =
-    let bytes = bytes_of file.content in
+    let bytes = readable_bytes file.content in
     let from = write_place cursor bytes in
     let after = overwritten from piece bytes in
     refuse (not (writes cursor.kind)) IllegalWriteAccess
@@ -68,5 +69,5 @@ written cursor file piece now room =
 abbrev pub cut : Cursor → Element → ℕ → ℕ → Result (Cursor × Element) PerError
 cut cursor file size now =
     refuse (not (writes cursor.kind)) IllegalWriteAccess
-    (refuse (nat_lt (length (bytes_of file.content)) size) InvalidSize
-    (Ok (moved_within cursor size, changed_to (take size (bytes_of file.content)) now Application file)))
+    (refuse (nat_lt (length (readable_bytes file.content)) size) InvalidSize
+    (Ok (moved_within cursor size, changed_to (take size (readable_bytes file.content)) now Application file)))

@@ -2,7 +2,7 @@
 
 ghost use Rattle.std.specs.Prelude.{◌≡◌, ◌<◌, ◌≤◌, ◌+◌, length, take, List, ℕ, IfOk, IfSome, IfNone, IsTrue, OnOk};
 ghost use Rattle.std.specs.Prelude.{OnErr};
-ghost use Rattle.per_base.specs.Contents.{bytes_of, is_readable};
+ghost use Rattle.per_base.specs.Contents.{is_readable, readable_bytes};
 ghost use Rattle.file_core.specs.Files.{NoSalvage};
 ghost use Rattle.file_core.specs.Places.{overwritten};
 
@@ -17,11 +17,11 @@ pub fn overwrite_content(
     piece: &[u8],
 ) -> Result<usize, AllocError>
     requires good { IsTrue (is_readable content.old) }
-    requires inside { from ≤ length (bytes_of content.old) }
-    ensures ok { OnOk result (content.new ≡ Content.Good (overwritten from piece.now (bytes_of content.old))) }
-    ensures len { IfOk result (λ len. len ≡ length (overwritten from piece.now (bytes_of content.old))) }
+    requires inside { from ≤ length (readable_bytes content.old) }
+    ensures ok { OnOk result (content.new ≡ Content.Good (overwritten from piece.now (readable_bytes content.old))) }
+    ensures len { IfOk result (λ len. len ≡ length (overwritten from piece.now (readable_bytes content.old))) }
     ensures unchanged { OnErr result (content.new ≡ content.old) }
-    ensures memory { OnErr result (length (bytes_of content.old) < from + length piece.now) }
+    ensures memory { OnErr result (length (readable_bytes content.old) < from + length piece.now) }
 {
     let Content::Good(bytes) = mem::replace(content, Content::Bad(None)) else {
         return Ok(0);
@@ -37,7 +37,7 @@ pub fn overwrite_content(
 /// Keeps that many bytes of a readable content.
 pub fn truncate_content(content: &mut Content, size: usize)
     requires { IsTrue (is_readable content.old) }
-    ensures { content.new ≡ Content.Good (take size (bytes_of content.old)) }
+    ensures { content.new ≡ Content.Good (take size (readable_bytes content.old)) }
 {
     if let Content::Good(bytes) = mem::replace(content, Content::Bad(None)) {
         let mut bytes = bytes.into_vec();

@@ -2,7 +2,7 @@
 
 ghost use Rattle.std.specs.Prelude.{◌≡◌, ◌+◌, ◌<◌, ◌≤◌, ◌^◌, length, take, List, ℕ, IfOk, IfErr, IsTrue, OnOk, OnErr};
 ghost use Rattle.std.specs.Bool.{OnTrue, OnFalse};
-ghost use Rattle.per_base.specs.Contents.{bytes_of, is_readable};
+ghost use Rattle.per_base.specs.Contents.{is_readable, readable_bytes};
 ghost use Rattle.per_base.specs.Refusals.{IsDue, IsRefusal};
 ghost use Rattle.file_core.specs.Files.{GrowsBy, IsFile, NoSalvage, changed_to, cut, file_of, opened_at, written};
 ghost use Rattle.file_core.specs.Places as places;
@@ -91,7 +91,7 @@ impl File {
 
     /// The bytes; an unreadable file gives none.
     pub fn bytes(&self) -> &[u8]
-        ensures bytes { result.now ≡ bytes_of self.now.content }
+        ensures bytes { result.now ≡ readable_bytes self.now.content }
         ensures small { length result.now ≤ 1048576 }
         ensures len { IsTrue (is_readable self.now.content) → length result.now ≡ self.now.len }
     {
@@ -210,12 +210,13 @@ impl File {
     /// Puts the piece into the content from there on.
     fn put(&mut self, from: usize, piece: &[u8], now: u64) -> Result<(), AllocError>
         requires good { IsTrue (is_readable self.old.content) }
-        requires inside { from ≤ length (bytes_of self.old.content) }
-        requires small { length (overwritten from piece.now (bytes_of self.old.content)) ≤ 1048576 }
-        ensures ok { OnOk result (self.new ≡ changed_to (overwritten from piece.now (bytes_of self.old.content)) now
+        requires inside { from ≤ length (readable_bytes self.old.content) }
+        requires small { length (overwritten from piece.now (readable_bytes self.old.content)) ≤ 1048576 }
+        ensures ok { OnOk result (self.new ≡ changed_to (overwritten from piece.now (readable_bytes self.old.content))
+            now
             Cause.Application self.old) }
         ensures unchanged { OnErr result (self.new ≡ self.old) }
-        ensures memory { OnErr result (length (bytes_of self.old.content) < from + length piece.now) }
+        ensures memory { OnErr result (length (readable_bytes self.old.content) < from + length piece.now) }
     {
         let len = overwrite_content(&mut self.content, from, piece)?;
         self.len = len as u32;
@@ -226,8 +227,8 @@ impl File {
     /// Keeps that many bytes of the content.
     fn keep(&mut self, size: usize, now: u64)
         requires good { IsTrue (is_readable self.old.content) }
-        requires inside { size ≤ length (bytes_of self.old.content) }
-        ensures { self.new ≡ changed_to (take size (bytes_of self.old.content)) now Cause.Application self.old }
+        requires inside { size ≤ length (readable_bytes self.old.content) }
+        ensures { self.new ≡ changed_to (take size (readable_bytes self.old.content)) now Cause.Application self.old }
     {
         truncate_content(&mut self.content, size);
         self.len = size as u32;

@@ -8,7 +8,7 @@ use Rattle.per_base.specs.declared.opening.OpenKind.TheVariants.{Read, Write}
 use Rattle.per_base.specs.Maps.{element_at}
 use Rattle.per_base.specs.Names.{name_cmp}
 use Rattle.per_base.specs.Modes.{plain, truncating}
-use Rattle.per_base.specs.Contents.{bytes_of}
+use Rattle.per_base.specs.Contents.{readable_bytes}
 use Rattle.per_base.specs.Refusals.{IsDue, refused_by}
 use Rattle.file_handles.specs.declared.storage.Storage.{Storage}
 use Rattle.file_handles.specs.Handling.{write}
@@ -27,7 +27,7 @@ released s number = record s { handles = without_handle s.handles number }
 -- the bytes of a file that is there
 abbrev pub bytes_of_file : Option Element → List ℕ
 bytes_of_file None = []
-bytes_of_file (Some file) = bytes_of file.content
+bytes_of_file (Some file) = readable_bytes file.content
 
 -- the whole content of a file
 abbrev pub cat : Storage → Session → List ℕ → ℕ → Result (List ℕ × Session) PerError

@@ -19,7 +19,7 @@ use Rattle.per_base.specs.declared.opening.OpenMode.{OpenMode}
 use Rattle.per_base.specs.Maps.{Map, element_at, has, with_element, without}
 use Rattle.per_base.specs.Modes.{truncates}
 use Rattle.per_base.specs.Names.{name_cmp}
-use Rattle.per_base.specs.Contents.{is_readable, bytes_of}
+use Rattle.per_base.specs.Contents.{is_readable, readable_bytes}
 use Rattle.per_base.specs.Refusals.{refuse, refused_by, with_initial}
 use Rattle.file_core.specs.declared.cursor.Cursor.{Cursor}
 use Rattle.file_core.specs.declared.room.Room.{Room}
@@ -223,7 +223,7 @@ written_good cursor file piece now room new good is = by (length piece == 0)
     (refuse_ok (not (writes cursor.kind)) IllegalWriteAccess _ new is).1
   where
     bytes : List ℕ
-    bytes = bytes_of file.content
+    bytes = readable_bytes file.content
 
     by : (empty : Bool) → cond {A = Result (Cursor × Element) PerError} empty (Ok (cursor, file))
         (refused_by (too_long room (length (overwritten (write_place cursor bytes) piece bytes)))
@@ -257,10 +257,11 @@ cut_good : (cursor : Cursor) (file : Element) (size now : ℕ) (new : Cursor × 
 cut_good cursor file size now new is =
     let after : Cursor × Element = (
       moved_within cursor size,
-      changed_to (take size (bytes_of file.content)) now Application
+      changed_to (take size (readable_bytes file.content)) now Application
           file,
     ) in
-    let done : Ok after ≡ Ok new = (refuse_ok (nat_lt (length (bytes_of file.content)) size) InvalidSize (Ok after) new
+    let done : Ok after ≡ Ok new = (refuse_ok (nat_lt (length (readable_bytes file.content)) size) InvalidSize
+    (Ok after) new
     (refuse_ok (not (writes cursor.kind)) IllegalWriteAccess _ new is).1).1 in
     let same : after ≡ new = cc in
     subst (λ o. is_readable o.1.content ≡ true) same refl

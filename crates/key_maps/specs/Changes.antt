@@ -8,7 +8,7 @@ use Rattle.per_base.specs.declared.elements.Change.TheVariants.{Put}
 use Rattle.per_base.specs.declared.elements.Element.{Element}
 use Rattle.per_base.specs.Maps.{Map, element_at}
 use Rattle.per_base.specs.Names.{name_cmp}
-use Rattle.per_base.specs.Contents.{bytes_of, same_content}
+use Rattle.per_base.specs.Contents.{readable_bytes, same_content}
 use Rattle.key_maps.specs.declared.key_states.KeyState.{KeyState}
 use Rattle.key_maps.specs.KeyStates.{KeyStates, synced_of, visible_of}
 
@@ -20,7 +20,7 @@ is_same_key None key = false
 is_same_key (Some old) key = same_key old key
 
 abbrev pub put : List ℕ → Element → Change
-put name key = Put (record { name = name; info = None; bytes = bytes_of key.content })
+put name key = Put (record { name = name; info = None; bytes = readable_bytes key.content })
 
 -- what is to be done at a name where the one stands and the other shall, and nothing where both are the same
 abbrev pub difference : List ℕ → (old new : Option Element) → Option Change

@@ -3,7 +3,7 @@
 ghost use Rattle.std.specs.Prelude.{◌≡◌, ◌≤◌, IfOk, IfSome, IsTrue, None, Some, Option, length, option_copied, is_some};
 ghost use Rattle.per_base.specs.declared.elements.Content.TheVariants.{Bad, Good};
 ghost use Rattle.per_base.specs.Contents as contents;
-ghost use Rattle.per_base.specs.Contents.{bytes_of, is_readable};
+ghost use Rattle.per_base.specs.Contents.{is_readable, readable_bytes};
 ghost use Rattle.key_maps.specs.Changes.{same_key};
 ghost use Rattle.key_maps.specs.KeyElements.{IsKey, IsKeyEntry, entry_element, judged_key_content, key_judged};
 ghost use Rattle.key_maps.specs.KeyElements.{judged_salvage, key_of};
@@ -102,7 +102,7 @@ impl KeyElement {
 
     /// A copy of the encoding of a readable key; an unreadable one gives no bytes.
     pub fn copy_bytes(&self, alloc: Global) -> Result<Bytes, AllocError>
-        ensures { IfOk result (λ bytes. bytes ≡ bytes_of self.now.content) }
+        ensures { IfOk result (λ bytes. bytes ≡ readable_bytes self.now.content) }
     {
         match &self.content {
             KeyContent::Good(stored) => stored.copy_bytes(),

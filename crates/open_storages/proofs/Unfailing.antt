@@ -17,7 +17,7 @@ use Rattle.per_base.specs.declared.opening.OpenMode.{OpenMode}
 use Rattle.per_base.specs.declared.opening.Origin.{Origin}
 use Rattle.per_base.specs.Maps.{Map, element_at, has, size_of, with_element, without}
 use Rattle.per_base.specs.Refusals.{with_initial, IsRefusal, refuse, refused_by, or_next}
-use Rattle.per_base.specs.Contents.{bytes_of}
+use Rattle.per_base.specs.Contents.{readable_bytes}
 use Rattle.per_base.specs.Modes.{plain, truncating}
 use Rattle.value_model.specs.Encoding.{encoding}
 use Rattle.value_model.specs.Kinds.{Kind, same_kind}
@@ -323,7 +323,7 @@ fine_written cursor file piece now room = fine_refuse (not (places.writes cursor
 
 fine_cut : (cursor : Cursor) (file : Element) (size now : ℕ) → IsFine (core.cut cursor file size now)
 fine_cut cursor file size now = fine_refuse (not (places.writes cursor.kind)) error.IllegalWriteAccess _ tt
-    (fine_refuse (nat_lt (length (bytes_of file.content)) size) error.InvalidSize _ tt tt)
+    (fine_refuse (nat_lt (length (readable_bytes file.content)) size) error.InvalidSize _ tt tt)
 
 fine_write : (storage : Storage) (s : Session) (now number : ℕ) (piece : List ℕ)
     → IsFine (handling.write storage s now number piece)
@@ -339,26 +339,26 @@ fine_set_size s now number size = fine_at s number _ (λ handle file.
 
 fine_get_byte : (s : Session) (number : ℕ) → IsFine (handling.get_byte s number)
 fine_get_byte s number = fine_at s number _ (λ handle file.
-    fine_moving s number handle (places.get_byte handle.cursor (bytes_of file.content))
-    (fine_reading {A = ℕ × Cursor} handle.cursor (bytes_of file.content)
+    fine_moving s number handle (places.get_byte handle.cursor (readable_bytes file.content))
+    (fine_reading {A = ℕ × Cursor} handle.cursor (readable_bytes file.content)
     (λ rest. (slice_index rest 0, places.advanced handle.cursor 1))))
 
 fine_read_some : (s : Session) (number count : ℕ) → IsFine (handling.read s number count)
 fine_read_some s number count = fine_at s number _ (λ handle file.
-    fine_moving s number handle (places.read handle.cursor (bytes_of file.content) count)
-    (fine_reading {A = List ℕ × Cursor} handle.cursor (bytes_of file.content)
+    fine_moving s number handle (places.read handle.cursor (readable_bytes file.content) count)
+    (fine_reading {A = List ℕ × Cursor} handle.cursor (readable_bytes file.content)
     (λ rest. (take count rest, places.advanced handle.cursor (min count (length rest))))))
 
 fine_read_all : (s : Session) (number : ℕ) → IsFine (handling.read_all s number)
 fine_read_all s number = fine_at s number _ (λ handle file.
-    fine_moving s number handle (places.read_all handle.cursor (bytes_of file.content))
-    (fine_reading {A = List ℕ × Cursor} handle.cursor (bytes_of file.content)
+    fine_moving s number handle (places.read_all handle.cursor (readable_bytes file.content))
+    (fine_reading {A = List ℕ × Cursor} handle.cursor (readable_bytes file.content)
     (λ rest. (rest, places.advanced handle.cursor (length rest)))))
 
 fine_read_line : (s : Session) (number delimiter : ℕ) → IsFine (handling.read_line s number delimiter)
 fine_read_line s number delimiter = fine_at s number _
-    (λ handle file. fine_moving s number handle (places.read_line handle.cursor (bytes_of file.content) delimiter)
-    (fine_reading {A = List ℕ × Cursor} handle.cursor (bytes_of file.content)
+    (λ handle file. fine_moving s number handle (places.read_line handle.cursor (readable_bytes file.content) delimiter)
+    (fine_reading {A = List ℕ × Cursor} handle.cursor (readable_bytes file.content)
     (λ rest. (
       places.before (places.next_delimiter delimiter rest) rest,
       places.advanced handle.cursor (places.past (places.next_delimiter delimiter rest) rest),
@@ -408,7 +408,7 @@ files_fine c now w (call.OpenFile n f k m) = fine_then (opening.open_file (run.s
     (fine_open (run.storage_of c) w f k m now) (λ x. tt)
 files_fine c now w (call.CloseFile n h) = fine_then (handling.close w h) _ (fine_at w h _ (λ handle file. tt)) (λ x. tt)
 files_fine c now w (call.Peek n h) = fine_then (handling.peek_byte w h) _
-    (fine_at w h _ (λ handle file. fine_reading {A = ℕ} handle.cursor (bytes_of file.content)
+    (fine_at w h _ (λ handle file. fine_reading {A = ℕ} handle.cursor (readable_bytes file.content)
     (λ rest. slice_index rest 0))) (λ x. tt)
 files_fine c now w (call.Byte n h) = fine_then (handling.get_byte w h) _ (fine_get_byte w h) (λ x. tt)
 files_fine c now w (call.Read n h count) = fine_then (handling.read w h count) _ (fine_read_some w h count) (λ x. tt)

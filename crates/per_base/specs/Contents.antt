@@ -9,9 +9,9 @@ is_readable (Good bytes) = true
 is_readable (Bad salvage) = false
 
 -- the bytes of a readable content; an unreadable one gives none
-abbrev pub bytes_of : Content → List ℕ
-bytes_of (Good bytes) = bytes
-bytes_of (Bad salvage) = []
+abbrev pub readable_bytes : Content → List ℕ
+readable_bytes (Good bytes) = bytes
+readable_bytes (Bad salvage) = []
 
 -- what there is of the content, and the salvage likewise, has this length
 abbrev pub HasLength : Content → ℕ → Type 0

@@ -16,7 +16,7 @@ use Rattle.per_base.specs.declared.opening.OpenKind.TheVariants.{Read, Write}
 use Rattle.per_base.specs.declared.opening.OpenMode.{OpenMode}
 use Rattle.per_base.specs.Maps.{Map, element_at, has, size_of, with_element}
 use Rattle.per_base.specs.Names.{name_cmp}
-use Rattle.per_base.specs.Contents.{bytes_of}
+use Rattle.per_base.specs.Contents.{readable_bytes}
 use Rattle.per_base.specs.Refusals.{IsDue, refused_by}
 use Rattle.per_base.specs.Modes.{plain, truncating}
 use Rattle.file_core.specs.declared.cursor.Cursor.{Cursor}
@@ -86,7 +86,7 @@ refused_ok None rest answer is = is
 refused_ok (Some error) rest answer is = absurd (cc)
 
 bytes_opened : (read_only : Bool) (now : ℕ) (found : Option Element)
-    → bytes_of (file_opened read_only plain now found).content ≡ bytes_of_file found
+    → readable_bytes (file_opened read_only plain now found).content ≡ bytes_of_file found
 bytes_opened read_only now None = refl
 bytes_opened true now (Some file) = refl
 bytes_opened false now (Some file) = refl
