@@ -10,6 +10,7 @@ use Rattle.std.proofs.lemmas.Option.{same_Some, none-some}
 use Rattle.flash_model.specs.Pages.{Pages}
 use Rattle.flash_record.specs.PageRecord.{PageRecord, record_in}
 use Rattle.flash_disk.specs.declared.table.FilePage.{FilePage}
+use Rattle.flash_disk.specs.declared.table.Place.{Place}
 use Rattle.flash_disk.specs.declared.table.Newest.{Newest}
 use Rattle.flash_disk.specs.declared.table.Table.{Table}
 use Rattle.flash_disk.specs.Newest.{Placed, record_at, is_of, newer, with_record, newest, opens_page, page_count}
@@ -19,7 +20,6 @@ use Rattle.flash_disk.specs.Known.{same_page, page_of, known, page_len, limit_of
 use Rattle.flash_disk.specs.Learnt.{number, TwinSays, Unrivalled, Learns, LearnsOf, HasLearnt, LearnsNext, SaysTheSame}
 use Rattle.flash_disk.specs.Learnt.{TwinAt, RivalledAt}
 use Rattle.flash_disk.specs.Standing.{IsRivalled}
-use Rattle.flash_disk.specs.declared.table.FlashPage.{FlashPage}
 
 pub below_suc : (j n : ℕ) → j < suc n → (j < n) ⊎ (j ≡ n)
 below_suc j n within = ⊎_elim inl (λ past. inr (let e : j ≡ n = omega arith in e)) (cases_lt j n)
@@ -59,8 +59,7 @@ module _ (pages : Pages) (n : ℕ) where
   abbrev NoCopy : Placed → Type 0
   NoCopy x = record_at pages n ≡ Some x.says → n / 64 ≢ x.place / 64 → ⊥
 
-  twin_stays : (x : Placed) (twin : Option FlashPage) → NoCopy x → TwinSays pages n x twin
-      → TwinSays pages (suc n) x twin
+  twin_stays : (x : Placed) (twin : Option Place) → NoCopy x → TwinSays pages n x twin → TwinSays pages (suc n) x twin
   twin_stays x None none alone = λ j copy. ⊎_elim
       (λ below. alone j (record { within = below; apart = copy.apart; same = copy.same }))
       (λ last. none (subst (λ k. record_at pages k ≡ Some x.says) last copy.same)
@@ -393,7 +392,7 @@ module _ (pages : Pages) (n : ℕ) where
         } in z) same.1)))
 
     module _ (old : Table) (e : Newest) (learnt : HasLearnt pages n old) (known_is : known old (page_of r) ≡ Some e)
-        (place : FlashPage) (place_is : number place ≡ n) (small : place.page < 64) (sequence : e.sequence ≡ r.sequence)
+        (place : Place) (place_is : number place ≡ n) (small : place.page < 64) (sequence : e.sequence ≡ r.sequence)
       where
         abbrev x : Placed
         x = (best old e learnt known_is).0
@@ -413,7 +412,7 @@ module _ (pages : Pages) (n : ℕ) where
         n_block : n / 64 ≡ place.block
         n_block = omega (arith, place_is, small)
 
-        module _ (first : Option PageRecord) (is : first ≡ Some x.says) (twin : Option FlashPage)
+        module _ (first : Option PageRecord) (is : first ≡ Some x.says) (twin : Option Place)
             (at : TwinAt first r e place twin) where
           -- the record is equal, and in another block
           copied : place.block ≢ e.place.block → SaysTheSame x.says r → TwinSays pages (suc n) x twin
@@ -444,7 +443,7 @@ module _ (pages : Pages) (n : ℕ) where
               (cases_eq x.says.len r.len)
 
         -- the twin after the record was seen
-        twin_says : (first : Option PageRecord) → first ≡ Some x.says → (twin : Option FlashPage)
+        twin_says : (first : Option PageRecord) → first ≡ Some x.says → (twin : Option Place)
             → TwinAt first r e place twin → TwinSays pages (suc n) x twin
         twin_says first is twin at = ⊎_elim
             (λ same_block. subst (TwinSays pages (suc n) x) (sym (at.same_block same_block))
@@ -484,7 +483,7 @@ module _ (pages : Pages) (n : ℕ) where
 
         -- what is put in for a record with the newest one's number
         pub equal : (seen : Option PageRecord) → seen ≡ record_at pages (number e.place)
-            → (twin : Option FlashPage) (rivalled : Bool) → TwinAt seen r e place twin
+            → (twin : Option Place) (rivalled : Bool) → TwinAt seen r e place twin
             → RivalledAt seen r e rivalled
             → LearnsOf pages (suc n) (Some (record e { twin = twin; rivalled = rivalled }))
             (newer (newest pages r.file r.page n) placed)

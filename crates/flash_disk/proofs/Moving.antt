@@ -12,6 +12,7 @@ use Rattle.flash_model.specs.State.{programmed, erased}
 use Rattle.flash_model.specs.FlashMedium.{FlashMedium, FlashElapses, EachFlashCase}
 use Rattle.flash_record.specs.PageRecord.{PageRecord, record_in}
 use Rattle.flash_disk.specs.declared.table.FilePage.{FilePage}
+use Rattle.flash_disk.specs.declared.table.Place.{Place}
 use Rattle.flash_disk.specs.declared.table.Newest.{Newest}
 use Rattle.flash_disk.specs.declared.table.Table.{Table}
 use Rattle.flash_disk.specs.declared.layer.LayerState.{LayerState}
@@ -32,7 +33,6 @@ use Rattle.flash_disk.proofs.Tearing.{torn_erase, whole_erase, erase_keeps}
 use Rattle.flash_disk.proofs.Stretches.{does_then, does_weaken, does_nothing, program_does, erase_does}
 use Rattle.flash_disk.proofs.Entering.{as_said, sound_usable, lies_elsewhere}
 use Rattle.flash_disk.proofs.PageCount.{count_keeps}
-use Rattle.flash_disk.specs.declared.table.FlashPage.{FlashPage}
 
 -- the newest record of a page to which an entry leads
 by_best : (pages : Pages) (n : ℕ) (key : FilePage) (e : Newest) (best : Option Placed)
@@ -264,7 +264,7 @@ module _ (m : FlashMedium) (s : LayerState) (from to done : ℕ) (moving : IsMov
   module _ (key : FilePage) (old : Newest) (is : known s.table key ≡ Some old) (block : old.place.block ≡ from)
       (page : old.place.page ≡ done)
       (count : ℕ) (count_is : count ≡ length s.moved.items) where
-    abbrev place : FlashPage
+    abbrev place : Place
     place = record { block = to; page = count }
 
     abbrev r : PageRecord

@@ -3,7 +3,7 @@
 ghost use Rattle.std.specs.Prelude.{◌<◌, IsTrue};
 ghost use Rattle.flash_disk.specs.LedApart.{IsLedApart};
 
-use crate::table::{FlashPage, Table};
+use crate::table::{Place, Table};
 use flash_model::BLOCK_PAGES;
 use std::alloc::{AllocError, Global};
 
@@ -21,7 +21,7 @@ const SEVERAL: u8 = 255;
 /// Where the records of each copy go on, and of which copy the records in each block are.
 #[derive(Drop)]
 pub struct Streams {
-    next: [FlashPage; COPIES],
+    next: [Place; COPIES],
     /// The greatest number of a record of each copy that was learnt.
     tops: [u64; COPIES],
     /// Of which copy the records of each block are, dead ones included.
@@ -32,7 +32,7 @@ pub struct Streams {
 impl Streams {
     /// Streams of a flash of that many blocks of which nothing is known.
     pub fn new(alloc: Global, blocks: u32) -> Result<Streams, AllocError> {
-        let nowhere = FlashPage {
+        let nowhere = Place {
             block: 0,
             page: BLOCK_PAGES,
         };
@@ -46,12 +46,12 @@ impl Streams {
 
     /// Learns of a record of a file that was found in a place. The page after it may have been torn, so the copy goes
     /// on with the one after that.
-    pub fn learn(&mut self, file: u32, sequence: u64, place: FlashPage) {
+    pub fn learn(&mut self, file: u32, sequence: u64, place: Place) {
         let copy = self.copy_of(file);
         self.mark(copy, place.block);
         if sequence > self.tops[copy as usize] {
             self.tops[copy as usize] = sequence;
-            self.next[copy as usize] = FlashPage {
+            self.next[copy as usize] = Place {
                 block: place.block,
                 page: place.page.saturating_add(2),
             };
@@ -59,15 +59,15 @@ impl Streams {
     }
 
     /// The page that is to be filled next with a record of a file.
-    pub fn next_of(&self, file: u32) -> FlashPage {
+    pub fn next_of(&self, file: u32) -> Place {
         self.next[self.copy_of(file) as usize]
     }
 
     /// Goes on after a place with the records of a file's copy.
-    pub fn go_on(&mut self, file: u32, place: FlashPage) {
+    pub fn go_on(&mut self, file: u32, place: Place) {
         let copy = self.copy_of(file);
         self.mark(copy, place.block);
-        self.next[copy as usize] = FlashPage {
+        self.next[copy as usize] = Place {
             block: place.block,
             page: place.page.saturating_add(1),
         };
@@ -126,7 +126,7 @@ impl Streams {
             }
         }
         let copy = self.copy_of(file);
-        self.next[copy as usize] = FlashPage { block, page: moved };
+        self.next[copy as usize] = Place { block, page: moved };
     }
 
     /// Goes on with no copy in a block that holds records of another too.

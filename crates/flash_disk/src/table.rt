@@ -19,7 +19,7 @@ pub struct FilePage {
 
 /// A page of the flash.
 #[derive(Clone, Copy, Debug, PartialEq, Eq)]
-pub struct FlashPage {
+pub struct Place {
     pub block: u32,
     pub page: u32,
 }
@@ -27,12 +27,12 @@ pub struct FlashPage {
 /// The newest record of a page of a file.
 #[derive(Clone, Copy, Debug)]
 pub struct Newest {
-    pub place: FlashPage,
+    pub place: Place,
     pub sequence: u64,
     /// How long the record says that the file is.
     pub len: u64,
     /// Where another block has an equal record.
-    pub twin: Option<FlashPage>,
+    pub twin: Option<Place>,
     /// Whether another record of the page has its number and says something else.
     pub rivalled: bool,
     /// How many of its bytes are left without the zeros at their end.

@@ -1,6 +1,7 @@
 use Rattle.std.proofs.Common.{arith, ◌≡◌, ◌++◌, ◌∷◌, [], length, cond, true, Some, sym, ap, subst, refl, ◌∙◌}
 use Rattle.std.specs.Prelude.{is_ok, not, vec_len, vec_capacity}
 use Rattle.flash_disk.proofs.Spreading.{few_same, few_more, of_err}
+use Rattle.flash_disk.specs.declared.table.Place.{Place}
 use Rattle.flash_disk.specs.declared.table.FilePage.{FilePage}
 use Rattle.flash_disk.specs.declared.table.Newest.{Newest}
 use Rattle.flash_disk.specs.declared.layer.LayerState.{LayerState}
@@ -16,7 +17,6 @@ use Rattle.flash_disk.proofs.Moving.{copy_failed_keeps, copy_failed_sound, copy_
 use Rattle.flash_disk.proofs.Moving.{copied, looked, look_keeps, keeps_since, look_stands}
 use Rattle.flash_disk.proofs.Accounting.{accounts_fails, accounts_here, accounts_on}
 use Rattle.flash_disk.proofs.layer.Layer.copy_one.Goals as goal
-use Rattle.flash_disk.specs.declared.table.FlashPage.{FlashPage}
 
 pub returns-in_err-read_page-clause-keeps : goal.returns-in_err-read_page-clause-keeps
 returns-in_err-read_page-clause-keeps g c told =
@@ -347,7 +347,7 @@ returns-clause-moving g c told =
     c.push.ensures.capacity in omega (arith, same, more))
     (
     let u = c.program_page.new.self.state in
-    let place : FlashPage = record { block = c.args.to; page = c.len.result } in
+    let place : Place = record { block = c.args.to; page = c.len.result } in
     let new : Newest = record old { place = place } in
     let v : FilePage × Newest = (key, new) in
     let ok : is_ok c.push.result ≡ true = c.is_err.ensures.negation ∙ ap not c.if-is_err.false in
