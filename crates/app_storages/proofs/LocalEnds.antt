@@ -5,6 +5,7 @@ use Rattle.std.specs.Prelude.{slice_get, slice_set}
 use Rattle.per_base.specs.declared.elements.StoreKind.{StoreKind}
 use Rattle.per_base.specs.declared.errors.PerError.{PerError}
 use Rattle.per_base.specs.declared.errors.PerError.TheVariants as error
+use Rattle.per_base.specs.Refusals.{IsRefusal}
 use Rattle.disk_model.specs.Image.{Image}
 use Rattle.disk_model.specs.Laws.{elapses_none}
 use Rattle.disk_model.specs.Medium.{IsLawful, Medium}
@@ -12,7 +13,6 @@ use Rattle.deployment_model.specs.Data.{StorageData}
 use Rattle.element_store.specs.declared.store.Store.{Store}
 use Rattle.element_store.specs.Stores.{IsUsed}
 use Rattle.element_store.specs.Stores as stores
-use Rattle.file_core.specs.Refusals.{IsRefusal}
 use Rattle.command_text.specs.declared.calls.Call.{Call}
 use Rattle.command_text.specs.declared.replies.Answer.{Answer}
 use Rattle.command_text.specs.declared.replies.Answer.TheVariants as answer

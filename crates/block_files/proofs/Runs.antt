@@ -9,8 +9,8 @@ use Rattle.std.proofs.lemmas.List.{take_min}
 use Rattle.std.proofs.lemmas.Bool.{cases_lt}
 use borrow.Rule.Slice.PartMut.{put_mid, post_of}
 use Rattle.block_files.specs.Areas.{block, joined}
-use Rattle.block_files.specs.Parts.{blocks_for}
 use Rattle.block_files.specs.lemmas.Joined.{length-blocks, read_joined}
+use Rattle.per_base.specs.Contents.{blocks_for}
 
 -- ---- a part that is written in place
 

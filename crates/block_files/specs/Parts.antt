@@ -1,11 +1,7 @@
 -- Contents in parts of 256 bytes, one for each block, and which parts differ from those of an earlier content.
-use Rattle.std.specs.Prelude.{◌≡◌, ℕ, zero, suc, ◌+◌, ◌*◌, ◌/◌, ◌<◌, List, length, take, drop, slice_index, Bool, not}
-use Rattle.std.specs.Prelude.{cond}
+use Rattle.std.specs.Prelude.{◌≡◌, ℕ, zero, suc, ◌+◌, ◌*◌, ◌<◌, List, length, take, drop, slice_index, Bool, not, cond}
 use Rattle.std.specs.Str.{bytes_eq}
-
--- how many blocks that many bytes take
-abbrev pub blocks_for : ℕ → ℕ
-blocks_for len = (len + 255) / 256
+use Rattle.per_base.specs.Contents.{blocks_for}
 
 -- the bytes of the i-th block: at most 256 from `256 * i` on
 abbrev pub part : List ℕ → ℕ → List ℕ

@@ -1,7 +1,8 @@
 //! The parts of a content, one for each of its blocks.
 
 ghost use Rattle.std.specs.Prelude.{◌≡◌, ◌<◌, ◌≤◌, ◌*◌, ◌^◌, length};
-ghost use Rattle.block_files.specs.Parts.{part, blocks_for, is_changed, changed_blocks};
+ghost use Rattle.per_base.specs.Contents.{blocks_for};
+ghost use Rattle.block_files.specs.Parts.{part, is_changed, changed_blocks};
 
 use per_base::BLOCK;
 

@@ -3,10 +3,11 @@
 ghost use Rattle.std.specs.Prelude.{◌≡◌, ◌<◌, ◌≤◌, ◌+◌, ◌*◌, ℕ, List, true, IsTrue, IfOk, OnOk, OnErr, IsErrOf, length};
 ghost use Rattle.std.specs.Prelude.{slice_index};
 ghost use Rattle.sha2.specs.Sha256.{sha256};
+ghost use Rattle.per_base.specs.Contents.{blocks_for};
 ghost use Rattle.disk_model.specs.Place.{IsNoArea};
 ghost use Rattle.block_files.specs.BlockSets.{contains, free_of, AreFree, AreDistinct, IsNotAmong, IsAdded};
 ghost use Rattle.block_files.specs.BlockSets.{SharesBlocks};
-ghost use Rattle.block_files.specs.Parts.{blocks_for, changed_blocks};
+ghost use Rattle.block_files.specs.Parts.{changed_blocks};
 ghost use Rattle.block_files.specs.Areas.{AllFull};
 ghost use Rattle.block_files.specs.Writes.{Wrote, Tore, IsTaken, IsApartFromChanged};
 

@@ -7,6 +7,7 @@ use Rattle.per_base.specs.declared.elements.StoreKind.TheVariants.{Keys, Files}
 use Rattle.per_base.specs.declared.elements.Entry.{Entry}
 use Rattle.per_base.specs.declared.elements.Change.{Change}
 use Rattle.per_base.specs.declared.elements.Change.TheVariants.{Put, Remove, Touch}
+use Rattle.per_base.specs.Names.{NamesAscend}
 use Rattle.guarded_cell.specs.declared.cell.Cell.{Cell}
 use Rattle.guarded_cell.specs.Cells.{place_of, IsCellOf}
 use Rattle.index_text.specs.declared.entries.Index.{Index}
@@ -22,7 +23,6 @@ use Rattle.element_state.specs.Written.{commit_cost, IsWithin}
 use Rattle.element_store.specs.declared.store.Store.{Store}
 use Rattle.element_store.specs.declared.hashing.KeptStates.{KeptStates}
 use Rattle.element_store.specs.Hashing.{AreOfElement}
-use Rattle.element_store.specs.Named.{NamesAscend}
 use Rattle.element_store.specs.Changing.{IsSmallChange, IsGrownBy}
 use Rattle.element_store.specs.Committing.{index_length}
 use Rattle.element_store.specs.Taking.{AreOfEither}

@@ -41,8 +41,8 @@ pub record AreTaken (blocks : ℕ) (entries : List IndexEntry) (set : List Bool)
   pub exact : (b : ℕ) → contains set b ≡ named_in (blocks_of entries) b
   pub free : blocks ≤ free_of set + length (blocks_of entries)
 
--- what it keeps in memory, whatever the disk tells: a register at its place, and an index that fits, with its elements,
--- its blocks, and states of the hasher after parts of contents
+-- what it keeps in memory, whether or not the disk is modelled: a register at its place, and an index that fits, with
+-- its elements, its blocks, and states of the hasher after parts of contents
 pub record IsStore (store : Store) : Type 0 where
   pub place : place_of store.cell ≡ store.shape.place
   pub shape : IsShape store.shape

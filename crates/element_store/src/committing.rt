@@ -5,6 +5,7 @@ ghost use Rattle.std.specs.List.{AllByRecursion, AllZip};
 ghost use Rattle.std.specs.Vec.{vec_len, vec_capacity};
 ghost use Rattle.hash_guard.specs.SealedText.{header};
 ghost use Rattle.per_base.specs.Causes.{Rose};
+ghost use Rattle.per_base.specs.Names.{NamesAscend};
 ghost use Rattle.disk_model.specs.Frame.{Spares, IsSettledOn};
 ghost use Rattle.disk_model.specs.Medium.{Quiet, EachCase, Elapses};
 ghost use Rattle.disk_model.specs.Place.{IsOutside};
@@ -12,7 +13,6 @@ ghost use Rattle.element_state.specs.Changes.{after_changes, committed_by, entry
 ghost use Rattle.element_state.specs.Conditions.{AreCommittable};
 ghost use Rattle.element_state.specs.States.{Opens};
 ghost use Rattle.element_state.specs.Kept.{KeptThroughout};
-ghost use Rattle.element_store.specs.Named.{NamesAscend};
 ghost use Rattle.element_store.specs.Changing.{IsSmallChange, KeepsOthers};
 ghost use Rattle.element_store.specs.Committing.{IsPrepared, IsReadyToPut};
 ghost use Rattle.element_store.specs.Hashing.{IsHashedAs};

@@ -13,7 +13,7 @@ use Rattle.flash_disk.specs.FlashDiskMedium.{put_announced, disk_case, still_cas
 untold : {X : Type 0} → IsTrue false → X
 untold t = absurd (true≢false (sym t))
 
--- a told disk has the clock of its flash
+-- a modelled disk has the clock of its flash
 pub told_moment : (told : Bool) (n : ℕ) → IsTrue told → cond told n 0 ≡ n
 told_moment true n t = refl
 told_moment false n t = untold t

@@ -50,7 +50,7 @@ abbrev pub files_told : (told : Bool) → FlashMedium → Image
 files_told told m = if told then flash_files m.state.pages m.blocks else (λ f. [])
 
 -- A disk over this flash, with this count of its own faults and of the bytes that were written. An untold one has no
--- clock: that a moment counts among those since an earlier one is known of a told flash alone.
+-- clock: that a moment counts among those since an earlier one is known of a modelled flash alone.
 abbrev pub flash_disk_medium : (told : Bool) → FlashMedium → (own written : ℕ) → Medium
 flash_disk_medium told m own written = record {
   image = files_told told m;

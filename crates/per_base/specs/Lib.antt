@@ -1,5 +1,6 @@
 pub mod Causes
 pub mod Changes
+pub mod Contents
 pub mod Errors
 pub mod Faults
 pub mod FieldLaws
@@ -9,4 +10,5 @@ pub mod Lists
 pub mod Maps
 pub mod Modes
 pub mod Names
+pub mod Refusals
 pub mod Streams

@@ -4,7 +4,7 @@ use Rattle.std.specs.Prelude.{◌&&◌, nat_eq, nat_le, if◌then◌else◌, Opt
 use Rattle.std.specs.Prelude.{IsErrOf}
 use Rattle.std.specs.List.{AllByRecursion, flat_map, list_any}
 use Rattle.std.specs.Str.{bytes_eq}
-use Rattle.value_text.specs.Readers.{◌>>=◌}
+use Rattle.per_base.specs.Fields.{◌>>=◌}
 use Rattle.value_text.specs.Texts.{hex_text}
 use Rattle.command_text.specs.Grammar.{IsEventLine, has_feed}
 use Rattle.command_text.specs.declared.errors.LineError.{LineError}

@@ -4,12 +4,13 @@ use Rattle.std.proofs.Common.{false, IsTrue, sym, ap, ◌∙◌, subst, arith, �
 use Rattle.std.proofs.lemmas.List.{length-take, length-drop, get_or-take, get_or-drop}
 use Rattle.std.proofs.lemmas.Bool.{cases_eq, cases_lt}
 use Rattle.per_base.specs.Causes.{Rose}
+use Rattle.per_base.specs.Contents.{blocks_for}
 use Rattle.disk_model.specs.Image.{put_image, put_bytes, TornImage}
 use Rattle.disk_model.specs.Case.{WriteCase, WriteOrNot, Follows}
 use Rattle.disk_model.specs.Medium.{Medium, IsLawful, Elapses}
 use Rattle.disk_model.specs.Written.{put_image_here}
 use Rattle.block_files.specs.BlockSets.{AreDistinct}
-use Rattle.block_files.specs.Parts.{part, blocks_for, is_changed, changed_blocks, changed_below}
+use Rattle.block_files.specs.Parts.{part, is_changed, changed_blocks, changed_below}
 use Rattle.block_files.specs.Areas.{HoldsPart, HoldsBytes, HoldsShared}
 use Rattle.block_files.specs.Writes.{Wrote, Tore, IsApartFromChanged, IsRun}
 use Rattle.block_files.specs.lemmas.PartLemmas.{changed_same}

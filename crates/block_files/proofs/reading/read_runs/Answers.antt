@@ -1,7 +1,7 @@
 use Rattle.std.proofs.Common.{◌≡◌, ◌+◌, ◌-◌, ◌*◌, ◌≤◌, ◌∙◌, min, length, get_or, take, drop, ap, arith}
 use Rattle.std.proofs.lemmas.List.{length-take, length-drop}
+use Rattle.per_base.specs.Contents.{blocks_for}
 use Rattle.block_files.specs.Areas.{joined}
-use Rattle.block_files.specs.Parts.{blocks_for}
 use Rattle.block_files.proofs.BlockReads.{read_on}
 use Rattle.block_files.proofs.Runs.{run_of, gathered_more, gathered_all}
 use Rattle.block_files.proofs.reading.read_runs.Goals as goal

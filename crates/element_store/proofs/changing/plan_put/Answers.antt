@@ -1,6 +1,6 @@
 use Rattle.std.proofs.Common.{ℕ, ◌∷◌, ◌++◌, List, [], length, sym, ap, subst, ◌∙◌, arith}
 use Rattle.per_base.specs.declared.elements.Change.TheVariants.{Put}
-use Rattle.block_files.specs.Parts.{blocks_for}
+use Rattle.per_base.specs.Contents.{blocks_for}
 use Rattle.block_files.specs.BlockSets.{AreDistinct, IsAdded, SharesBlocks}
 use Rattle.index_text.specs.declared.entries.IndexEntry.{IndexEntry}
 use Rattle.element_state.specs.Changes.{insert_item, without_item, entry_name}

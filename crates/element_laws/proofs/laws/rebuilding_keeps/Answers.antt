@@ -1,5 +1,5 @@
 use Rattle.element_laws.specs.lemmas.AnewLaws.{given_up, taken_named, anew_contents, anew_done, anew_index}
-use Rattle.element_laws.proofs.laws.making_anew_keeps.Goals as goal
+use Rattle.element_laws.proofs.laws.rebuilding_keeps.Goals as goal
 
 pub returns-clause-taken : goal.returns-clause-taken
 returns-clause-taken c = taken_named

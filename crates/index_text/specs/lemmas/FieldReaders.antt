@@ -1,9 +1,9 @@
--- The fields of an element are read exactly.
-use Rattle.std.proofs.Common.{◌≡◌, ℕ, zero, suc, ◌^◌, ◌<◌, ◌≤◌, true, leb, List, [], ◌∷◌, ◌++◌, length, Option, Some}
-use Rattle.std.proofs.Common.{None, refl, sym, ap, subst, ◌∙◌, append_assoc, arith}
-use Rattle.std.specs.Prelude.{IsTrue}
+-- The fields of an element, its name, info and length, are read exactly.
+use Rattle.std.proofs.Common.{◌≡◌, ℕ, zero, suc, ◌^◌, ◌<◌, ◌≤◌, true, false, cond, eqb, leb, List, [], ◌∷◌, ◌++◌}
+use Rattle.std.proofs.Common.{length, Option, Some, None, refl, sym, ap, subst, ◌∙◌, append_assoc, arith}
+use Rattle.std.specs.Prelude.{◌||◌, IsTrue}
 use Rattle.std.specs.Int.{w32, w64, to_le_bytes}
-use Rattle.std.proofs.lemmas.Bool.{and_parts, cond-false, false_from_ne_true, le-leb, leb-true}
+use Rattle.std.proofs.lemmas.Bool.{and_parts, cond-false, eqb-true, false_from_ne_true, le-leb, leb-true}
 use Rattle.std.proofs.lemmas.Bool.Decides.{nat_tests}
 use Rattle.std.proofs.lemmas.Str.{IsUtf8-from_ascii}
 use Rattle.std.specs.List.{list_all}
@@ -14,16 +14,17 @@ use Rattle.per_base.specs.declared.elements.StoreKind.{StoreKind}
 use Rattle.per_base.specs.declared.elements.StoreKind.TheVariants.{Keys, Files}
 use Rattle.per_base.specs.declared.elements.FileInfo.{FileInfo}
 use Rattle.per_base.specs.Names.{IsName, in_name, is_name}
-use Rattle.index_text.specs.Rules.{InfoInRange, InfoIsInRange, has_info, max_len}
-use Rattle.index_text.specs.Spelling.{cause_code, file_info_text, info_text, name_text, store_kind_code}
-use Rattle.per_base.specs.Fields.{byte_at, bytes_at, number_at, only_if}
-use Rattle.index_text.specs.Reading.{cause_at, coded_cause, file_info_at, info_at, coded_kind, len_at, name_at}
-use Rattle.per_base.specs.FieldLaws.{IsBytes, IsReader, Takes, Takes-then, bind_some, byte_reader, bytes_reader}
+use Rattle.index_text.specs.Rules.{InfoInRange, InfoIsInRange, has_changed, has_info, max_len}
+use Rattle.index_text.specs.Spelling.{cause_code, changed_text, file_info_text, info_text, name_text, store_kind_code}
+use Rattle.per_base.specs.Fields.{AreBytes, byte_at, bytes_at, number_at, only_if}
+use Rattle.index_text.specs.Reading.{cause_at, coded_cause, changed_at, file_info_at, info_at, coded_kind, len_at}
+use Rattle.index_text.specs.Reading.{name_at}
+use Rattle.per_base.specs.FieldLaws.{IsReader, Takes, Takes-then, bind_some, byte_reader, bytes_reader}
 use Rattle.per_base.specs.FieldLaws.{code_step, number_reader, only_some, moved, only_true, wide_32, wide_64}
 
 -- ---- names
 
-name_takes : (bytes name rest : List ℕ) → IsBytes bytes → name_at bytes ≡ Some (name, rest)
+name_takes : (bytes name rest : List ℕ) → AreBytes bytes → name_at bytes ≡ Some (name, rest)
     → Takes bytes (name_text name) rest × IsName name
 unfolding name_at
 name_takes bytes name rest fits e =
@@ -86,7 +87,7 @@ coded_cause_again Reset = refl
 coded_cause_again Recovery = refl
 coded_cause_again Application = refl
 
-cause_takes : (bytes : List ℕ) (cause : Cause) (rest : List ℕ) → IsBytes bytes → cause_at bytes ≡ Some (cause, rest)
+cause_takes : (bytes : List ℕ) (cause : Cause) (rest : List ℕ) → AreBytes bytes → cause_at bytes ≡ Some (cause, rest)
     → Takes bytes (cause_code cause ∷ []) rest × Unit {0}
 unfolding cause_at
 cause_takes bytes cause rest fits e =
@@ -110,7 +111,7 @@ cause_reader = record { takes = cause_takes; again = cause_again }
 moment : IsReader (number_at w64) (to_le_bytes w64) (λ n. n < 2 ^ 64)
 moment = number_reader w64 (2 ^ 64) wide_64
 
-file_info_takes : (bytes : List ℕ) (i : FileInfo) (rest : List ℕ) → IsBytes bytes → file_info_at bytes ≡ Some (i, rest)
+file_info_takes : (bytes : List ℕ) (i : FileInfo) (rest : List ℕ) → AreBytes bytes → file_info_at bytes ≡ Some (i, rest)
     → Takes bytes (file_info_text i) rest × InfoInRange i
 unfolding file_info_at
 file_info_takes bytes i rest fits e =
@@ -158,7 +159,7 @@ file_info_again i rest fits =
       cause_again i.modification rest tt,
     ) refl
 
-info_takes : (kind : StoreKind) (bytes : List ℕ) (i : Option FileInfo) (rest : List ℕ) → IsBytes bytes
+info_takes : (kind : StoreKind) (bytes : List ℕ) (i : Option FileInfo) (rest : List ℕ) → AreBytes bytes
     → info_at kind bytes ≡ Some (i, rest) → Takes bytes (info_text i) rest
     × (IsTrue (has_info kind i) × InfoIsInRange i)
 unfolding info_at
@@ -185,6 +186,34 @@ pub info_reader : (kind : StoreKind) → IsReader (info_at kind) info_text
     (λ i. IsTrue (has_info kind i) × InfoIsInRange i)
 info_reader kind = record { takes = info_takes kind; again = info_again kind }
 
+-- ---- the number of the last change
+
+changed_takes : (format : ℕ) (bytes : List ℕ) (n : ℕ) (rest : List ℕ) → AreBytes bytes
+    → changed_at format bytes ≡ Some (n, rest) → Takes bytes (changed_text format n) rest
+    × (IsTrue (has_changed format n) × (n < 2 ^ 64))
+unfolding changed_at
+changed_takes format bytes n rest fits =
+    elim (eqb format 2) as (λ b. cond b (number_at w64 bytes) (Some (0, bytes)) ≡ Some (n, rest)
+    → Takes bytes (cond b (to_le_bytes w64 n) []) rest × (IsTrue (b || eqb n 0) × (n < 2 ^ 64))) [
+      | true ↦ λ e. let t = moment.takes bytes n rest fits e in (t.0, (refl, t.1))
+      | false ↦ λ e. moved (λ (p : ℕ × List ℕ). Takes bytes [] p.1 × (IsTrue (eqb p.0 0) × (p.0 < 2 ^ 64))) (0, bytes)
+          (n, rest) e (record { parts = refl; rest_fits = fits }, (refl, omega arith))
+    ]
+
+changed_again : (format n : ℕ) (rest : List ℕ) → IsTrue (has_changed format n) × (n < 2 ^ 64)
+    → changed_at format (changed_text format n ++ rest) ≡ Some (n, rest)
+unfolding changed_at
+changed_again format n rest fits =
+    elim (eqb format 2) as (λ b. IsTrue (b || eqb n 0) → cond b (number_at w64 (cond b (to_le_bytes w64 n) [] ++ rest))
+    (Some (0, cond b (to_le_bytes w64 n) [] ++ rest)) ≡ Some (n, rest)) [
+      | true ↦ λ e. moment.again n rest fits.1
+      | false ↦ λ e. ap (λ (k : ℕ). Some (k, rest)) (sym (eqb-true n 0 e))
+    ] fits.0
+
+pub changed_reader : (format : ℕ) → IsReader (changed_at format) (changed_text format)
+    (λ n. IsTrue (has_changed format n) × (n < 2 ^ 64))
+changed_reader format = record { takes = changed_takes format; again = changed_again format }
+
 -- ---- the length
 
 number_32 : IsReader (number_at w32) (to_le_bytes w32) (λ n. n < 2 ^ 32)
@@ -194,7 +223,7 @@ pub max_len_fits : (kind : StoreKind) → max_len kind < 2 ^ 32
 max_len_fits Keys = omega arith
 max_len_fits Files = omega arith
 
-len_takes : (kind : StoreKind) (bytes : List ℕ) (n : ℕ) (rest : List ℕ) → IsBytes bytes
+len_takes : (kind : StoreKind) (bytes : List ℕ) (n : ℕ) (rest : List ℕ) → AreBytes bytes
     → len_at kind bytes ≡ Some (n, rest) → Takes bytes (to_le_bytes w32 n) rest × (n ≤ max_len kind)
 unfolding len_at
 len_takes kind bytes n rest fits e =
