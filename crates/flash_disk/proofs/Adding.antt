@@ -6,7 +6,7 @@ use Rattle.flash_model.specs.Pages.{Pages, TornPage, program_page, blank_page}
 use Rattle.flash_model.specs.State.{FlashState, IsStill, ProgramCase, FailsToProgram, programmed}
 use Rattle.flash_model.specs.FlashMedium.{FlashMedium, IsLawfulFlash, FlashElapses, EachFlashCase}
 use Rattle.flash_record.specs.PageRecord.{PageRecord, record_in}
-use Rattle.flash_disk.specs.declared.table.Place.{Place}
+use Rattle.flash_disk.specs.declared.table.FlashPage.{FlashPage}
 use Rattle.flash_disk.specs.declared.layer.LayerState.{LayerState}
 use Rattle.flash_disk.specs.Newest.{record_at, places}
 use Rattle.flash_disk.specs.Known.{page_of}
@@ -65,10 +65,10 @@ pub shown_after : (a b d : FlashMedium) (file page : ℕ) (bytes : List ℕ) →
 shown_after a b d file page bytes same shown = λ f i. shown f i
     ∙ ap (λ z. cond (nat_eq f file && nat_eq (i / 256) page) (get_or bytes (i % 256) 0) z) (same f i)
 
-module _ (m now : FlashMedium) (s u : LayerState) (place : Place) (r : PageRecord) (whole : List ℕ)
+module _ (m now : FlashMedium) (s u : LayerState) (place : FlashPage) (r : PageRecord) (whole : List ℕ)
     (sound : IsSoundLayer m s) (room : s.fill < 64) (fits : FitsIn m s r.file r.page r.len r.bytes)
     (full : length r.bytes ≡ 256)
-    (at : place ≡ (let p : Place = record { block = s.current; page = s.fill } in p))
+    (at : place ≡ (let p : FlashPage = record { block = s.current; page = s.fill } in p))
     (sequence : r.sequence ≡ s.sequence + 1)
     (on : u ≡ record s { sequence = r.sequence; fill = 64 }) (is : record_in whole ≡ Some r) where
   abbrev pages : Pages
@@ -96,7 +96,7 @@ module _ (m now : FlashMedium) (s u : LayerState) (place : Place) (r : PageRecor
   within = omega (arith, small, block_in)
 
   blank : pages place.block place.page ≡ blank_page
-  blank = subst (λ (p : Place). pages p.block p.page ≡ blank_page) (sym at) fresh.blank
+  blank = subst (λ (p : FlashPage). pages p.block p.page ≡ blank_page) (sym at) fresh.blank
 
   apart : place.block ≢ s.spare
   apart = λ same. fresh.apart (sym block_is ∙ same)
@@ -114,10 +114,10 @@ module _ (m now : FlashMedium) (s u : LayerState) (place : Place) (r : PageRecor
   adds = whole_add pages n place whole r small within blank is newer
 
   -- the state while the record is added
-  abbrev pub adding : Option Place → LayerState
+  abbrev pub adding : Option FlashPage → LayerState
   adding w = record s { sequence = r.sequence; fill = 64; unsure = w }
 
-  still_sound : (w : Option Place) → Sound pages m.blocks (adding w)
+  still_sound : (w : Option FlashPage) → Sound pages m.blocks (adding w)
   still_sound w = record {
     knows = sound.knows;
     tops = λ j q inside there. (let less = newer j q inside there in omega (arith, less));
@@ -136,7 +136,7 @@ module _ (m now : FlashMedium) (s u : LayerState) (place : Place) (r : PageRecor
     fresh = λ more. absurd (omega (arith, more));
   }
 
-  entering : (w : Option Place) (left : Pages) → TornPage place.block place.page pages left
+  entering : (w : Option FlashPage) (left : Pages) → TornPage place.block place.page pages left
       → AddsRecord pages left n place r
       → Enters pages left m.blocks (adding w) place r
   entering w left torn added = record {

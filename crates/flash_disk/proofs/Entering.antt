@@ -9,7 +9,7 @@ use Rattle.flash_model.specs.Pages.{Pages, TornPage}
 use Rattle.flash_model.specs.FlashMedium.{FlashMedium}
 use Rattle.flash_record.specs.PageRecord.{PageRecord, record_in}
 use Rattle.flash_disk.specs.declared.table.FilePage.{FilePage}
-use Rattle.flash_disk.specs.declared.table.Place.{Place}
+use Rattle.flash_disk.specs.declared.table.FlashPage.{FlashPage}
 use Rattle.flash_disk.specs.declared.table.Newest.{Newest}
 use Rattle.flash_disk.specs.declared.table.Table.{Table}
 use Rattle.flash_disk.specs.declared.layer.LayerState.{LayerState}
@@ -80,7 +80,8 @@ one_more_fits len limit None fits place = ⊎_elim (λ some. absurd (true≢fals
 one_more_fits len limit (Some e) fits place = let e : len + 0 ≤ limit = omega (arith, fits) in e
 
 -- and where a record came for which there was a place
-pub adds_usable : (old new : Pages) (blocks : ℕ) (s : LayerState) (place : Place) (r : PageRecord) → Sound old blocks s
+pub adds_usable : (old new : Pages) (blocks : ℕ) (s : LayerState) (place : FlashPage) (r : PageRecord)
+    → Sound old blocks s
     → AddsRecord old new (places blocks) place r
     → HasPlace s.table (page_of r) → place.block ≢ s.spare → IsUsable new blocks
 adds_usable old new blocks s place r sound adds has apart =
@@ -191,7 +192,7 @@ holds_sound m s holds sure =
     subst (λ p. Sound p m.blocks s) (sym same) holds.sound
 
 -- a page in doubt was read
-module _ (m now : FlashMedium) (s t : LayerState) (place : Place) (holds : IsDescribedBy m s)
+module _ (m now : FlashMedium) (s t : LayerState) (place : FlashPage) (holds : IsDescribedBy m s)
     (is : s.unsure ≡ Some place)
     (pages : now.state.pages ≡ m.state.pages) (blocks : now.blocks ≡ m.blocks) (state : t ≡ s) (page : List ℕ)
     (read : place.block < m.blocks → place.page < 64 → page ≡ m.state.pages place.block place.page) where
@@ -248,7 +249,7 @@ module _ (m now : FlashMedium) (s t : LayerState) (place : Place) (holds : IsDes
         behind = entering.behind;
       })))
 
-module _ (old new : Pages) (blocks : ℕ) (s : LayerState) (place : Place) (r : PageRecord)
+module _ (old new : Pages) (blocks : ℕ) (s : LayerState) (place : FlashPage) (r : PageRecord)
     (sound : Sound old blocks s) (agreed : IsFalse s.disputed) (enters : Enters old new blocks s place r)
     (e : Newest) (is : IsItsEntry old new (places blocks) place r enters.adds e)
     (mid after : Table) (puts : SetsEntry s.table mid (page_of r) e) (mid_lens : mid.lens ≡ s.table.lens)

@@ -10,7 +10,7 @@ use Rattle.flash_model.specs.State.{FlashState, IsStill}
 use Rattle.flash_model.specs.FlashMedium.{FlashMedium, IsLawfulFlash, FlashElapses, EachFlashCase}
 use Rattle.flash_record.specs.PageRecord.{PageRecord}
 use Rattle.flash_disk.specs.declared.table.FilePage.{FilePage}
-use Rattle.flash_disk.specs.declared.table.Place.{Place}
+use Rattle.flash_disk.specs.declared.table.FlashPage.{FlashPage}
 use Rattle.flash_disk.specs.declared.table.Newest.{Newest}
 use Rattle.flash_disk.specs.declared.table.Table.{Table}
 use Rattle.flash_disk.specs.Newest.{Placed, record_at, newest, places}
@@ -71,7 +71,7 @@ module _ (old new : Pages) (copy home n : ℕ) where
       (cases_eq j i)
 
   -- a new record came to be in the block
-  pub held_added : (place : Place) (r : PageRecord) → AddsRecord old new n place r → number place / 64 ≡ home
+  pub held_added : (place : FlashPage) (r : PageRecord) → AddsRecord old new n place r → number place / 64 ≡ home
       → copy_of r.file ≡ copy → KeepsHeld copy home n old new
   held_added place r adds at_home of_copy = λ block own fits only file page x found j inside at there.
       ⊎_elim

@@ -10,7 +10,7 @@ use Rattle.std.proofs.lemmas.Option.{same_Some, none-some}
 use Rattle.flash_model.specs.Pages.{Pages}
 use Rattle.flash_record.specs.PageRecord.{PageRecord, record_in}
 use Rattle.flash_disk.specs.declared.table.FilePage.{FilePage}
-use Rattle.flash_disk.specs.declared.table.Place.{Place}
+use Rattle.flash_disk.specs.declared.table.FlashPage.{FlashPage}
 use Rattle.flash_disk.specs.declared.table.Newest.{Newest}
 use Rattle.flash_disk.specs.declared.table.Table.{Table}
 use Rattle.flash_disk.specs.Newest.{Placed, record_at, is_of, newer, with_record, newest, opens_page, page_count}
@@ -59,7 +59,8 @@ module _ (pages : Pages) (n : ℕ) where
   abbrev NoCopy : Placed → Type 0
   NoCopy x = record_at pages n ≡ Some x.says → n / 64 ≢ x.place / 64 → ⊥
 
-  twin_stays : (x : Placed) (twin : Option Place) → NoCopy x → TwinSays pages n x twin → TwinSays pages (suc n) x twin
+  twin_stays : (x : Placed) (twin : Option FlashPage) → NoCopy x → TwinSays pages n x twin
+      → TwinSays pages (suc n) x twin
   twin_stays x None none alone = λ j copy. ⊎_elim
       (λ below. alone j (record { within = below; apart = copy.apart; same = copy.same }))
       (λ last. none (subst (λ k. record_at pages k ≡ Some x.says) last copy.same)
@@ -392,7 +393,7 @@ module _ (pages : Pages) (n : ℕ) where
         } in z) same.1)))
 
     module _ (old : Table) (e : Newest) (learnt : HasLearnt pages n old) (known_is : known old (page_of r) ≡ Some e)
-        (place : Place) (place_is : number place ≡ n) (small : place.page < 64) (sequence : e.sequence ≡ r.sequence)
+        (place : FlashPage) (place_is : number place ≡ n) (small : place.page < 64) (sequence : e.sequence ≡ r.sequence)
       where
         abbrev x : Placed
         x = (best old e learnt known_is).0
@@ -412,7 +413,7 @@ module _ (pages : Pages) (n : ℕ) where
         n_block : n / 64 ≡ place.block
         n_block = omega (arith, place_is, small)
 
-        module _ (first : Option PageRecord) (is : first ≡ Some x.says) (twin : Option Place)
+        module _ (first : Option PageRecord) (is : first ≡ Some x.says) (twin : Option FlashPage)
             (at : TwinAt first r e place twin) where
           -- the record is equal, and in another block
           copied : place.block ≢ e.place.block → SaysTheSame x.says r → TwinSays pages (suc n) x twin
@@ -443,7 +444,7 @@ module _ (pages : Pages) (n : ℕ) where
               (cases_eq x.says.len r.len)
 
         -- the twin after the record was seen
-        twin_says : (first : Option PageRecord) → first ≡ Some x.says → (twin : Option Place)
+        twin_says : (first : Option PageRecord) → first ≡ Some x.says → (twin : Option FlashPage)
             → TwinAt first r e place twin → TwinSays pages (suc n) x twin
         twin_says first is twin at = ⊎_elim
             (λ same_block. subst (TwinSays pages (suc n) x) (sym (at.same_block same_block))
@@ -483,7 +484,7 @@ module _ (pages : Pages) (n : ℕ) where
 
         -- what is put in for a record with the newest one's number
         pub equal : (seen : Option PageRecord) → seen ≡ record_at pages (number e.place)
-            → (twin : Option Place) (rivalled : Bool) → TwinAt seen r e place twin
+            → (twin : Option FlashPage) (rivalled : Bool) → TwinAt seen r e place twin
             → RivalledAt seen r e rivalled
             → LearnsOf pages (suc n) (Some (record e { twin = twin; rivalled = rivalled }))
             (newer (newest pages r.file r.page n) placed)

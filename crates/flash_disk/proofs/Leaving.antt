@@ -7,7 +7,7 @@ use Rattle.std.proofs.lemmas.Option.{same_Some, none-some}
 use Rattle.flash_model.specs.Pages.{Pages}
 use Rattle.flash_record.specs.PageRecord.{PageRecord}
 use Rattle.flash_disk.specs.declared.table.FilePage.{FilePage}
-use Rattle.flash_disk.specs.declared.table.Place.{Place}
+use Rattle.flash_disk.specs.declared.table.FlashPage.{FlashPage}
 use Rattle.flash_disk.specs.declared.table.Newest.{Newest}
 use Rattle.flash_disk.specs.declared.table.Table.{Table}
 use Rattle.flash_disk.specs.Newest.{Placed, record_at, is_of, newest, IsCopyOf, IsNewest, IsNewestOf, IsSpare, places}
@@ -123,7 +123,7 @@ module _ (pages : Pages) (n block : ℕ) where
             alone = subst (TwinSays pages n x.0) none x.2.twin;
           }) (own_block key e here)
 
-      module _ (key : FilePage) (e : Newest) (here : LeadsHere key e) (twin : Place) (twin_is : e.twin ≡ Some twin)
+      module _ (key : FilePage) (e : Newest) (here : LeadsHere key e) (twin : FlashPage) (twin_is : e.twin ≡ Some twin)
         where
           abbrev x : Placed
           x = (found key e here.0).0
@@ -216,7 +216,7 @@ module _ (pages : Pages) (n block : ℕ) where
         no_twin_found none = none_here (λ k w here. has_twin spare small k w here
             (ap (λ (q : FilePage × Newest). q.1.twin) (sym (only k w here)) ∙ none))
 
-        pub twin_found : known table key ≡ Some e → e.place.block ≡ block → e.place.page ≡ p → (twin : Place)
+        pub twin_found : known table key ≡ Some e → e.place.block ≡ block → e.place.page ≡ p → (twin : FlashPage)
             → e.twin ≡ Some twin → (new : Table) (done : Bool)
             → (HasCapacity table → IsFalse done ↔ ((known table key ≡ None) × (limit_of table ≤ page_len table)))
             → (IsTrue done → SetsEntry table new key (record e { place = twin })) → IsLeaving pages n block (p + 1) new

@@ -8,7 +8,7 @@ use Rattle.flash_model.specs.FlashMedium.{FlashMedium}
 use Rattle.flash_record.specs.PageRecord.{PageRecord}
 use Rattle.flash_disk.specs.declared.table.FilePage.{FilePage}
 use Rattle.flash_disk.specs.declared.table.Newest.{Newest}
-use Rattle.flash_disk.specs.declared.table.Place.{Place}
+use Rattle.flash_disk.specs.declared.table.FlashPage.{FlashPage}
 use Rattle.flash_disk.specs.declared.table.Table.{Table}
 use Rattle.flash_disk.specs.declared.layer.LayerState.{LayerState}
 use Rattle.flash_disk.specs.Newest.{record_at, places, page_count, page_limit, IsSpare, IsUsable}
@@ -73,7 +73,7 @@ abbrev pub FitsIn : FlashMedium → LayerState → (file page len : ℕ) → Lis
 FitsIn m s file page len bytes = MayBeAdded m.state.pages m.blocks s file page len bytes
 
 -- the record came to be in this place of the block that is being filled
-pub record Enters (old new : Pages) (blocks : ℕ) (s : LayerState) (place : Place) (r : PageRecord) : Type 0 where
+pub record Enters (old new : Pages) (blocks : ℕ) (s : LayerState) (place : FlashPage) (r : PageRecord) : Type 0 where
   pub adds : AddsRecord old new (places blocks) place r
   pub fits : MayBeAdded old blocks s r.file r.page r.len r.bytes
   pub full : length r.bytes ≡ 256
@@ -83,7 +83,7 @@ pub record Enters (old new : Pages) (blocks : ℕ) (s : LayerState) (place : Pla
   pub behind : place.block ≡ s.current → place.page < s.fill
 
 -- what a page may hold in which a call that failed may have left anything
-pub record Pends (sure pages : Pages) (blocks : ℕ) (s : LayerState) (place : Place) : Type 0 where
+pub record Pends (sure pages : Pages) (blocks : ℕ) (s : LayerState) (place : FlashPage) : Type 0 where
   pub agreed : IsFalse s.disputed
   pub small : place.page < 64
   pub within : place.block < blocks
@@ -93,7 +93,7 @@ pub record Pends (sure pages : Pages) (blocks : ℕ) (s : LayerState) (place : P
   pub elsewhere : TornPage place.block place.page sure pages
   pub may_enter : (r : PageRecord) → record_at pages (number place) ≡ Some r → Enters sure pages blocks s place r
 
-abbrev pub PendsAt : Pages → Pages → ℕ → LayerState → Option Place → Type 0
+abbrev pub PendsAt : Pages → Pages → ℕ → LayerState → Option FlashPage → Type 0
 PendsAt sure pages blocks s None = pages ≡ sure
 PendsAt sure pages blocks s (Some place) = Pends sure pages blocks s place
 

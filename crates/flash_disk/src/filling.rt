@@ -20,7 +20,7 @@ ghost use Rattle.flash_disk.specs.KeepsApart.{KeepsApart, HasHome};
 
 use crate::layer::Layer;
 use crate::opening::newest_at;
-use crate::table::{FilePage, Newest, Place};
+use crate::table::{FilePage, FlashPage, Newest};
 use disk_model::DiskFailed;
 use flash_model::{BLANK_PAGE, BLOCK_PAGES, Flash, PAGE_BYTES};
 use flash_record::{RECORD_BYTES, Record, read_record, record_page};
@@ -122,7 +122,7 @@ impl<F: Flash> Layer<F> {
         ensures calm { IsTrue F.told → OnOk result (IsFalse self.old.state.disputed) }
     {
         let sequence = self.next_sequence()?;
-        let place = Place {
+        let place = FlashPage {
             block: self.state.current,
             page: self.state.fill,
         };
@@ -152,7 +152,7 @@ impl<F: Flash> Layer<F> {
     }
 
     // A record is the newest of its page.
-    fn enter(&mut self, place: Place, found: Record<'_>)
+    fn enter(&mut self, place: FlashPage, found: Record<'_>)
         ensures flash { self.new.flash ≡ self.old.flash }
         ensures own { self.new.own ≡ self.old.own }
         ensures unsure { self.new.state.unsure ≡ self.old.state.unsure }
@@ -233,7 +233,7 @@ impl<F: Flash> Layer<F> {
     }
 
     // Whether a page may be filled next: records may be added, it is outside the spare block, and it is blank.
-    fn is_fresh(&mut self, place: Place) -> Result<bool, DiskFailed>
+    fn is_fresh(&mut self, place: FlashPage) -> Result<bool, DiskFailed>
         ensures reads { LearnsNothing F.told F.medium self.old self.new result }
         ensures page { IfOk result (λ fresh. IsTrue fresh → place.page < 64) }
         ensures fresh { IsTrue F.told → IfOk result (λ fresh. IsTrue fresh → HasFreshPage
@@ -306,13 +306,13 @@ impl<F: Flash> Layer<F> {
         ensures own { IsTrue F.told → self.new.own ≡ self.old.own }
     {
         for page in 0..BLOCK_PAGES {
-            self.copy_one(Place { block: from, page }, to)?;
+            self.copy_one(FlashPage { block: from, page }, to)?;
         }
         Ok(())
     }
 
     // Copies a record to the next page of another block, if it is the newest of its page.
-    fn copy_one(&mut self, from: Place, to: u32) -> Result<(), DiskFailed>
+    fn copy_one(&mut self, from: FlashPage, to: u32) -> Result<(), DiskFailed>
         requires page { from.page < 64 }
         requires count { vec_len self.old.state.moved ≤ from.page }
         requires moving { IsTrue F.told
@@ -341,7 +341,7 @@ impl<F: Flash> Layer<F> {
         if old.place != from {
             return Ok(());
         }
-        let place = Place {
+        let place = FlashPage {
             block: to,
             page: self.state.moved.len() as u32,
         };

@@ -5,7 +5,7 @@ ghost use Rattle.flash_disk.specs.Apart.{copy_of};
 ghost use Rattle.flash_disk.specs.Known.{load_known};
 ghost use Rattle.flash_disk.specs.LedApart.{IsLedApart, LeadsOnly, LeadsSome, HasOneEach};
 
-use crate::table::{FilePage, MOST_BLOCKS, Place, Table};
+use crate::table::{FilePage, FlashPage, MOST_BLOCKS, Table};
 use flash_model::BLOCK_PAGES;
 
 /// How many copies are kept apart.
@@ -19,7 +19,7 @@ const SEVERAL: u8 = 255;
 /// Where the records of each copy go on.
 #[derive(Drop)]
 pub struct Streams {
-    next: [Place; COPIES],
+    next: [FlashPage; COPIES],
     /// The greatest number of a record of each copy that was learnt.
     tops: [u64; COPIES],
     /// The page of the last record of each copy.
@@ -31,7 +31,7 @@ pub struct Streams {
 impl Streams {
     /// Streams of a flash of which nothing is known but its table.
     pub fn new(table: &Table) -> Streams {
-        let nowhere = Place {
+        let nowhere = FlashPage {
             block: 0,
             page: BLOCK_PAGES,
         };
@@ -45,12 +45,12 @@ impl Streams {
 
     /// Learns of a record that was found in a place. The page after it may have been torn, so the copy goes on with the
     /// one after that.
-    pub fn learn(&mut self, key: FilePage, sequence: u64, place: Place) {
+    pub fn learn(&mut self, key: FilePage, sequence: u64, place: FlashPage) {
         let copy = self.stream_of(key.file) as usize;
         if sequence > self.tops[copy] {
             self.tops[copy] = sequence;
             self.last[copy] = key;
-            self.next[copy] = Place {
+            self.next[copy] = FlashPage {
                 block: place.block,
                 page: place.page.saturating_add(2),
             };
@@ -59,13 +59,13 @@ impl Streams {
 
     /// The page that is to be filled next with a record of a file. Where each copy has a block of its own, the last
     /// record of the file's copy is in its block; where it is not, no page of the block is.
-    pub fn next_of(&self, table: &Table, file: u32) -> Place
+    pub fn next_of(&self, table: &Table, file: u32) -> FlashPage
         ensures { 16 ≤ table.now.blocks → result.page < 64 → LeadsSome table.now (copy_of file) result.block }
     {
         let copy = self.stream_of(file) as usize;
         let next = self.next[copy];
         if table.has_many_blocks() && !table.has_in(self.last[copy], file, next.block) {
-            return Place {
+            return FlashPage {
                 block: next.block,
                 page: BLOCK_PAGES,
             };
@@ -74,9 +74,9 @@ impl Streams {
     }
 
     /// Goes on after a place with the records of a file's copy.
-    pub fn go_on(&mut self, file: u32, place: Place) {
+    pub fn go_on(&mut self, file: u32, place: FlashPage) {
         let copy = self.stream_of(file) as usize;
-        self.next[copy] = Place {
+        self.next[copy] = FlashPage {
             block: place.block,
             page: place.page.saturating_add(1),
         };
@@ -119,7 +119,7 @@ impl Streams {
             }
         }
         let copy = self.stream_of(file) as usize;
-        self.next[copy] = Place { block, page: moved };
+        self.next[copy] = FlashPage { block, page: moved };
     }
 
     /// Goes on with no copy in a block that holds newest records of another too.

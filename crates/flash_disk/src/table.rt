@@ -27,7 +27,7 @@ pub struct FilePage {
 
 /// A page of the flash.
 #[derive(Clone, Copy, Debug, PartialEq, Eq)]
-pub struct Place {
+pub struct FlashPage {
     pub block: u32,
     pub page: u32,
 }
@@ -35,12 +35,12 @@ pub struct Place {
 /// The newest record of a page of a file.
 #[derive(Clone, Copy, Debug)]
 pub struct Newest {
-    pub place: Place,
+    pub place: FlashPage,
     pub sequence: u64,
     /// How long the record says that the file is.
     pub len: u64,
     /// Where another block has an equal record.
-    pub twin: Option<Place>,
+    pub twin: Option<FlashPage>,
     /// Whether another record of the page has its number and says something else.
     pub rivalled: bool,
     /// How many of its bytes are left without the zeros at their end.

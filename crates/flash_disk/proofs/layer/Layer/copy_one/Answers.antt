@@ -1,7 +1,7 @@
 use Rattle.std.proofs.Common.{arith, ◌≡◌, ◌++◌, ◌∷◌, [], length, cond, true, Some, sym, ap, subst, refl, ◌∙◌}
 use Rattle.std.specs.Prelude.{is_ok, not, vec_len, vec_capacity}
 use Rattle.flash_disk.proofs.Spreading.{few_same, few_more, of_err}
-use Rattle.flash_disk.specs.declared.table.Place.{Place}
+use Rattle.flash_disk.specs.declared.table.FlashPage.{FlashPage}
 use Rattle.flash_disk.specs.declared.table.FilePage.{FilePage}
 use Rattle.flash_disk.specs.declared.table.Newest.{Newest}
 use Rattle.flash_disk.specs.declared.layer.LayerState.{LayerState}
@@ -363,7 +363,7 @@ returns-clause-moving g c told =
     c.push.ensures.capacity in omega (arith, same, more))
     (
     let u = c.program_page.new.self.state in
-    let place : Place = record { block = c.args.to; page = c.len.result } in
+    let place : FlashPage = record { block = c.args.to; page = c.len.result } in
     let new : Newest = record old { place = place } in
     let v : FilePage × Newest = (key, new) in
     let ok : is_ok c.push.result ≡ true = c.is_err.ensures.negation ∙ ap not c.if-is_err.false in
