@@ -1,0 +1,4 @@
+pub mod Listings
+pub mod Seen
+pub mod Clauses
+pub mod Samples
