@@ -18,7 +18,7 @@ PutsListing text before now (Err Sink) = TookProperPrefix before now text
 PutsListing text before now (Err Device) = Keeps before now
 PutsListing text before now (Err OutOfMemory) = Keeps before now
 
--- what was put is the listing of the image, where the disk tells what its bytes are
+-- what was put is the listing of the image, where the disk is modelled
 pub record Lists {T : Type 0} (told : Bool) (form : Form) (image : Image) (before now : Option (List ℕ))
     (result : Result T ListError) : Type 0 where
   pub text : List ℕ
