@@ -36,6 +36,9 @@ returns-in_err-cell-clause-elsewhere g c = λ tells. slots_outside c.args.shape.
     (g.D.Disk.medium c.args.disk.now) (g.D.Disk.medium c.prepare.new.disk) (g.D.Disk.medium c.adopt_seen.new.disk)
     c.in_ok-seen.ensures.image (c.in_err-cell.ensures.brings.puts.elsewhere tells)
 
+pub returns-in_err-cell-clause-time : goal.returns-in_err-cell-clause-time
+returns-in_err-cell-clause-time g c = elapses_on c.in_ok-seen.ensures.time c.in_err-cell.ensures.brings.puts.time
+
 pub returns-in_err-cell-clause-outside : goal.returns-in_err-cell-clause-outside
 returns-in_err-cell-clause-outside g c = λ tells quiet.
     second_outside c.args.shape.place c.in_ok-seen.field-0.seen.generation
