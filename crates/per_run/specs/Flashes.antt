@@ -6,9 +6,11 @@ use Rattle.disk_model.specs.Medium.{Quiet, Elapses}
 use Rattle.flash_model.specs.FlashMedium.{FlashMedium}
 use Rattle.flash_model.specs.Pages.{IsPlain}
 use Rattle.flash_model.specs.State.{FlashCase, settle_pages}
+use Rattle.flash_disk.specs.Apart.{StandApart}
 use Rattle.flash_disk.specs.FlashDiskMedium.{IsJustOpened, disk_case, disk_seen}
 use Rattle.flash_disk.specs.FlashFiles.{flash_files}
 use Rattle.flash_disk.specs.FlashView.{FlashView}
+use Rattle.flash_disk.specs.KeepsApart.{ApartSince}
 use Rattle.flash_disk.specs.Learnt.{IsTop}
 use Rattle.flash_disk.specs.Looks.{LeavesFlashAlone, OpensFlash}
 use Rattle.flash_disk.specs.Newest.{IsUnusable, IsUsable, places}
@@ -74,7 +76,8 @@ LeavesFiles told medium flash opened disk c =
 
 -- After a stop at any moment since the flash was handed in it can be opened again, and has the files that the job's
 -- promise speaks of, as far as no page passes its hash by chance: it is refused neither for its size nor for what its
--- pages hold. If it had no rivals it goes on taking writes.
+-- pages hold. If it had no rivals it goes on taking writes, and if it has enough blocks and the copies stood apart on it
+-- they stand apart, at the end too, unless at some moment there was no room for one.
 pub record OpensAgain {F : Type 0} (told : Bool) (medium : F → FlashMedium) (flash : F)
     (opened disk : FlashView F) : Type 0 where
   pub usable : UsableSince (medium disk.flash) (medium flash).moment
@@ -83,6 +86,8 @@ pub record OpensAgain {F : Type 0} (told : Bool) (medium : F → FlashMedium) (f
       → IsPlain c.before c.whole c.left → IsUnusable c.left (medium disk.flash).blocks → ⊥
   pub agreed : IsAgreed (medium flash).state.pages (places (medium flash).blocks)
       → AgreedSince (medium disk.flash) (medium flash).moment
+  pub apart : (16 ≤ (medium flash).blocks → StandApart (medium flash).state.pages (medium flash).blocks)
+      → ApartSince (medium disk.flash) (medium flash).moment
   pub files : (c : FlashCase) → (medium disk.flash).since (medium flash).moment c → IsPlain c.before c.whole c.left
       → LeavesFiles told medium flash opened disk c
 
