@@ -281,24 +281,23 @@ module _ (a b : FlashMedium) (time : FlashElapses a b) (copy : ℕ) (kept : Keep
   )
 
   stood_before : (pages : Pages) → StandsOrLacked a t pages → StandsOrLacked b t pages
-  stood_before pages stands many = ⊎_elim
+  stood_before pages stands = ⊎_elim
       (λ stand. inl (subst (StandApart pages) (sym time.blocks) stand))
       (λ lacked. inr (still_lacked lacked))
-      (stands (subst (λ (k : ℕ). 16 ≤ k) time.blocks many))
+      stands
 
   stays_after : (pages : Pages) → StaysApart copy a b pages → StandsOrLacked b t pages
-  stays_after pages stays many =
-      let enough = subst (λ (k : ℕ). 16 ≤ k) time.blocks many in
-      ⊎_elim
+  stays_after pages stays = ⊎_elim
       (λ stood. ⊎_elim
       (λ stand. inl (subst (StandApart pages) (sym time.blocks) stand))
       (λ mix. inr (now_lacked mix))
-      (stays enough stood))
+      (stays was.many stood))
       (λ lacked. inr (still_lacked lacked))
-      (was.now enough)
+      was.now
 
   pub apart_since : ApartSince b t
   apart_since = record {
+    many = subst (λ (k : ℕ). 16 ≤ k) (sym time.blocks) was.many;
     now = stays_after b.state.pages kept.now;
     during = λ c past plain. ⊎_elim
         (λ early. stood_before c.left (was.during c early plain))

@@ -132,7 +132,8 @@ module _ (told : Bool) (old new : FlashMedium) (lawful : IsLawfulFlash told new)
     opens = opens_now told new own 0 lawful (subst (λ (n : ℕ). 4 ≤ n) (sym blocks) many)
         (subst (λ (n : ℕ). n ≤ 4096) (sym blocks) few) (still_so IsUsable usable);
     agrees = λ agreed. agrees_now told new own 0 lawful (still_so (λ p b. IsAgreed p (places b)) agreed);
-    apart = λ stand. apart_now told new own 0 lawful (still_so (λ p b. 16 ≤ b → StandApart p b) stand);
+    apart = λ enough stand. apart_now told new own 0 lawful (subst (λ (n : ℕ). 16 ≤ n) (sym blocks) enough)
+        (still_so StandApart stand);
   }
 
 -- a flash that was settled makes a disk on which nothing is pending

@@ -114,10 +114,11 @@ module _ (told : Bool) (m : FlashMedium) (own written : ℕ) where
         (agreed tells);
   }
 
-  pub apart_now : IsLawfulFlash told m → (IsTrue told → 16 ≤ m.blocks → StandApart m.state.pages m.blocks)
+  pub apart_now : IsLawfulFlash told m → 16 ≤ m.blocks → (IsTrue told → StandApart m.state.pages m.blocks)
       → disk.apart disk.moment
-  apart_now lawful stand tells = record {
-    now = λ many. inl (stand tells many);
-    during = λ c past plain many. inl (subst (λ p. StandApart p m.blocks) (sym (left_now lawful tells c past))
-        (stand tells many));
+  apart_now lawful many stand tells = record {
+    many = many;
+    now = inl (stand tells);
+    during = λ c past plain. inl (subst (λ p. StandApart p m.blocks) (sym (left_now lawful tells c past))
+        (stand tells));
   }

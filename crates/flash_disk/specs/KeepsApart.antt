@@ -29,12 +29,14 @@ pub record KeepsApart (copy : ℕ) (old new : FlashMedium) : Type 0 where
 abbrev pub LackedRoom : FlashMedium → ℕ → Type 0
 LackedRoom m t = (copy : ℕ) × (c : FlashCase) × m.since t c × HasNoRoom c.left m.blocks copy
 
--- on enough blocks the copies stand apart on these pages, or there was no room for one
+-- the copies stand apart on these pages, or there was no room for one
 abbrev pub StandsOrLacked : FlashMedium → ℕ → Pages → Type 0
-StandsOrLacked m t pages = 16 ≤ m.blocks → StandApart pages m.blocks ⊎ LackedRoom m t
+StandsOrLacked m t pages = StandApart pages m.blocks ⊎ LackedRoom m t
 
--- the copies stand apart now and after a crash at any moment since this one, as long as there was room for each
+-- there are enough blocks, and the copies stand apart now and after a crash at any moment since this one, if no page
+-- passes its hash by chance and as long as there was room for each copy
 pub record ApartSince (m : FlashMedium) (t : ℕ) : Type 0 where
+  pub many : 16 ≤ m.blocks
   pub now : StandsOrLacked m t m.state.pages
   pub during : (c : FlashCase) → m.since t c → IsPlain c.before c.whole c.left → StandsOrLacked m t c.left
 

@@ -16,6 +16,7 @@ use Rattle.flash_disk.specs.Looks.{OpensFlash}
 use Rattle.flash_disk.specs.Newest.{IsUnusable, IsUsable, places}
 use Rattle.flash_disk.specs.Standing.{IsAgreed}
 use Rattle.flash_disk.specs.Throughout.{AgreedSince, KeepsAgreed, KeepsUsable, UsableSince}
+use Rattle.flash_laws.specs.Outvotes.{OutlastsSince}
 use Rattle.per_run.specs.Flashes.{IsWrongSize, LeavesFiles, OpensAgain}
 
 -- what stays usable in a stretch of calls is so since its beginning
@@ -39,15 +40,16 @@ agreed_since old new blocks keeps agreed = record {
 -- where no page changes, copies that stood apart do so
 apart_since : (old new : FlashMedium) → new.blocks ≡ old.blocks → new.state.pages ≡ old.state.pages
     → ((c : FlashCase) → new.since old.moment c → c.left ≡ old.state.pages)
-    → (16 ≤ old.blocks → StandApart old.state.pages old.blocks) → ApartSince new old.moment
-apart_since old new blocks pages cases stand = record {
+    → 16 ≤ old.blocks → StandApart old.state.pages old.blocks → ApartSince new old.moment
+apart_since old new blocks pages cases many stand = record {
+  many = subst (λ (b : ℕ). 16 ≤ b) (sym blocks) many;
   now = stands new.state.pages pages;
   during = λ c past plain. stands c.left (cases c past);
 }
   where
     stands : (p : Pages) → p ≡ old.state.pages → StandsOrLacked new old.moment p
-    stands p same many = inl (subst (λ (b : ℕ). StandApart p b) (sym blocks)
-        (subst (λ (q : Pages). StandApart q old.blocks) (sym same) (stand (subst (λ (b : ℕ). 16 ≤ b) blocks many))))
+    stands p same = inl (subst (λ (b : ℕ). StandApart p b) (sym blocks)
+        (subst (λ (q : Pages). StandApart q old.blocks) (sym same) stand))
 
 -- a flash that is usable is refused neither for its size nor for what its pages hold
 right_size : (m : FlashMedium) (t : ℕ) → UsableSince m t → IsWrongSize m.blocks → ⊥
@@ -100,19 +102,33 @@ module _ {F : Type 0} (told : Bool) (medium : F → FlashMedium) (flash : F) (op
       (time.nothing_else (medium flash).moment (disk_case (medium disk.flash).blocks c) earlier
       (tells, (c, past, (plain, refl))))
 
+  agreed_on : KeepsAgreed (medium flash) (medium opened.flash)
+      → IsAgreed (medium flash).state.pages (places (medium flash).blocks)
+      → AgreedSince (medium disk.flash) (medium flash).moment
+  agreed_on keeps agrees = time.agrees (medium flash).moment earlier
+      (λ _. agreed_since (medium flash) (medium opened.flash) blocks keeps agrees) tells
+
+  apart_on : (medium opened.flash).state ≡ settle_pages (medium flash).state → 16 ≤ (medium flash).blocks
+      → StandApart (medium flash).state.pages (medium flash).blocks
+      → ApartSince (medium disk.flash) (medium flash).moment
+  apart_on state enough stand = time.apart (medium flash).moment earlier
+      (λ _. apart_since (medium flash) (medium opened.flash) blocks (ap (λ s. s.pages) state) left_then enough stand)
+      tells
+
   pub opens_again : 4 ≤ (medium flash).blocks → (medium flash).blocks ≤ 4096
       → KeepsUsable (medium flash) (medium opened.flash) → KeepsAgreed (medium flash) (medium opened.flash)
-      → (medium opened.flash).state ≡ settle_pages (medium flash).state → OpensAgain told medium flash opened disk
-  opens_again many few usable agreed state =
+      → (medium opened.flash).state ≡ settle_pages (medium flash).state
+      → ((f : F) (t : ℕ) → AgreedSince (medium f) t → ApartSince (medium f) t → OutlastsSince (medium f) t)
+      → OpensAgain told medium flash opened disk
+  opens_again many few usable agreed state outlast =
       let since : UsableSince (medium disk.flash) (medium flash).moment = time.opens (medium flash).moment earlier
       (λ _. usable_since (medium flash) (medium opened.flash) many few usable) tells in record {
         usable = since;
         right_size = right_size (medium disk.flash) (medium flash).moment since;
         not_unusable = λ c past plain. not_unusable c.left (medium disk.flash).blocks (since.during c past plain);
-        agreed = λ agrees. time.agrees (medium flash).moment earlier
-            (λ _. agreed_since (medium flash) (medium opened.flash) blocks agreed agrees) tells;
-        apart = λ stand. time.apart (medium flash).moment earlier
-            (λ _. apart_since (medium flash) (medium opened.flash) blocks (ap (λ s. s.pages) state) left_then stand)
-            tells;
+        agreed = agreed_on agreed;
+        apart = apart_on state;
+        outlasts = λ agrees enough stand. outlast disk.flash (medium flash).moment (agreed_on agreed agrees)
+            (apart_on state enough stand);
         files = files;
       }

@@ -16,6 +16,7 @@ use Rattle.flash_disk.specs.Looks.{LeavesFlashAlone, OpensFlash}
 use Rattle.flash_disk.specs.Newest.{IsUnusable, IsUsable, places}
 use Rattle.flash_disk.specs.Standing.{IsAgreed}
 use Rattle.flash_disk.specs.Throughout.{AgreedSince, UsableSince}
+use Rattle.flash_laws.specs.Outvotes.{OutlastsSince}
 use Rattle.migrate_fns.specs.Rules.{Answers, Rule}
 use Rattle.run_model.specs.Endings.{Failed}
 use Rattle.per_run.specs.declared.flash.FlashRun.{FlashRun}
@@ -77,7 +78,8 @@ LeavesFiles told medium flash opened disk c =
 -- After a stop at any moment since the flash was handed in it can be opened again, and has the files that the job's
 -- promise speaks of, as far as no page passes its hash by chance: it is refused neither for its size nor for what its
 -- pages hold. If it had no rivals it goes on taking writes, and if it has enough blocks and the copies stood apart on it
--- they stand apart, at the end too, unless at some moment there was no room for one.
+-- they stand apart, at the end too, unless at some moment there was no room for one. So where both are, the copies
+-- outvote each loss of pages of one block.
 pub record OpensAgain {F : Type 0} (told : Bool) (medium : F → FlashMedium) (flash : F)
     (opened disk : FlashView F) : Type 0 where
   pub usable : UsableSince (medium disk.flash) (medium flash).moment
@@ -86,8 +88,11 @@ pub record OpensAgain {F : Type 0} (told : Bool) (medium : F → FlashMedium) (f
       → IsPlain c.before c.whole c.left → IsUnusable c.left (medium disk.flash).blocks → ⊥
   pub agreed : IsAgreed (medium flash).state.pages (places (medium flash).blocks)
       → AgreedSince (medium disk.flash) (medium flash).moment
-  pub apart : (16 ≤ (medium flash).blocks → StandApart (medium flash).state.pages (medium flash).blocks)
+  pub apart : 16 ≤ (medium flash).blocks → StandApart (medium flash).state.pages (medium flash).blocks
       → ApartSince (medium disk.flash) (medium flash).moment
+  pub outlasts : IsAgreed (medium flash).state.pages (places (medium flash).blocks) → 16 ≤ (medium flash).blocks
+      → StandApart (medium flash).state.pages (medium flash).blocks
+      → OutlastsSince (medium disk.flash) (medium flash).moment
   pub files : (c : FlashCase) → (medium disk.flash).since (medium flash).moment c → IsPlain c.before c.whole c.left
       → LeavesFiles told medium flash opened disk c
 
