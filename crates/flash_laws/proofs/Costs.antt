@@ -1,5 +1,5 @@
 -- What the cost of one copy is to the files of a place, and so to what was synchronised.
-use Rattle.std.proofs.Common.{◌≡◌, ◌≢◌, ℕ, ◌+◌, ◌*◌, ◌%◌, ◌<◌, ◌≤◌, sym, ◌∙◌, inl, inr, ⊎_elim, arith}
+use Rattle.std.proofs.Common.{◌≡◌, ◌≢◌, ℕ, ◌+◌, ◌*◌, ◌%◌, ◌<◌, sym, ◌∙◌, inl, inr, ⊎_elim, arith}
 use Rattle.disk_model.specs.Place.{area}
 use Rattle.disk_model.specs.declared.place.Place.{Place}
 use Rattle.flash_model.specs.Pages.{Pages}
