@@ -72,8 +72,8 @@ abbrev pub disk_seen : {F : Type 0} → (told : Bool) → (F → FlashMedium) �
 disk_seen told medium v = flash_disk_medium told (medium v.flash) v.own v.written
 
 -- A disk that was just opened over this flash: from now on what a stop leaves at any moment can be opened again. If the
--- flash had no rivals it goes on taking writes, and if it has 16 blocks or more and the copies stood apart they do so as
--- long as there is room.
+-- flash had no rivals it goes on taking writes, and if it has 16 blocks or more and the copies stood apart they do so
+-- as long as there is room.
 pub record IsJustOpened (told : Bool) (m : FlashMedium) (disk : Medium) : Type 0 where
   pub opens : disk.opens disk.moment
   pub agrees : (IsTrue told → IsAgreed m.state.pages (places m.blocks)) → disk.agrees disk.moment
