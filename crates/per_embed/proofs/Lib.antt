@@ -1,2 +1,0 @@
-pub mod Unfailed
-pub mod Values
