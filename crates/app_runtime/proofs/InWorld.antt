@@ -15,7 +15,7 @@ use Rattle.element_store.specs.Stores.{view_in}
 use Rattle.update_plan.specs.Plans.{AllFit}
 use Rattle.root_text.specs.declared.versions.VersionText.{VersionText}
 use Rattle.root_text.specs.Views.{version_said}
-use Rattle.deploy_laws.specs.Apps.{App, Says, absent, app_at, installed, named, nothing, shapes_named}
+use Rattle.deploy_laws.specs.Apps.{App, Says, absent, app_at, installed, named_in_bank, nothing, shapes_named}
 use Rattle.deploy_laws.specs.Laws.{NumberLaw}
 use Rattle.deploy_laws.specs.Places.{Named, shapes_if, shapes_in, storage_shape}
 use Rattle.deploy.specs.declared.roots.Root.{Root}
@@ -208,8 +208,8 @@ module _ (in_use : RootInUseLaw) (numbers : NumberLaw) (told : Bool) (image : Im
       → IsStageOn (worlds.updating (staged_progress s)) (root_says (staged_root s)) (sessions_in slots)
   updating_on s slots at none =
       subst (λ (previous : Option VersionText). IsStageOn (worlds.updating (staged_progress s))
-      (installed (generation_of s.root.cell) (named s.root.bank (version_said s.root.active))
-      (option_map (λ v. named (1 - s.root.bank) (version_said v)) previous)) (sessions_in slots))
+      (installed (generation_of s.root.cell) (named_in_bank s.root.bank (version_said s.root.active))
+      (option_map (λ v. named_in_bank (1 - s.root.bank) (version_said v)) previous)) (sessions_in slots))
       (sym at.memory.no_previous) (
         closed slots none,
         fit_length (map storage_data s.version.deployment.storages) s.contents.items at.memory.fit,

@@ -20,7 +20,7 @@ use Rattle.deploy.specs.declared.roots.Root.{Root}
 use Rattle.deploy.specs.declared.roots.Root.TheVariants.{Bad, Absent, Installed}
 use Rattle.deploy.specs.Laws.{RootInUseLaw}
 use Rattle.deploy.specs.Roots.{IsRootOf, RootAt, root_app, root_says}
-use Rattle.deploy_laws.specs.Apps.{App, app_at, named}
+use Rattle.deploy_laws.specs.Apps.{App, app_at, named_in_bank}
 use Rattle.deploy_laws.specs.Laws.{NumberLaw}
 use Rattle.deploy_laws.specs.Places.{Named}
 use Rattle.run_model.specs.Found.{Found, found_at, found_in, found_with, of_kind, storage_in}
@@ -103,7 +103,7 @@ module _ (in_use : RootInUseLaw) (numbers : NumberLaw) (told : Bool) (image : Im
 
   module _ (i : parts.Installed) (some : Some i ≡ installed_parts root) where
     abbrev v : Named
-    v = named i.bank (version_said i.active)
+    v = named_in_bank i.bank (version_said i.active)
 
     by_number : (number : Option ℕ) → storage_number (deployment_data i.active.deployment) name ≡ number
         → storage_in (app_at image r.app) name kind ≡ found_at v (states_of image r.app (root_says (Installed i))) kind

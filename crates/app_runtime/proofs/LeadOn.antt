@@ -5,8 +5,8 @@ use Rattle.per_base.specs.declared.elements.StoreKind.TheVariants as kinds
 use Rattle.per_base.specs.declared.errors.Holder.TheVariants as holder
 use Rattle.per_base.specs.declared.errors.PerError.{PerError}
 use Rattle.per_base.specs.declared.errors.PerError.TheVariants as error
+use Rattle.per_base.specs.Refusals.{refuse}
 use Rattle.element_state.specs.States.{State, Opens, Corrupt}
-use Rattle.file_core.specs.Refusals.{refuse}
 use Rattle.migrate_fns.specs.Rules.{Rule, Answers}
 use Rattle.command_text.specs.declared.calls.Call.{Call}
 use Rattle.command_text.specs.declared.calls.Call.TheVariants as call

@@ -15,7 +15,7 @@ use Rattle.per_base.specs.declared.errors.PerError.{PerError}
 use Rattle.per_base.specs.declared.errors.PerError.TheVariants as error
 use Rattle.per_base.specs.declared.errors.Unit.TheVariants as unit
 use Rattle.index_text.specs.Contents.{fresh_size}
-use Rattle.value_model.specs.Kinds.{Kind}
+use Rattle.value_model.specs.Kinds.{Kind, same_kind}
 use Rattle.value_model.specs.Trees.{Tree, type_of}
 use Rattle.value_code.specs.Reading.{decoded}
 use Rattle.deployment_model.specs.Data.{DeploymentData, ElementData, StorageData}
@@ -25,11 +25,10 @@ use Rattle.manifest.specs.Reading.{broken_rule, deployment_in}
 use Rattle.migrate_fns.specs.Chains.{chain_of}
 use Rattle.migrate_fns.specs.Rules.{Rule}
 use Rattle.migrate_fns.specs.Rules as fns
-use Rattle.migrate_fns.specs.SameKind.{same_kind}
 use Rattle.update_plan.specs.declared.contents.StorageContents.{StorageContents}
 use Rattle.update_plan.specs.declared.contents.StorageContents.TheVariants.{Damaged, Missing, Present}
 use Rattle.update_plan.specs.Fates.{gets, by_chain, by_row, fate, of_bytes, of_content, of_type, of_value, refusal}
-use Rattle.update_plan.specs.Fates.{strategy_of, initial_in, type_in}
+use Rattle.update_plan.specs.Fates.{strategy_of, initial_configured, type_configured}
 use Rattle.update_plan.specs.Plans.{Continues, PlansAll, PlansFor, PlansOver, entry_refusal, first_or_none}
 use Rattle.update_plan.specs.Plans.{first_refusal}
 use Rattle.update_plan.specs.Plans.{stored_for, with_first, within_limits}
@@ -209,11 +208,11 @@ row_plain : (rules : List Rule) (now : ℕ) (s : StorageData) (name : List ℕ) 
 row_plain rules now s name configured stored update_rows.nothing = tt
 row_plain rules now s name configured stored (update_rows.initial bytes) = tt
 row_plain rules now s name configured stored (update_rows.kept e) =
-    content_plain rules s.kind s.name name e.info (type_in configured) e.content
+    content_plain rules s.kind s.name name e.info (type_configured configured) e.content
 
 entry_plain : (rules : List Rule) (now : ℕ) (s : StorageData) (e : Entry) → IfSome (entry_refusal rules now s e) IsPlain
 entry_plain rules now s e = row_plain rules now s e.name (element_named s e.name) (Some e)
-    (row_by (strategy_of (element_named s e.name)) s.strategy (initial_in (element_named s e.name)) (Some e))
+    (row_by (strategy_of (element_named s e.name)) s.strategy (initial_configured (element_named s e.name)) (Some e))
 
 first_by : (refused : Option PerError) (others : List PerError) → IfSome refused IsPlain
     → IfSome (first_or_none others) IsPlain → IfSome (first_or_none (cons_option refused others)) IsPlain

@@ -27,15 +27,15 @@ use Rattle.deploy.specs.Building.{StagedAt, staged_progress, staged_root}
 use Rattle.deploy.specs.Building as building
 use Rattle.deploy.specs.Laws.{RootInUseLaw}
 use Rattle.deploy.specs.Roots.{RootAt, free_bank, root_app, root_says}
-use Rattle.deploy_laws.specs.Apps.{App, IsCleanApp, Says, absent, app_at, installed, named, nothing}
+use Rattle.deploy_laws.specs.Apps.{App, IsCleanApp, Says, absent, app_at, installed, named_in_bank, nothing}
 use Rattle.deploy_laws.specs.Laws.{UntouchedAppLaw}
 use Rattle.deploy_laws.specs.Places.{Named}
 use Rattle.deploy_laws.specs.Stands.{IsLater, StandsThroughout}
 use Rattle.deploy_rows.specs.Laws.{UpdateLaterLaw}
-use Rattle.deploy_rows.specs.Rows.{◌>>=◌, InProgress, installing, updated_app}
+use Rattle.deploy_rows.specs.Rows.{◌>>=◌, InProgress, installing, updated_app, one_more}
 use Rattle.run_model.specs.Calls as calls
 use Rattle.run_model.specs.Calls.{StepBeside, answered, app_step, beside_update, done_with, next_step, commit_step}
-use Rattle.run_model.specs.Calls.{abort_step, one_more, progress_of, remaining, concluded}
+use Rattle.run_model.specs.Calls.{abort_step, progress_of, remaining, concluded}
 use Rattle.run_model.specs.Runtimes.{IsUnwritten, is_durable, is_refusal, only_plans}
 use Rattle.run_model.specs.Steps.{after_failure, device_storage, reaches_device, uses_device}
 use Rattle.run_model.specs.Worlds.{Application}
@@ -291,8 +291,8 @@ module _ (told : Bool) (rules : List Rule) (answers : Answers) (now : ℕ) (b : 
   unfolding app_step
   install_row text tells = sym (ap (λ (row : Result App PerError). concluded r (done_with r row))
       (installed_by now text r.disk.says r.disk.lacking r.disk.states (generation_of s.root.cell)
-      (named s.root.bank (version_said s.root.active))
-      (option_map (λ v. named (1 - s.root.bank) (version_said v)) s.root.previous)
+      (named_in_bank s.root.bank (version_said s.root.active))
+      (option_map (λ v. named_in_bank (1 - s.root.bank) (version_said v)) s.root.previous)
       (says_in_use in_use told old.image b.app (staged_root s) (record { memory = is.memory.root; disk = is.root_on })
       tells)))
 
@@ -400,7 +400,7 @@ module _ (told : Bool) (rules : List Rule) (answers : Answers) (now : ℕ) (b : 
       (subst (λ (x : Running). NoneOpen x.slots) (sym is_after) none) r.disk (λ tells. inl refl) (λ tells. still r.disk)
       calls next_reaches refl refl refl refl time e cause
 
-  pub next_done : (t : Staged) (count : ℕ) → staged_progress t ≡ building.one_more (staged_progress s)
+  pub next_done : (t : Staged) (count : ℕ) → staged_progress t ≡ one_more (staged_progress s)
       → count ≡ remaining (staged_progress t) → StagedAt told new.image b.app t
       → (IsTrue told → app_at new.image b.app ≡ r.disk)
       → (IsTrue told → CallsTo b.app r.disk old new) → (IsTrue told → IsCleanApp b.app old.image

@@ -65,7 +65,7 @@ without_update nothing = error.IntegrityCorrupted unit.Root
 without_update (absent g) = error.NotInstalled
 without_update (installed g active previous) = error.NoUpdateInProgress
 
--- What a call made of the root stands in memory, and is answered; where it did not end, all sessions end.
+-- The root that a call leaves is kept in memory, and the reply is built; where the call failed, all sessions end.
 abbrev pub ConcludesCall : Result Outcome Stop → (before after : Running) → Result Reply Stop → Type 0
 ConcludesCall (Ok o) before after result = (after ≡ record before { stage = AtRest o.root })
     × (result ≡ Ok (reply_of o.refused))

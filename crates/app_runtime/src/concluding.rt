@@ -48,7 +48,7 @@ impl Running {
         }
     }
 
-    // What a call made of the root stands in memory, and is answered. Where it did not end, all sessions end.
+    // The root that a call leaves is kept in memory, and the reply is built; where the call failed, all sessions end.
     pub(crate) fn conclude(&mut self, made: Result<Outcome, Stop>) -> Result<Reply, Stop>
         requires room { length self.old.slots.open.items ≡ 16 }
         ensures { ConcludesCall made self.old self.new result }

@@ -6,6 +6,7 @@ use Rattle.per_base.specs.declared.elements.StoreKind.TheVariants as kinds
 use Rattle.per_base.specs.declared.errors.Holder.TheVariants as holder
 use Rattle.per_base.specs.declared.errors.PerError.{PerError}
 use Rattle.per_base.specs.declared.errors.PerError.TheVariants as error
+use Rattle.per_base.specs.Refusals.{refused_by}
 use Rattle.disk_model.specs.Laws.{elapses_none}
 use Rattle.disk_model.specs.Medium.{IsLawful, Medium, Quiet}
 use Rattle.element_state.specs.declared.shapes.Shape.{Shape}
@@ -15,7 +16,6 @@ use Rattle.element_maps.specs.Sessions.{view_once_synced}
 use Rattle.element_maps.specs.Storages.{IsStoring}
 use Rattle.element_store.specs.Stores as stores
 use Rattle.element_store.specs.Stores.{view_in}
-use Rattle.file_core.specs.Refusals.{refused_by}
 use Rattle.file_handles.specs.Opening.{busy}
 use Rattle.kvs_store.specs.Storages.{KvsSession}
 use Rattle.file_storage.specs.FileSessions.{FilesInUse}

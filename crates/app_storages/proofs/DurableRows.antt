@@ -7,13 +7,13 @@ use Rattle.per_base.specs.declared.errors.Holder.TheVariants as holder
 use Rattle.per_base.specs.declared.errors.Limit.TheVariants as limit
 use Rattle.per_base.specs.declared.errors.PerError.{PerError}
 use Rattle.per_base.specs.declared.errors.PerError.TheVariants as error
+use Rattle.per_base.specs.Refusals.{or_next, refuse, refused_by}
 use Rattle.deployment_model.specs.Data.{StorageData}
 use Rattle.deployment_model.specs.Lookups.{storage_number}
 use Rattle.element_state.specs.declared.shapes.View.{View}
 use Rattle.element_state.specs.States.{State, Opens, is_worn}
 use Rattle.element_maps.specs.Sessions.{same_map, view_once_synced}
-use Rattle.file_core.specs.Refusals.{refuse, refused_by}
-use Rattle.file_handles.specs.Opening.{busy, first, when}
+use Rattle.file_handles.specs.Opening.{busy, when}
 use Rattle.command_text.specs.declared.calls.Call.{Call}
 use Rattle.command_text.specs.declared.calls.Call.TheVariants as call
 use Rattle.command_text.specs.declared.replies.Answer.TheVariants as answer
@@ -193,12 +193,12 @@ module _ (app now : ℕ) (r : Application) (name : List ℕ) where
         ∙ (after_ok _ (opened_session r f) s opened_is ∙ done_is)
 
     may_row : (may : Result ⊤ PerError) → (may >>= λ x. durable app r f s >>= done)
-        ≡ refused_by (first (error_of may) due) (Ok (answered answer.Done made))
+        ≡ refused_by (or_next (error_of may) due) (Ok (answered answer.Done made))
     may_row (Ok x) = done_is
     may_row (Err e) = refl
 
     pub flush_row : (h : ℕ) → storage_in r.disk name (Some kinds.Files) ≡ Ok f
-        → app_step app r now (call.Flush name h) ≡ refused_by (first (error_of (may_flush s h)) due)
+        → app_step app r now (call.Flush name h) ≡ refused_by (or_next (error_of (may_flush s h)) due)
         (Ok (answered answer.Done made))
     unfolding app_step
     flush_row h found = after_ok _ (storage_in r.disk name (Some kinds.Files)) f found
@@ -213,7 +213,7 @@ module _ (app now : ℕ) (r : Application) (name : List ℕ) where
 
     held_row : (held : Option ℕ) → unless_busy held (durable app r f s >>= λ after.
         Ok (answered answer.Done (without_session after f.number)))
-        ≡ refused_by (first (busy held) due) (Ok (answered answer.Done ended))
+        ≡ refused_by (or_next (busy held) due) (Ok (answered answer.Done ended))
     held_row (Some h) = refl
     held_row None = ap (λ (row : Result Application PerError). row >>= λ after.
         Ok (answered answer.Done (without_session after f.number))) durable_is
@@ -221,7 +221,7 @@ module _ (app now : ℕ) (r : Application) (name : List ℕ) where
         ∙ ap (λ (a : Application). refused_by due (Ok (answered answer.Done a))) ended_is)
 
     pub close_row : storage_in r.disk name None ≡ Ok f → ((k : KeySession) → s ≡ keys k → ⊥)
-        → app_step app r now (call.Close name) ≡ refused_by (first (busy (lowest_handle s)) due)
+        → app_step app r now (call.Close name) ≡ refused_by (or_next (busy (lowest_handle s)) due)
         (Ok (answered answer.Done ended))
     unfolding app_step
     close_row found no_keys = after_ok _ (storage_in r.disk name None) f found

@@ -8,6 +8,7 @@ use Rattle.per_base.specs.declared.elements.StoreKind.{StoreKind}
 use Rattle.per_base.specs.declared.elements.StoreKind.TheVariants as kinds
 use Rattle.per_base.specs.declared.errors.PerError.{PerError}
 use Rattle.per_base.specs.declared.errors.PerError.TheVariants as error
+use Rattle.per_base.specs.Refusals.{refused_by}
 use Rattle.disk_model.specs.Image.{Image}
 use Rattle.disk_model.specs.Medium.{Medium, Quiet}
 use Rattle.deployment_model.specs.Data.{StorageData}
@@ -21,7 +22,6 @@ use Rattle.element_maps.specs.Storages.{IsStoring}
 use Rattle.element_store.specs.Committing.{index_length}
 use Rattle.element_store.specs.Stores as stores
 use Rattle.element_store.specs.Stores.{view_in}
-use Rattle.file_core.specs.Refusals.{refused_by}
 use Rattle.command_text.specs.declared.calls.Call.{Call}
 use Rattle.command_text.specs.declared.replies.Answer.TheVariants as answer
 use Rattle.command_text.specs.declared.replies.Reply.{Reply}

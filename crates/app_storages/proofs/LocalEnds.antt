@@ -5,6 +5,7 @@ use Rattle.std.specs.Prelude.{slice_get, slice_set}
 use Rattle.per_base.specs.declared.elements.StoreKind.{StoreKind}
 use Rattle.per_base.specs.declared.errors.PerError.{PerError}
 use Rattle.per_base.specs.declared.errors.PerError.TheVariants as error
+use Rattle.per_base.specs.Refusals.{IsRefusal}
 use Rattle.disk_model.specs.Image.{Image}
 use Rattle.disk_model.specs.Laws.{elapses_none}
 use Rattle.disk_model.specs.Medium.{IsLawful, Medium}
@@ -12,7 +13,6 @@ use Rattle.deployment_model.specs.Data.{StorageData}
 use Rattle.element_store.specs.declared.store.Store.{Store}
 use Rattle.element_store.specs.Stores.{IsUsed}
 use Rattle.element_store.specs.Stores as stores
-use Rattle.file_core.specs.Refusals.{IsRefusal}
 use Rattle.command_text.specs.declared.calls.Call.{Call}
 use Rattle.command_text.specs.declared.replies.Answer.{Answer}
 use Rattle.command_text.specs.declared.replies.Answer.TheVariants as answer
@@ -41,7 +41,7 @@ use Rattle.app_storages.specs.declared.slots.Slots.{Slots}
 use Rattle.app_storages.proofs.Ended.{TextLaw, starved_handled}
 use Rattle.app_storages.proofs.Handled.{none_written, refused_row}
 use Rattle.app_storages.proofs.LocalRows.{answers_plainly, is_error, local_answered, local_refused}
-use Rattle.app_storages.proofs.SlotLaws.{none_there, session_slot, sessions_set, set_again, set_same, there}
+use Rattle.app_storages.proofs.SlotLaws.{none_there, session_slot, sessions_set, set_same, there}
 use Rattle.app_storages.proofs.Storing.{idle_calls, open_there, resting_after}
 
 -- it was answered in memory, whatever was answered
@@ -131,13 +131,10 @@ module _ (laws : StorageLaws) (texts : TextLaw) (told : Bool) (app now : ℕ) (r
     (found : (image : Image) → IsRootOn image app root → storage_in (app_at image app) name kind
     ≡ Ok (found_on image l))
     (o later : Open) (there_is : slot_at was l.number ≡ Some o)
-    (set : is.open.items ≡ slice_set (slice_set was.open.items l.number None) l.number (Some later))
+    (set : IsSet l.number (Some later) was is)
     (config : config_in later ≡ config_in o) (store : store_in later ≡ store_in o) (shown : IsShown later) where
   abbrev before : Application
   before = resting_with m.image app was
-
-  set_once : IsSet l.number (Some later) was is
-  set_once = set ∙ set_again was.open.items l.number None (Some later)
 
   session_is : session_at before l.number ≡ Some (session_in o)
   session_is = session_slot m.image app was l.number ∙ ap (option_map session_in) there_is
@@ -157,18 +154,18 @@ module _ (laws : StorageLaws) (texts : TextLaw) (told : Bool) (app now : ℕ) (r
 
   is_resting : IsResting told m.image app root is
   is_resting = resting_after laws app root l located told m.image m.image (λ tells f aside. refl) was is (Some later)
-      resting set_once
+      resting set
       (λ p e. let it : later ≡ p = grind arith in subst (λ (q : Open).
       IsOpenAt told m.image app located.version l.number q) it later_open)
 
   with_later : resting_with m.image app is ≡ with_session before l.number (session_in later)
   with_later = ap (λ (ss : Sessions). record { disk = app_at m.image app; stage = at_rest; sessions = ss })
-      (sessions_set was is l.number (Some later) set_once)
+      (sessions_set was is l.number (Some later) set)
 
   -- where the session is the same, so is the application
   with_same : session_in later ≡ session_in o → resting_with m.image app is ≡ before
   with_same unchanged = ap (λ (ss : Sessions). record { disk = app_at m.image app; stage = at_rest; sessions = ss })
-      (sessions_set was is l.number (Some later) set_once
+      (sessions_set was is l.number (Some later) set
       ∙ ap (λ (s : Session). slice_set (sessions_in was) l.number (Some s)) unchanged
       ∙ sym (sessions_set was was l.number (Some o) (sym (set_same was.open.items l.number (Some o)
       (there was l.number o there_is)))))

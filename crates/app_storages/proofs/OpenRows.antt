@@ -6,7 +6,7 @@ use Rattle.per_base.specs.declared.elements.StoreKind.TheVariants.{Keys, Files}
 use Rattle.per_base.specs.declared.errors.Holder.TheVariants as holder
 use Rattle.per_base.specs.declared.errors.PerError.{PerError}
 use Rattle.per_base.specs.declared.errors.PerError.TheVariants as error
-use Rattle.file_core.specs.Refusals.{refuse}
+use Rattle.per_base.specs.Refusals.{refuse}
 use Rattle.deploy_laws.specs.Apps.{App}
 use Rattle.deploy_rows.specs.Rows.{◌>>=◌}
 use Rattle.run_model.specs.Calls.{Outcome, app_step, beside_update, open_step, session_at, storage_opened, unless_open}

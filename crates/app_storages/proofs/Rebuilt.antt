@@ -12,6 +12,7 @@ use Rattle.per_base.specs.declared.errors.Holder.TheVariants as holder
 use Rattle.per_base.specs.declared.errors.Limit.TheVariants as limit
 use Rattle.per_base.specs.declared.errors.PerError.{PerError}
 use Rattle.per_base.specs.declared.errors.PerError.TheVariants as error
+use Rattle.per_base.specs.Refusals.{refuse}
 use Rattle.disk_model.specs.Image.{Image}
 use Rattle.disk_model.specs.Medium.{Elapses, Medium, Quiet}
 use Rattle.disk_model.specs.Place.{IsOutside}
@@ -22,7 +23,6 @@ use Rattle.element_state.specs.Clean.{IsClean}
 use Rattle.element_state.specs.Kept.{KeptThroughout}
 use Rattle.element_state.specs.States.{State, salvage_of, store_at}
 use Rattle.element_maps.specs.Storages.{IsStoring}
-use Rattle.file_core.specs.Refusals.{refuse}
 use Rattle.command_text.specs.declared.calls.Call.{Call}
 use Rattle.command_text.specs.declared.calls.Call.TheVariants as call
 use Rattle.command_text.specs.declared.replies.Answer.TheVariants as answer

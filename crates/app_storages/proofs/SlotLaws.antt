@@ -108,6 +108,11 @@ pub session_slot : (image : Image) (app : ℕ) (slots : Slots) (n : ℕ)
 session_slot image app slots n = ap if_open (slice_get-map (option_map session_in) slots.open.items n)
     ∙ seen_slot (slice_get slots.open.items n)
 
+-- what is read at the place of a number is in its slot
+pub slot_read : (slots : Slots) (n : ℕ) (x : Option Open) → n < length slots.open.items
+    → x ≡ slice_index_or slots.open.items n x → slot_at slots n ≡ x
+slot_read slots n x lt is = ap if_there (slice_get_read slots.open.items (length slots.open.items) n x refl lt is)
+
 -- and one changed slot changes one session
 pub sessions_set : (was is : Slots) (n : ℕ) (x : Option Open) → is.open.items ≡ slice_set was.open.items n x
     → sessions_in is ≡ slice_set (sessions_in was) n (option_map session_in x)

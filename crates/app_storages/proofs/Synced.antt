@@ -16,12 +16,12 @@ use Rattle.element_maps.specs.Storages.{IsStoring}
 use Rattle.element_store.specs.Stores as stores
 use Rattle.element_store.specs.Stores.{view_in}
 use Rattle.file_core.specs.Places.{writes}
-use Rattle.file_core.specs.Refusals.{refuse, refused_by}
 use Rattle.file_handles.specs.Handling.{on_open}
-use Rattle.file_handles.specs.Opening.{first, when}
+use Rattle.file_handles.specs.Opening.{when}
 use Rattle.file_handles.specs.declared.handle.Handle.{Handle}
 use Rattle.file_handles.specs.Sessions.{open_at}
 use Rattle.per_base.specs.declared.elements.Element.{Element}
+use Rattle.per_base.specs.Refusals.{or_next, refuse, refused_by}
 use Rattle.command_text.specs.declared.calls.Call.{Call}
 use Rattle.command_text.specs.declared.calls.Call.TheVariants as call
 use Rattle.command_text.specs.declared.replies.Answer.TheVariants as answer
@@ -81,7 +81,7 @@ no_write_early : IsEarly error.IllegalWriteAccess
 no_write_early = record { no_failure = λ is. absurd cc; no_want = λ is. absurd cc }
 
 pub first_early : (one other : Option PerError) (e : PerError) → ((x : PerError) → one ≡ Some x → IsEarly x)
-    → ((x : PerError) → other ≡ Some x → IsEarly x) → first one other ≡ Some e → IsEarly e
+    → ((x : PerError) → other ≡ Some x → IsEarly x) → or_next one other ≡ Some e → IsEarly e
 first_early None other e early late is = late e is
 first_early (Some x) other e early late is = early e is
 

@@ -58,7 +58,7 @@ impl Slots {
             → IsResting D.told (D.medium disk.new).image app root.now self.new }
         ensures quiet { Quiet (D.medium disk.old) → OnOk result (Quiet (D.medium disk.new)) }
 
-        // A call that needs no device calls none, whatever the disk tells; a refused one writes nothing.
+        // A call that needs no device calls none, whether or not the disk is modelled; a refused one writes nothing.
         ensures idle { IsTrue D.told → uses_device (app_at (D.medium disk.old).image app) call.now ≡ false
             → disk.new ≡ disk.old }
         ensures unwritten { IfOk result (λ reply. is_refusal reply.answer ≡ true

@@ -49,12 +49,11 @@ impl Slots {
             Ok(located) => located,
             Err(error) => return Ok(refusal(alloc, error)),
         };
-        let Some(mut storage) = self.take(located.number) else {
+        let Some(storage) = &mut self.open[located.number as usize] else {
             return Ok(refusal(alloc, PerError::NotOpen));
         };
         let answer = storage.call(alloc, now, call);
         storage.invariants();
-        self.put(located.number, storage);
         concluded(alloc, answer)
     }
 }

@@ -17,7 +17,7 @@ use Rattle.std.proofs.lemmas.Slice.Eq.{bytes_eq-Decides}
 use Rattle.m_of_n.specs.Vote.{texts_of, holders, voted}
 use Rattle.m_of_n.specs.Laws.{holders-cons, voted-held}
 use Rattle.block_files.specs.BlockSets.{Ascend}
-use Rattle.block_files.specs.Areas.{joined, within}
+use Rattle.block_files.specs.Areas.{has_all_bytes, joined}
 use Rattle.block_files.specs.Contents.{counting, contents, first_content, lacks, lacking, lacking_in, AreCopies}
 use Rattle.block_files.specs.Contents.{HaveSize}
 
@@ -70,11 +70,11 @@ texts_more place i blocks len hash image texts text were is =
     ∙ sym (map-range_with_len_more give 0 i i (omega arith))
 
 pub inside_more : (place : Place) (i : ℕ) (blocks : List ℕ) (len : ℕ) (image : Image) (inside : List Bool) (here : Bool)
-    → inside ≡ map (λ c. within (image (area place c)) blocks len) (range_with_len 0 i)
-    → here ≡ within (image (area place i)) blocks len
-    → inside ++ here ∷ [] ≡ map (λ c. within (image (area place c)) blocks len) (range_with_len 0 (i + 1))
+    → inside ≡ map (λ c. has_all_bytes (image (area place c)) blocks len) (range_with_len 0 i)
+    → here ≡ has_all_bytes (image (area place i)) blocks len
+    → inside ++ here ∷ [] ≡ map (λ c. has_all_bytes (image (area place c)) blocks len) (range_with_len 0 (i + 1))
 inside_more place i blocks len image inside here were is =
-    let test = λ (c : ℕ). within (image (area place c)) blocks len in
+    let test = λ (c : ℕ). has_all_bytes (image (area place c)) blocks len in
     ap (λ xs. xs ++ here ∷ []) were
     ∙ ap (λ x. map test (range_with_len 0 i) ++ x ∷ []) is
     ∙ sym (map-range_with_len_more test 0 i i (omega arith))
@@ -128,11 +128,11 @@ filter_same p q a (suc n) same =
 pub lacking_is : (value : Option (List ℕ)) (place : Place) (blocks : List ℕ) (len : ℕ) (hash : List ℕ)
     (image : Image) (given : List (Option (List ℕ))) (inside : List Bool)
     → given ≡ contents place blocks len hash image
-    → inside ≡ map (λ c. within (image (area place c)) blocks len) (range_with_len 0 place.copies)
+    → inside ≡ map (λ c. has_all_bytes (image (area place c)) blocks len) (range_with_len 0 place.copies)
     → lacking_in value given inside ≡ lacking value place blocks len hash image
 lacking_is value place blocks len hash image given inside given_is inside_is =
     let give = λ (c : ℕ). counting (image (area place c)) blocks len hash in
-    let full = λ (c : ℕ). within (image (area place c)) blocks len in
+    let full = λ (c : ℕ). has_all_bytes (image (area place c)) blocks len in
     let long : length given ≡ place.copies = ap length given_is ∙ length-map-range_with_len give 0 place.copies in
     ap (λ n. lacking_to value given inside n) long
     ∙ ap (map suc) (filter_same (lacks_at value given inside) (λ c. lacks value (give c) (full c)) 0 place.copies

@@ -9,8 +9,8 @@ use Rattle.std.proofs.lemmas.List.{take_min}
 use Rattle.std.proofs.lemmas.Bool.{cases_lt}
 use borrow.Rule.Slice.PartMut.{put_mid, post_of}
 use Rattle.block_files.specs.Areas.{block, joined}
-use Rattle.block_files.specs.Parts.{blocks_for}
 use Rattle.block_files.specs.lemmas.Joined.{length-blocks, read_joined}
+use Rattle.per_base.specs.Contents.{blocks_for}
 
 -- ---- a part that is written in place
 
@@ -67,11 +67,11 @@ pub gathered_none : (file blocks out : List ℕ) → IsGathered file blocks 0 ou
 gathered_none file blocks out = record { at = λ q r lt small inside. absurd (omega arith) }
 
 -- the first of the blocks that are still needed follow one another
-pub run_of : (blocks : List ℕ) (next needed count : ℕ) → count ≤ needed - next
+pub run_numbers : (blocks : List ℕ) (next needed count : ℕ) → count ≤ needed - next
     → ((j : ℕ) → j < count → get_or (take (needed - next) (drop next blocks)) j 0
     ≡ get_or (take (needed - next) (drop next blocks)) 0 0 + j)
     → (j : ℕ) → j < next + count - next → get_or blocks (next + j) 0 ≡ get_or blocks next 0 + j
-run_of blocks next needed count below follow j lt =
+run_numbers blocks next needed count below follow j lt =
     let e : next + 0 ≡ next = omega arith in
     sym (at j (omega arith)) ∙ follow j (omega arith)
     ∙ ap (λ b. b + j) (at 0 (omega arith) ∙ ap (λ k. get_or blocks k 0) e)

@@ -20,13 +20,13 @@ is_within size [] len = true
 is_within size (k ∷ blocks) len = nat_eq len 0 || (nat_le (256 * k + min 256 len) size
     && is_within size blocks (len - 256))
 
-abbrev pub within : List ℕ → List ℕ → ℕ → Bool
-within file blocks len = is_within (length file) blocks len
+abbrev pub has_all_bytes : List ℕ → List ℕ → ℕ → Bool
+has_all_bytes file blocks len = is_within (length file) blocks len
 
 -- the file has these bytes within it
 pub record IsFull (file blocks bytes : List ℕ) : Type 0 where
   pub bytes_are : joined file blocks (length bytes) ≡ bytes
-  pub inside : within file blocks (length bytes) ≡ true
+  pub inside : has_all_bytes file blocks (length bytes) ≡ true
 
 -- the area file of the copy of this number, counted from 1
 abbrev pub area_of : Place → (number : ℕ) → ℕ

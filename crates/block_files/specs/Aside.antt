@@ -5,7 +5,7 @@ use Rattle.disk_model.specs.Case.{Case, IsSettledAt}
 use Rattle.disk_model.specs.Place.{IsNoArea}
 use Rattle.disk_model.specs.Frame.{KeepsCase}
 use Rattle.disk_model.specs.declared.place.Place.{Place}
-use Rattle.block_files.specs.Areas.{within}
+use Rattle.block_files.specs.Areas.{has_all_bytes}
 use Rattle.block_files.specs.Contents.{counting}
 
 -- where a content is: its blocks, its length and its hash
@@ -17,9 +17,9 @@ pub record Where : Type 0 where
 -- a content in one area, from a start at which nothing was pending: where the area had all of its bytes, a crash leaves
 -- it as it was, and none of its copies appears that was not there
 pub record StandsAside (at : Where) (start base full left : List ℕ) : Type 0 where
-  pub whole : within start at.blocks at.len ≡ true
+  pub whole : has_all_bytes start at.blocks at.len ≡ true
       → (counting left at.blocks at.len at.hash ≡ counting start at.blocks at.len at.hash)
-      × (within left at.blocks at.len ≡ true)
+      × (has_all_bytes left at.blocks at.len ≡ true)
   pub piece : (bytes : List ℕ)
       → (counting base at.blocks at.len at.hash ≡ Some bytes) ⊎ (counting full at.blocks at.len at.hash ≡ Some bytes)
       → counting start at.blocks at.len at.hash ≡ Some bytes

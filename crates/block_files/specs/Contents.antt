@@ -7,7 +7,7 @@ use Rattle.sha2.specs.Sha256.{sha256}
 use Rattle.disk_model.specs.Image.{Image}
 use Rattle.disk_model.specs.Place.{area}
 use Rattle.disk_model.specs.declared.place.Place.{Place}
-use Rattle.block_files.specs.Areas.{joined, within}
+use Rattle.block_files.specs.Areas.{has_all_bytes, joined}
 
 -- a copy counts where its bytes have the hash: what it gives then
 unfoldable pub counting : (file blocks : List ℕ) (len : ℕ) (hash : List ℕ) → Option (List ℕ)
@@ -35,7 +35,8 @@ lacks (Some value) (Some given) inside = not (inside && bytes_eq given value)
 -- the copies that lack the value, counted from 1 and ascending
 abbrev pub lacking : (value : Option (List ℕ)) → Place → (blocks : List ℕ) (len : ℕ) (hash : List ℕ) → Image → List ℕ
 lacking value place blocks len hash image = map suc (filter
-    (λ c. lacks value (counting (image (area place c)) blocks len hash) (within (image (area place c)) blocks len))
+    (λ c. lacks value (counting (image (area place c)) blocks len hash)
+    (has_all_bytes (image (area place c)) blocks len))
     (range_with_len 0 place.copies))
 
 -- the same, by what each copy gives and whether its file has it all

@@ -1,19 +1,12 @@
 -- Contents in parts of 256 bytes, one for each block, and which parts differ from those of an earlier content.
-use Rattle.std.specs.Prelude.{◌≡◌, ℕ, zero, suc, ◌+◌, ◌*◌, ◌/◌, ◌<◌, List, length, take, drop, slice_index, Bool, not}
-use Rattle.std.specs.Prelude.{cond}
+use Rattle.std.specs.Prelude.{◌≡◌, ℕ, zero, suc, ◌+◌, ◌*◌, ◌<◌, List, length, slice_index, Bool, not, cond}
 use Rattle.std.specs.Str.{bytes_eq}
-
--- how many blocks that many bytes take
-abbrev pub blocks_for : ℕ → ℕ
-blocks_for len = (len + 255) / 256
-
--- the bytes of the i-th block: at most 256 from `256 * i` on
-abbrev pub part : List ℕ → ℕ → List ℕ
-part bytes i = take 256 (drop (256 * i) bytes)
+use Rattle.per_base.specs.Contents.{blocks_for}
+use Rattle.changed_runs.specs.Changed.{run_of}
 
 -- whether the i-th blocks of two contents differ
 unfoldable pub is_changed : List ℕ → List ℕ → ℕ → Bool
-is_changed bytes was i = not (bytes_eq (part bytes i) (part was i))
+is_changed bytes was i = not (bytes_eq (run_of bytes i) (run_of was i))
 
 -- how many of the first n blocks differ
 abbrev pub changed_below : List ℕ → List ℕ → ℕ → ℕ

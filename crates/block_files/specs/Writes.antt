@@ -1,12 +1,13 @@
 -- What calls that write blocks leave alone, at their end and where a crash or a failure stops them.
 use Rattle.std.specs.Prelude.{◌≡◌, ◌≢◌, ℕ, ◌+◌, ◌-◌, ◌<◌, ◌≤◌, List, length, slice_index, Bool, true, IsTrue}
 use Rattle.per_base.specs.Causes.{Rose}
+use Rattle.per_base.specs.Contents.{blocks_for}
 use Rattle.disk_model.specs.Case.{Follows}
 use Rattle.disk_model.specs.Medium.{Medium, Elapses}
 use Rattle.disk_model.specs.Frame.{Keeps, Tears, KeepsCase}
 use Rattle.disk_model.specs.declared.place.Place.{Place}
 use Rattle.block_files.specs.BlockSets.{contains}
-use Rattle.block_files.specs.Parts.{is_changed, blocks_for}
+use Rattle.block_files.specs.Parts.{is_changed}
 use Rattle.block_files.specs.Areas.{area_of}
 
 -- Writes that were all done, of at most n bytes: files that are spared and blocks that are apart read as before, and so

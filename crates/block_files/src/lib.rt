@@ -33,5 +33,5 @@ pub use errors::BlobError;
 pub use getting::{Blob, get_blob};
 pub use laws::contents_stand_aside;
 pub use mending::mend;
-pub use putting::{PutBlob, put_blob, put_shared, reserve_blob, reserve_shared};
+pub use putting::{PutBlob, put_blob, put_shared, reserve_blob, reserve_hashed, reserve_shared};
 pub use writing::{write_blob, write_shared};

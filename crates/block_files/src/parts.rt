@@ -1,7 +1,9 @@
 //! The parts of a content, one for each of its blocks.
 
 ghost use Rattle.std.specs.Prelude.{◌≡◌, ◌<◌, ◌≤◌, ◌*◌, ◌^◌, length};
-ghost use Rattle.block_files.specs.Parts.{part, blocks_for, is_changed, changed_blocks};
+ghost use Rattle.per_base.specs.Contents.{blocks_for};
+ghost use Rattle.changed_runs.specs.Changed.{run_of};
+ghost use Rattle.block_files.specs.Parts.{is_changed, changed_blocks};
 
 use per_base::BLOCK;
 
@@ -17,7 +19,7 @@ pub(crate) fn count_blocks(len: usize) -> usize
 // empty.
 fn part_at(bytes: &[u8], i: usize) -> &[u8]
     requires { 256 * i < 2 ^ 63 }
-    ensures value { result.now ≡ part bytes.now i }
+    ensures value { result.now ≡ run_of bytes.now i }
     ensures short { length result.now ≤ 256 }
 {
     let rest = &bytes[(BLOCK * i).min(bytes.len())..];

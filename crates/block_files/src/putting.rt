@@ -3,10 +3,11 @@
 ghost use Rattle.std.specs.Prelude.{◌≡◌, ◌<◌, ◌≤◌, ◌+◌, ◌*◌, ℕ, List, true, IsTrue, IfOk, OnOk, OnErr, IsErrOf, length};
 ghost use Rattle.std.specs.Prelude.{slice_index};
 ghost use Rattle.sha2.specs.Sha256.{sha256};
+ghost use Rattle.per_base.specs.Contents.{blocks_for};
 ghost use Rattle.disk_model.specs.Place.{IsNoArea};
 ghost use Rattle.block_files.specs.BlockSets.{contains, free_of, AreFree, AreDistinct, IsNotAmong, IsAdded};
 ghost use Rattle.block_files.specs.BlockSets.{SharesBlocks};
-ghost use Rattle.block_files.specs.Parts.{blocks_for, changed_blocks};
+ghost use Rattle.block_files.specs.Parts.{changed_blocks};
 ghost use Rattle.block_files.specs.Areas.{AllFull};
 ghost use Rattle.block_files.specs.Writes.{Wrote, Tore, IsTaken, IsApartFromChanged};
 
@@ -115,12 +116,41 @@ pub fn reserve_shared(
     ensures free { OnOk result (free_of used.old ≤ free_of used.new + changed_blocks bytes.now old_bytes.now) }
     ensures memory { OnErr result (used.new ≡ used.old) }
 {
+    reserve_hashed(alloc, used, bytes, hash(bytes), old_bytes, old_blocks)
+}
+
+/// The same for bytes whose hash is known.
+///
+/// # Errors
+///
+/// Only `OutOfMemory`.
+pub fn reserve_hashed(
+    alloc: Global,
+    used: &mut BlockSet,
+    bytes: &[u8],
+    hash: [u8; 32],
+    old_bytes: &[u8],
+    old_blocks: &[u32],
+) -> Result<PutBlob, AllocError>
+    requires hash { hash ≡ sha256 bytes.now }
+    requires room { length old_bytes.now ≤ 256 * length old_blocks.now }
+    requires taken { (i : ℕ) → i < length old_blocks.now → contains used.old (slice_index old_blocks.now i) ≡ true }
+    requires distinct { AreDistinct old_blocks.now }
+    requires free { changed_blocks bytes.now old_bytes.now ≤ free_of used.old }
+    ensures count { IfOk result (λ blob. length blob.blocks ≡ blocks_for (length bytes.now)) }
+    ensures shared { IfOk result (λ blob. SharesBlocks bytes.now old_bytes.now old_blocks.now used.old blob.blocks) }
+    ensures distinct { IfOk result (λ blob. AreDistinct blob.blocks) }
+    ensures hash { IfOk result (λ blob. blob.hash ≡ sha256 bytes.now) }
+    ensures used { IfOk result (λ blob. IsAdded blob.blocks used.old used.new) }
+    ensures free { OnOk result (free_of used.old ≤ free_of used.new + changed_blocks bytes.now old_bytes.now) }
+    ensures memory { OnErr result (used.new ≡ used.old) }
+{
     let fresh = choose(alloc, used, count_changed(bytes, old_bytes))?;
     let blocks = merge(alloc, bytes, old_bytes, old_blocks, &fresh)?;
     add(used, &fresh);
     Ok(PutBlob {
         blocks: Numbers::new(blocks),
-        hash: hash(bytes),
+        hash,
     })
 }
 

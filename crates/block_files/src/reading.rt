@@ -8,7 +8,7 @@ ghost use Rattle.per_base.specs.Causes.{Rose};
 ghost use Rattle.disk_model.specs.Place.{area};
 ghost use Rattle.disk_model.specs.Medium.{Elapses, OnlyReads};
 ghost use Rattle.m_of_n.specs.Vote.{texts_of};
-ghost use Rattle.block_files.specs.Areas.{joined, is_within, within};
+ghost use Rattle.block_files.specs.Areas.{joined, is_within, has_all_bytes};
 ghost use Rattle.block_files.specs.Contents.{counting, contents, HaveSize};
 
 use crate::errors::BlobError;
@@ -37,7 +37,7 @@ pub(crate) fn look<D: Disk>(
     ensures texts { IsTrue D.told → IfOk result (λ looked. texts_of looked.texts.items
         ≡ contents place blocks.now len hash.now (D.medium disk.old).image) }
     ensures inside { IsTrue D.told → IfOk result (λ looked. looked.inside.items
-        ≡ map (λ c. within ((D.medium disk.old).image (area place c)) blocks.now len)
+        ≡ map (λ c. has_all_bytes ((D.medium disk.old).image (area place c)) blocks.now len)
         (range_with_len 0 place.copies)) }
     ensures copies { IfOk result (λ looked. (length looked.texts.items ≡ place.copies)
         × (length looked.inside.items ≡ place.copies)) }

@@ -1,10 +1,11 @@
-//! Writes of contents into the areas of copies. Nothing here takes memory.
+//! Writes of contents into the areas of copies. Nothing here allocates.
 
 ghost use Rattle.std.specs.Prelude.{◌≡◌, ◌≢◌, ◌<◌, ◌≤◌, ◌+◌, ◌-◌, ◌*◌, ℕ, IsTrue, OnOk, OnErr, length};
 ghost use Rattle.std.specs.Prelude.{slice_index, true};
+ghost use Rattle.per_base.specs.Contents.{blocks_for};
 ghost use Rattle.disk_model.specs.Place.{area, IsNoArea};
 ghost use Rattle.block_files.specs.BlockSets.{AreDistinct, IsNotAmong};
-ghost use Rattle.block_files.specs.Parts.{blocks_for, is_changed, changed_blocks};
+ghost use Rattle.block_files.specs.Parts.{is_changed, changed_blocks};
 ghost use Rattle.block_files.specs.Areas.{HoldsBytes, HoldsShared, AllFull, NamedFull, area_of};
 ghost use Rattle.block_files.specs.Contents.{AreCopies};
 ghost use Rattle.block_files.specs.Writes.{Wrote, Tore, IsNoneOf, IsApartFromChanged, IsRun};

@@ -63,14 +63,9 @@ impl Held {
         }
         let first = j - j % RUNS;
         let end = bytes.len().min(RUN * (j + 1));
-        let read = read_runs(disk, file, at + (RUN * first) as u64, end - RUN * first)?;
-        let bytes = read.0;
-        let count = read.1;
-        *self = Held {
-            bytes,
-            count,
-            first,
-        };
+        let room = end - RUN * first;
+        self.count = read_into(disk, file, at + (RUN * first) as u64, &mut self.bytes, room)?;
+        self.first = first;
         Ok(())
     }
 
@@ -88,24 +83,23 @@ impl Held {
     }
 }
 
-/// Reads at most that many bytes, and says how many there were.
-fn read_runs<D: Disk>(
+/// Reads at most that many bytes over the start of those, and says how many there were.
+fn read_into<D: Disk>(
     disk: &mut D,
     file: u32,
     at: u64,
+    held: &mut [u8; RUN * RUNS],
     room: usize,
-) -> Result<([u8; RUN * RUNS], usize), DiskFailed>
+) -> Result<usize, DiskFailed>
     requires { room ≤ 4096 }
-    ensures count { IfOk result (λ read. read.1 ≤ room) }
-    ensures bytes { IsTrue D.told → IfOk result (λ read.
-        (read.1 ≡ min room (length ((D.medium disk.old).image file) - at))
-        × (take read.1 read.0 ≡ take read.1 (drop at ((D.medium disk.old).image file)))) }
+    ensures count { IfOk result (λ count. count ≤ room) }
+    ensures bytes { IsTrue D.told → IfOk result (λ count.
+        (count ≡ min room (length ((D.medium disk.old).image file) - at))
+        × (take count held.new ≡ take count (drop at ((D.medium disk.old).image file)))) }
     ensures reads { OnlyReads (D.medium disk.old) (D.medium disk.new) }
     ensures time { Elapses (D.medium disk.old) (D.medium disk.new) }
     ensures cause { OnErr result (Rose (D.medium disk.old).faults (D.medium disk.new).faults) }
     ensures passes { OnOk result ((D.medium disk.new).faults ≡ (D.medium disk.old).faults) }
 {
-    let mut held = [0; RUN * RUNS];
-    let count = disk.read(file, at, &mut held[..room])?;
-    Ok((held, count))
+    disk.read(file, at, &mut held[..room])
 }

@@ -14,7 +14,7 @@ use Rattle.per_base.specs.declared.opening.Origin.TheVariants as origin
 use Rattle.per_base.specs.declared.opening.OpenMode.{OpenMode}
 use Rattle.per_base.specs.Modes.{bits_of}
 use Rattle.per_base.specs.Names.{IsName, is_name}
-use Rattle.value_text.specs.Readers.{◌>>=◌}
+use Rattle.per_base.specs.Fields.{◌>>=◌}
 use Rattle.value_text.specs.Texts.{hex_text, hex_byte_text}
 use Rattle.value_text.specs.Whole.{unsigned_in, signed_in, bytes_in}
 use Rattle.value_text.specs.lemmas.Steps.{bind_some, if_some, else_some, chosen, branch_some, some_is}

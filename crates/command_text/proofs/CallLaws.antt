@@ -3,8 +3,8 @@ use Rattle.std.proofs.Common.{◌≡◌, ℕ, ◌^◌, List, [], ◌∷◌, ◌+
 use Rattle.std.specs.Prelude.{codes}
 use Rattle.std.specs.List.{AllByRecursion}
 use Rattle.std.specs.Fmt.{decimal, signed_decimal}
+use Rattle.per_base.specs.Fields.{◌>>=◌}
 use Rattle.value_text.specs.Parsing.{kind_in, value_in}
-use Rattle.value_text.specs.Readers.{◌>>=◌}
 use Rattle.value_text.specs.Texts.{type_text, value_text, hex_text, hex_byte_text}
 use Rattle.value_text.specs.Whole.{unsigned_in, bytes_in}
 use Rattle.value_text.specs.lemmas.Public.{kind_in_takes, kind_in_again, value_in_takes, value_in_again}

@@ -6,7 +6,7 @@ use Rattle.std.specs.Prelude.{codes, IfOk}
 use Rattle.std.specs.Str.{bytes_eq}
 use Rattle.std.proofs.lemmas.Bool.{and_parts, eqb-true, ne_eqb, leb-true, le-leb}
 use Rattle.std.proofs.lemmas.Slice.Eq.{bytes_eq-Decides}
-use Rattle.value_text.specs.Readers.{◌>>=◌}
+use Rattle.per_base.specs.Fields.{◌>>=◌}
 use Rattle.value_text.specs.Whole.{unsigned_in}
 use Rattle.value_text.specs.lemmas.Steps.{bind_some, if_some, else_some, chosen, some_is}
 use Rattle.value_text.specs.lemmas.WholeLaws.{unsigned_in_takes, unsigned_in_again}

@@ -4,7 +4,7 @@ use Rattle.std.specs.List.{AllByRecursion}
 use Rattle.std.specs.Fmt.{decimal}
 use Rattle.std.specs.Str.{bytes_eq}
 use Rattle.std.proofs.lemmas.Slice.Eq.{bytes_eq-Decides}
-use Rattle.value_text.specs.Readers.{◌>>=◌}
+use Rattle.per_base.specs.Fields.{◌>>=◌}
 use Rattle.value_text.specs.lemmas.Steps.{bind_some, chosen, some_is}
 use Rattle.command_text.specs.declared.calls.Call.{Call}
 use Rattle.command_text.specs.Grammar.{Argument, name, handle, manifest, spelling, IsArgument, form, form_text}

@@ -5,7 +5,7 @@ use Rattle.std.specs.List.{list_any}
 use Rattle.std.proofs.Math.Seq.{drop-cons, take-suc}
 use Rattle.std.proofs.lemmas.Bool.{eq-eqb, eqb-true, ne_eqb}
 use Rattle.std.proofs.lemmas.List.{append-nil}
-use Rattle.value_text.specs.Readers.{with_front}
+use Rattle.per_base.specs.FieldLoops.{with_front}
 use Rattle.value_text.specs.lemmas.Steps.{bind_some, chosen, some_is}
 use Rattle.value_text.specs.lemmas.Loop.{with_front-with_front}
 use Rattle.command_text.specs.Reading.{split}

@@ -1,5 +1,5 @@
 -- The lines: of each call its word and its arguments, and the one line that spells an event.
-use Rattle.std.specs.Prelude.{◌≡◌, ◌⊎◌, ◌≤◌, ◌<◌, ◌+◌, ◌^◌, ⊤, ℕ, ℤ, List, [], ◌∷◌, ◌++◌, length, map, slice_index}
+use Rattle.std.specs.Prelude.{◌≡◌, ◌⊎◌, ◌≤◌, ◌<◌, ◌+◌, ◌^◌, ⊤, ℕ, ℤ, List, [], ◌∷◌, ◌++◌, length, map}
 use Rattle.std.specs.Prelude.{codes, Bool, true, false, nat_eq}
 use Rattle.std.specs.List.{AllByRecursion, join_with_byte, list_any}
 use Rattle.std.specs.Fmt.{decimal, signed_decimal}
@@ -11,6 +11,7 @@ use Rattle.per_base.specs.declared.opening.Origin.TheVariants as origin
 use Rattle.per_base.specs.declared.opening.OpenMode.{OpenMode}
 use Rattle.per_base.specs.Modes.{bits_of, at_beginning, at_end, truncates, appends}
 use Rattle.per_base.specs.Names.{IsName}
+use Rattle.per_base.specs.Fields.{AreBytes}
 use Rattle.value_model.specs.Kinds.{Kind}
 use Rattle.value_model.specs.Trees.{Tree}
 use Rattle.value_model.specs.Validity.{IsValue}
@@ -85,9 +86,6 @@ spelling (offset z) = signed_decimal z
 
 abbrev pub has_feed : List ℕ → Bool
 has_feed text = list_any (λ byte. nat_eq byte 10) text
-
-abbrev pub AreBytes : List ℕ → Type 0
-AreBytes bytes = (i : ℕ) → slice_index bytes i < 256
 
 -- what an argument may be
 abbrev pub IsArgument : Argument → Type 0

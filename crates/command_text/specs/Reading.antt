@@ -8,7 +8,9 @@ use Rattle.per_base.specs.declared.opening.Origin.{Origin}
 use Rattle.per_base.specs.declared.opening.Origin.TheVariants as origin
 use Rattle.per_base.specs.declared.opening.OpenMode.{OpenMode}
 use Rattle.per_base.specs.Names.{is_name}
-use Rattle.value_text.specs.Readers.{◌>>=◌, branch, with_front}
+use Rattle.per_base.specs.Fields.{◌>>=◌}
+use Rattle.per_base.specs.FieldLoops.{with_front}
+use Rattle.value_text.specs.Readers.{branch}
 use Rattle.value_text.specs.Parsing.{kind_in, value_in}
 use Rattle.value_text.specs.Whole.{unsigned_in, signed_in, bytes_in}
 use Rattle.command_text.specs.Grammar.{has_feed}

@@ -2,7 +2,7 @@
 
 ghost use Rattle.std.specs.Prelude.{◌≡◌, ◌≢◌, IfOk, IsErrOf, None};
 ghost use Rattle.command_text.specs.Grammar.{IsLine};
-ghost use Rattle.command_text.specs.Memory.{TakesMemory};
+ghost use Rattle.command_text.specs.Memory.{Allocates};
 ghost use Rattle.command_text.specs.Reading.{ReadsLine, application_in, event_in, line_in, parts_in};
 ghost use Rattle.command_text.specs.declared.lines.Line.{Line};
 
@@ -37,7 +37,7 @@ pub fn parse_line(alloc: Global, line: &[u8]) -> Result<Line, LineError>
     ensures none { IsErrOf result LineError.NotALine → (said : Line) → ¬ IsLine line.now said }
 
     // any other line is read, or refused, however little memory there is
-    ensures memory { IsErrOf result LineError.OutOfMemory → TakesMemory line.now }
+    ensures memory { IsErrOf result LineError.OutOfMemory → Allocates line.now }
 {
     if line.len() > LINE_BYTES {
         return Err(LineError::NotALine);

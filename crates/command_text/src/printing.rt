@@ -90,8 +90,12 @@ fn push_reported(out: &mut String, storage: &Name, element: &Option<Name>) -> Re
     }
 }
 
-/// Appends the numbers of copies, joined by commas.
-fn push_copies(out: &mut String, copies: &[u32]) -> Result<(), AllocError>
+/// Appends the numbers of copies, joined by commas, or `-` where there is none.
+///
+/// # Errors
+///
+/// Memory ran out; what was appended before stays.
+pub fn push_copies(out: &mut String, copies: &[u32]) -> Result<(), AllocError>
     ensures { OnOk result (string_bytes out.new ≡ string_bytes out.old ++ copies_text copies.now) }
 {
     let Some((first, others)) = copies.split_first() else {
@@ -298,7 +302,12 @@ fn push_carried(out: &mut String, error: &PerError) -> Result<(), AllocError>
     }
 }
 
-fn push_unit(out: &mut String, unit: &Unit) -> Result<(), AllocError>
+/// Appends what is damaged: `root`, a storage, or a storage and an element.
+///
+/// # Errors
+///
+/// Memory ran out; what was appended before stays.
+pub fn push_unit(out: &mut String, unit: &Unit) -> Result<(), AllocError>
     ensures { OnOk result (string_bytes out.new ≡ string_bytes out.old ++ unit_text unit.now) }
 {
     match unit {

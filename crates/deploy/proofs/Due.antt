@@ -1,4 +1,4 @@
--- A refusal that the root alone decides is due at once; what is due after it takes memory.
+-- A refusal that the root alone decides is due at once; what is due after it allocates.
 use Rattle.std.proofs.Common.{◌≡◌, ◌⊎◌, ⊎_elim, ℕ, ◌-◌, List, [], Bool, true, false, Option, None, Some, refl, sym, ap}
 use Rattle.std.proofs.Common.{◌∙◌, subst}
 use Rattle.std.specs.Prelude.{Result, Ok, Err, cond, nat_le, option_map}
@@ -12,34 +12,34 @@ use Rattle.guarded_cell.specs.Cells.{generation_of}
 use Rattle.manifest.specs.Reading.{broken_rule, deployment_in}
 use Rattle.root_text.specs.declared.versions.VersionText.{VersionText}
 use Rattle.root_text.specs.Views.{version_said}
-use Rattle.deploy_laws.specs.Apps.{App, absent, named}
+use Rattle.deploy_laws.specs.Apps.{App, absent, named_in_bank}
 use Rattle.deploy_laws.specs.Places.{Named}
 use Rattle.deploy_rows.specs.Rows.{◌>>=◌, Offer, deployment_of, installed_app, installing, newer_version, not_worn}
 use Rattle.deploy_rows.specs.Rows.{offered}
 use Rattle.deploy_rows.specs.Rows.{rollback_with, rolling_back, said_or_broken}
 use Rattle.deploy.specs.declared.roots.Installed.{Installed}
 use Rattle.deploy.specs.declared.roots.Root.TheVariants as root
-use Rattle.deploy.specs.Refusals.{TakesNoMemory}
+use Rattle.deploy.specs.Refusals.{AllocatesNothing}
 use Rattle.deploy.specs.Roots.{root_app}
 use Rattle.deploy.proofs.InstallRow.{install_row}
 use Rattle.deploy.proofs.Offers.{by_text, is_busy}
 
 -- none of its refusals is decided by the root alone
 abbrev pub TakesMemory : {A : Type 0} → Result A PerError → Type 0
-TakesMemory r = (e : PerError) → r ≡ Err e → TakesNoMemory e → ⊥
+TakesMemory r = (e : PerError) → r ≡ Err e → AllocatesNothing e → ⊥
 
 takes_by : {A : Type 0} (r s : Result A PerError) → r ≡ s → TakesMemory s → TakesMemory r
 takes_by {A} r s is takes e refusal none = takes e (sym is ∙ refusal) none
 
-takes_error : {A : Type 0} (d : PerError) → (TakesNoMemory d → ⊥) → TakesMemory {A = A} (Err d)
+takes_error : {A : Type 0} (d : PerError) → (AllocatesNothing d → ⊥) → TakesMemory {A = A} (Err d)
 takes_error {A} d takes e refusal none =
     let same : e ≡ d = cc in
-    takes (subst TakesNoMemory same none)
+    takes (subst AllocatesNothing same none)
 
 takes_ok : {A : Type 0} (x : A) → TakesMemory (Ok x)
 takes_ok {A} x e refusal none = cc
 
-takes_cond : {A : Type 0} (b : Bool) (d : PerError) (x : A) → (TakesNoMemory d → ⊥)
+takes_cond : {A : Type 0} (b : Bool) (d : PerError) (x : A) → (AllocatesNothing d → ⊥)
     → TakesMemory (cond b (Err d) (Ok x))
 takes_cond {A} true d x takes = takes_error {A = A} d takes
 takes_cond {A} false d x takes = takes_ok x
@@ -48,7 +48,7 @@ takes_then : {A B : Type 0} (r : Result A PerError) (next : A → Result B PerEr
     → ((x : A) → TakesMemory (next x)) → TakesMemory (r >>= next)
 takes_then {A} {B} (Ok x) next first then = then x
 takes_then {A} {B} (Err d) next first then = λ e refusal none.
-    first d refl (let same : e ≡ d = cc in subst TakesNoMemory same none)
+    first d refl (let same : e ≡ d = cc in subst AllocatesNothing same none)
 
 -- ---- the manifest
 
@@ -79,7 +79,7 @@ module _ (busy : Option (List ℕ)) (text : List ℕ) (i : Installed) (none : i.
 
   pub offer_takes : busy ≡ None → TakesMemory (offered busy text (root_app (root.Installed i) []))
   offer_takes free =
-      let active : Named = named i.bank (version_said i.active) in
+      let active : Named = named_in_bank i.bank (version_said i.active) in
       takes_by (offered busy text (root_app (root.Installed i) []))
       (deployment_of text >>= newer_version active (generation_of i.cell))
       (by_text busy text i none free (deployment_of text) refl)
@@ -99,7 +99,8 @@ open_refuses : (name : List ℕ) (i : Installed) (v : VersionText) → i.previou
 unfolding rolling_back
 open_refuses name i v is = ap (λ (p : Option VersionText).
     rollback_with (Some name) (root_app (root.Installed i) []) (generation_of i.cell)
-    (named i.bank (version_said i.active)) (option_map (λ (w : VersionText). named (1 - i.bank) (version_said w)) p)) is
+    (named_in_bank i.bank (version_said i.active)) (option_map
+    (λ (w : VersionText). named_in_bank (1 - i.bank) (version_said w)) p)) is
 
 unless_open : (busy : Option (List ℕ)) (i : Installed) (v : VersionText) → i.previous ≡ Some v → (busy ≡ None → ⊥)
     → TakesMemory (rolling_back busy (root_app (root.Installed i) []))
@@ -116,7 +117,7 @@ unmapped {A} {B} f (Some x) is = absurd cc
 pub rollback_not_due : {A : Type 0} (name_of : A → List ℕ) (busy : Option A) (i : Installed) (v : VersionText)
     → i.previous ≡ Some v → (busy ≡ None → ⊥)
     → (e : PerError) → rolling_back (option_map name_of busy) (root_app (root.Installed i) []) ≡ Err e
-    → TakesNoMemory e ⊎ (busy ≡ None) → ⊥
+    → AllocatesNothing e ⊎ (busy ≡ None) → ⊥
 rollback_not_due {A} name_of busy i v is some e refusal either = ⊎_elim
     (λ at_once. unless_open (option_map name_of busy) i v is (λ none. some (unmapped name_of busy none)) e refusal
     at_once)

@@ -10,14 +10,14 @@ use Rattle.guarded_cell.specs.Register.{IsAlone}
 use Rattle.guarded_cell.specs.Stops.{FormatStops, PutStops}
 use Rattle.root_text.specs.RootText.{root_text}
 use Rattle.root_text.specs.RootText as text
-use Rattle.deploy_laws.specs.Apps.{App, IsCleanApp, Says, absent, app_at}
+use Rattle.deploy_laws.specs.Apps.{App, IsCleanApp, Says, absent, app_at, app_saying}
 use Rattle.deploy_laws.specs.Laws.{AloneCleanLaw, AloneLaw, FormattingLaw, RootAloneLaw, RootSlotsLaw, VersionsLaw}
 use Rattle.deploy_laws.specs.Laws.{WritingLaw}
 use Rattle.deploy_laws.specs.Places.{root_place}
 use Rattle.deploy_laws.specs.Stands.{StandsCase, StandsThroughout}
 use Rattle.deploy.specs.declared.roots.Root.TheVariants.{Absent}
 use Rattle.deploy.specs.Clauses.{IsNoRootSlot, Leaves}
-use Rattle.deploy.specs.Leaving.{IsRegisterAt, app_saying, empty_says}
+use Rattle.deploy.specs.Leaving.{IsRegisterAt, empty_says}
 use Rattle.deploy.specs.Roots.{RootAt}
 use Rattle.deploy.proofs.InUse.{AgainLaw, cell_alone, written_app, written_clean}
 use Rattle.deploy.proofs.Lone.{put_app, put_clean, put_outside, put_stands}

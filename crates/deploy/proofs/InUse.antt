@@ -14,8 +14,8 @@ use Rattle.root_text.specs.declared.versions.VersionText.{VersionText}
 use Rattle.root_text.specs.RootText.{IsRoot, IfVersion, root_of, root_text}
 use Rattle.root_text.specs.RootText as text
 use Rattle.root_text.specs.Views.{version_said}
-use Rattle.deploy_laws.specs.Apps.{AreClean, AreVersions, App, IsCleanApp, Says, app_at, installed, root_lacking, named}
-use Rattle.deploy_laws.specs.Apps.{nothing, says_at, says_by, shapes_named}
+use Rattle.deploy_laws.specs.Apps.{AreClean, AreVersions, App, IsCleanApp, Says, app_at, installed, root_lacking}
+use Rattle.deploy_laws.specs.Apps.{named_in_bank, nothing, says_at, says_by, shapes_named}
 use Rattle.deploy_laws.specs.Laws.{AloneCleanLaw, AloneLaw, RootAloneLaw, RootSlotsLaw, VersionsLaw}
 use Rattle.deploy_laws.specs.Places.{IsNoRootFile, Named, root_place}
 use Rattle.deploy.specs.declared.roots.Installed as parts
@@ -42,13 +42,14 @@ parts_are_root i are = record {
 }
 
 previous_named : (bank : ℕ) (previous : Option VersionText)
-    → option_map (named (1 - bank)) (option_map version_said previous)
-    ≡ option_map (λ v. named (1 - bank) (version_said v)) previous
+    → option_map (named_in_bank (1 - bank)) (option_map version_said previous)
+    ≡ option_map (λ v. named_in_bank (1 - bank) (version_said v)) previous
 previous_named bank None = refl
 previous_named bank (Some v) = refl
 
 pub parts_say : (i : parts.Installed) → says_by (generation_of i.cell) (Some (text_of i)) ≡ root_says (Installed i)
-parts_say i = ap (λ (p : Option Named). installed (generation_of i.cell) (named i.bank (version_said i.active)) p)
+parts_say i = ap (λ (p : Option Named). installed (generation_of i.cell)
+    (named_in_bank i.bank (version_said i.active)) p)
     (previous_named i.bank i.previous)
 
 -- ---- where it is

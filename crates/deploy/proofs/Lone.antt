@@ -8,11 +8,10 @@ use Rattle.guarded_cell.specs.declared.cell.Cell.{Cell}
 use Rattle.guarded_cell.specs.Stops.{PutStops}
 use Rattle.root_text.specs.RootText.{IsRoot, root_text}
 use Rattle.root_text.specs.RootText as text
-use Rattle.deploy_laws.specs.Apps.{AreClean, IsCleanApp, Says, app_at, says_by, shapes_named}
+use Rattle.deploy_laws.specs.Apps.{AreClean, IsCleanApp, Says, app_at, app_saying, says_by, shapes_named}
 use Rattle.deploy_laws.specs.Laws.{AloneCleanLaw, AloneLaw, RootAloneLaw, RootSlotsLaw, VersionsLaw, WritingLaw}
 use Rattle.deploy_laws.specs.Stands.{StandsThroughout}
 use Rattle.deploy.specs.Clauses.{IsNoRootSlot, Leaves}
-use Rattle.deploy.specs.Leaving.{app_saying}
 use Rattle.deploy.specs.Roots.{IsRootCell}
 use Rattle.deploy.proofs.InUse.{AgainLaw, cell_alone, written_app, written_clean}
 use Rattle.deploy.proofs.NextRoots.{next_alone, put_leaves, puts_here, slots_spared}

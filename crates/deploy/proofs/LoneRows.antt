@@ -17,7 +17,8 @@ use Rattle.root_text.specs.declared.versions.VersionText.{VersionText}
 use Rattle.root_text.specs.RootText.{root_text}
 use Rattle.root_text.specs.RootText as text
 use Rattle.root_text.specs.Views.{version_said}
-use Rattle.deploy_laws.specs.Apps.{App, AreClean, Says, absent, installed, named, nothing, shapes_named}
+use Rattle.deploy_laws.specs.Apps.{App, AreClean, Says, absent, installed, named_in_bank, nothing, shapes_named}
+use Rattle.deploy_laws.specs.Apps.{app_saying}
 use Rattle.deploy_laws.specs.Apps as apps
 use Rattle.deploy_laws.specs.Places.{Named, shapes_from, shapes_in, storage_shape}
 use Rattle.deploy_rows.specs.Rows.{empty_app, finishing, not_busy, not_worn, rolling_back, wiping}
@@ -26,8 +27,7 @@ use Rattle.deploy.specs.declared.roots.Installed as parts
 use Rattle.deploy.specs.declared.roots.Outcome.{Outcome}
 use Rattle.deploy.specs.declared.roots.Root.{Root}
 use Rattle.deploy.specs.declared.roots.Root.TheVariants.{Bad, Absent, Installed}
-use Rattle.deploy.specs.Leaving.{IfRegister, IsEmptied, IsLone, IsRegister, IsRootRefused, LeadsToRoot, app_saying}
-use Rattle.deploy.specs.Leaving.{empty_says}
+use Rattle.deploy.specs.Leaving.{IfRegister, IsEmptied, IsLone, IsRegister, IsRootRefused, LeadsToRoot, empty_says}
 use Rattle.deploy.specs.Leaving.{refused_or, register_of}
 use Rattle.deploy.specs.Roots.{AreParts, previous_texts, root_app, root_says, root_texts}
 
@@ -145,7 +145,8 @@ module _ (cell : Cell) (bank : ℕ) (active : VersionText) where
     register = installed_register (parts_with (Some v)) left;
     in_bank = are.in_bank;
     kept = are.active;
-    leads = finish_leads (generation_of cell) (named bank (version_said active)) (named (1 - bank) (version_said v))
+    leads = finish_leads (generation_of cell) (named_in_bank bank (version_said active))
+        (named_in_bank (1 - bank) (version_said v))
         left;
   }
 
@@ -210,7 +211,8 @@ module _ (cell : Cell) (bank : ℕ) (active : VersionText) where
       register = installed_register (parts_with (Some v)) left;
       in_bank = omega arith;
       kept = are.previous;
-      leads = rollback_leads (generation_of cell) (named bank (version_said active)) (named (1 - bank) (version_said v))
+      leads = rollback_leads (generation_of cell) (named_in_bank bank (version_said active))
+          (named_in_bank (1 - bank) (version_said v))
           left;
     }
     lone_if (Some name) v so are left = absurd (let e = so (Ok (empty_app 0)) in cc)

@@ -28,8 +28,8 @@ use Rattle.root_text.specs.RootText as text
 use Rattle.root_text.specs.Views.{version_said}
 use Rattle.root_text.specs.declared.versions.VersionText.{VersionText}
 use Rattle.update_plan.specs.Plans.{AllFit}
-use Rattle.deploy_laws.specs.Apps.{AreClean, AreOn, App, IsCleanApp, IsFree, Says, app_at, says_generation, named}
-use Rattle.deploy_laws.specs.Apps.{says_at, says_by, shapes_named}
+use Rattle.deploy_laws.specs.Apps.{AreClean, AreOn, App, IsCleanApp, IsFree, Says, app_at, says_generation}
+use Rattle.deploy_laws.specs.Apps.{named_in_bank, says_at, says_by, shapes_named}
 use Rattle.deploy_laws.specs.Laws.{AloneCleanLaw, AloneFrameLaw, AloneLaw, CreatingLaw, RootAloneLaw, RootFilesLaw}
 use Rattle.deploy_laws.specs.Laws.{RootSlotsLaw, VersionsLaw, WritingLaw}
 use Rattle.deploy_laws.specs.Places.{IsOutsideBank, first_file, root_place, shapes_from, shapes_if, shapes_in}
@@ -79,14 +79,14 @@ before_counts g bank (Some v) = refl
 
 before_names : (app g bank : ℕ) (previous : Option Version)
     → shapes_named app (says_by g (Some (root_before bank previous)))
-    ≡ shapes_if app (option_map (named (1 - bank)) previous)
+    ≡ shapes_if app (option_map (named_in_bank (1 - bank)) previous)
 unfolding shapes_named
 before_names app g bank None = refl
-before_names app g bank (Some v) = append-nil (shapes_in app (named (1 - bank) v))
+before_names app g bank (Some v) = append-nil (shapes_in app (named_in_bank (1 - bank) v))
 
 next_names : (app g bank : ℕ) (v : Version) (previous : Option Version)
     → shapes_named app (says_by g (Some (text.installed bank v previous)))
-    ≡ shapes_in app (named bank v) ++ shapes_if app (option_map (named (1 - bank)) previous)
+    ≡ shapes_in app (named_in_bank bank v) ++ shapes_if app (option_map (named_in_bank (1 - bank)) previous)
 unfolding shapes_named
 next_names app g bank v previous = refl
 
@@ -147,7 +147,7 @@ module _ (again : AgainLaw) (alone : AloneLaw) (app g bank : ℕ) (v : Version) 
     says_before = sym (app_says start app) ∙ ap (λ (a : App). a.says) app_before
 
     pub states_before : (app_at start app).states ≡ map (store_at start)
-        (shapes_if app (option_map (named (1 - bank)) previous))
+        (shapes_if app (option_map (named_in_bank (1 - bank)) previous))
     states_before = ap (λ (a : App). a.states) app_before
         ∙ ap (λ (shapes : List Shape). map (store_at start) shapes) (before_names app g bank previous)
 
@@ -186,18 +186,18 @@ module _ (again : AgainLaw) (alone : AloneLaw) (app g bank : ℕ) (v : Version) 
         (made : AreMade mid (shapes_from app bank 0 v.deployment.storages) contents) where
       pub states_next : map (store_at mid) (shapes_named app (says_by (g + 1) (Some next))) ≡ (after start).states
       states_next = ap (λ (shapes : List Shape). map (store_at mid) shapes) (next_names app (g + 1) bank v previous)
-          ∙ map-append (store_at mid) (shapes_in app (named bank v))
-          (shapes_if app (option_map (named (1 - bank)) previous))
+          ∙ map-append (store_at mid) (shapes_in app (named_in_bank bank v))
+          (shapes_if app (option_map (named_in_bank (1 - bank)) previous))
           ∙ ap (λ (states : List State). states ++ map (store_at mid)
-          (shapes_if app (option_map (named (1 - bank)) previous)))
+          (shapes_if app (option_map (named_in_bank (1 - bank)) previous)))
           (states_made mid app bank 0 v.deployment.storages contents fit made)
           ∙ ap (λ (states : List State). made_states contents ++ states)
           (sym (states_before mid held_still) ∙ ap (λ (a : App). a.states) app_still)
 
       named_clean : (previous ≡ None) ⊎ IsCleanApp app start
-          → AreClean mid (shapes_if app (option_map (named (1 - bank)) previous))
+          → AreClean mid (shapes_if app (option_map (named_in_bank (1 - bank)) previous))
       named_clean (inl none) = subst (λ (p : Option Version).
-          AreClean mid (shapes_if app (option_map (named (1 - bank)) p))) (sym none) tt
+          AreClean mid (shapes_if app (option_map (named_in_bank (1 - bank)) p))) (sym none) tt
       named_clean (inr clean) = subst (λ (shapes : List Shape). AreClean mid shapes)
           (ap (λ (s : Says). shapes_named app s) (says_before mid held_still) ∙ before_names app g bank previous)
           (clean_still clean).storages
@@ -206,8 +206,8 @@ module _ (again : AgainLaw) (alone : AloneLaw) (app g bank : ℕ) (v : Version) 
           → AreOn mid (shapes_named app (says_by (g + 1) (Some next))) (after start).states
       on_next were = record {
         clean = subst (λ (shapes : List Shape). AreClean mid shapes) (sym (next_names app (g + 1) bank v previous))
-            (joined (λ (shape : Shape). IsClean shape mid) (shapes_in app (named bank v))
-            (shapes_if app (option_map (named (1 - bank)) previous))
+            (joined (λ (shape : Shape). IsClean shape mid) (shapes_in app (named_in_bank bank v))
+            (shapes_if app (option_map (named_in_bank (1 - bank)) previous))
             (made_clean mid app bank 0 v.deployment.storages contents fit made) (named_clean were));
         states_are = states_next;
       }

@@ -16,7 +16,7 @@ use Rattle.root_text.specs.declared.versions.VersionText.{VersionText}
 use Rattle.root_text.specs.Views.{version_said}
 use Rattle.update_plan.specs.declared.contents.Stored.{Stored}
 use Rattle.update_plan.specs.Plans.{PlansAll, stored_for}
-use Rattle.deploy_laws.specs.Apps.{App, Says, named}
+use Rattle.deploy_laws.specs.Apps.{App, Says, named_in_bank}
 use Rattle.deploy_laws.specs.Places.{Named}
 use Rattle.deploy_rows.specs.Rows.{◌>>=◌, BeginsUpdate, BeginsWith, InProgress, Offer, deployment_of, newer_version}
 use Rattle.deploy_rows.specs.Rows.{offer_over}
@@ -36,12 +36,12 @@ offered_alike busy text r states = refl
 
 over : (busy : Option (List ℕ)) (text : List ℕ) (i : Installed) (previous : Option VersionText) → i.previous ≡ previous
     → offered busy text (root_app (root.Installed i) [])
-    ≡ offer_over busy text (generation_of i.cell) (named i.bank (version_said i.active))
-    (option_map (λ (v : VersionText). named (1 - i.bank) (version_said v)) previous)
+    ≡ offer_over busy text (generation_of i.cell) (named_in_bank i.bank (version_said i.active))
+    (option_map (λ (v : VersionText). named_in_bank (1 - i.bank) (version_said v)) previous)
 unfolding offered
 over busy text i previous is = ap (λ (p : Option VersionText).
-    offer_over busy text (generation_of i.cell) (named i.bank (version_said i.active))
-    (option_map (λ (v : VersionText). named (1 - i.bank) (version_said v)) p)) is
+    offer_over busy text (generation_of i.cell) (named_in_bank i.bank (version_said i.active))
+    (option_map (λ (v : VersionText). named_in_bank (1 - i.bank) (version_said v)) p)) is
 
 module _ (busy : Option (List ℕ)) (text : List ℕ) (i : Installed) where
   -- the previous version is not finished
@@ -54,11 +54,12 @@ module _ (busy : Option (List ℕ)) (text : List ℕ) (i : Installed) where
     pub is_busy : (name : List ℕ) → busy ≡ Some name → offered busy text (root_app (root.Installed i) [])
         ≡ Err (error.ResourceBusy (holder.Storage name))
     is_busy name is = over busy text i None none
-        ∙ ap (λ (b : Option (List ℕ)). offer_over b text (generation_of i.cell) (named i.bank (version_said i.active))
+        ∙ ap (λ (b : Option (List ℕ)). offer_over b text (generation_of i.cell)
+        (named_in_bank i.bank (version_said i.active))
         None) is
 
     abbrev pub active : Named
-    active = named i.bank (version_said i.active)
+    active = named_in_bank i.bank (version_said i.active)
 
     module _ (free : busy ≡ None) where
       pub by_text : (r : Result DeploymentData PerError) → deployment_of text ≡ r

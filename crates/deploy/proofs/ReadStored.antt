@@ -9,6 +9,7 @@ use Rattle.per_base.specs.declared.elements.Content.{Content}
 use Rattle.per_base.specs.declared.elements.Content.TheVariants.{Good, Bad}
 use Rattle.per_base.specs.declared.elements.Entry.{Entry}
 use Rattle.per_base.specs.declared.elements.StoreKind.{StoreKind}
+use Rattle.per_base.specs.Contents.{HasLength}
 use Rattle.disk_model.specs.Image.{Image}
 use Rattle.disk_model.specs.Laws.{elapses_none, elapses_on, idle_none, idle_on}
 use Rattle.disk_model.specs.Medium.{Elapses, IsIdle, IsLawful, Medium, Quiet}
@@ -20,7 +21,7 @@ use Rattle.deployment_model.specs.declared.configs.StorageConfig.{StorageConfig}
 use Rattle.deployment_model.specs.Lookups.{storage_named, storage_number}
 use Rattle.element_state.specs.declared.shapes.Shape.{Shape}
 use Rattle.element_state.specs.declared.shapes.View.{View}
-use Rattle.element_state.specs.Chosen.{HasLength, opened_of}
+use Rattle.element_state.specs.Chosen.{opened_of}
 use Rattle.element_state.specs.Read.{IsEntryOf, IsView}
 use Rattle.element_state.specs.States.{Corrupt, Opens, State, store_at}
 use Rattle.update_plan.specs.declared.contents.Stored.{Stored}
@@ -43,7 +44,7 @@ pub corrupt_contents : (s : State) → opened_of s ≡ None → contents_of s �
 corrupt_contents (Opens w others) is = absurd cc
 corrupt_contents (Corrupt salvage others) is = refl
 
-small : (kind : StoreKind) (len : ℕ) (c : Content) → HasLength len c → len ≤ max_len kind → IsSmall kind c
+small : (kind : StoreKind) (len : ℕ) (c : Content) → HasLength c len → len ≤ max_len kind → IsSmall kind c
 small kind len (Good bytes) long le = subst (λ (n : ℕ). n ≤ max_len kind) (sym long) le
 small kind len (Bad salvage) long le = tt
 

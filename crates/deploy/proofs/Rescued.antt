@@ -17,6 +17,8 @@ use Rattle.per_base.specs.declared.elements.Fresh.{Fresh}
 use Rattle.per_base.specs.declared.elements.StoreKind.{StoreKind}
 use Rattle.per_base.specs.declared.elements.StoreKind.TheVariants.{Keys, Files}
 use Rattle.per_base.specs.Names.{name_cmp}
+use Rattle.per_base.specs.Contents.{HasLength}
+use Rattle.value_code.specs.Reading.{is_content}
 use Rattle.index_text.specs.Contents.{AreContents, SuitsKind}
 use Rattle.index_text.specs.Rules.{has_info, max_len}
 use Rattle.value_model.specs.Kinds.{Kind}
@@ -25,11 +27,10 @@ use Rattle.deployment_model.specs.Data.{ElementData, StorageData}
 use Rattle.deployment_model.specs.Lookups.{element_named, initial_of}
 use Rattle.element_state.specs.declared.shapes.Shape.{Shape}
 use Rattle.element_state.specs.declared.shapes.View.{View}
-use Rattle.element_state.specs.Chosen.{HasLength}
 use Rattle.element_state.specs.Read.{IsEntryOf, IsView}
 use Rattle.element_state.specs.Views.{judged_content}
 use Rattle.update_plan.specs.Rows.{initial_contents}
-use Rattle.deploy_rows.specs.Recovering.{is_content, recovered_contents, rescued, rescued_as}
+use Rattle.deploy_rows.specs.Recovering.{recovered_contents, rescued, rescued_as}
 use Rattle.deploy.specs.Recovered.{AreElements, rescued_entry}
 
 -- ---- what an element starts with
@@ -72,12 +73,12 @@ info_stays Files f (Some i) h = h
 as_long : (len most : ℕ) (bytes : List ℕ) → length bytes ≡ len → len ≤ most → length bytes ≤ most
 as_long len most bytes is le = omega (arith, is, le)
 
-judged_length : (test : List ℕ → Bool) (len : ℕ) (c : Content) → HasLength len c → HasLength len (judged_content test c)
-judged_length test len (Good value) h = elim (test value) as (λ b. HasLength len (cond b (Good value) (Bad None)))
+judged_length : (test : List ℕ → Bool) (len : ℕ) (c : Content) → HasLength c len → HasLength (judged_content test c) len
+judged_length test len (Good value) h = elim (test value) as (λ b. HasLength (cond b (Good value) (Bad None)) len)
     [ true ↦ h | false ↦ tt ]
 judged_length test len (Bad None) h = tt
 judged_length test len (Bad (Some salvage)) h = elim (test salvage) as
-    (λ b. HasLength len (cond b (Bad (Some salvage)) (Bad None))) [ true ↦ h | false ↦ tt ]
+    (λ b. HasLength (cond b (Bad (Some salvage)) (Bad None)) len) [ true ↦ h | false ↦ tt ]
 
 module _ (s : StorageData) (now : ℕ) (starts : (name bytes : List ℕ) → initial_of s name ≡ Some bytes
     → length bytes ≤ max_len s.kind) where
@@ -92,7 +93,7 @@ module _ (s : StorageData) (now : ℕ) (starts : (name bytes : List ℕ) → ini
   from_start e has (Some bytes) small = anew e has bytes (small bytes refl)
 
   content_rescued : (e : Entry) → IsTrue (has_info s.kind e.info) → e.len ≤ max_len s.kind → (c : Content)
-      → HasLength e.len c
+      → HasLength c e.len
       → Rescues s.kind e.name (rescued s now e c)
   content_rescued e has le (Good bytes) h = record {
     named = refl;

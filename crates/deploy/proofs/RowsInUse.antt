@@ -5,7 +5,7 @@ use Rattle.per_base.specs.declared.errors.PerError.{PerError}
 use Rattle.disk_model.specs.Image.{Image}
 use Rattle.disk_model.specs.Medium.{Medium}
 use Rattle.guarded_cell.specs.declared.cell.Cell.{Cell}
-use Rattle.deploy_laws.specs.Apps.{App, AreClean, IsCleanApp, Says, app_at, says_at, shapes_named}
+use Rattle.deploy_laws.specs.Apps.{App, AreClean, IsCleanApp, Says, app_at, app_saying, says_at, shapes_named}
 use Rattle.deploy_laws.specs.Laws.{AloneLaw}
 use Rattle.deploy_laws.specs.Stands.{StandsThroughout}
 use Rattle.deploy_rows.specs.Laws.{RefusesAlike, SaysAlike}
@@ -13,7 +13,7 @@ use Rattle.deploy_rows.specs.Rows.{AnswersRow, after}
 use Rattle.deploy.specs.declared.errors.Stop.{Stop}
 use Rattle.deploy.specs.declared.roots.Outcome.{Outcome}
 use Rattle.deploy.specs.declared.roots.Root.{Root}
-use Rattle.deploy.specs.Leaving.{IfRegister, IsRegisterAt, IsRootRefused, LeadsToRoot, app_saying}
+use Rattle.deploy.specs.Leaving.{IfRegister, IsRegisterAt, IsRootRefused, LeadsToRoot}
 use Rattle.deploy.specs.Roots.{RootAt, root_app, root_says, root_texts}
 use Rattle.deploy.proofs.InUse.{AgainLaw, in_use, in_use_says}
 

@@ -16,10 +16,10 @@ use Rattle.deploy_laws.specs.Apps.{IsCleanApp, IsFree, Says, app_at, says_at}
 use Rattle.deploy_laws.specs.Laws.{AloneFrameLaw, AloneLaw, CreatingLaw, RootFilesLaw, StorageFilesLaw}
 use Rattle.deploy_laws.specs.Places.{IsBeside, IsOutsideBank, shapes_from, storage_shape}
 use Rattle.deploy_laws.specs.Stands.{StandsThroughout, same_root}
-use Rattle.deploy_rows.specs.Rows.{InProgress}
+use Rattle.deploy_rows.specs.Rows.{InProgress, one_more}
 use Rattle.deploy.specs.declared.roots.Root.TheVariants as root
 use Rattle.deploy.specs.declared.updating.Staged.{Staged}
-use Rattle.deploy.specs.Building.{IsStaged, StagedAt, one_more}
+use Rattle.deploy.specs.Building.{IsStaged, StagedAt}
 use Rattle.deploy.specs.Clauses.{Leaves}
 use Rattle.deploy.specs.Made.{AreMade}
 use Rattle.deploy.specs.Roots.{IsRootOn}

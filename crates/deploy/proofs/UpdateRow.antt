@@ -13,7 +13,7 @@ use Rattle.root_text.specs.declared.versions.VersionText.{VersionText}
 use Rattle.root_text.specs.RootText.{root_text}
 use Rattle.root_text.specs.RootText as text
 use Rattle.root_text.specs.Views.{version_said}
-use Rattle.deploy_laws.specs.Apps.{App, Says, app_at, installed, named, shapes_named}
+use Rattle.deploy_laws.specs.Apps.{App, Says, app_at, installed, named_in_bank, shapes_named}
 use Rattle.deploy_laws.specs.Laws.{AloneLaw}
 use Rattle.deploy_laws.specs.Places.{Named, shapes_from, shapes_in}
 use Rattle.deploy_rows.specs.Rows.{InProgress, made_states, storage_count, updated_app}
@@ -56,10 +56,10 @@ pub other_bank : (bank : ℕ) → bank ≤ 1 → 1 - (1 - bank) ≡ bank
 other_bank bank le = omega (arith, le)
 
 pub says_one : (i : Installed) → i.previous ≡ None → root_says (root.Installed i)
-    ≡ installed (generation_of i.cell) (named i.bank (version_said i.active)) None
+    ≡ installed (generation_of i.cell) (named_in_bank i.bank (version_said i.active)) None
 says_one i none = ap (λ (p : Option VersionText). installed (generation_of i.cell)
-    (named i.bank (version_said i.active))
-    (option_map (λ (v : VersionText). named (1 - i.bank) (version_said v)) p)) none
+    (named_in_bank i.bank (version_said i.active))
+    (option_map (λ (v : VersionText). named_in_bank (1 - i.bank) (version_said v)) p)) none
 
 -- it is what the next version is made over
 pub held_before : (image : Image) (i : Installed) → i.bank ≤ 1 → i.previous ≡ None
@@ -86,7 +86,7 @@ module _ (again : AgainLaw) (alone : AloneLaw) (image : Image) (app : ℕ) (i : 
     (of : IsRootOf app (root.Installed i))
     (on : IsRootOn image app (root.Installed i)) (none : i.previous ≡ None) where
   abbrev pub active : Named
-  active = named i.bank (version_said i.active)
+  active = named_in_bank i.bank (version_said i.active)
 
   pub app_says_one : (app_at image app).says ≡ installed (generation_of i.cell) active None
   app_says_one = ap (λ (a : App). a.says) (in_use again alone image app (root.Installed i) of on) ∙ says_one i none
@@ -105,8 +105,8 @@ module _ (again : AgainLaw) (alone : AloneLaw) (image : Image) (app : ℕ) (i : 
 
   abbrev pub with_one : (bank : ℕ) → VersionText → List State → App
   with_one bank v states = record {
-    says = installed (generation_of i.cell + 1) (named (1 - i.bank) (version_said v))
-        (Some (named bank (version_said i.active)));
+    says = installed (generation_of i.cell + 1) (named_in_bank (1 - i.bank) (version_said v))
+        (Some (named_in_bank bank (version_said i.active)));
     lacking = [];
     states = states;
   }
@@ -136,20 +136,20 @@ pub says_committed : (i j : Installed) (v : VersionText) (contents : List (List 
       built = built;
     }) (root_app (root.Installed i) [])).says
 says_committed i j v contents built le none counts in_bank of_active of_previous =
-    ap (λ (p : Option VersionText). installed (generation_of j.cell) (named j.bank (version_said j.active))
-    (option_map (λ (w : VersionText). named (1 - j.bank) (version_said w)) p)) of_previous
-    ∙ ap (λ (w : VersionText). installed (generation_of j.cell) (named j.bank (version_said w))
-    (Some (named (1 - j.bank) (version_said i.active)))) of_active
-    ∙ ap (λ (bank : ℕ). installed (generation_of j.cell) (named bank (version_said v))
-    (Some (named (1 - bank) (version_said i.active)))) in_bank
-    ∙ ap (λ (g : ℕ). installed g (named (1 - i.bank) (version_said v))
-    (Some (named (1 - (1 - i.bank)) (version_said i.active)))) counts
-    ∙ ap (λ (bank : ℕ). installed (generation_of i.cell + 1) (named (1 - i.bank) (version_said v))
-    (Some (named bank (version_said i.active)))) (other_bank i.bank le)
+    ap (λ (p : Option VersionText). installed (generation_of j.cell) (named_in_bank j.bank (version_said j.active))
+    (option_map (λ (w : VersionText). named_in_bank (1 - j.bank) (version_said w)) p)) of_previous
+    ∙ ap (λ (w : VersionText). installed (generation_of j.cell) (named_in_bank j.bank (version_said w))
+    (Some (named_in_bank (1 - j.bank) (version_said i.active)))) of_active
+    ∙ ap (λ (bank : ℕ). installed (generation_of j.cell) (named_in_bank bank (version_said v))
+    (Some (named_in_bank (1 - bank) (version_said i.active)))) in_bank
+    ∙ ap (λ (g : ℕ). installed g (named_in_bank (1 - i.bank) (version_said v))
+    (Some (named_in_bank (1 - (1 - i.bank)) (version_said i.active)))) counts
+    ∙ ap (λ (bank : ℕ). installed (generation_of i.cell + 1) (named_in_bank (1 - i.bank) (version_said v))
+    (Some (named_in_bank bank (version_said i.active)))) (other_bank i.bank le)
     ∙ sym (ap (λ (a : App). a.says) (committed (record {
       deployment = deployment_data v.deployment;
       contents =
           contents;
       built = built;
     }) (generation_of i.cell)
-    (named i.bank (version_said i.active)) None (root_app (root.Installed i) []) (says_one i none)))
+    (named_in_bank i.bank (version_said i.active)) None (root_app (root.Installed i) []) (says_one i none)))

@@ -9,7 +9,7 @@ use Rattle.element_state.specs.States.{State, store_at}
 use Rattle.root_text.specs.declared.versions.VersionText.{VersionText}
 use Rattle.root_text.specs.Views.{version_said}
 use Rattle.update_plan.specs.declared.contents.Stored.{Stored}
-use Rattle.deploy_laws.specs.Apps.{named}
+use Rattle.deploy_laws.specs.Apps.{named_in_bank}
 use Rattle.deploy_rows.specs.Rows.{Offer, contents_stored}
 use Rattle.deploy.specs.declared.roots.Installed.{Installed}
 
@@ -17,7 +17,7 @@ use Rattle.deploy.specs.declared.roots.Installed.{Installed}
 abbrev pub offer_of : Installed → VersionText → Offer
 offer_of root v = record {
   generation = generation_of root.cell;
-  active = named root.bank (version_said root.active);
+  active = named_in_bank root.bank (version_said root.active);
   deployment = deployment_data v.deployment;
 }
 

@@ -1,6 +1,5 @@
 -- An update in progress: the storages of the next version are made one after another.
-use Rattle.std.specs.Prelude.{◌≡◌, ◌≤◌, ◌<◌, ◌-◌, ℕ, List, suc, length, take, map, Bool, IsTrue, None, Result, Ok, Err}
-use Rattle.std.specs.Prelude.{cond, nat_lt}
+use Rattle.std.specs.Prelude.{◌≡◌, ◌≤◌, ◌<◌, ◌-◌, ℕ, List, length, take, map, Bool, IsTrue, None, Result, Ok, Err}
 use Rattle.per_base.specs.declared.errors.PerError.{PerError}
 use Rattle.disk_model.specs.Image.{Image}
 use Rattle.deployment_model.specs.Data.{deployment_data, storage_data}
@@ -9,7 +8,7 @@ use Rattle.guarded_cell.specs.Cells.{generation_of}
 use Rattle.update_plan.specs.Plans.{AllFit}
 use Rattle.root_text.specs.Views.{version_said}
 use Rattle.deploy_laws.specs.Places.{Named, shapes_in}
-use Rattle.deploy_laws.specs.Apps.{named}
+use Rattle.deploy_laws.specs.Apps.{named_in_bank}
 use Rattle.deploy_rows.specs.Rows.{InProgress}
 use Rattle.deploy.specs.declared.roots.Root.{Root}
 use Rattle.deploy.specs.declared.roots.Root.TheVariants.{Installed}
@@ -38,7 +37,7 @@ staged_root s = Installed s.root
 
 -- the next version, in the other bank
 abbrev pub offered_in : Staged → Named
-offered_in s = named (1 - s.root.bank) (version_said s.version)
+offered_in s = named_in_bank (1 - s.root.bank) (version_said s.version)
 
 -- what it keeps in memory
 pub record IsStaged (app : ℕ) (s : Staged) : Type 0 where
@@ -57,10 +56,6 @@ pub record StagedAt (told : Bool) (image : Image) (app : ℕ) (s : Staged) : Typ
   pub memory : IsStaged app s
   pub root_on : IsTrue told → IsRootOn image app (Installed s.root)
   pub made : IsTrue told → AreMade image (take s.built (shapes_in app (offered_in s))) (take s.built s.contents.items)
-
--- one more storage is made, where one remains
-abbrev pub one_more : InProgress → InProgress
-one_more p = record p { built = cond (nat_lt p.built (length p.contents)) (suc p.built) p.built }
 
 -- ---- how a beginning ended
 

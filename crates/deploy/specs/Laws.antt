@@ -1,20 +1,19 @@
 -- A root in use and an update in progress: what the image says of the application, and what leaves them in use. The
 -- statements of the laws.
-use Rattle.std.specs.Prelude.{◌≡◌, ◌<◌, ◌+◌, ◌≤◌, ℕ, Bool, IsTrue, map}
+use Rattle.std.specs.Prelude.{◌≡◌, ◌<◌, ◌+◌, ◌≤◌, ℕ, Bool, IsTrue}
 use Rattle.disk_model.specs.Frame.{Spares}
 use Rattle.disk_model.specs.Image.{Image}
-use Rattle.element_state.specs.States.{store_at}
-use Rattle.deploy_laws.specs.Apps.{app_at, shapes_named}
+use Rattle.deploy_laws.specs.Apps.{app_at, app_saying}
 use Rattle.deploy_laws.specs.Places.{IsFileOf, first_file}
 use Rattle.deploy.specs.declared.roots.Root.{Root}
 use Rattle.deploy.specs.declared.updating.Staged.{Staged}
 use Rattle.deploy.specs.Building.{StagedAt}
-use Rattle.deploy.specs.Roots.{IsRootOf, IsRootOn, RootAt, root_app, root_says}
+use Rattle.deploy.specs.Roots.{IsRootOf, IsRootOn, RootAt, root_says}
 
 -- the application is what its root says, with the states of the storages that it names, and no copy lacks the root
 abbrev pub RootInUseLaw : Type 0
 RootInUseLaw = (image : Image) (app : ℕ) (root : Root) → IsRootOf app root → IsRootOn image app root
-    → app_at image app ≡ root_app root (map (store_at image) (shapes_named app (root_says root)))
+    → app_at image app ≡ app_saying image app (root_says root)
 
 -- one of the twelve files of a root
 abbrev pub IsRootFile : ℕ → ℕ → Type 0

@@ -1,25 +1,22 @@
 -- Roots that leave a version after: one version stands alone, or none does.
-use Rattle.std.specs.Prelude.{◌≡◌, ◌≤◌, ◌<◌, ◌+◌, ℕ, List, [], map, Bool, IsTrue, Option, Some, None, Result, Ok, Err}
+use Rattle.std.specs.Prelude.{◌≡◌, ◌≤◌, ◌<◌, ◌+◌, ℕ, List, [], Bool, IsTrue, Option, Some, None, Result, Ok, Err}
 use Rattle.per_base.specs.declared.errors.PerError.{PerError}
 use Rattle.disk_model.specs.Image.{Image}
 use Rattle.guarded_cell.specs.Cells.{CellAt, generation_of}
 use Rattle.guarded_cell.specs.declared.cell.Cell.{Cell}
-use Rattle.element_state.specs.States.{greatest_generation, store_at}
+use Rattle.element_state.specs.States.{greatest_generation}
 use Rattle.root_text.specs.Views.{version_said}
-use Rattle.deploy_laws.specs.Apps.{App, AreClean, Says, absent, installed, named, nothing, says_at, shapes_named}
+use Rattle.deploy_laws.specs.Apps.{App, AreClean, Says, absent, installed, named_in_bank, nothing, says_at}
+use Rattle.deploy_laws.specs.Apps.{shapes_named, app_saying}
 use Rattle.deploy.specs.declared.leaving.Lone.{Lone}
 use Rattle.deploy.specs.declared.roots.Outcome.{Outcome}
 use Rattle.deploy.specs.declared.roots.Root.{Root}
 use Rattle.deploy.specs.declared.roots.Root.TheVariants.{Bad, Absent, Installed}
 use Rattle.deploy.specs.Roots.{IsRootCell, IsRootOf, IsRootOn, SaysDeployment, root_app, root_says}
 
--- the application whose root says this in every copy, with its storages as they are on an image
-abbrev pub app_saying : Image → ℕ → Says → App
-app_saying image app says = record { says = says; lacking = []; states = map (store_at image) (shapes_named app says) }
-
 -- what the next root says in which a version stands alone
 abbrev pub lone_says : Lone → Says
-lone_says l = installed (generation_of l.cell + 1) (named l.bank (version_said l.version)) None
+lone_says l = installed (generation_of l.cell + 1) (named_in_bank l.bank (version_said l.version)) None
 
 -- what the next root says in which none does: one without a register is formatted
 abbrev pub empty_says : Option Cell → Says

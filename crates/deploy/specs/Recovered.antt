@@ -1,4 +1,4 @@
--- What is made of a closed storage by what was read of it.
+-- What a closed storage is rebuilt to from what was read of it.
 use Rattle.std.specs.Prelude.{◌≤◌, ℕ, List, length, map, Option}
 use Rattle.std.specs.List.{AllByRecursion}
 use Rattle.std.specs.List.Sorted.{IsStrictlySortedBy}
@@ -6,10 +6,11 @@ use Rattle.per_base.specs.declared.elements.Entry.{Entry}
 use Rattle.per_base.specs.declared.elements.Fresh.{Fresh}
 use Rattle.per_base.specs.declared.elements.StoreKind.{StoreKind}
 use Rattle.per_base.specs.Names.{name_cmp}
+use Rattle.value_code.specs.Reading.{is_content}
 use Rattle.index_text.specs.Contents.{SuitsKind}
 use Rattle.deployment_model.specs.Data.{StorageData}
 use Rattle.element_state.specs.Views.{judged_content}
-use Rattle.deploy_rows.specs.Recovering.{is_content, rescued}
+use Rattle.deploy_rows.specs.Recovering.{rescued}
 
 -- what is rescued of an element, by what of it is a content of the storage's kind
 abbrev pub rescued_entry : StorageData → ℕ → Entry → Option Fresh

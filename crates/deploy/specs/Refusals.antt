@@ -5,12 +5,12 @@ use Rattle.per_base.specs.declared.errors.PerError.TheVariants.{AlreadyInstalled
 use Rattle.per_base.specs.declared.errors.PerError.TheVariants.{NotInstalled, UpdateNotFinished}
 use Rattle.per_base.specs.declared.errors.Unit.TheVariants as unit
 
--- The root alone decides it, ahead of all that takes memory, and it carries no text. That no generation is left is none
+-- The root alone decides it, before all that allocates, and it carries no text. That no generation is left is none
 -- of these: it is judged after a manifest, or after an open storage whose name is copied.
-abbrev pub TakesNoMemory : PerError → Type 0
-TakesNoMemory (IntegrityCorrupted unit.Root) = ⊤
-TakesNoMemory NotInstalled = ⊤
-TakesNoMemory AlreadyInstalled = ⊤
-TakesNoMemory NoPreviousVersion = ⊤
-TakesNoMemory (UpdateNotFinished previous) = ⊤
-TakesNoMemory other = ⊥
+abbrev pub AllocatesNothing : PerError → Type 0
+AllocatesNothing (IntegrityCorrupted unit.Root) = ⊤
+AllocatesNothing NotInstalled = ⊤
+AllocatesNothing AlreadyInstalled = ⊤
+AllocatesNothing NoPreviousVersion = ⊤
+AllocatesNothing (UpdateNotFinished previous) = ⊤
+AllocatesNothing other = ⊥

@@ -14,14 +14,14 @@ use Rattle.deploy.specs.declared.roots.Root.{Root}
 use Rattle.deploy.specs.declared.roots.Root.TheVariants.{Bad, Absent, Installed}
 use Rattle.deploy.specs.declared.roots.Installed as parts
 use Rattle.deploy_laws.specs.Places.{root_place}
-use Rattle.deploy_laws.specs.Apps.{Says, nothing, absent, installed, App, named, says_at}
+use Rattle.deploy_laws.specs.Apps.{Says, nothing, absent, installed, App, named_in_bank, says_at}
 
 -- what a root says
 abbrev pub root_says : Root → Says
 root_says Bad = nothing
 root_says (Absent cell) = absent (generation_of cell)
-root_says (Installed i) = installed (generation_of i.cell) (named i.bank (version_said i.active))
-    (option_map (λ v. named (1 - i.bank) (version_said v)) i.previous)
+root_says (Installed i) = installed (generation_of i.cell) (named_in_bank i.bank (version_said i.active))
+    (option_map (λ v. named_in_bank (1 - i.bank) (version_said v)) i.previous)
 
 -- as an application whose storages have these states
 abbrev pub root_app : Root → List State → App

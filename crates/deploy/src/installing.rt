@@ -19,7 +19,7 @@ ghost use Rattle.deploy_rows.specs.Rows.{AnswersRow, after, installed_app, insta
 ghost use Rattle.deploy.specs.Clauses.{IsBesideNext, Leaves};
 ghost use Rattle.deploy.specs.Made.{AreMade};
 ghost use Rattle.deploy.specs.Next.{next_app, root_before};
-ghost use Rattle.deploy.specs.Refusals.{TakesNoMemory};
+ghost use Rattle.deploy.specs.Refusals.{AllocatesNothing};
 ghost use Rattle.deploy.specs.Remaining.{IsBesideCommit};
 ghost use Rattle.deploy.specs.Roots.{IsRootCell, RootAt, SaysDeployment, root_app, root_says, root_texts};
 
@@ -39,7 +39,7 @@ use std::alloc::Global;
 /// initial contents, and then the root is written.
 ///
 /// Refusals, the first that holds: `IntegrityCorrupted` with the root where it is bad; `AlreadyInstalled`;
-/// `ManifestRejected` with the least rule that is broken; `LimitReached` with `Generations` where the root has none
+/// `ManifestRejected` with the first violated rule; `LimitReached` with `Generations` where the root has none
 /// left. They come before any call of the disk.
 ///
 /// # Errors
@@ -69,7 +69,7 @@ pub fn install<D: Disk>(
     ensures quiet { Quiet (D.medium disk.old) → OnOk result (Quiet (D.medium disk.new)) }
     ensures unchanged { IfOk result (λ o. o.refused ≢ None → (disk.new ≡ disk.old) × (o.root ≡ root)) }
     ensures early { (e : PerError) → installing now manifest.now (root_app root []) ≡ Err e → disk.new ≡ disk.old }
-    ensures due { (e : PerError) → installing now manifest.now (root_app root []) ≡ Err e → TakesNoMemory e
+    ensures due { (e : PerError) → installing now manifest.now (root_app root []) ≡ Err e → AllocatesNothing e
         → IsOk result }
     ensures cause { IsErrOf result Stop.Device → Rose (D.medium disk.old).faults (D.medium disk.new).faults }
     ensures device_only { IsErrOf result Stop.Device → IsOk (installing now manifest.now (root_app root [])) }

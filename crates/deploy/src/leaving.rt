@@ -7,12 +7,12 @@ ghost use Rattle.per_base.specs.declared.errors.PerError.{PerError};
 ghost use Rattle.disk_model.specs.Medium.{Elapses, Quiet};
 ghost use Rattle.guarded_cell.specs.Cells.{CellAt, generation_of};
 ghost use Rattle.element_state.specs.States.{greatest_generation};
-ghost use Rattle.deploy_laws.specs.Apps.{App, AreClean, IsCleanApp, app_at, shapes_named};
+ghost use Rattle.deploy_laws.specs.Apps.{App, AreClean, IsCleanApp, app_at, app_saying, shapes_named};
 ghost use Rattle.deploy_laws.specs.Stands.{StandsThroughout};
 ghost use Rattle.deploy_rows.specs.Rows.{AnswersRow, after, finishing, not_busy, not_worn, rolling_back};
 ghost use Rattle.deploy.specs.Clauses.{IsNoRootSlot, Leaves};
-ghost use Rattle.deploy.specs.Leaving.{IsLone, IsRootRefused, app_saying, lone_says, refused_or};
-ghost use Rattle.deploy.specs.Refusals.{TakesNoMemory};
+ghost use Rattle.deploy.specs.Leaving.{IsLone, IsRootRefused, lone_says, refused_or};
+ghost use Rattle.deploy.specs.Refusals.{AllocatesNothing};
 ghost use Rattle.deploy.specs.Roots.{AreParts, IsRootCell, IsRootOf, RootAt, SaysDeployment, root_app, root_says};
 ghost use Rattle.deploy.specs.Roots.{root_texts};
 
@@ -114,9 +114,9 @@ pub fn rollback<D: Disk>(
     ensures early { (e : PerError) → rolling_back (option_map (λ n. n.now) busy.entry) (root_app root []) ≡ Err e
         → disk.new ≡ disk.old }
 
-    // Where no storage is open, no refusal takes memory.
+    // Where no storage is open, no refusal allocates.
     ensures due { (e : PerError) → rolling_back (option_map (λ n. n.now) busy.entry) (root_app root []) ≡ Err e
-        → TakesNoMemory e ⊎ (busy.entry ≡ None) → IsOk result }
+        → AllocatesNothing e ⊎ (busy.entry ≡ None) → IsOk result }
     ensures cause { IsErrOf result Stop.Device → Rose (D.medium disk.old).faults (D.medium disk.new).faults }
     ensures device_only { IsErrOf result Stop.Device → IsOk
         (rolling_back (option_map (λ n. n.now) busy.entry) (root_app root [])) }
@@ -204,7 +204,7 @@ impl Root {
             (rolling_back (option_map (λ n. n.now) busy.entry))
             self)) }
         ensures due { (e : PerError) → rolling_back (option_map (λ n. n.now) busy.entry) (root_app self []) ≡ Err e
-            → TakesNoMemory e ⊎ (busy.entry ≡ None) → IsOk result }
+            → AllocatesNothing e ⊎ (busy.entry ≡ None) → IsOk result }
         ensures memory { ¬ (IsErrOf result Stop.Device) }
     {
         match self {
@@ -250,7 +250,7 @@ impl Installed {
             (Root.Installed self))) }
         ensures due { (e : PerError) → rolling_back (option_map (λ n. n.now) busy.entry)
             (root_app (Root.Installed self) []) ≡ Err e
-            → TakesNoMemory e ⊎ (busy.entry ≡ None) → IsOk result }
+            → AllocatesNothing e ⊎ (busy.entry ≡ None) → IsOk result }
         ensures memory { ¬ (IsErrOf result Stop.Device) }
     {
         let Installed {

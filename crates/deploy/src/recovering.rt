@@ -4,6 +4,7 @@ ghost use Rattle.std.specs.Prelude.{◌≡◌, ◌≤◌, ◌⊎◌, IfOk, IfSom
 ghost use Rattle.std.specs.Prelude.{filter_map, length, option_map, sum_by, true, ◌≢◌};
 ghost use Rattle.std.specs.List.{AllByRecursion};
 ghost use Rattle.per_base.specs.Causes.{Rose};
+ghost use Rattle.value_code.specs.Reading.{is_content};
 ghost use Rattle.file_core.specs.Infos as infos;
 ghost use Rattle.index_text.specs.Contents.{AreContents, fresh_size};
 ghost use Rattle.disk_model.specs.Medium.{Elapses, Quiet};
@@ -16,7 +17,7 @@ ghost use Rattle.element_state.specs.Conditions.{IsShape};
 ghost use Rattle.element_state.specs.Kept.{KeptThroughout};
 ghost use Rattle.element_state.specs.Read.{IsView};
 ghost use Rattle.element_state.specs.States.{Corrupt, State, salvage_of, store_at};
-ghost use Rattle.deploy_rows.specs.Recovering.{after_state, if_contents_fit, is_content, is_worn_out, rebuilding};
+ghost use Rattle.deploy_rows.specs.Recovering.{after_state, if_contents_fit, is_worn_out, rebuilding};
 ghost use Rattle.deploy_rows.specs.Recovering.{recovered_contents, recovering, rescued, resetting};
 ghost use Rattle.deploy_rows.specs.Rows.{AnswersRow};
 ghost use Rattle.deploy.specs.Clauses.{ChangesNothing, Leaves};

@@ -14,12 +14,12 @@ ghost use Rattle.update_plan.specs.Plans.{ArePresent, IsStoredOf};
 ghost use Rattle.deploy_laws.specs.Apps.{IsCleanApp, app_at};
 ghost use Rattle.deploy_laws.specs.Places.{IsBeside, shapes_from, storage_shape};
 ghost use Rattle.deploy_laws.specs.Stands.{StandsThroughout};
-ghost use Rattle.deploy_rows.specs.Rows.{BeginsUpdate, BeginsWith, contents_of, offered, updated_app};
+ghost use Rattle.deploy_rows.specs.Rows.{BeginsUpdate, BeginsWith, contents_of, offered, one_more, updated_app};
 ghost use Rattle.deploy.specs.Beginning.{AreReadContents, IsOffered, offer_of};
-ghost use Rattle.deploy.specs.Building.{IsStaged, IsUpdateBegun, StagedAt, begun_as, one_more, staged_progress};
+ghost use Rattle.deploy.specs.Building.{IsStaged, IsUpdateBegun, StagedAt, begun_as, staged_progress};
 ghost use Rattle.deploy.specs.Building.{staged_root, staged_text};
 ghost use Rattle.deploy.specs.Clauses.{IsNoRootSlot, Leaves};
-ghost use Rattle.deploy.specs.Refusals.{TakesNoMemory};
+ghost use Rattle.deploy.specs.Refusals.{AllocatesNothing};
 ghost use Rattle.deploy.specs.Remaining.{IsBesideCommit};
 ghost use Rattle.deploy.specs.Roots.{RootAt, SaysDeployment, free_bank, root_app, root_says, root_texts};
 
@@ -68,7 +68,7 @@ pub enum Begin {
 ///
 /// Refusals, the first that holds: `IntegrityCorrupted` with the root where it is bad; `NotInstalled`;
 /// `UpdateNotFinished` with the previous version; `ResourceBusy` where `busy` names an open storage; `ManifestRejected`
-/// with the least rule that is broken; `VersionNotNewer`; those of the plan; `LimitReached` with `Generations`. Those
+/// with the first violated rule; `VersionNotNewer`; those of the plan; `LimitReached` with `Generations`. Those
 /// before the plan come before any call of the disk.
 ///
 /// # Errors
@@ -103,7 +103,7 @@ pub fn begin_update<D: Disk>(
     ensures early { (e : PerError) → offered (option_map (λ n. n.now) busy.entry) manifest.now (root_app root [])
         ≡ Err e → disk.new ≡ disk.old }
     ensures due { (e : PerError) → offered (option_map (λ n. n.now) busy.entry) manifest.now (root_app root []) ≡ Err e
-        → TakesNoMemory e
+        → AllocatesNothing e
         → IsOk result }
     ensures cause { IsErrOf result Stop.Device → Rose (D.medium disk.old).faults (D.medium disk.new).faults }
     ensures device_only { IsErrOf result Stop.Device
@@ -157,7 +157,7 @@ fn begin_over<D: Disk>(
         → disk.new ≡ disk.old }
     ensures due { (e : PerError) → offered (option_map (λ n. n.now) busy.entry) manifest.now
         (root_app (Root.Installed root) []) ≡ Err e
-        → TakesNoMemory e → IsOk result }
+        → AllocatesNothing e → IsOk result }
     ensures cause { IsErrOf result Stop.Device → Rose (D.medium disk.old).faults (D.medium disk.new).faults }
     ensures device_only { IsErrOf result Stop.Device
         → IsOk (offered (option_map (λ n. n.now) busy.entry) manifest.now (root_app (Root.Installed root) [])) }
@@ -186,7 +186,7 @@ fn offer(
         root.now) }
     ensures due { (e : PerError) → offered (option_map (λ n. n.now) busy.entry) manifest.now
         (root_app (Root.Installed root.now) []) ≡ Err e
-        → TakesNoMemory e → IsOk result }
+        → AllocatesNothing e → IsOk result }
     ensures alone { IfOk result (λ offer. IfOk offer (λ version. root.now.previous ≡ None)) }
     ensures text { IfOk result (λ offer. IfOk offer (λ version. version.text ≡ manifest.now)) }
     ensures kept { IfOk result (λ offer. IfOk offer SaysDeployment) }

@@ -8,7 +8,7 @@ ghost use Rattle.migrate_fns.specs.Stored.{answers_of, rules_of};
 ghost use Rattle.deploy_laws.specs.Apps.{IsCleanApp, app_at};
 ghost use Rattle.deploy_rows.specs.Rows.{BeginsUpdate, UpdateMayLead, offered};
 ghost use Rattle.deploy.specs.Clauses.{IsBesideNext, Leaves};
-ghost use Rattle.deploy.specs.Refusals.{TakesNoMemory};
+ghost use Rattle.deploy.specs.Refusals.{AllocatesNothing};
 ghost use Rattle.deploy.specs.Roots.{RootAt, free_bank, root_app, root_texts};
 ghost use Rattle.deploy.specs.Updates.{IsUpdated, LeadsTo};
 
@@ -63,7 +63,7 @@ pub fn update<D: Disk>(
     ensures early { (e : PerError) → offered (option_map (λ n. n.now) busy.entry) manifest.now (root_app root [])
         ≡ Err e → disk.new ≡ disk.old }
     ensures due { (e : PerError) → offered (option_map (λ n. n.now) busy.entry) manifest.now (root_app root []) ≡ Err e
-        → TakesNoMemory e
+        → AllocatesNothing e
         → IsOk result }
     ensures cause { IsErrOf result Stop.Device → Rose (D.medium disk.old).faults (D.medium disk.new).faults }
     ensures device_only { IsErrOf result Stop.Device

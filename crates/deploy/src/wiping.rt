@@ -10,12 +10,12 @@ ghost use Rattle.disk_model.specs.Place.{IsNoSlot};
 ghost use Rattle.guarded_cell.specs.Cells.{CellAt, IsCellOf, generation_of, place_of};
 ghost use Rattle.guarded_cell.specs.Stops.{PutStops};
 ghost use Rattle.root_text.specs.RootText.{absent, root_text};
-ghost use Rattle.deploy_laws.specs.Apps.{IsCleanApp, app_at};
+ghost use Rattle.deploy_laws.specs.Apps.{IsCleanApp, app_at, app_saying};
 ghost use Rattle.deploy_laws.specs.Apps as apps;
 ghost use Rattle.deploy_laws.specs.Stands.{StandsThroughout};
 ghost use Rattle.deploy_rows.specs.Rows.{AnswersRow, after, wiping};
 ghost use Rattle.deploy.specs.Clauses.{IsNoRootSlot, Leaves};
-ghost use Rattle.deploy.specs.Leaving.{IsEmptied, IsRegisterAt, IsRootRefused, app_saying, empty_says, register_of};
+ghost use Rattle.deploy.specs.Leaving.{IsEmptied, IsRegisterAt, IsRootRefused, empty_says, register_of};
 ghost use Rattle.deploy.specs.Roots.{RootAt, root_app, root_says};
 
 use crate::errors::Stop;
@@ -64,7 +64,7 @@ pub fn wipe<D: Disk>(
     ensures early { (e : PerError) → wiping (option_map (λ n. n.now) busy.entry) (root_app root []) ≡ Err e
         → disk.new ≡ disk.old }
 
-    // Where no storage is open, no refusal takes memory.
+    // Where no storage is open, no refusal allocates.
     ensures due { (e : PerError) → wiping (option_map (λ n. n.now) busy.entry) (root_app root []) ≡ Err e
         → busy.entry ≡ None → IsOk result }
     ensures cause { IsErrOf result Stop.Device → Rose (D.medium disk.old).faults (D.medium disk.new).faults }

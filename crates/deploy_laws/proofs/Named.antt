@@ -8,7 +8,7 @@ use Rattle.guarded_cell.specs.Held.{standing}
 use Rattle.manifest.specs.Reading.{deployment_in}
 use Rattle.root_text.specs.RootText.{Root, Version, absent, installed, root_of, IsRoot, IsVersion}
 use Rattle.deploy_laws.specs.Places.{root_place}
-use Rattle.deploy_laws.specs.Apps.{named, says_by, says_in, says_at, IsInBank, AreVersions}
+use Rattle.deploy_laws.specs.Apps.{named_in_bank, says_by, says_in, says_at, IsInBank, AreVersions}
 
 -- of manifest and root_text
 abbrev pub KeepsLaw : Type 0
@@ -18,7 +18,7 @@ abbrev pub IsRootLaw : Type 0
 IsRootLaw = (text : List ℕ) (r : Root) → root_of text ≡ Some r → IsRoot r
 
 module _ (keeps : KeepsLaw) where
-  placed : (bank : ℕ) (v : Version) → bank ≤ 1 → IsVersion v → IsInBank (named bank v)
+  placed : (bank : ℕ) (v : Version) → bank ≤ 1 → IsVersion v → IsInBank (named_in_bank bank v)
   placed bank v le is = record { in_bank = le; keeps = keeps v.text v.deployment is }
 
   pub versions_by : (g : ℕ) (r : Root) → IsRoot r → AreVersions (says_by g (Some r))

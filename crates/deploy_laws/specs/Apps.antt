@@ -42,14 +42,14 @@ says_generation (installed g active previous) = g
 
 -- ---- reading an image
 
-abbrev pub named : ℕ → Version → Named
-named bank v = record { bank = bank; deployment = v.deployment }
+abbrev pub named_in_bank : ℕ → Version → Named
+named_in_bank bank v = record { bank = bank; deployment = v.deployment }
 
 abbrev pub says_by : ℕ → Option Root → Says
 says_by g None = nothing
 says_by g (Some text.absent) = absent g
 says_by g (Some (text.installed bank active previous)) =
-    installed g (named bank active) (option_map (named (1 - bank)) previous)
+    installed g (named_in_bank bank active) (option_map (named_in_bank (1 - bank)) previous)
 
 abbrev pub says_in : Option Seen → Says
 says_in None = nothing
@@ -75,6 +75,10 @@ app_at image app = record {
   lacking = root_lacking image app (says_at image app) (standing image (root_place app) 2);
   states = map (store_at image) (shapes_named app (says_at image app));
 }
+
+-- the application whose root says this in every copy, with its storages as they are on an image
+abbrev pub app_saying : Image → ℕ → Says → App
+app_saying image app says = record { says = says; lacking = []; states = map (store_at image) (shapes_named app says) }
 
 -- no text is held in the root's place beside the one that stands
 abbrev pub root_sole : Image → ℕ → Bool

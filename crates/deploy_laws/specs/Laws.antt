@@ -20,8 +20,8 @@ use Rattle.root_text.specs.RootText.{Root, root_of}
 use Rattle.root_text.specs.RootText as text
 use Rattle.deploy_laws.specs.Places.{Named, root_place, first_file, storage_file, storage_shape, shapes_in, IsFileOf}
 use Rattle.deploy_laws.specs.Places.{IsNoFileOf, IsNoRootFile, IsBeside, IsOutsideBank}
-use Rattle.deploy_laws.specs.Apps.{Says, nothing, absent, installed, App, says_by, says_at, app_at, shapes_named}
-use Rattle.deploy_laws.specs.Apps.{AreVersions, IsFree, AreClean, AreOn, IsCleanApp}
+use Rattle.deploy_laws.specs.Apps.{Says, nothing, absent, installed, App, says_by, says_at, app_at, app_saying}
+use Rattle.deploy_laws.specs.Apps.{shapes_named, AreVersions, IsFree, AreClean, AreOn, IsCleanApp}
 use Rattle.deploy_laws.specs.Pieces.{IsSoundApp, DecaysApp}
 use Rattle.deploy_laws.specs.Stands.{Stands, StandsCase, IsRootSpared, IsLater}
 
@@ -49,11 +49,7 @@ NumberLaw = (app number : ℕ) (v : Named) (s : StorageData) → slice_get v.dep
 -- where a root's text is held alone, the application is what it says
 abbrev pub AloneLaw : Type 0
 AloneLaw = (app g : ℕ) (text : List ℕ) (image : Image) → IsAlone image (root_place app) g text
-    → app_at image app ≡ record {
-      says = says_by g (root_of text);
-      lacking = [];
-      states = map (store_at image) (shapes_named app (says_by g (root_of text)));
-    }
+    → app_at image app ≡ app_saying image app (says_by g (root_of text))
 
 -- and its places are clean, where those that the text names are
 abbrev pub AloneCleanLaw : Type 0
@@ -123,7 +119,7 @@ OthersCaseLaw = (one other : ℕ) (start : Image) (c : Case) → ¬ (one ≡ oth
 
 -- ---- chance and damage
 
--- what is granted of an application holds of each storage that its root names after a stop and damage
+-- what is assumed of an application holds of each storage that its root names after a stop and damage
 abbrev pub CoveredLaw : Type 0
 CoveredLaw = (app : ℕ) (c : Case) (damaged : List ℕ) (image : Image) (shape : Shape) → IsSoundApp app c
     → DecaysApp app damaged c.left image

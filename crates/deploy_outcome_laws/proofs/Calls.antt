@@ -17,7 +17,7 @@ use Rattle.deploy_rows.specs.Rows.{AnswersRow, BeginsWith, InProgress, Offer, of
 use Rattle.deploy.specs.declared.errors.Stop.{Stop}
 use Rattle.deploy.specs.declared.updating.Begin.{Begin}
 use Rattle.deploy.specs.Roots.{root_says}
-use Rattle.deploy_outcome_laws.specs.Calls.{DueWantsMemory, LookMends, MadeAgain, MadeTwice, RefusalWrote, RefusedDone}
+use Rattle.deploy_outcome_laws.specs.Calls.{DueAllocates, LookMends, MadeAgain, MadeTwice, RefusalWrote, RefusedDone}
 use Rattle.deploy_outcome_laws.specs.Calls.{RootFirst, RootStamped}
 
 -- ---- what changes on a disk
@@ -76,7 +76,7 @@ ok_or_err : (r : Result Begin Stop) (e : Stop) → IsOk r → IsErrOf r e → �
 ok_or_err (Ok b) e ok err = absurd cc
 ok_or_err (Err f) e ok err = absurd cc
 
-pub due_wants_memory : DueWantsMemory
+pub due_wants_memory : DueAllocates
 due_wants_memory busy manifest g v p root result due says err =
     ok_or_err result _ (due (unfinished p) (not_offered busy manifest (root_says root) [] [] g v p says) tt) err
 

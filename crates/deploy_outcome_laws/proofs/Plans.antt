@@ -14,7 +14,7 @@ use Rattle.per_base.specs.declared.errors.PerError.TheVariants as error
 use Rattle.per_base.specs.declared.errors.Limit.TheVariants as limit
 use Rattle.per_base.specs.declared.errors.Unit.TheVariants as unit
 use Rattle.value_model.specs.Trees.{Tree}
-use Rattle.value_code.specs.Reading.{decoded}
+use Rattle.value_code.specs.Reading.{decoded, is_content}
 use Rattle.deployment_model.specs.Data.{StorageData}
 use Rattle.deployment_model.specs.Lookups.{initial_of}
 use Rattle.element_state.specs.States.{State, Opens, Corrupt, fresh_map, fresh_state, is_worn}
@@ -24,8 +24,7 @@ use Rattle.migrate_fns.specs.Rules as fns
 use Rattle.update_plan.specs.declared.contents.StorageContents.{StorageContents}
 use Rattle.update_plan.specs.declared.contents.StorageContents.TheVariants.{Damaged}
 use Rattle.update_plan.specs.Plans.{Continues, PlansAll, PlansFor, stored_for}
-use Rattle.deploy_rows.specs.Recovering.{if_contents_fit, is_content, recovered_contents, recovering, rescued}
-use Rattle.deploy_rows.specs.Recovering.{rescued_as}
+use Rattle.deploy_rows.specs.Recovering.{if_contents_fit, recovered_contents, recovering, rescued, rescued_as}
 use Rattle.deploy_rows.specs.Rows.{BeginsWith, InProgress, Offer, begun, contents_stored}
 use Rattle.deploy_outcome_laws.specs.Rows.{GenerationsFirst, InitialWhereConverted, OtherBankRead}
 use Rattle.deploy_outcome_laws.specs.Rows.{UnreadableKept}

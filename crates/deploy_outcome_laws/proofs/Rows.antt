@@ -7,7 +7,7 @@ use Rattle.element_state.specs.States.{State, greatest_generation}
 use Rattle.deploy_laws.specs.Apps.{Says, nothing, absent, installed, App, app_at}
 use Rattle.deploy_laws.specs.Places.{Named}
 use Rattle.deploy_rows.specs.Rows.{InProgress, not_worn, after, finishing, rolling_back, wiping, updated_app}
-use Rattle.deploy_outcome_laws.specs.Rows.{ActiveBankTaken, BadRootAnew, CopyLeft, NewContentsKept, PreviousKept}
+use Rattle.deploy_outcome_laws.specs.Rows.{ActiveBankTaken, BadRootFormatted, CopyLeft, NewContentsKept, PreviousKept}
 
 -- ---- refusals and ends
 
@@ -59,8 +59,8 @@ same_previous k g v w p q is = cc
 
 -- ---- an opening
 
-pub bad_root_anew : BadRootAnew
-bad_root_anew app g old new is bad says =
+pub bad_root_formatted : BadRootFormatted
+bad_root_formatted app g old new is bad says =
     no_root g (sym bad ∙ sym (ap (λ (a : App). a.says) is) ∙ says)
 
 -- ---- a finish

@@ -15,15 +15,14 @@ use Rattle.deploy_laws.specs.Apps.{App, installed, app_at, says_at, shapes_named
 use Rattle.deploy_laws.specs.Pieces.{IsSoundApp, DecaysApp}
 use Rattle.deploy_laws.specs.Places.{Named, root_place, storage_file}
 use Rattle.deploy_laws.specs.Stands.{StandsThroughout}
-use Rattle.deploy_rows.specs.Rows.{InProgress, BeginsUpdate, offered}
+use Rattle.deploy_rows.specs.Rows.{InProgress, BeginsUpdate, offered, one_more}
 use Rattle.deploy.specs.declared.errors.Stop.{Stop}
 use Rattle.deploy.specs.declared.errors.Stop.TheVariants as stop
 use Rattle.deploy.specs.declared.roots.Outcome.{Outcome}
 use Rattle.deploy.specs.declared.roots.Root.{Root}
 use Rattle.deploy.specs.declared.updating.Begin.{Begin}
-use Rattle.deploy.specs.Building.{one_more}
 use Rattle.deploy.specs.Clauses.{IsNoRootSlot, Leaves}
-use Rattle.deploy.specs.Refusals.{TakesNoMemory}
+use Rattle.deploy.specs.Refusals.{AllocatesNothing}
 use Rattle.deploy.specs.Remaining.{IsBesideCommit}
 use Rattle.deploy.specs.Roots.{root_app, root_says}
 use Rattle.deploy.specs.Updates.{IsUpdated}
@@ -33,10 +32,10 @@ abbrev pub Differs : ℕ → Image → Image → Type 0
 Differs file start image = ¬ (image file ≡ start file)
 
 -- the refusal of an update beside a previous version gives way to OutOfMemory
-abbrev pub DueWantsMemory : Type 0
-DueWantsMemory = (busy : Option (List ℕ)) (manifest : List ℕ) (g : ℕ) (active previous : Named) (root : Root)
+abbrev pub DueAllocates : Type 0
+DueAllocates = (busy : Option (List ℕ)) (manifest : List ℕ) (g : ℕ) (active previous : Named) (root : Root)
     (result : Result Begin Stop)
-    → ((e : PerError) → offered busy manifest (root_app root []) ≡ Err e → TakesNoMemory e → IsOk result)
+    → ((e : PerError) → offered busy manifest (root_app root []) ≡ Err e → AllocatesNothing e → IsOk result)
     → root_says root ≡ installed g active (Some previous) → ¬ (IsErrOf result stop.OutOfMemory)
 
 -- an update beside a previous version is answered as done

@@ -29,8 +29,8 @@ use Rattle.deploy_rows.specs.Rows.{contents_stored}
 use Rattle.deploy_rows.specs.Rows.{updated_app, wiping}
 
 -- an opening formats a bad root
-abbrev pub BadRootAnew : Type 0
-BadRootAnew = (app generation : ℕ) (old new : Image) → app_at new app ≡ reopened (app_at old app)
+abbrev pub BadRootFormatted : Type 0
+BadRootFormatted = (app generation : ℕ) (old new : Image) → app_at new app ≡ reopened (app_at old app)
     → (app_at old app).says ≡ nothing → ¬ ((app_at new app).says ≡ absent generation)
 
 -- a finish keeps the previous version

@@ -1,9 +1,9 @@
 //! The laws: this function does nothing when it runs.
 
 ghost use Rattle.migrate_fns.specs.Stored.{answers_of, rules_of};
-ghost use Rattle.deploy_outcome_laws.specs.Calls.{DueWantsMemory, LookMends, MadeAgain, MadeTwice, RefusalWrote};
+ghost use Rattle.deploy_outcome_laws.specs.Calls.{DueAllocates, LookMends, MadeAgain, MadeTwice, RefusalWrote};
 ghost use Rattle.deploy_outcome_laws.specs.Calls.{RefusedDone, RootFirst, RootStamped};
-ghost use Rattle.deploy_outcome_laws.specs.Rows.{ActiveBankTaken, BadRootAnew, CopyLeft, GenerationsFirst};
+ghost use Rattle.deploy_outcome_laws.specs.Rows.{ActiveBankTaken, BadRootFormatted, CopyLeft, GenerationsFirst};
 ghost use Rattle.deploy_outcome_laws.specs.Rows.{InitialWhereConverted};
 ghost use Rattle.deploy_outcome_laws.specs.Rows.{NewContentsKept, OtherBankRead, PreviousKept, UnreadableKept};
 
@@ -14,7 +14,7 @@ use migrate_fns::Migrations;
 /// What no call of a deployment leaves, each clause named by the mistake that would leave it; with any converters.
 pub fn outcomes_are_refused<D: Disk>(_migrations: &Migrations)
     // By what the row of a call makes of the application.
-    ensures bad_root_anew { BadRootAnew }
+    ensures bad_root_formatted { BadRootFormatted }
     ensures previous_version_kept_by_a_finish { PreviousKept }
     ensures new_contents_kept_by_a_rollback { NewContentsKept }
     ensures copy_of_the_root_left_by_a_wipe { CopyLeft }
@@ -28,7 +28,7 @@ pub fn outcomes_are_refused<D: Disk>(_migrations: &Migrations)
     ensures opening_stamps_the_root { RootStamped D.medium }
     ensures look_mends_the_root { LookMends D.medium }
     ensures refusal_has_written { RefusalWrote D.medium }
-    ensures due_refusal_wants_memory { DueWantsMemory }
+    ensures due_refusal_wants_memory { DueAllocates }
     ensures refused_update_answered_done { RefusedDone (rules_of _migrations.now) (answers_of _migrations.now) }
     ensures storage_made_twice { MadeTwice }
     ensures made_again_by_a_commit { MadeAgain D.medium }

@@ -1,17 +1,15 @@
 -- What a recovery and a reset make of a closed storage.
-use Rattle.std.specs.Prelude.{ℕ, List, filter_map, sum_by, Bool, true, false, cond, nat_lt, Option, Some, None}
-use Rattle.std.specs.Prelude.{option_map, Result, Ok, Err, is_some}
+use Rattle.std.specs.Prelude.{ℕ, List, filter_map, sum_by, Bool, false, cond, nat_lt, Option, Some, None}
+use Rattle.std.specs.Prelude.{option_map, Result, Ok, Err}
 use Rattle.per_base.specs.declared.elements.Cause.TheVariants as cause
 use Rattle.per_base.specs.declared.elements.Content.{Content}
 use Rattle.per_base.specs.declared.elements.Content.TheVariants.{Good, Bad}
 use Rattle.per_base.specs.declared.elements.Entry.{Entry}
 use Rattle.per_base.specs.declared.elements.Fresh.{Fresh}
-use Rattle.per_base.specs.declared.elements.StoreKind.{StoreKind}
-use Rattle.per_base.specs.declared.elements.StoreKind.TheVariants.{Keys, Files}
 use Rattle.per_base.specs.declared.errors.PerError.{PerError}
 use Rattle.per_base.specs.declared.errors.PerError.TheVariants as error
 use Rattle.per_base.specs.declared.errors.Limit.TheVariants as limit
-use Rattle.value_code.specs.Reading.{decoded}
+use Rattle.value_code.specs.Reading.{is_content}
 use Rattle.file_core.specs.Infos.{info_changed}
 use Rattle.deployment_model.specs.Data.{StorageData}
 use Rattle.deployment_model.specs.Lookups.{initial_of}
@@ -20,11 +18,6 @@ use Rattle.element_state.specs.States.{State, salvage_of, next_generation, is_wo
 use Rattle.element_state.specs.Views.{judged_content}
 use Rattle.index_text.specs.Contents.{fresh_size}
 use Rattle.update_plan.specs.Rows.{initial_contents}
-
--- the bytes are a content of this kind: for a key they encode a value
-abbrev pub is_content : StoreKind → List ℕ → Bool
-is_content Keys bytes = is_some (decoded bytes)
-is_content Files bytes = true
 
 abbrev pub rescued_as : StorageData → ℕ → Entry → List ℕ → Fresh
 rescued_as s now e bytes = record {

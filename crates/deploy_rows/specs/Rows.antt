@@ -1,6 +1,6 @@
 -- What a call makes of an application: the application after it, or the refusal.
 use Rattle.std.specs.Prelude.{◌≡◌, ◌⊎◌, ℕ, ◌+◌, ◌-◌, List, [], ◌∷◌, ◌++◌, length, map, take, drop, nat_le, cond, Option}
-use Rattle.std.specs.Prelude.{Some, None, Result, Ok, Err, ⊤, IsErrOf}
+use Rattle.std.specs.Prelude.{Some, None, Result, Ok, Err, ⊤, IsErrOf, nat_lt, suc}
 use Rattle.per_base.specs.declared.elements.Cause.TheVariants as cause
 use Rattle.per_base.specs.declared.elements.Fresh.{Fresh}
 use Rattle.per_base.specs.declared.errors.PerError.{PerError}
@@ -43,7 +43,7 @@ said_or_broken (Some d) rule = Ok d
 said_or_broken None None = Err (error.ManifestRejected 0)
 said_or_broken None (Some rule) = Err (error.ManifestRejected rule)
 
--- the deployment that a manifest says, or the least rule that it breaks
+-- the deployment that a manifest says, or the first rule that it violates
 unfoldable pub deployment_of : List ℕ → Result DeploymentData PerError
 deployment_of text = said_or_broken (deployment_in text) (broken_rule text)
 
@@ -162,6 +162,10 @@ pub record InProgress : Type 0 where
   pub deployment : DeploymentData
   pub contents : List (List Fresh)
   pub built : ℕ
+
+-- one more storage is built, where one remains
+abbrev pub one_more : InProgress → InProgress
+one_more p = record p { built = cond (nat_lt p.built (length p.contents)) (suc p.built) p.built }
 
 abbrev pub begun : Offer → Result (List (List Fresh)) PerError → Result InProgress PerError
 begun o plan = plan >>= (λ contents. not_worn o.generation

@@ -11,7 +11,7 @@ use Rattle.disk_model.specs.History.{image_of, start_image, image_after, recorde
 use Rattle.per_base.specs.Causes.{raised}
 use Rattle.disk_model.specs.Memory.{mem_medium, starved_count, is_planned, is_stopped, HasNoOrders, IsUnchanged}
 use Rattle.disk_model.specs.Memory.{KeepsCounts, AnswersAsPlanned, FailsByMemoryAlone, Fails, Shows, SameRecord, Begins}
-use Rattle.disk_model.specs.Memory.{Wants}
+use Rattle.disk_model.specs.Memory.{RunsOut}
 use Rattle.std.specs.Prelude.{Vec, Result, Ok, Err, OnErr, length}
 use Rattle.std.specs.declared.alloc.Global.{Global}
 use Rattle.disk_model.specs.Orders.{names, stops}
@@ -104,7 +104,7 @@ begin_failed old new begins same = failed old new same begins.later (begins.fail
     (λ none. absurd (true≢false (begins.due ∙ ap (λ b. b || is_stopped old 0) (none.planned 0) ∙ none.stopped 0)))
 
 -- OutOfMemory makes a call fail
-pub want_failed : (old mid new : MemDisk) → Begins old mid false → SameRecord old mid → Wants mid new
+pub want_failed : (old mid new : MemDisk) → Begins old mid false → SameRecord old mid → RunsOut mid new
     → SameRecord mid new → Fails old new
 want_failed old mid new begins first wants next =
     let faults : (mem_medium new).faults ≡ raised (mem_medium old).faults =

@@ -79,6 +79,7 @@ module _ (image start : Image) (calls : List Call) where
     };
     opens = λ t earlier was. was;
     agrees = λ t earlier was. was;
+    apart = λ t earlier was. was;
     faults = le;
     written = le_refl _;
   }
@@ -157,6 +158,7 @@ module _ (image start : Image) (calls : List Call) where
     gave = gave_more call;
     opens = λ t earlier was. was;
     agrees = λ t earlier was. was;
+    apart = λ t earlier was. was;
     faults = more;
     written = le;
   }

@@ -77,6 +77,7 @@ recorded image start calls faults written = record {
   gave = GaveSince start calls;
   opens = λ t. Unit {0};
   agrees = λ t. Unit {0};
+  apart = λ t. Unit {0};
   faults = faults;
   written = written;
 }

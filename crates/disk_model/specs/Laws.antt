@@ -26,6 +26,7 @@ elapses_none law = record {
   gave = record { nothing_else = λ t i le past. inl past; keeps = λ t i le past. past; adds = law.gave_counts };
   opens = λ t le was. was;
   agrees = λ t le was. was;
+  apart = λ t le was. was;
   faults = le_refl _;
   written = le_refl _;
 }
@@ -61,6 +62,7 @@ elapses_on {a} {b} {c} first next = record {
   gave = grows_on first.later first.gave next.gave;
   opens = λ t le was. next.opens t (le_trans le first.later) (first.opens t le was);
   agrees = λ t le was. next.agrees t (le_trans le first.later) (first.agrees t le was);
+  apart = λ t le was. next.apart t (le_trans le first.later) (first.apart t le was);
   faults = le_trans first.faults next.faults;
   written = le_trans first.written next.written;
 }

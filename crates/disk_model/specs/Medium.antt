@@ -19,6 +19,8 @@ pub record Medium : Type 1 where
   pub opens : ℕ → Type 0
   -- and what goes on taking writes once it is opened: nothing there contradicts itself
   pub agrees : ℕ → Type 0
+  -- and what one fault of the device cannot take from two copies of a place, as far as there was room for that
+  pub apart : ℕ → Type 0
   -- how many calls have failed, up to the greatest u64
   pub faults : ℕ
   -- how many bytes were written
@@ -65,6 +67,7 @@ pub record Elapses (old new : Medium) : Type 0 where
   pub gave : Grows old.moment old.gave new.gave
   pub opens : (t : ℕ) → t ≤ old.moment → old.opens t → new.opens t
   pub agrees : (t : ℕ) → t ≤ old.moment → old.agrees t → new.agrees t
+  pub apart : (t : ℕ) → t ≤ old.moment → old.apart t → new.apart t
   pub faults : old.faults ≤ new.faults
   pub written : old.written ≤ new.written
 

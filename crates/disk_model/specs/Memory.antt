@@ -122,7 +122,7 @@ pub record Succeeds (old new : MemDisk) : Type 0 where
   pub orders : new.orders ≡ old.orders
 
 -- the rest of a call fails because memory ran out
-pub record Wants (old new : MemDisk) : Type 0 where
+pub record RunsOut (old new : MemDisk) : Type 0 where
   pub later : (mem_medium old).faults ≤ (mem_medium new).faults
   pub faults : (mem_medium new).faults ≡ raised (mem_medium old).faults
   pub starved : starved_count new ≡ raised (starved_count old)

@@ -14,6 +14,7 @@ silent_medium faults = record {
   opens =
       λ _. Unit {0};
   agrees = λ _. Unit {0};
+  apart = λ _. Unit {0};
   faults = faults;
   written = 0;
 }

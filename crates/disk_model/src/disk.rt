@@ -13,7 +13,7 @@ pub struct DiskFailed;
 /// A disk of files that are named by numbers. A file that was never written is empty.
 ///
 /// What is said of bytes holds where the disk models them, and so does what is said of crashes: a disk that models
-/// nothing names no case. Whether a disk tells is a constant of its type, so it never changes from call to call.
+/// nothing names no case. Whether a disk is modelled is a constant of its type, so it never changes from call to call.
 pub trait Disk {
     /// Whether the bytes of a disk of this type are modelled.
     ghost told: { Bool };

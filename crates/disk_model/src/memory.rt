@@ -19,7 +19,8 @@ use crate::orders::Orders;
 use std::alloc::{AllocError, Global};
 use std::collections::BTreeMap;
 
-/// A disk in memory. It tells all of its bytes, and keeps a record of its calls, so that it answers for every moment.
+/// A disk in memory. All of its bytes are modelled, and it keeps a record of its calls, so that it answers for every
+/// moment.
 #[derive(Drop)]
 pub struct MemDisk {
     alloc: Global,
@@ -39,7 +40,7 @@ impl MemDisk {
     ghost use Rattle.disk_model.specs.Orders.{named_in};
     ghost use Rattle.disk_model.specs.Memory.{mem_medium, starved_count, synced_image, torn_image, is_planned};
     ghost use Rattle.disk_model.specs.Memory.{is_stopped, IsFresh, IsUnchanged, KeepsCounts, Shows, SameRecord, Begins};
-    ghost use Rattle.disk_model.specs.Memory.{Succeeds, Wants, Passes, Fails};
+    ghost use Rattle.disk_model.specs.Memory.{Succeeds, RunsOut, Passes, Fails};
 
     /// A disk whose files are all empty.
     pub fn new(alloc: Global) -> MemDisk
@@ -200,7 +201,7 @@ impl MemDisk {
     // Counts a failed allocation.
     fn starve(&mut self) -> DiskFailed
         ensures record { SameRecord self.old self.new }
-        ensures wants { Wants self.old self.new }
+        ensures wants { RunsOut self.old self.new }
     {
         self.faults = self.faults.saturating_add(1);
         self.starved = self.starved.saturating_add(1);
@@ -213,7 +214,7 @@ impl MemDisk {
         ensures ok { OnOk result (Shows self.new (image_of self.old.files) (start_image self.old.files self.old.start)
             (self.old.calls.items ++ call ∷ []) self.old.written) }
         ensures err { OnErr result (SameRecord self.old self.new) }
-        ensures answer { MatchResult result (λ _. Succeeds self.old self.new) (λ _. Wants self.old self.new) }
+        ensures answer { MatchResult result (λ _. Succeeds self.old self.new) (λ _. RunsOut self.old self.new) }
     {
         match self.calls.push(call) {
             Ok(()) => Ok(()),

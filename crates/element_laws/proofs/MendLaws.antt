@@ -17,7 +17,7 @@ use Rattle.hash_guard.specs.SealedText.{VerifiesAs}
 use Rattle.guarded_cell.specs.Register.{Holds, own}
 use Rattle.guarded_cell.specs.lemmas.StopLaws.{alone_only}
 use Rattle.block_files.specs.Aside.{Where, AsideLaw}
-use Rattle.block_files.specs.Areas.{block, joined, within, IsFull, area_of}
+use Rattle.block_files.specs.Areas.{block, joined, has_all_bytes, IsFull, area_of}
 use Rattle.block_files.specs.lemmas.AsideLaws.{counting_same}
 use Rattle.block_files.specs.lemmas.Joined.{length-blocks}
 use Rattle.block_files.specs.Contents.{counting, AreCopies}
@@ -249,9 +249,10 @@ listed (x ∷ xs) b (suc i) lt e = listed xs b i (omega (arith, lt)) e
 
 still_there : AsideLaw → (e : IndexEntry) (place : Place) (copy : ℕ) (now : Image) (file : List ℕ) → copy < place.copies
     → e.len ≤ 256 * length e.blocks
-    → KeepsBlockBytes e.blocks (now (area place copy)) file → within (now (area place copy)) e.blocks e.len ≡ true
+    → KeepsBlockBytes e.blocks (now (area place copy)) file → has_all_bytes (now (area place copy)) e.blocks e.len
+    ≡ true
     → (counting file e.blocks e.len e.hash ≡ counting (now (area place copy)) e.blocks e.len e.hash)
-    × (within file e.blocks e.len ≡ true)
+    × (has_all_bytes file e.blocks e.len ≡ true)
 still_there aside e place copy now file lt enough keeps is =
     let f = area place copy in
     let then = swapped f file now in
@@ -290,7 +291,7 @@ still_there aside e place copy now file lt enough keeps is =
     (where_of e) (λ m ltm. Contains_named e.blocks (slice_index e.blocks m) (Contains-get_or e.blocks m 0 ltm)) enough f
     in
     subst (λ (xs : List ℕ). (counting xs e.blocks e.len e.hash ≡ counting (now f) e.blocks e.len e.hash)
-    × (within xs e.blocks e.len ≡ true)) (swapped_here f file now) (stands.whole is)
+    × (has_all_bytes xs e.blocks e.len ≡ true)) (swapped_here f file now) (stands.whole is)
 
 -- after whole writes, nothing counts that did not count
 still_same : AsideLaw → (e : IndexEntry) (place : Place) (copy : ℕ) (now : Image) (file w : List ℕ)
@@ -506,7 +507,7 @@ mend aside shape start now g t i after c positive adopted is_index mending twins
           (map-In where_of e i.entries h) in
           let absent = not_lacked shape start e v copy positive
           (λ b w ltb gives. adopted.clean.alike at b copy w v named ltb lt gives gave) was gave in
-          let now_is = subst (λ (file : List ℕ). (within file at.blocks at.len ≡ true)
+          let now_is = subst (λ (file : List ℕ). (has_all_bytes file at.blocks at.len ≡ true)
           × (counting file at.blocks at.len at.hash ≡ Some v)) (sym (area_was copy)) (was, gave) in
           let still = still_there aside e place copy now (c.left (area place copy)) lt (room i is_index e h)
           (all_in _ i.entries mending.left.kept e h copy lt (λ takes. absent takes.listed)) now_is.0 in

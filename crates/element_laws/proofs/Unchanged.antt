@@ -15,7 +15,7 @@ use Rattle.m_of_n.specs.Vote.{voted}
 use Rattle.guarded_cell.specs.Register.{Holds, IsAlone, IsBlank, own, other}
 use Rattle.guarded_cell.specs.Held.{held_in_first, of_parity, with_slot, is_slot_text}
 use Rattle.block_files.specs.Aside.{Where}
-use Rattle.block_files.specs.Areas.{within}
+use Rattle.block_files.specs.Areas.{has_all_bytes}
 use Rattle.block_files.specs.Contents.{counting, first_content, lacks, lacking}
 use Rattle.index_text.specs.declared.entries.Index.{Index}
 use Rattle.index_text.specs.declared.entries.IndexEntry.{IndexEntry}
@@ -143,10 +143,10 @@ module _ (shape : Shape) (old new : Image) (same : (f : ℕ) → IsOfPlace shape
       → lacking value place e.blocks e.len e.hash new ≡ lacking value place e.blocks e.len e.hash old
   lacking_same value e = ap (map suc) (filter_alike
       (λ c. lacks value (counting (new (area place c)) e.blocks e.len e.hash)
-      (within (new (area place c)) e.blocks e.len))
+      (has_all_bytes (new (area place c)) e.blocks e.len))
       (λ c. lacks value (counting (old (area place c)) e.blocks e.len e.hash)
-      (within (old (area place c)) e.blocks e.len)) 0 place.copies
-      (λ c lt. ap (λ file. lacks value (counting file e.blocks e.len e.hash) (within file e.blocks e.len))
+      (has_all_bytes (old (area place c)) e.blocks e.len)) 0 place.copies
+      (λ c lt. ap (λ file. lacks value (counting file e.blocks e.len e.hash) (has_all_bytes file e.blocks e.len))
       (area_same c (omega (arith, lt)))))
 
   abbrev seen : (e : IndexEntry) → List (Option (List ℕ)) → List ℕ → Entry

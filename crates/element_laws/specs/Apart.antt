@@ -22,7 +22,7 @@ pub record IsStorageUnchanged (shape : Shape) (old new : Image) : Type 0 where
   pub clean : IsClean shape old → IsClean shape new
   pub in_use : (index : Index) (v : View) → IsInUse shape old index v → IsInUse shape new index v
 
--- only the files of its place tell what it is
+-- what it is depends on the files of its place alone
 abbrev pub FrameLaw : Type 0
 FrameLaw = (shape : Shape) (old new : Image) → Spares (IsOfPlace shape.place) old new → IsStorageUnchanged shape old new
 

@@ -1,5 +1,4 @@
 pub mod Apart
 pub mod Phases
 pub mod Refused
-pub mod Weaker
 pub mod lemmas

@@ -16,7 +16,7 @@ use Rattle.block_files.specs.Writes.{IsNoneOf}
 use Rattle.disk_model.specs.Place.{area, IsNoSlot, IsNoArea}
 use Rattle.guarded_cell.specs.Register.{Holds, IsAlone, IsKeptAlone}
 use Rattle.guarded_cell.specs.Stops.{PutStops, KeepStops, HoldsLess, KeepsText}
-use Rattle.block_files.specs.Areas.{within, NamedFull}
+use Rattle.block_files.specs.Areas.{has_all_bytes, NamedFull}
 use Rattle.block_files.specs.Aside.{Where}
 use Rattle.index_text.specs.Reading.{index_of}
 use Rattle.index_text.specs.declared.entries.Index.{Index}
@@ -31,7 +31,7 @@ use Rattle.element_state.specs.Clean.{where_of, counting_at, IsNamed, IsPiece, I
 use Rattle.element_state.specs.Chosen.{chosen}
 use Rattle.element_state.specs.Conditions.{IsMended, IsInUse}
 use Rattle.index_text.specs.Spelling.{index_text}
-use Rattle.element_state.specs.Kept.{heading, Kept, IsKeptCase, IsKeptMending}
+use Rattle.element_state.specs.Kept.{Kept, IsKeptCase, IsKeptMending, IsHeaded}
 
 -- ---- what nobody touched
 
@@ -151,11 +151,7 @@ ContentsDoneLaw = (shape : Shape) (start now then : Image) (generation : ℕ) (t
 abbrev pub AllWhole : Shape → Image → IndexEntry → List ℕ → Type 0
 AllWhole shape image e value = (copy : ℕ) → copy < shape.place.copies
     → (counting_at image shape.place copy (where_of e) ≡ Some value)
-    × (within (image (area shape.place copy)) e.blocks e.len ≡ true)
-
--- the same name, info, length and number
-abbrev pub IsHeaded : IndexEntry → Entry → Type 0
-IsHeaded e f = (e.name, e.info, e.len, e.changed) ≡ heading f
+    × (has_all_bytes (image (area shape.place copy)) e.blocks e.len ≡ true)
 
 -- a content that was written, in every copy
 pub record IsContentWritten (shape : Shape) (now : Image) (e : IndexEntry) (f : Entry) : Type 0 where
@@ -208,23 +204,23 @@ TakenBlocksLaw = (place : Place) (image : Image) (text : List ℕ) (index : Inde
     → index_of text ≡ Some index → IsIndex index → TakesBlocks taken index → TakesNamed taken place image
 
 -- writing contents into blocks that no held index names
-abbrev pub AnewContentsLaw : Type 0
-AnewContentsLaw = (shape : Shape) (start now : Image) (taken : ℕ → Bool) (after : State) (old c : Case) → 1 ≤ shape.m
+abbrev pub RebuiltContentsLaw : Type 0
+RebuiltContentsLaw = (shape : Shape) (start now : Image) (taken : ℕ → Bool) (after : State) (old c : Case) → 1 ≤ shape.m
     → IsGivenUp shape start now → TakesNamed taken shape.place now
     → IsSettledAt now old → KeepsCase (IsNoArea shape.place) (λ k. taken k ≡ true) old c
     → IsKeptCase shape start after c
 
 -- and after they were made durable
-abbrev pub AnewDoneLaw : Type 0
-AnewDoneLaw = (shape : Shape) (start now then : Image) (taken : ℕ → Bool) (after : State) (c : Case) → 1 ≤ shape.m
+abbrev pub RebuiltDoneLaw : Type 0
+RebuiltDoneLaw = (shape : Shape) (start now then : Image) (taken : ℕ → Bool) (after : State) (c : Case) → 1 ≤ shape.m
     → IsGivenUp shape start now → TakesNamed taken shape.place now
     → Keeps (IsNoArea shape.place) (λ k. taken k ≡ true) now then → IsSettledAt then c
     → IsKeptCase shape start after c
 
 -- and then the index, under a generation above those that are held: where there is a salvage the next one, so that each
 -- copy that holds its text holds it until all have the new one
-abbrev pub AnewIndexLaw : Type 0
-AnewIndexLaw = (shape : Shape) (start now then : Image) (taken : ℕ → Bool) (generation : ℕ) (next : List ℕ)
+abbrev pub RebuiltIndexLaw : Type 0
+RebuiltIndexLaw = (shape : Shape) (start now then : Image) (taken : ℕ → Bool) (generation : ℕ) (next : List ℕ)
     (new_index : Index)
     (view : View) (others : List View) (c : Case) → 1 ≤ shape.m
     → IsGivenUp shape start now → TakesNamed taken shape.place now

@@ -46,8 +46,8 @@ IndexFirst = (shape : Shape) (g : ℕ) (was is : List ℕ) → shape.m ≤ shape
     (Opens (one (g + 1) (Good is)) []))
 
 -- and so while a corrupt storage is rebuilt
-abbrev pub IndexFirstAnew : Type 0
-IndexFirstAnew = (shape : Shape) (g : ℕ) (salvage : Option View) (is : List ℕ) → shape.m ≤ shape.place.copies
+abbrev pub IndexFirstRebuilt : Type 0
+IndexFirstRebuilt = (shape : Shape) (g : ℕ) (salvage : Option View) (is : List ℕ) → shape.m ≤ shape.place.copies
     → ¬ (Kept shape [] (Opens (one g (Bad None)) []) (Corrupt salvage []) (Opens (one g (Good is)) []))
 
 -- new contents in blocks of the index that stands: its element cannot be read

@@ -2,11 +2,11 @@
 
 ghost use Rattle.element_laws.specs.Phases.{OpenedLaw, CorruptLaw, DamageLaw, UntouchedLaw, AdoptLaw, KeepLaw};
 ghost use Rattle.element_laws.specs.Phases.{ContentsLaw, ContentsDoneLaw, IndexLaw, GivenUpLaw, TakenBlocksLaw};
-ghost use Rattle.element_laws.specs.Phases.{AnewContentsLaw, AnewDoneLaw, AnewIndexLaw, CleanLaw, AdoptedLaw, SoundLaw};
-ghost use Rattle.element_laws.specs.Phases.{SettledLaw, MendStartLaw, MendStepLaw, MendSyncLaw, MendLaw, InUseLaw};
-ghost use Rattle.element_laws.specs.Phases.{CarriedLaw, WholeLaw};
+ghost use Rattle.element_laws.specs.Phases.{RebuiltContentsLaw, RebuiltDoneLaw, RebuiltIndexLaw, CleanLaw, AdoptedLaw};
+ghost use Rattle.element_laws.specs.Phases.{SoundLaw, SettledLaw, MendStartLaw, MendStepLaw, MendSyncLaw, MendLaw};
+ghost use Rattle.element_laws.specs.Phases.{InUseLaw, CarriedLaw, WholeLaw};
 ghost use Rattle.element_laws.specs.Apart.{FrameLaw, OutsideLaw, ElsewhereLaw, ElsewhereCaseLaw};
-ghost use Rattle.element_laws.specs.Refused.{IndexFirst, IndexFirstAnew, OldOverwritten, OtherValue, Planted};
+ghost use Rattle.element_laws.specs.Refused.{IndexFirst, IndexFirstRebuilt, OldOverwritten, OtherValue, Planted};
 ghost use Rattle.element_laws.specs.Refused.{CopyEaten, OtherRaised, SalvageRaised, SalvageLost};
 
 use block_files::contents_stand_aside;
@@ -51,12 +51,12 @@ pub fn index_keeps()
 }
 
 /// A stop while a corrupt storage is rebuilt, after `adopting_keeps`, leaves it corrupt or with what it is given.
-pub fn making_anew_keeps()
+pub fn rebuilding_keeps()
     ensures given_up { GivenUpLaw }
     ensures taken { TakenBlocksLaw }
-    ensures contents { AnewContentsLaw }
-    ensures done { AnewDoneLaw }
-    ensures index { AnewIndexLaw }
+    ensures contents { RebuiltContentsLaw }
+    ensures done { RebuiltDoneLaw }
+    ensures index { RebuiltIndexLaw }
 {
     contents_stand_aside();
 }
@@ -98,7 +98,7 @@ pub fn use_is_adopted()
 /// salvage given up.
 pub fn outcomes_are_refused()
     ensures index_first { IndexFirst }
-    ensures index_first_anew { IndexFirstAnew }
+    ensures index_first_anew { IndexFirstRebuilt }
     ensures old_overwritten { OldOverwritten }
     ensures other_value { OtherValue }
     ensures planted { Planted }

@@ -4,7 +4,7 @@
 //! which a caller calls to cite it. They speak of one case of a crash: nobody touched the place
 //! ([`untouched_is_kept`]), its index is adopted or given up ([`adopting_keeps`]), contents are written
 //! ([`contents_keep`]) or mended in place ([`mending_keeps`]), and the next index is written ([`index_keeps`]), or a
-//! corrupt storage is rebuilt ([`making_anew_keeps`]). In each the storage is kept, from its state before to the one
+//! corrupt storage is rebuilt ([`rebuilding_keeps`]). In each the storage is kept, from its state before to the one
 //! after, in both scopes and with shared blocks: it stands as before or as after, no text or value comes up that was
 //! never synchronised, no copy is lost that was not damaged, and its place stays clean.
 //!
@@ -20,6 +20,6 @@
 mod laws;
 
 pub use laws::{
-    adopting_keeps, contents_keep, index_keeps, making_anew_keeps, mending_keeps,
-    outcomes_are_refused, places_are_clean, places_stand_apart, untouched_is_kept, use_is_adopted,
+    adopting_keeps, contents_keep, index_keeps, mending_keeps, outcomes_are_refused,
+    places_are_clean, places_stand_apart, rebuilding_keeps, untouched_is_kept, use_is_adopted,
 };

@@ -14,15 +14,15 @@ use Rattle.per_base.specs.Maps.{Map, element_at}
 use Rattle.per_base.specs.declared.elements.Change.{Change}
 use Rattle.per_base.specs.declared.elements.Change.TheVariants.{Remove}
 use Rattle.per_base.specs.Changes.{changed_name, change_at}
+use Rattle.per_base.specs.Contents.{HasLength, blocks_for, readable_bytes, same_content}
 use Rattle.index_text.specs.Rules.{has_info}
-use Rattle.block_files.specs.Parts.{blocks_for, changed_below, changed_blocks, is_changed}
+use Rattle.block_files.specs.Parts.{changed_below, changed_blocks, is_changed}
 use Rattle.element_state.specs.declared.shapes.Shape.{Shape}
 use Rattle.element_state.specs.declared.shapes.View.{View}
-use Rattle.element_state.specs.Changes.{item_at, entry_by_name, entry_name, same_content, same_element, same_info}
-use Rattle.element_state.specs.Chosen.{HasLength}
+use Rattle.element_state.specs.Changes.{item_at, entry_by_name, entry_name, same_element, same_info}
 use Rattle.element_state.specs.Read.{IsEntryOf}
 use Rattle.element_state.specs.Views.{judged_content}
-use Rattle.element_state.specs.Written.{bytes_of, whole_cost, cost_over, cost_beside, change_cost, commit_cost}
+use Rattle.element_state.specs.Written.{whole_cost, cost_over, cost_beside, change_cost, commit_cost}
 use Rattle.element_state.specs.Written.{element_cost, map_cost}
 use Rattle.element_maps.specs.Differences.{difference, replacement, touch, put, same_bytes, same_value}
 use Rattle.element_maps.specs.Laws.{IsUntested}
@@ -88,17 +88,17 @@ same_none kind old (Some b) has also none = absurd cc
 
 put_cost : (kind : StoreKind) (name : List ℕ) (new : Element) (es : List Entry) (e : Entry) → entry_by_name name es
     ≡ Some e
-    → change_cost kind es (put name new) ≡ cost_over kind e.content (bytes_of new.content)
-put_cost kind name new es e found = ap (λ o. cost_beside kind (content_of o) (bytes_of new.content)) found
+    → change_cost kind es (put name new) ≡ cost_over kind e.content (readable_bytes new.content)
+put_cost kind name new es e found = ap (λ o. cost_beside kind (content_of o) (readable_bytes new.content)) found
 
 put_alone : (kind : StoreKind) (name : List ℕ) (new : Element) (es : List Entry) → entry_by_name name es ≡ None
-    → change_cost kind es (put name new) ≡ whole_cost (bytes_of new.content)
-put_alone kind name new es found = ap (λ o. cost_beside kind (content_of o) (bytes_of new.content)) found
+    → change_cost kind es (put name new) ≡ whole_cost (readable_bytes new.content)
+put_alone kind name new es found = ap (λ o. cost_beside kind (content_of o) (readable_bytes new.content)) found
 
 -- what the cost rests on of an entry that is read
 record IsRead (kind : StoreKind) (e : Entry) : Type 0 where
   pub info : IsTrue (has_info kind e.info)
-  pub length : HasLength e.len e.content
+  pub length : HasLength e.content e.len
 
 -- the same bytes are the same content
 bytes_content : (old new : Content) (bytes : List ℕ) → new ≡ Good bytes → same_value old new ≡ true
@@ -118,9 +118,10 @@ replaced_cost : (kind : StoreKind) (test : List ℕ → Bool) (name : List ℕ) 
 replaced_cost kind test name es e new found read other differs =
     by (same_bytes (judged_element test e) new) refl (same_content (judged_content test e.content) new.content) refl
   where
-    put_le : change_cost kind es (put name new) ≤ cost_over kind (judged_content test e.content) (bytes_of new.content)
+    put_le : change_cost kind es (put name new) ≤ cost_over kind (judged_content test e.content)
+        (readable_bytes new.content)
     put_le = let cost = put_cost kind name new es e found in let le =
-        judged_le kind test e.content (bytes_of new.content) in omega arith
+        judged_le kind test e.content (readable_bytes new.content) in omega arith
 
     -- with the same content and no new info nothing differs
     info_there : same_bytes (judged_element test e) new ≡ true → new.info ≡ None → ⊥
@@ -139,7 +140,7 @@ replaced_cost kind test name es e new found read other differs =
         let is : judged_content test e.content ≡ Good other.bytes =
         content_is (judged_content test e.content) new.content same ∙ other.good in
         let good : e.content ≡ Good other.bytes = judged_good test e.content other.bytes is in
-        let long : length other.bytes ≡ e.len = subst (λ (c : Content). HasLength e.len c) good read.length in
+        let long : length other.bytes ≡ e.len = subst (λ (c : Content). HasLength c e.len) good read.length in
         let len : e.len ≡ new.len = sym long ∙ other.writable.length in
         with_both _ _ (subst (λ (n : ℕ). nat_eq e.len n ≡ true) len (number_itself e.len))
         (subst (λ (c : Content). same_value (judged_content test e.content) c ≡ true) (sym other.good)
@@ -153,10 +154,10 @@ replaced_cost kind test name es e new found read other differs =
     by : (b : Bool) → same_bytes (judged_element test e) new ≡ b → (a : Bool)
         → same_content (judged_content test e.content) new.content ≡ a
         → change_cost kind es (cond b (touch name new new.info) (put name new))
-        ≤ cond a 0 (cost_over kind (judged_content test e.content) (bytes_of new.content))
+        ≤ cond a 0 (cost_over kind (judged_content test e.content) (readable_bytes new.content))
     by true same true is = touched same new.info refl 0
     by true same false is = touched same new.info refl (cost_over kind (judged_content test e.content)
-        (bytes_of new.content))
+        (readable_bytes new.content))
     by false same true is = absurd (false_true (same_bytes (judged_element test e) new) same (bytes_same is))
     by false same false is = put_le
 
@@ -176,10 +177,10 @@ point_cost kind test name es (Some e) None found read held c is = let same : Rem
     cc in subst (λ (x : Change). change_cost kind es x ≤ 0) same (omega arith)
 point_cost kind test name es None (Some new) found read held c is =
     let same : put name new ≡ c = cc in
-    let cost : change_cost kind es (put name new) ≡ whole_cost (bytes_of new.content) =
+    let cost : change_cost kind es (put name new) ≡ whole_cost (readable_bytes new.content) =
     put_alone kind name new es found in
-    let le : change_cost kind es (put name new) ≤ whole_cost (bytes_of new.content) = omega arith in
-    subst (λ (x : Change). change_cost kind es x ≤ whole_cost (bytes_of new.content)) same le
+    let le : change_cost kind es (put name new) ≤ whole_cost (readable_bytes new.content) = omega arith in
+    subst (λ (x : Change). change_cost kind es x ≤ whole_cost (readable_bytes new.content)) same le
 point_cost kind test name es (Some e) (Some new) found read held c is =
     by (same_element (judged_element test e) new) refl is
   where
@@ -200,18 +201,19 @@ point_cost_back : (kind : StoreKind) (test : List ℕ → Bool) → IsUntested k
     → element_cost kind (option_map (judged_element test) old) new
     ≤ weight_of (change_cost kind es) (difference name (option_map (judged_element test) old) (Some new))
 point_cost_back kind test untested name es None new found held =
-    let cost : change_cost kind es (put name new) ≡ whole_cost (bytes_of new.content) =
+    let cost : change_cost kind es (put name new) ≡ whole_cost (readable_bytes new.content) =
     put_alone kind name new es found in omega arith
 point_cost_back kind test untested name es (Some e) new found held =
     by (same_element (judged_element test e) new) refl (same_content (judged_content test e.content) new.content) refl
   where
-    put_ge : cost_over kind (judged_content test e.content) (bytes_of new.content) ≤ change_cost kind es (put name new)
+    put_ge : cost_over kind (judged_content test e.content) (readable_bytes new.content)
+        ≤ change_cost kind es (put name new)
     put_ge = let cost = put_cost kind name new es e found in let ge =
-        judged_ge kind test untested e.content (bytes_of new.content) in omega arith
+        judged_ge kind test untested e.content (readable_bytes new.content) in omega arith
 
     replaced_ge : (other : IsOther kind new) → same_content (judged_content test e.content) new.content ≡ false
         → (b : Bool) → same_bytes (judged_element test e) new ≡ b
-        → cost_over kind (judged_content test e.content) (bytes_of new.content)
+        → cost_over kind (judged_content test e.content) (readable_bytes new.content)
         ≤ change_cost kind es (cond b (touch name new new.info) (put name new))
     replaced_ge other apart true same =
         let two = both (nat_eq e.len new.len) (same_value (judged_content test e.content) new.content) same in
@@ -221,7 +223,7 @@ point_cost_back kind test untested name es (Some e) new found held =
 
     by : (b : Bool) → same_element (judged_element test e) new ≡ b → (a : Bool)
         → same_content (judged_content test e.content) new.content ≡ a
-        → cond a 0 (cost_over kind (judged_content test e.content) (bytes_of new.content))
+        → cond a 0 (cost_over kind (judged_content test e.content) (readable_bytes new.content))
         ≤ weight_of (change_cost kind es) (cond b None (Some (replacement name (judged_element test e) new)))
     by true same true is = omega arith
     by false same true is = zero_le _

@@ -9,10 +9,11 @@ use Rattle.per_base.specs.declared.elements.FileInfo.{FileInfo}
 use Rattle.per_base.specs.declared.elements.Change.{Change}
 use Rattle.per_base.specs.declared.elements.Change.TheVariants.{Put, Remove, Touch}
 use Rattle.per_base.specs.Changes.{changed_name, change_at}
+use Rattle.per_base.specs.Names.{NamesAscend}
 use Rattle.element_state.specs.Changes.{entry_by_name, entry_name, touched, after_change, after_changes}
 use Rattle.element_state.specs.States.{fresh_entry, fresh_element}
 use Rattle.element_maps.specs.lemmas.Names.{same_names, eq_back}
-use Rattle.element_maps.specs.lemmas.InOrder.{NamesAscend, first, rest, item_named, item_above, item_put, item_without}
+use Rattle.element_maps.specs.lemmas.InOrder.{first, rest, item_named, item_above, item_put, item_without}
 use Rattle.element_maps.specs.lemmas.InOrder.{item_map, ascends_put, ascends_without, ascends_map}
 
 -- the entry of one name after a change of this name

@@ -13,12 +13,12 @@ use Rattle.per_base.specs.declared.elements.Entry.{Entry}
 use Rattle.per_base.specs.declared.elements.FileInfo.{FileInfo}
 use Rattle.per_base.specs.declared.elements.Change.{Change}
 use Rattle.per_base.specs.declared.elements.Change.TheVariants.{Remove}
+use Rattle.per_base.specs.Contents.{readable_bytes}
 use Rattle.index_text.specs.Rules.{has_info, max_len}
 use Rattle.element_state.specs.Changes.{same_element, is_same, kept_or_fresh, entry_by_name}
 use Rattle.element_state.specs.Conditions.{IsChange, IsGoodEntry}
 use Rattle.element_state.specs.States.{fresh_entry, fresh_element}
 use Rattle.element_state.specs.Views.{judged_content}
-use Rattle.element_state.specs.Written.{bytes_of}
 use Rattle.element_maps.specs.Differences.{difference, replacement, touch, put, same_bytes, same_value}
 use Rattle.element_maps.specs.Sessions.{IsHeldElement, IsWritable}
 use Rattle.element_maps.specs.lemmas.Names.{false_true}
@@ -76,13 +76,17 @@ is_other kind old new held differs = by new.content refl held
 
 -- what is put is the element
 pub put_is : (kind : StoreKind) (generation : ℕ) (name : List ℕ) (new : Element) → IsOther kind new
-    → fresh_entry generation (fresh_element (record { name = name; info = new.info; bytes = bytes_of new.content }))
+    → fresh_entry generation (fresh_element (record {
+      name = name;
+      info = new.info;
+      bytes = readable_bytes new.content;
+    }))
     ≡ fresh_entry generation (name, new)
 put_is kind generation name new other =
-    let bytes : bytes_of new.content ≡ other.bytes = ap bytes_of other.good in
-    let len : length (bytes_of new.content) ≡ new.len = ap length bytes ∙ other.writable.length in
-    let content : Good (bytes_of new.content) ≡ new.content = ap (λ b. Good b) bytes ∙ sym other.good in
-    ap (λ x. entry name new.info generation x (Good (bytes_of new.content))) len
+    let bytes : readable_bytes new.content ≡ other.bytes = ap readable_bytes other.good in
+    let len : length (readable_bytes new.content) ≡ new.len = ap length bytes ∙ other.writable.length in
+    let content : Good (readable_bytes new.content) ≡ new.content = ap (λ b. Good b) bytes ∙ sym other.good in
+    ap (λ x. entry name new.info generation x (Good (readable_bytes new.content))) len
     ∙ ap (λ x. entry name new.info generation new.len x) content
 
 -- ---- the entry
@@ -142,7 +146,7 @@ point kind test generation name (Some e) (Some new) named held = by (same_elemen
 put_taken : (kind : StoreKind) (name : List ℕ) (new : Element) (es : List Entry) → IsOther kind new
     → IsChange kind es (put name new)
 put_taken kind name new es other =
-    let bytes : bytes_of new.content ≡ other.bytes = ap bytes_of other.good in
+    let bytes : readable_bytes new.content ≡ other.bytes = ap readable_bytes other.good in
     let small : length other.bytes ≤ max_len kind = subst (λ (n : ℕ). n ≤ max_len kind) (sym other.writable.length)
     other.writable.small in
     record { info = other.writable.info; small = subst (λ (b : List ℕ). length b ≤ max_len kind) (sym bytes) small }

@@ -15,22 +15,22 @@ use Rattle.per_base.specs.declared.elements.Element.{Element}
 use Rattle.per_base.specs.declared.elements.Entry.{Entry}
 use Rattle.per_base.specs.Maps as maps
 use Rattle.per_base.specs.Maps.{Map, element_at}
-use Rattle.per_base.specs.Names.{IsName, name_cmp}
+use Rattle.per_base.specs.Names.{IsName, NamesAscend, name_cmp}
 use Rattle.per_base.specs.declared.elements.Change.{Change}
 use Rattle.per_base.specs.Changes.{changed_name, change_at}
+use Rattle.per_base.specs.Contents.{HasLength}
 use Rattle.element_state.specs.declared.shapes.Shape.{Shape}
 use Rattle.element_state.specs.declared.shapes.View.{View}
 use Rattle.element_state.specs.Changes.{item_at, entry_by_name, entry_name, is_same, kept_or_fresh, committed_entry}
 use Rattle.element_state.specs.Changes.{after_changes, committed_by, committed}
 use Rattle.element_state.specs.Conditions.{AreCommittable, IsChange, size_of}
-use Rattle.element_state.specs.Chosen.{HasLength}
 use Rattle.element_state.specs.Read.{IsEntryOf, IsView}
 use Rattle.element_state.specs.States.{fresh_entry, whole_view, lacking_by, greatest_generation}
 use Rattle.element_state.specs.Views.{element_of, judged_entry, judged_content, lacks_one, map_of}
 use Rattle.element_maps.specs.Differences.{difference}
 use Rattle.element_maps.specs.Sessions.{IsHeldElement, IsNext, IsSync, PassesTest, synchronised}
 use Rattle.element_maps.specs.lemmas.Names.{eq_back, same_names}
-use Rattle.element_maps.specs.lemmas.InOrder.{NamesAscend, item_each, item_named, item_first, each_item, item_map}
+use Rattle.element_maps.specs.lemmas.InOrder.{item_each, item_named, item_first, each_item, item_map}
 use Rattle.element_maps.specs.lemmas.InOrder.{ascends_map, same_lists, names_apart}
 use Rattle.element_maps.specs.lemmas.Same.{element, is_same_is}
 use Rattle.element_maps.proofs.Entries.{ascends_after, after_all, entry_after}
@@ -143,7 +143,7 @@ read_held shape test x e read is = subst (λ (y : Element). IsHeldElement shape.
         → IsHeldElement shape.kind (Some (judged_element test x)) (judged_element test x) content
     by (Good bytes) good = record {
       info = read.info;
-      length = subst (λ (c : Content). HasLength x.len c) (judged_good test x.content bytes good) read.content;
+      length = subst (λ (c : Content). HasLength c x.len) (judged_good test x.content bytes good) read.content;
       small = read.len;
     }
     by (Bad salvage) bad = refl
@@ -252,7 +252,7 @@ module _ (shape : Shape) (test : List ℕ → Bool) (v : View) (synced new : Map
         name = name;
         info = other.writable.info;
         len = other.writable.small;
-        content = subst (λ (c : Content). HasLength e.1.len c) (sym other.good) other.writable.length;
+        content = subst (λ (c : Content). HasLength c e.1.len) (sym other.good) other.writable.length;
         lacking = (no_numbers shape.place.copies).copies_are;
         ascend = (no_numbers shape.place.copies).ascend;
       }

@@ -9,10 +9,10 @@ use Rattle.per_base.specs.declared.elements.FileInfo.{FileInfo}
 use Rattle.per_base.specs.Maps.{Map, element_at}
 use Rattle.per_base.specs.Names.{name_cmp}
 use Rattle.per_base.specs.declared.elements.Change.{Change}
-use Rattle.per_base.specs.declared.elements.Change.TheVariants.{Put, Remove, Touch}
-use Rattle.per_base.specs.Changes.{changed_name, change_at}
+use Rattle.per_base.specs.declared.elements.Change.TheVariants.{Put, Touch}
+use Rattle.per_base.specs.Changes.{changed_name, change_at, removal}
+use Rattle.per_base.specs.Contents.{readable_bytes}
 use Rattle.element_state.specs.Changes.{same_element}
-use Rattle.element_state.specs.Written.{bytes_of}
 
 -- both can be read, and have the same bytes
 abbrev pub same_value : Content → Content → Bool
@@ -25,7 +25,7 @@ same_bytes old new = nat_eq old.len new.len && same_value old.content new.conten
 
 -- all of an element
 abbrev pub put : List ℕ → Element → Change
-put name new = Put (record { name = name; info = new.info; bytes = bytes_of new.content })
+put name new = Put (record { name = name; info = new.info; bytes = readable_bytes new.content })
 
 -- its info, where it has one
 abbrev pub touch : List ℕ → Element → Option FileInfo → Change
@@ -35,10 +35,6 @@ touch name new (Some info) = Touch name info
 -- for one that stands and differs: the info where the bytes are the same
 abbrev pub replacement : List ℕ → Element → Element → Change
 replacement name old new = cond (same_bytes old new) (touch name new new.info) (put name new)
-
-abbrev pub removal : List ℕ → Option Element → Option Change
-removal name None = None
-removal name (Some old) = Some (Remove name)
 
 abbrev pub arrival : List ℕ → Option Element → Element → Option Change
 arrival name None new = Some (put name new)

@@ -81,7 +81,7 @@ pub picked_first : {A : Type 0} (test : A → Bool) (xs : List A) → first_opti
 picked_first test [] = refl
 picked_first test (x ∷ xs) = picked_step (test x) x xs (first_picked test xs) (find test xs) (picked_first test xs)
 
--- ---- what is so of all texts is so of those that fit
+-- ---- what holds of all texts is so of those that fit
 
 pub all_rec : {A : Type 0} (P : A → Type 0) (xs : List A) → All P xs → AllByRecursion P xs
 all_rec P [] all = tt

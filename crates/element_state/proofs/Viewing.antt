@@ -11,7 +11,7 @@ use Rattle.disk_model.specs.Place.{area}
 use Rattle.disk_model.specs.Orders.{named_in}
 use Rattle.m_of_n.specs.Vote.{voted}
 use Rattle.guarded_cell.specs.declared.looking.Seen.{Seen}
-use Rattle.block_files.specs.Areas.{within}
+use Rattle.block_files.specs.Areas.{has_all_bytes}
 use Rattle.block_files.specs.Contents.{counting, lacks, lacking}
 use Rattle.index_text.specs.declared.entries.Index.{Index}
 use Rattle.index_text.specs.declared.entries.IndexEntry.{IndexEntry}
@@ -66,13 +66,13 @@ vouched image place m e copy lt absent = step (counts image place e copy) refl
   where
     test : ℕ → Bool
     test c = lacks (voted m (given image place e)) (counting (image (area place c)) e.blocks e.len e.hash)
-        (within (image (area place c)) e.blocks e.len)
+        (has_all_bytes (image (area place c)) e.blocks e.len)
 
     step : (b : Bool) → counts image place e copy ≡ b → counts image place e copy ≡ true
     step true is = is
     step false is =
         let named = named_filtered test place.copies 0 copy (omega arith) (omega (arith, lt))
-        (lacks_missing (voted m (given image place e)) _ (within (image (area place copy)) e.blocks e.len) is) in
+        (lacks_missing (voted m (given image place e)) _ (has_all_bytes (image (area place copy)) e.blocks e.len) is) in
         let both : true ≡ false = sym named ∙ absent in cc
 
 pub all_vouched : (image : Image) (place : Place) (m : ℕ) (es : List IndexEntry)

@@ -5,14 +5,13 @@ use Rattle.std.specs.List.{fold}
 use Rattle.std.specs.Str.{bytes_eq}
 use Rattle.std.specs.Ordering.{is_lt}
 use Rattle.per_base.specs.declared.elements.FileInfo.{FileInfo}
-use Rattle.per_base.specs.declared.elements.Content.{Content}
-use Rattle.per_base.specs.declared.elements.Content.TheVariants.{Good, Bad}
 use Rattle.per_base.specs.declared.elements.Entry.{Entry}
 use Rattle.per_base.specs.declared.elements.Element.{Element}
 use Rattle.per_base.specs.Names.{name_cmp}
 use Rattle.per_base.specs.Maps.{Map, element_at}
 use Rattle.per_base.specs.declared.elements.Change.{Change}
 use Rattle.per_base.specs.declared.elements.Change.TheVariants.{Put, Remove, Touch}
+use Rattle.per_base.specs.Contents.{same_content}
 use Rattle.index_text.specs.Spelling.{cause_code}
 use Rattle.element_state.specs.declared.shapes.Shape.{Shape}
 use Rattle.element_state.specs.declared.shapes.View.{View}
@@ -66,15 +65,6 @@ same_info (Some a) (Some b) = nat_eq a.created b.created && nat_eq a.modified b.
     && nat_eq (cause_code a.modification) (cause_code b.modification)
 same_info None (Some b) = false
 same_info (Some a) None = false
-
-abbrev pub same_content : Content → Content → Bool
-same_content (Good a) (Good b) = bytes_eq a b
-same_content (Bad None) (Bad None) = true
-same_content (Bad (Some a)) (Bad (Some b)) = bytes_eq a b
-same_content (Bad None) (Bad (Some b)) = false
-same_content (Bad (Some a)) (Bad None) = false
-same_content (Good a) (Bad b) = false
-same_content (Bad a) (Good b) = false
 
 abbrev pub same_element : Element → Element → Bool
 same_element a b = same_info a.info b.info && nat_eq a.len b.len && same_content a.content b.content

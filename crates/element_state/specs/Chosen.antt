@@ -2,9 +2,8 @@
 use Rattle.std.specs.Prelude.{◌≡◌, ◌<◌, ◌+◌, ◌&&◌, ℕ, List, [], ◌∷◌, length, Bool, true, false, Option, Some, None}
 use Rattle.std.specs.Prelude.{find}
 use Rattle.std.specs.List.{list_all}
-use Rattle.per_base.specs.declared.elements.Content.{Content}
-use Rattle.per_base.specs.declared.elements.Content.TheVariants.{Good, Bad}
 use Rattle.per_base.specs.declared.elements.Entry.{Entry}
+use Rattle.per_base.specs.Contents.{HasLength, blocks_for}
 use Rattle.disk_model.specs.declared.place.Place.{Place}
 use Rattle.disk_model.specs.Image.{Image}
 use Rattle.disk_model.specs.Orders.{named_in}
@@ -13,7 +12,7 @@ use Rattle.block_files.specs.BlockSets.{Ascend}
 use Rattle.block_files.specs.Contents.{AreCopies}
 use Rattle.index_text.specs.declared.entries.Index.{Index}
 use Rattle.index_text.specs.declared.entries.IndexEntry.{IndexEntry}
-use Rattle.index_text.specs.Rules.{IsIndex, EntriesInRange, block_count}
+use Rattle.index_text.specs.Rules.{IsIndex, EntriesInRange}
 use Rattle.index_text.specs.Sizes.{Fits}
 use Rattle.index_text.specs.Spelling.{index_text}
 use Rattle.element_state.specs.declared.shapes.Shape.{Shape}
@@ -40,13 +39,7 @@ abbrev pub opened_of : State → Option View
 opened_of (Opens v others) = Some v
 opened_of (Corrupt salvage others) = None
 
--- ---- what is so of all that is read, whatever the disk tells
-
--- a value is as long as its entry says, and so is a salvage
-abbrev pub HasLength : ℕ → Content → Type 0
-HasLength len (Good value) = length value ≡ len
-HasLength len (Bad None) = Unit {0}
-HasLength len (Bad (Some salvage)) = length salvage ≡ len
+-- ---- what holds of all that is read, whether or not the disk is modelled
 
 -- an element that was read by an entry of an index
 pub record IsReadBy (copies : ℕ) (e : IndexEntry) (f : Entry) : Type 0 where
@@ -54,7 +47,7 @@ pub record IsReadBy (copies : ℕ) (e : IndexEntry) (f : Entry) : Type 0 where
   pub info : f.info ≡ e.info
   pub changed : f.changed ≡ e.changed
   pub len : f.len ≡ e.len
-  pub value : HasLength e.len f.content
+  pub value : HasLength f.content e.len
   pub lacking : AreCopies copies f.lacking
   pub ascend : Ascend f.lacking
 
@@ -73,9 +66,9 @@ pub record IsFit (shape : Shape) (text : FitText) : Type 0 where
 
 -- an entry has a block for each 256 bytes of its content
 abbrev pub HasBlocks : IndexEntry → Type 0
-HasBlocks e = length e.blocks ≡ block_count e.len
+HasBlocks e = length e.blocks ≡ blocks_for e.len
 
--- ---- what is so where the disk's bytes are modelled
+-- ---- what holds where the disk's bytes are modelled
 
 -- the content of an entry counts in each copy that does not lack the element
 abbrev pub Vouches : Image → Place → IndexEntry → Entry → Type 0

@@ -11,6 +11,7 @@ use Rattle.disk_model.specs.Case.{Case}
 use Rattle.disk_model.specs.Damage.{DecaysFor, IsSoundFor, IsUndamaged, AtLeast}
 use Rattle.disk_model.specs.Medium.{Medium, Quiet, EachCase}
 use Rattle.guarded_cell.specs.Register.{Holds}
+use Rattle.index_text.specs.declared.entries.IndexEntry.{IndexEntry}
 use Rattle.element_state.specs.declared.shapes.Shape.{Shape}
 use Rattle.element_state.specs.declared.shapes.View.{View}
 use Rattle.element_state.specs.States.{State, Opens, Corrupt, store_at, salvage_of, others_of}
@@ -24,6 +25,10 @@ use Rattle.element_state.specs.Chosen.{chosen}
 -- all that is known of an element but its content: name, info, length and number of the last change
 abbrev pub heading : Entry → List ℕ × Option FileInfo × ℕ × ℕ
 heading e = (e.name, e.info, e.len, e.changed)
+
+-- the same name, info, length and number
+abbrev pub IsHeaded : IndexEntry → Entry → Type 0
+IsHeaded e f = (e.name, e.info, e.len, e.changed) ≡ heading f
 
 -- the same generation, and elements of the same headings
 pub record SameHeadings (v w : View) : Type 0 where

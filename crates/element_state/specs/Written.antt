@@ -1,5 +1,5 @@
 -- How many bytes a commit may write.
-use Rattle.std.specs.Prelude.{◌≤◌, ℕ, ◌+◌, ◌*◌, List, [], length, cond, Option, Some, None, sum_by}
+use Rattle.std.specs.Prelude.{◌≤◌, ℕ, ◌+◌, ◌*◌, List, length, cond, Option, Some, None, sum_by}
 use Rattle.per_base.specs.declared.elements.StoreKind.{StoreKind}
 use Rattle.per_base.specs.declared.elements.StoreKind.TheVariants.{Keys, Files}
 use Rattle.per_base.specs.declared.elements.Content.{Content}
@@ -9,8 +9,9 @@ use Rattle.per_base.specs.declared.elements.Element.{Element}
 use Rattle.per_base.specs.Maps.{Map, element_at}
 use Rattle.per_base.specs.declared.elements.Change.{Change}
 use Rattle.per_base.specs.declared.elements.Change.TheVariants.{Put, Remove, Touch}
-use Rattle.block_files.specs.Parts.{blocks_for, changed_blocks}
-use Rattle.element_state.specs.Changes.{entry_by_name, same_content}
+use Rattle.per_base.specs.Contents.{readable_bytes, blocks_for, same_content}
+use Rattle.block_files.specs.Parts.{changed_blocks}
+use Rattle.element_state.specs.Changes.{entry_by_name}
 
 -- whole blocks for a content
 abbrev pub whole_cost : List ℕ → ℕ
@@ -40,14 +41,10 @@ commit_cost kind entries changes = sum_by (change_cost kind entries) changes
 
 -- ---- the same between two maps of contents
 
-abbrev pub bytes_of : Content → List ℕ
-bytes_of (Good value) = value
-bytes_of (Bad salvage) = []
-
 abbrev pub element_cost : StoreKind → Option Element → Element → ℕ
-element_cost kind None new = whole_cost (bytes_of new.content)
+element_cost kind None new = whole_cost (readable_bytes new.content)
 element_cost kind (Some old) new = cond (same_content old.content new.content) 0
-    (cost_over kind old.content (bytes_of new.content))
+    (cost_over kind old.content (readable_bytes new.content))
 
 -- the elements whose content is new or differs
 unfoldable pub map_cost : StoreKind → (synced new : Map) → ℕ

@@ -8,7 +8,7 @@ use Rattle.std.specs.Ordering.{is_lt}
 use Rattle.std.specs.List.Sorted.{IsStrictlySortedBy}
 use Rattle.std.proofs.lemmas.Bool.{cases_Bool}
 use Rattle.std.proofs.lemmas.Slice.Eq.{bytes_eq-Decides}
-use Rattle.per_base.specs.Names.{name_cmp}
+use Rattle.per_base.specs.Names.{name_cmp, NamesAscend}
 use Rattle.per_base.specs.declared.elements.StoreKind.{StoreKind}
 use Rattle.per_base.specs.declared.elements.StoreKind.TheVariants.{Files}
 use Rattle.per_base.specs.declared.elements.FileInfo.{FileInfo}
@@ -18,10 +18,10 @@ use Rattle.index_text.specs.declared.entries.IndexEntry.{IndexEntry}
 use Rattle.index_text.specs.Rules.{IsEntry, has_info}
 use Rattle.element_state.specs.Changes.{insert_item, without_item, entry_by_name, entry_name, touched}
 use Rattle.element_state.specs.Conditions.{IsGoodEntry}
+use Rattle.element_state.specs.Kept.{IsHeaded}
 use Rattle.element_store.specs.declared.jobs.Job.{Job}
 use Rattle.element_store.specs.Plans.{HasAll, AreDisjoint, AreLaidApart}
-use Rattle.element_store.specs.Named.{NamesAscend}
-use Rattle.element_store.specs.Commits.{AreBeside, IsHeadedBy, IsCarriedFrom, IsWrittenBy}
+use Rattle.element_store.specs.Commits.{AreBeside, IsCarriedFrom, IsWrittenBy}
 use Rattle.element_store.specs.Changing.{named_by, IsSeenAs, AreStandingEntries, IsOwn, IsSoundEntry, IsPlanned}
 use Rattle.element_store.specs.Changing.{touched_entry}
 use Rattle.element_store.proofs.InOrder.{each_insert, each_without, ascends_without, zip_without, zip_names, found_here}
@@ -98,7 +98,7 @@ pub laid_each : (es : List IndexEntry) → AreLaidApart es → AllByRecursion (�
 laid_each [] laid = tt
 laid_each (e ∷ es) laid = (laid.0, laid_each es laid.2)
 
-name_in : (e : IndexEntry) (f : Entry) → IsHeadedBy e f → e.name ≡ f.name
+name_in : (e : IndexEntry) (f : Entry) → IsHeaded e f → e.name ≡ f.name
 name_in e f headed = ap (λ (h : List ℕ × Option FileInfo × ℕ × ℕ). h.0) headed
 
 pub seen_names : (e : IndexEntry) (f : Entry) → IsSeenAs e f → named_by e ≡ entry_name f

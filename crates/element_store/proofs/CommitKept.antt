@@ -29,22 +29,22 @@ use Rattle.index_text.specs.declared.entries.IndexEntry.{IndexEntry}
 use Rattle.index_text.specs.Rules.{IsIndex, IsEntry}
 use Rattle.index_text.specs.Sizes.{area_blocks, entry_length}
 use Rattle.index_text.specs.lemmas.Lengths.{length-index_text}
-use Rattle.block_files.specs.Parts.{blocks_for}
 use Rattle.std.specs.Prelude.{sum_by, Option}
 use Rattle.std.proofs.lemmas.List.Sums.{sum_by-cons}
 use Rattle.per_base.specs.declared.elements.StoreKind.{StoreKind}
 use Rattle.per_base.specs.declared.elements.FileInfo.{FileInfo}
 use Rattle.per_base.specs.declared.elements.Change.{Change}
+use Rattle.per_base.specs.Contents.{blocks_for, HasLength}
 use Rattle.index_text.specs.Spelling.{index_text}
 use Rattle.element_state.specs.declared.shapes.Shape.{Shape}
 use Rattle.element_state.specs.declared.shapes.View.{View}
 use Rattle.element_state.specs.Fit.{fit_index}
 use Rattle.element_state.specs.States.{State, Opens, store_at, whole_view}
 use Rattle.element_state.specs.Changes.{after_changes, committed_by}
-use Rattle.element_state.specs.Chosen.{HasLength, IsReadBy}
+use Rattle.element_state.specs.Chosen.{IsReadBy}
 use Rattle.element_state.specs.Clean.{IsClean}
 use Rattle.element_state.specs.Conditions.{IsShape, IsInUse}
-use Rattle.element_state.specs.Kept.{IsKeptCase, KeptThroughout}
+use Rattle.element_state.specs.Kept.{IsHeaded, IsKeptCase, KeptThroughout}
 use Rattle.element_state.specs.Written.{commit_cost, IsWithin}
 use Rattle.element_laws.specs.Phases.{IsOfPlace, UntouchedLaw, IsAdopted, ContentsLaw, ContentsDoneLaw, IndexLaw}
 use Rattle.element_laws.specs.Phases.{InUseLaw, CarriedLaw, IsContentWritten, IsCarried}
@@ -54,7 +54,7 @@ use Rattle.element_store.specs.declared.store.Store.{Store}
 use Rattle.element_store.specs.Jobs.{IsJobWritten, HasShared, IsLeftByAll, IsJobsCase, jobs_cost}
 use Rattle.element_store.specs.Plans.{HasAll, ArePlacedJobs}
 use Rattle.element_store.specs.Stores.{IsUsed, view_in, store_generation}
-use Rattle.element_store.specs.Commits.{IsHeadedBy, IsWrittenBy, IsCarriedOver, IsCommitPlan}
+use Rattle.element_store.specs.Commits.{IsWrittenBy, IsCarriedOver, IsCommitPlan}
 use Rattle.element_store.specs.Committing.{listed_length, index_length}
 use Rattle.element_store.proofs.PlanSteps.{left_of_placed, jobs_to_contents}
 use Rattle.element_store.proofs.Around.{contents_around}
@@ -330,7 +330,7 @@ module _ (told : Bool) (store : Store) (changes : List Change) (now : List Bool)
         texts_same store.shape.place (own g) (sealed g (index_text next)) old.image mid.image (omega arith) spares n in
         omega (arith, first_cost, few, split, here, same)
 
-  headed_read : (e : IndexEntry) (f : Entry) → IsHeadedBy e f → HasLength e.len f.content
+  headed_read : (e : IndexEntry) (f : Entry) → IsHeaded e f → HasLength f.content e.len
       → AreCopies store.shape.place.copies f.lacking → Ascend f.lacking
       → IsReadBy store.shape.place.copies e f
   headed_read e f headed value copies ascend = record {
@@ -343,14 +343,14 @@ module _ (told : Bool) (store : Store) (changes : List Change) (now : List Bool)
     ascend = ascend;
   }
 
-  none_read : (e : IndexEntry) (f : Entry) → IsHeadedBy e f → HasLength e.len f.content → f.lacking ≡ []
+  none_read : (e : IndexEntry) (f : Entry) → IsHeaded e f → HasLength f.content e.len → f.lacking ≡ []
       → IsReadBy store.shape.place.copies e f
   none_read e f headed value none = headed_read e f headed value
       (subst (λ (xs : List ℕ). AreCopies store.shape.place.copies xs) (sym none) (λ i lt. absurd (omega (arith, lt))))
       (subst Ascend (sym none) (λ i j less lt. absurd (omega (arith, lt))))
 
   written_read : (e : IndexEntry) (f : Entry) → IsWrittenBy jobs e f → IsReadBy store.shape.place.copies e f
-  written_read e f w = none_read e f w.headed (subst (λ (x : Content). HasLength e.len x) (sym w.content) (sym w.len))
+  written_read e f w = none_read e f w.headed (subst (λ (x : Content). HasLength x e.len) (sym w.content) (sym w.len))
       w.lacking
 
   read_at : (es : List IndexEntry) (fs : List Entry) (k : ℕ) (e : IndexEntry) (f : Entry)
@@ -369,9 +369,9 @@ module _ (told : Bool) (store : Store) (changes : List Change) (now : List Bool)
   carried_read e f c =
       let read = read_at store.index.entries store.entries.items c.beside.at c.was c.seen used.memory.entries
       c.beside.inside c.beside.within c.beside.one c.beside.two in
-      let value : HasLength e.len f.content =
-      subst (λ (n : ℕ). HasLength n f.content) (sym (ap (λ (at : Where). at.len) c.place))
-      (subst (λ (x : Content). HasLength c.was.len x) (sym c.content) read.value) in
+      let value : HasLength f.content e.len =
+      subst (λ (n : ℕ). HasLength f.content n) (sym (ap (λ (at : Where). at.len) c.place))
+      (subst (λ (x : Content). HasLength x c.was.len) (sym c.content) read.value) in
       ⊎_elim
       (λ same. headed_read e f c.headed value
       (subst (λ (xs : List ℕ). AreCopies store.shape.place.copies xs) (sym same) read.lacking)
@@ -389,7 +389,7 @@ module _ (told : Bool) (store : Store) (changes : List Change) (now : List Bool)
 
   -- ---- and how long the text of its index is
 
-  listed : (kind : StoreKind) (e : IndexEntry) (f : Entry) → IsEntry 2 kind e → IsHeadedBy e f
+  listed : (kind : StoreKind) (e : IndexEntry) (f : Entry) → IsEntry 2 kind e → IsHeaded e f
       → entry_length 2 kind e ≡ listed_length kind f
   listed kind e f rules headed =
       let name = ap (λ (h : List ℕ × Option FileInfo × ℕ × ℕ). length h.0) headed in
@@ -403,7 +403,7 @@ module _ (told : Bool) (store : Store) (changes : List Change) (now : List Bool)
   all_listed kind [] (f ∷ fs) each pairs = absurd pairs
   all_listed kind (e ∷ es) [] each pairs = absurd pairs
   all_listed kind (e ∷ es) (f ∷ fs) each pairs =
-      let headed : IsHeadedBy e f = ⊎_elim (λ written. written.headed) (λ carried. carried.headed) pairs.0 in
+      let headed : IsHeaded e f = ⊎_elim (λ written. written.headed) (λ carried. carried.headed) pairs.0 in
       sum_by-cons (entry_length 2 kind) e es ∙ ap (λ (n : ℕ). n + sum_by (entry_length 2 kind) es)
       (listed kind e f each.0 headed)
       ∙ ap (λ (n : ℕ). listed_length kind f + n) (all_listed kind es fs each.1 pairs.1)

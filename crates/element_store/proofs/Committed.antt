@@ -24,7 +24,7 @@ use Rattle.guarded_cell.specs.lemmas.CopyLaws.{enough_pass, passing_enough}
 use Rattle.guarded_cell.specs.lemmas.StopLaws.{at_least_map}
 use Rattle.block_files.specs.Parts.{is_changed}
 use Rattle.block_files.specs.BlockSets.{contains}
-use Rattle.block_files.specs.Areas.{block, joined, within, IsFull, AllFull, HoldsPart, HoldsShared}
+use Rattle.block_files.specs.Areas.{block, joined, has_all_bytes, IsFull, AllFull, HoldsPart, HoldsShared}
 use Rattle.block_files.specs.Aside.{Where}
 use Rattle.block_files.specs.Contents.{counting, contents, first_content, lacks, lacking}
 use Rattle.block_files.specs.lemmas.AsideLaws.{joined_kept, within_grown, counting_same}
@@ -45,7 +45,8 @@ use Rattle.element_state.specs.Views.{qualifies}
 use Rattle.element_state.specs.States.{Opens, whole_view}
 use Rattle.element_state.specs.Clean.{where_of, counting_at, IsClean}
 use Rattle.element_state.specs.Conditions.{IsShape, IsMended, IsInUse, IsGoodEntry}
-use Rattle.element_laws.specs.Phases.{IsHeaded, AreAgreed}
+use Rattle.element_state.specs.Kept.{IsHeaded}
+use Rattle.element_laws.specs.Phases.{AreAgreed}
 use Rattle.element_laws.specs.lemmas.Lists.{In, Contains-In, map-In, all_in, all_by, zip_with, zip_find, some_is}
 use Rattle.element_laws.specs.lemmas.Lists.{not_none}
 use Rattle.element_laws.specs.lemmas.Lists.{both_true, In-list_all, list_all-In}
@@ -82,12 +83,12 @@ joined_of file blocks len hash bytes counts = elim (bytes_eq (sha256 (joined fil
 
 counted_full : (file blocks : List ℕ) (len : ℕ) (hash bytes : List ℕ) → len ≤ 256 * length blocks
     → counting file blocks len hash ≡ Some bytes
-    → within file blocks len ≡ true → IsFull file blocks bytes
+    → has_all_bytes file blocks len ≡ true → IsFull file blocks bytes
 counted_full file blocks len hash bytes enough counts inside =
     let e = joined_of file blocks len hash bytes counts in
     let long : length bytes ≡ len = ap length (sym e) ∙ length-take-le len (flat_map (block file) blocks)
     (omega (arith, length-blocks file blocks, enough)) in
-    record { bytes_are = ap (joined file blocks) long ∙ e; inside = ap (within file blocks) long ∙ inside }
+    record { bytes_are = ap (joined file blocks) long ∙ e; inside = ap (has_all_bytes file blocks) long ∙ inside }
 
 -- the blocks of the set read as before
 module _ (place : Place) (set : List Bool) (old mid : Image)
@@ -101,9 +102,9 @@ module _ (place : Place) (set : List Bool) (old mid : Image)
       (mended : IsMended (entry_view old place m e).content (entry_view old place m e).lacking) where
     lacks_alike : (v : Option (List ℕ)) (c : ℕ) → c < place.copies → v ≡ voted m (given old place e)
         → lacks v (counting (old (area place c)) e.blocks e.len e.hash)
-        (within (mid (area place c)) e.blocks e.len)
+        (has_all_bytes (mid (area place c)) e.blocks e.len)
         ≡ lacks v (counting (old (area place c)) e.blocks e.len e.hash)
-        (within (old (area place c)) e.blocks e.len)
+        (has_all_bytes (old (area place c)) e.blocks e.len)
     lacks_alike None c lt is = refl
     lacks_alike (Some value) c lt is =
         let good = content_good old place m e value is in

@@ -24,6 +24,8 @@ use Rattle.element_state.specs.Clean.{IsClean}
 use Rattle.element_state.specs.Fit.{fit_index}
 use Rattle.element_state.specs.Conditions.{IsShape, IsInUse}
 use Rattle.element_store.specs.declared.store.Store.{Store}
+use Rattle.element_store.specs.declared.hashing.KeptStates.{KeptStates}
+use Rattle.element_store.proofs.Keeping.{none_kept_of}
 use Rattle.element_store.specs.Plans.{IsWrittenEntry}
 use Rattle.element_store.specs.Spelled.{ShowsFresh, IsTextOf}
 use Rattle.element_store.specs.Stores.{AreTaken, IsUsed, view_in}
@@ -77,7 +79,8 @@ module _ (told : Bool) (mid image : Image) (shape : Shape) (generation : ℕ) (c
   module _ (alloc : Global) (entries : Vec Entry Global) (set : List Bool)
       (taken : AreTaken (area_blocks shape.allowed) index.entries set)
       (made : AllZip (IsWrittenEntry generation) contents index.entries)
-      (filled : entries.items ≡ map (fresh_entry generation) (fresh_map contents)) (least : 1 ≤ generation) where
+      (filled : entries.items ≡ map (fresh_entry generation) (fresh_map contents)) (least : 1 ≤ generation)
+      (kept : Vec KeptStates Global) (none : kept.items ≡ []) where
     pub created_view : whole_view shape cell.generation entries.items ≡ fresh_view generation (fresh_map contents)
     created_view =
         ap (λ (g : ℕ). whole_view shape g entries.items) of.counts
@@ -85,7 +88,15 @@ module _ (told : Bool) (mid image : Image) (shape : Shape) (generation : ℕ) (c
         ∙ whole_fresh shape generation (fresh_map contents)
 
     abbrev store : Store
-    store = record { alloc = alloc; shape = shape; cell = cell; index = index; entries = entries; used = set }
+    store = record {
+      alloc = alloc;
+      shape = shape;
+      cell = cell;
+      index = index;
+      entries = entries;
+      used = set;
+      kept = kept;
+    }
 
     created_now : IsUsed told image store
     created_now = record {
@@ -97,6 +108,7 @@ module _ (told : Bool) (mid image : Image) (shape : Shape) (generation : ℕ) (c
         entries = subst (λ (es : List Entry). AllZip (IsReadBy shape.place.copies) index.entries es) (sym filled)
             (read_of_made shape.place.copies generation contents index.entries made);
         taken = taken;
+        kept = none_kept_of entries.items kept none;
       };
       disk = λ tells. subst (λ (v : View). IsInUse shape image index v) (sym created_view)
           (made_in_use shape image generation contents index is (alone tells) fit (shows tells));
@@ -110,6 +122,7 @@ module _ (told : Bool) (mid image : Image) (shape : Shape) (generation : ℕ) (c
       entries =
           entries;
       used = set;
+      kept = kept;
     } → IsUsed told image s
     created_used s e = subst (λ (x : Store). IsUsed told image x) (sym e) created_now
 
@@ -121,5 +134,6 @@ module _ (told : Bool) (mid image : Image) (shape : Shape) (generation : ℕ) (c
       entries =
           entries;
       used = set;
+      kept = kept;
     } → view_in s ≡ fresh_view generation (fresh_map contents)
     created_shows s e = ap (λ (x : Store). view_in x) e ∙ created_view

@@ -8,11 +8,13 @@ use Rattle.per_base.specs.declared.elements.StoreKind.TheVariants.{Keys, Files}
 use Rattle.per_base.specs.declared.elements.Content.{Content}
 use Rattle.per_base.specs.declared.elements.Content.TheVariants.{Good, Bad}
 use Rattle.per_base.specs.declared.elements.Entry.{Entry}
-use Rattle.block_files.specs.Parts.{blocks_for, is_changed, changed_blocks, changed_below}
+use Rattle.per_base.specs.Contents.{blocks_for}
+use Rattle.per_base.specs.Names.{NamesAscend}
+use Rattle.block_files.specs.Parts.{is_changed, changed_blocks, changed_below}
 use Rattle.index_text.specs.declared.entries.IndexEntry.{IndexEntry}
 use Rattle.element_state.specs.Changes.{entry_name}
 use Rattle.element_state.specs.Written.{cost_beside, content_named}
-use Rattle.element_store.specs.Named.{NamesAscend, IsSearchResult}
+use Rattle.element_store.specs.Named.{IsSearchResult}
 use Rattle.element_store.specs.Changing.{named_by, IsSeenAs, IsEarlierContent}
 use Rattle.element_store.proofs.InOrder.{found_here, found_none, parted_apart}
 use Rattle.element_store.proofs.Places.{zip_at, zip_length}

@@ -1,12 +1,13 @@
 -- The second half of a commit.
 use Rattle.std.proofs.Common.{◌≡◌, ℕ, ◌+◌, ◌*◌, ◌≤◌, List, Bool, Vec, Global, IsTrue, refl, sym, ap, ◌∙◌, subst, arith}
 use Rattle.std.proofs.Common.{inl, inr, ⊎_elim}
-use Rattle.std.specs.List.{AllByRecursion, AllZip}
+use Rattle.std.specs.List.{All, AllByRecursion, AllZip}
 use Rattle.per_base.specs.declared.elements.StoreKind.{StoreKind}
 use Rattle.per_base.specs.declared.elements.StoreKind.TheVariants.{Keys, Files}
 use Rattle.per_base.specs.declared.elements.Entry.{Entry}
 use Rattle.per_base.specs.declared.elements.Change.{Change}
 use Rattle.per_base.specs.declared.elements.Change.TheVariants.{Put, Remove, Touch}
+use Rattle.per_base.specs.Names.{NamesAscend}
 use Rattle.guarded_cell.specs.declared.cell.Cell.{Cell}
 use Rattle.guarded_cell.specs.Cells.{place_of, IsCellOf}
 use Rattle.index_text.specs.declared.entries.Index.{Index}
@@ -20,7 +21,8 @@ use Rattle.element_state.specs.Conditions.{IsChange, IsInUse}
 use Rattle.element_state.specs.States.{whole_view}
 use Rattle.element_state.specs.Written.{commit_cost, IsWithin}
 use Rattle.element_store.specs.declared.store.Store.{Store}
-use Rattle.element_store.specs.Named.{NamesAscend}
+use Rattle.element_store.specs.declared.hashing.KeptStates.{KeptStates}
+use Rattle.element_store.specs.Hashing.{AreOfElement}
 use Rattle.element_store.specs.Changing.{IsSmallChange, IsGrownBy}
 use Rattle.element_store.specs.Committing.{index_length}
 use Rattle.element_store.specs.Taking.{AreOfEither}
@@ -90,8 +92,16 @@ contents_within store changes slice before after same cost =
 
 -- the storage that a commit hands up
 module _ (told : Bool) (store s : Store) (changes : List Change) (alloc : Global) (cell : Cell) (index : Index)
-    (entries : Vec Entry Global) (used : List Bool)
-    (is : s ≡ record { alloc = alloc; shape = store.shape; cell = cell; index = index; entries = entries; used = used })
+    (entries : Vec Entry Global) (used : List Bool) (kept : Vec KeptStates Global)
+    (is : s ≡ record {
+      alloc = alloc;
+      shape = store.shape;
+      cell = cell;
+      index = index;
+      entries = entries;
+      used = used;
+      kept = kept;
+    })
     (old : IsStore store) (of : IsCellOf (place_of store.cell) (store_generation store + 1) cell)
     (made : entries.items ≡ after_changes (cell.generation) store.entries.items changes) where
   after_is : entries.items ≡ after_changes (store_generation store + 1) store.entries.items changes
@@ -112,9 +122,10 @@ module _ (told : Bool) (store s : Store) (changes : List Change) (alloc : Global
       → AllZip (IsReadBy store.shape.place.copies) index.entries
       (after_changes (store_generation store + 1) store.entries.items changes)
       → AreTaken (area_blocks store.shape.allowed) index.entries used
+      → All (AreOfElement (after_changes (store_generation store + 1) store.entries.items changes)) kept.items
       → (IsTrue told → IsInUse store.shape image index (committed_by store.shape (view_in store) changes))
       → IsUsed told image s
-  finished_used image text read taken in_use = record {
+  finished_used image text read taken states in_use = record {
     memory = subst IsStore (sym is) (record {
       place = of.lies ∙ old.place;
       shape = old.shape;
@@ -123,6 +134,7 @@ module _ (told : Bool) (store s : Store) (changes : List Change) (alloc : Global
       entries = subst (λ (es : List Entry). AllZip (IsReadBy store.shape.place.copies) index.entries es) (sym after_is)
           read;
       taken = taken;
+      kept = subst (λ (es : List Entry). All (AreOfElement es) kept.items) (sym after_is) states;
     });
     disk = λ tells. subst (λ (v : View). IsInUse s.shape image s.index v) (sym finished_view)
         (subst (λ (t : Store). IsInUse t.shape image t.index (committed_by store.shape (view_in store) changes))

@@ -13,7 +13,7 @@ use Rattle.disk_model.specs.Image.{Image}
 use Rattle.disk_model.specs.Place.{area}
 use Rattle.m_of_n.specs.Vote.{voted, holders, is_text}
 use Rattle.m_of_n.specs.Laws.{holders-cons}
-use Rattle.block_files.specs.Areas.{joined, within, IsFull, AllFull}
+use Rattle.block_files.specs.Areas.{joined, has_all_bytes, IsFull, AllFull}
 use Rattle.block_files.specs.Contents.{counting, first_content, lacks, lacking}
 use Rattle.index_text.specs.declared.entries.IndexEntry.{IndexEntry}
 use Rattle.element_state.specs.Views.{entry_view, given, content_of}
@@ -51,9 +51,9 @@ module _ (old new : Image) (place : Place) (m : ℕ) (e : IndexEntry)
 
   pub view_same : ((v : Option (List ℕ)) (c : ℕ) → c < place.copies → v ≡ voted m (given old place e)
       → lacks v (counting (old (area place c)) e.blocks e.len e.hash)
-      (within (new (area place c)) e.blocks e.len)
+      (has_all_bytes (new (area place c)) e.blocks e.len)
       ≡ lacks v (counting (old (area place c)) e.blocks e.len e.hash)
-      (within (old (area place c)) e.blocks e.len))
+      (has_all_bytes (old (area place c)) e.blocks e.len))
       → entry_view new place m e ≡ entry_view old place m e
   unfolding entry_view
   view_same alike =
@@ -62,12 +62,12 @@ module _ (old new : Image) (place : Place) (m : ℕ) (e : IndexEntry)
       ≡ lacking v place e.blocks e.len e.hash old =
       ap (map suc) (filter_range
       (λ c. lacks v (counting (new (area place c)) e.blocks e.len e.hash)
-      (within (new (area place c)) e.blocks e.len))
+      (has_all_bytes (new (area place c)) e.blocks e.len))
       (λ c. lacks v (counting (old (area place c)) e.blocks e.len e.hash)
-      (within (old (area place c)) e.blocks e.len)) 0 place.copies
+      (has_all_bytes (old (area place c)) e.blocks e.len)) 0 place.copies
       (λ c le lt.
       let here : c < place.copies = omega (arith, lt) in
-      ap (λ t. lacks v t (within (new (area place c)) e.blocks e.len)) (counts c here) ∙ alike v c here refl)) in
+      ap (λ t. lacks v t (has_all_bytes (new (area place c)) e.blocks e.len)) (counts c here) ∙ alike v c here refl)) in
       ap (λ (gs : List (Option (List ℕ))). record {
         name = e.name;
         info = e.info;
@@ -93,7 +93,7 @@ pub view_areas : (old new : Image) (place : Place) (m : ℕ) (e : IndexEntry)
 view_areas old new place m e same = view_same old new place m e
     (λ c lt. ap (λ f. counting f e.blocks e.len e.hash) (same c lt))
     (λ v c lt is. ap (λ f. lacks v (counting (old (area place c)) e.blocks e.len e.hash)
-    (within f e.blocks e.len)) (same c lt))
+    (has_all_bytes f e.blocks e.len)) (same c lt))
 
 -- ---- every copy has the content
 
@@ -149,15 +149,15 @@ view_full image place m e bytes some enough full hash long =
     map_range give (λ c. Some bytes) 0 place.copies (λ c le lt. each c (omega (arith, lt))) in
     let v : voted m (given image place e) ≡ Some bytes =
     ap (voted m) givens ∙ voted_all m place.copies bytes some enough in
-    let inside : (c : ℕ) → c < place.copies → within (image (area place c)) e.blocks e.len ≡ true =
-    λ c lt. ap (within (image (area place c)) e.blocks) long ∙ (full c lt).inside in
+    let inside : (c : ℕ) → c < place.copies → has_all_bytes (image (area place c)) e.blocks e.len ≡ true =
+    λ c lt. ap (has_all_bytes (image (area place c)) e.blocks) long ∙ (full c lt).inside in
     let same : bytes_eq bytes bytes ≡ true = (bytes_eq-Decides bytes bytes).1 refl in
     let none : lacking (Some bytes) place e.blocks e.len e.hash image ≡ [] =
-    ap (map suc) (filter_range (λ c. lacks (Some bytes) (give c) (within (image (area place c)) e.blocks e.len))
+    ap (map suc) (filter_range (λ c. lacks (Some bytes) (give c) (has_all_bytes (image (area place c)) e.blocks e.len))
     (λ c. false) 0 place.copies
     (λ c le lt.
     let here : c < place.copies = omega (arith, lt) in
-    ap (λ t. lacks (Some bytes) t (within (image (area place c)) e.blocks e.len)) (each c here)
+    ap (λ t. lacks (Some bytes) t (has_all_bytes (image (area place c)) e.blocks e.len)) (each c here)
     ∙ ap (λ b. not (b && bytes_eq bytes bytes)) (inside c here) ∙ ap (λ b. not (true && b)) same)
     ∙ filter_none 0 place.copies) in
     ap (λ (o : Option (List ℕ)). record {

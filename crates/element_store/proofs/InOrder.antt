@@ -16,10 +16,10 @@ use Rattle.std.proofs.lemmas.Cmp.{nat_list_cmp_total}
 use Rattle.std.proofs.lemmas.Map.Text.{is_eq-slice_cmp}
 use Rattle.std.proofs.lemmas.Slice.Eq.{bytes_eq-Decides}
 use Rattle.std.proofs.lemmas.List.Sorted.{searchable_from_sorted}
-use Rattle.per_base.specs.Names.{name_cmp}
+use Rattle.per_base.specs.Names.{name_cmp, NamesAscend}
 use Rattle.std.specs.Prelude.{cond}
 use Rattle.element_state.specs.Changes.{item_at, insert_item, without_item}
-use Rattle.element_store.specs.Named.{NamesAscend, IsSearchResult}
+use Rattle.element_store.specs.Named.{IsSearchResult}
 
 -- names that differ by their order differ
 pub differs : (a b : List ℕ) → name_cmp a b ≢ Equal → bytes_eq a b ≡ false

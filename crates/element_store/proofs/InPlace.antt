@@ -12,6 +12,7 @@ use Rattle.std.proofs.lemmas.List.Folds.{length-flat_map-take}
 use Rattle.per_base.specs.declared.elements.Entry.{Entry}
 use Rattle.per_base.specs.declared.elements.Content.{Content}
 use Rattle.per_base.specs.declared.elements.Content.TheVariants.{Good}
+use Rattle.per_base.specs.Contents.{HasLength}
 use Rattle.disk_model.specs.Image.{Image}
 use Rattle.disk_model.specs.Case.{Case, Follows}
 use Rattle.disk_model.specs.Medium.{Medium, Quiet, IsLawful, Elapses, EachCase, OnlyReads, WritesNothing}
@@ -30,7 +31,7 @@ use Rattle.index_text.specs.declared.entries.IndexEntry.{IndexEntry}
 use Rattle.index_text.specs.Rules.{IsIndex, IsEntry, blocks_of}
 use Rattle.element_state.specs.declared.shapes.Shape.{Shape}
 use Rattle.element_state.specs.Views.{entry_view, given, content_of}
-use Rattle.element_state.specs.Chosen.{HasLength, IsReadBy}
+use Rattle.element_state.specs.Chosen.{IsReadBy}
 use Rattle.element_state.specs.Conditions.{IsMended}
 use Rattle.element_laws.specs.Phases.{MendStartLaw, MendStepLaw, MendSyncLaw, IsMending, IsSparing, TakesMend}
 use Rattle.element_laws.specs.Phases.{KeepsBlockBytes, KeepsBlocksWhole, lacked}
@@ -274,7 +275,8 @@ module _ (told : Bool) (shape : Shape) (index : Index) (views : List Entry) (rul
       → e ≡ get_or index.entries i e → f ≡ get_or views i f → f.content ≡ Good v
       → length v ≤ 256 * length e.blocks
   room_at i e f v lt is_e is_f good =
-      let is : HasLength e.len (Good v) = subst (HasLength e.len) good (read_at i e f lt is_e is_f).value in
+      let is : HasLength (Good v) e.len =
+      subst (λ (c : Content). HasLength c e.len) good (read_at i e f lt is_e is_f).value in
       let rule : IsEntry index.format index.kind e = subst (IsEntry index.format index.kind) (sym is_e)
       (rec_at (IsEntry index.format index.kind) index.entries i e rules.each lt) in
       let count = rule.blocks in

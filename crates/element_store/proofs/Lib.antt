@@ -1,4 +1,6 @@
 pub mod Working
+mod States
+mod Keeping
 pub mod Alone
 pub mod Fulls
 pub mod PlanSteps

@@ -1,7 +1,7 @@
 -- A storage that was opened: its elements after they were mended, and that it is in use.
 use Rattle.std.proofs.Common.{◌≡◌, ◌⊎◌, ℕ, zero, suc, ◌+◌, ◌-◌, ◌<◌, ◌≤◌, List, [], ◌∷◌, length, get_or, Bool, true}
 use Rattle.std.proofs.Common.{false, IsTrue, Option, Some, None, inl, inr, refl, sym, ap, ◌∙◌, subst, arith, ⊎_elim}
-use Rattle.std.proofs.Common.{Global}
+use Rattle.std.proofs.Common.{Global, Vec}
 use Rattle.std.specs.Prelude.{map, is_some, find, cond}
 use Rattle.std.specs.List.{AllZip, AllByRecursion, Contains, list_all}
 use Rattle.std.specs.Str.{bytes_eq}
@@ -14,6 +14,7 @@ use Rattle.per_base.specs.declared.elements.Content.{Content}
 use Rattle.per_base.specs.declared.elements.Content.TheVariants.{Good, Bad}
 use Rattle.per_base.specs.declared.elements.Scope.{Scope}
 use Rattle.per_base.specs.declared.elements.Scope.TheVariants as scope
+use Rattle.per_base.specs.Contents.{HasLength}
 use Rattle.disk_model.specs.declared.place.Place.{Place}
 use Rattle.disk_model.specs.Image.{Image}
 use Rattle.disk_model.specs.Frame.{Spares}
@@ -27,7 +28,7 @@ use Rattle.guarded_cell.specs.Register.{Holds, IsAlone, IsBlank, own, other}
 use Rattle.guarded_cell.specs.Rights.{IsRight}
 use Rattle.guarded_cell.specs.lemmas.CopyLaws.{enough_pass, passing_enough, passing_is}
 use Rattle.guarded_cell.specs.lemmas.StopLaws.{at_least_map, alone_only}
-use Rattle.block_files.specs.Areas.{joined, within, IsFull, AllFull, area_of}
+use Rattle.block_files.specs.Areas.{joined, has_all_bytes, IsFull, AllFull, area_of}
 use Rattle.block_files.specs.Contents.{counting, first_content, lacks, lacking}
 use Rattle.block_files.specs.lemmas.AsideLaws.{joined_kept, within_grown}
 use Rattle.index_text.specs.declared.entries.Index.{Index}
@@ -40,7 +41,7 @@ use Rattle.element_state.specs.Fit.{FitText, fit_index, fit_texts}
 use Rattle.element_state.specs.Views.{entry_view, given, counts, content_of, holds_text, holds_all, supporters}
 use Rattle.element_state.specs.Views.{qualifies, view_of}
 use Rattle.element_state.specs.States.{Opens, store_at, whole_view, mended_by, mended_entry, mended_view}
-use Rattle.element_state.specs.Chosen.{HasLength, IsReadBy, opened_of}
+use Rattle.element_state.specs.Chosen.{IsReadBy, opened_of}
 use Rattle.element_state.specs.Conditions.{IsShape, IsMended, IsInUse}
 use Rattle.element_laws.specs.Phases.{CleanLaw, AreAgreed, IsSparing, TakesMend, KeepsBlocksWhole, OpensAt, OpenedLaw}
 use Rattle.element_laws.specs.lemmas.Copies.{filtered_that, named_Contains, Contains_named, voted_given}
@@ -51,6 +52,8 @@ use Rattle.element_laws.specs.lemmas.Fits.{In-fit, fit-spelled}
 use Rattle.element_laws.specs.lemmas.Frames.{slot_no_area, area_no_slot}
 use Rattle.element_store.specs.declared.opening.OpeningPlan.{OpeningPlan}
 use Rattle.element_store.specs.declared.store.Store.{Store}
+use Rattle.element_store.specs.declared.hashing.KeptStates.{KeptStates}
+use Rattle.element_store.proofs.Keeping.{none_kept_of}
 use Rattle.element_store.specs.Mends.{IsAsBefore, IsWholeIn, AreShown, SparesOthers}
 use Rattle.element_store.specs.Opened.{IsOpeningPlan, IsFoundOn, OpensBy}
 use Rattle.element_store.specs.Stores.{IsUsed, view_in}
@@ -70,14 +73,14 @@ content_bad (Some x) s t e = cc
 
 -- bytes that count and are within
 full_of : (file blocks : List ℕ) (len : ℕ) (hash v : List ℕ) → counting file blocks len hash ≡ Some v
-    → within file blocks len ≡ true → length v ≡ len → IsFull file blocks v × (sha256 v ≡ hash)
+    → has_all_bytes file blocks len ≡ true → length v ≡ len → IsFull file blocks v × (sha256 v ≡ hash)
 unfolding counting
 full_of file blocks len hash v counted inside long = ⊎_elim
     (λ same.
     let j : joined file blocks len ≡ v = some_same (joined file blocks len) v
     (sym (cond-true (bytes_eq (sha256 (joined file blocks len)) hash) (Some (joined file blocks len)) None same)
     ∙ counted) in (
-      record { bytes_are = ap (joined file blocks) long ∙ j; inside = ap (within file blocks) long ∙ inside },
+      record { bytes_are = ap (joined file blocks) long ∙ j; inside = ap (has_all_bytes file blocks) long ∙ inside },
       sym (ap sha256 j) ∙ (bytes_eq-Decides (sha256 (joined file blocks len)) hash).0 same,
     ))
     (λ differ. absurd (never (sym (cond-false (bytes_eq (sha256 (joined file blocks len)) hash)
@@ -95,18 +98,18 @@ unlisted : (image : Image) (place : Place) (m : ℕ) (e : IndexEntry) (v : List 
     → voted m (given image place e) ≡ Some v → (c : ℕ) → c < place.copies
     → ¬ (Contains (entry_view image place m e).lacking (c + 1))
     → (counting (image (area place c)) e.blocks e.len e.hash ≡ Some v)
-    × (within (image (area place c)) e.blocks e.len ≡ true)
+    × (has_all_bytes (image (area place c)) e.blocks e.len ≡ true)
 unfolding entry_view
 unlisted image place m e v is c lt absent =
     let test = λ (k : ℕ). lacks (Some v) (counting (image (area place k)) e.blocks e.len e.hash)
-    (within (image (area place k)) e.blocks e.len) in
+    (has_all_bytes (image (area place k)) e.blocks e.len) in
     let fails : test c ≡ false = false_not_true (test c) (λ passes. absent
     (subst (λ (o : Option (List ℕ)). Contains (lacking o place e.blocks e.len e.hash image) (c + 1))
     (sym is)
     (subst (λ (xs : List ℕ). Contains xs (c + 1)) (sym (filtered_that test place.copies))
     (passing_is test place.copies c lt passes)))) in
     gives v (counting (image (area place c)) e.blocks e.len e.hash)
-    (within (image (area place c)) e.blocks e.len) fails
+    (has_all_bytes (image (area place c)) e.blocks e.len) fails
 
 good_voted : (image : Image) (place : Place) (m : ℕ) (e : IndexEntry) (v : List ℕ)
     → (entry_view image place m e).content ≡ Good v → voted m (given image place e) ≡ Some v
@@ -181,15 +184,15 @@ module _ (shape : Shape) (start now image : Image) (is : IsShape shape)
         ∙ ap (λ (file : List ℕ). joined file e.blocks n) (area_was c)
 
     grown : (c : ℕ) → c < shape.place.copies → ¬ (TakesMend shape start e c) → (n : ℕ)
-        → within (start (area shape.place c)) e.blocks n ≡ true
-        → within (image (area shape.place c)) e.blocks n ≡ true
+        → has_all_bytes (start (area shape.place c)) e.blocks n ≡ true
+        → has_all_bytes (image (area shape.place c)) e.blocks n ≡ true
     grown c lt untaken n inside = within_grown (now (area shape.place c)) (image (area shape.place c))
         e.blocks n (kept c lt untaken).no_shorter
-        (ap (λ (file : List ℕ). within file e.blocks n) (area_was c) ∙ inside)
+        (ap (λ (file : List ℕ). has_all_bytes file e.blocks n) (area_was c) ∙ inside)
 
     module _ (v : List ℕ) (good : (seen e).content ≡ Good v) where
       long : length v ≡ e.len
-      long = subst (HasLength e.len) good read.value
+      long = subst (λ (c : Content). HasLength c e.len) good read.value
 
       hashed : sha256 v ≡ e.hash
       unfolding counting
@@ -269,9 +272,9 @@ module _ (shape : Shape) (start now image : Image) (is : IsShape shape)
           (λ v c lt at.
           let none : v ≡ None = at ∙ bad_voted start shape.place shape.m e s bad in
           ap (λ (o : Option (List ℕ)). lacks o (counting (start (area shape.place c)) e.blocks e.len e.hash)
-          (within (image (area shape.place c)) e.blocks e.len)) none
+          (has_all_bytes (image (area shape.place c)) e.blocks e.len)) none
           ∙ ap (λ (o : Option (List ℕ)). lacks o (counting (start (area shape.place c)) e.blocks e.len e.hash)
-          (within (start (area shape.place c)) e.blocks e.len)) (sym none))
+          (has_all_bytes (start (area shape.place c)) e.blocks e.len)) (sym none))
           ∙ sym (ap (λ (x : Content). mended_by x (seen e)) bad)
 
     view_now : entry_view image shape.place shape.m e ≡ mended_entry (seen e)
@@ -517,8 +520,8 @@ module _ (told : Bool) (start now image : Image) (shape : Shape) (r : OpeningPla
       law clean (subst (λ (t : List ℕ). OpensAt shape start r.seen.generation t r.index) text_is
       (opened shape start (r.seen, r.index) (found tells).first))
 
-  abbrev store : Global → Store
-  store alloc = record {
+  abbrev store : Global → Vec KeptStates Global → Store
+  store alloc kept = record {
     alloc = alloc;
     shape = shape;
     cell = cell;
@@ -526,20 +529,22 @@ module _ (told : Bool) (start now image : Image) (shape : Shape) (r : OpeningPla
     entries = r.entries;
     used =
         r.used;
+    kept = kept;
   }
 
-  view_is : (alloc : Global) → view_in (store alloc) ≡ whole_view shape r.seen.generation
-      (map mended_entry r.before.entries)
-  view_is alloc = ap (λ (g : ℕ). whole_view shape g r.entries.items) of.counts
+  view_is : (alloc : Global) (kept : Vec KeptStates Global) → view_in (store alloc kept)
+      ≡ whole_view shape r.seen.generation (map mended_entry r.before.entries)
+  view_is alloc kept = ap (λ (g : ℕ). whole_view shape g r.entries.items) of.counts
       ∙ ap (λ (fs : List Entry). whole_view shape r.seen.generation fs) ready.entries
 
-  pub opening_view : (alloc : Global) (s : Store) → s ≡ store alloc → view_in s ≡ mended_view shape r.before
+  pub opening_view : (alloc : Global) (kept : Vec KeptStates Global) (s : Store) → s ≡ store alloc kept
+      → view_in s ≡ mended_view shape r.before
   unfolding mended_view
-  opening_view alloc s e = ap (λ (x : Store). view_in x) e ∙ view_is alloc
+  opening_view alloc kept s e = ap (λ (x : Store). view_in x) e ∙ view_is alloc kept
       ∙ ap (λ (g : ℕ). whole_view shape g (map mended_entry r.before.entries)) (sym ready.generation)
 
-  used_now : (alloc : Global) → IsUsed told image (store alloc)
-  used_now alloc = record {
+  used_now : (alloc : Global) (kept : Vec KeptStates Global) → kept.items ≡ [] → IsUsed told image (store alloc kept)
+  used_now alloc kept none = record {
     memory = record {
       place = of.lies;
       shape = is;
@@ -548,12 +553,14 @@ module _ (told : Bool) (start now image : Image) (shape : Shape) (r : OpeningPla
       entries = subst (λ (fs : List Entry). AllZip (IsReadBy shape.place.copies) r.index.entries fs) (sym ready.entries)
           (read_mended shape.place.copies r.index.entries r.before.entries ready.read);
       taken = ready.taken;
+      kept = none_kept_of r.entries.items kept none;
     };
-    disk = λ tells. subst (λ (v : View). IsInUse shape image r.index v) (sym (view_is alloc)) (in_use tells);
+    disk = λ tells. subst (λ (v : View). IsInUse shape image r.index v) (sym (view_is alloc kept)) (in_use tells);
   }
 
-  pub opening_used : (alloc : Global) (s : Store) → s ≡ store alloc → IsUsed told image s
-  opening_used alloc s e = subst (λ (x : Store). IsUsed told image x) (sym e) (used_now alloc)
+  pub opening_used : (alloc : Global) (kept : Vec KeptStates Global) → kept.items ≡ [] → (s : Store)
+      → s ≡ store alloc kept → IsUsed told image s
+  opening_used alloc kept none s e = subst (λ (x : Store). IsUsed told image x) (sym e) (used_now alloc kept none)
 
 -- ---- what the moments of an opening ask
 

@@ -9,9 +9,10 @@ use Rattle.std.proofs.lemmas.List.Elements.{All-push}
 use Rattle.std.proofs.lemmas.List.Sums.{sum_by-append, sum_by-cons}
 use Rattle.per_base.specs.declared.elements.Fresh.{Fresh}
 use Rattle.per_base.specs.declared.elements.Content.TheVariants.{Good}
+use Rattle.per_base.specs.Contents.{blocks_for}
 use Rattle.disk_model.specs.declared.place.Place.{Place}
 use Rattle.disk_model.specs.Image.{Image}
-use Rattle.block_files.specs.Parts.{blocks_for, is_changed}
+use Rattle.block_files.specs.Parts.{is_changed}
 use Rattle.block_files.specs.BlockSets.{contains, AreDistinct, IsNotAmong, AreFree, IsAdded}
 use Rattle.block_files.specs.Areas.{AllFull}
 use Rattle.block_files.specs.lemmas.PartLemmas.{same_part, changed_to-le}

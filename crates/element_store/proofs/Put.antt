@@ -13,15 +13,15 @@ use Rattle.per_base.specs.declared.elements.Content.{Content}
 use Rattle.per_base.specs.declared.elements.Content.TheVariants.{Good}
 use Rattle.per_base.specs.declared.elements.Entry.{Entry}
 use Rattle.per_base.specs.declared.elements.Fresh.{Fresh}
+use Rattle.per_base.specs.Contents.{blocks_for, HasLength}
 use Rattle.std.specs.Prelude.{IsTrue}
-use Rattle.block_files.specs.Parts.{blocks_for, is_changed}
+use Rattle.block_files.specs.Parts.{is_changed}
 use Rattle.block_files.specs.BlockSets.{contains, AreDistinct, IsAdded, SharesBlocks}
 use Rattle.block_files.specs.lemmas.PartLemmas.{same_part}
 use Rattle.block_files.specs.lemmas.Partly.{length-part}
 use Rattle.index_text.specs.declared.entries.IndexEntry.{IndexEntry}
 use Rattle.index_text.specs.Rules.{IsEntry, has_info}
 use Rattle.element_state.specs.Changes.{insert_item, without_item, entry_name}
-use Rattle.element_state.specs.Chosen.{HasLength}
 use Rattle.index_text.specs.Contents.{SuitsKind}
 use Rattle.element_state.specs.States.{fresh_entry, fresh_element}
 use Rattle.element_store.specs.declared.jobs.Job.{Job}
@@ -40,8 +40,8 @@ use Rattle.element_store.proofs.Changed.{Pair, pair_names, laid_disjoint, laid_e
 module _ (kind : StoreKind) (now : List Bool) (standing : List IndexEntry) (views : List Entry)
     (st : AreStandingEntries kind now standing views)
     (name bytes blocks : List ℕ) (earlier : IsEarlierContent kind standing views name bytes blocks) where
-  long_by : (len : ℕ) (content : Content) → HasLength len content → content ≡ Good bytes → length bytes ≡ len
-  long_by len content has is = subst (HasLength len) is has
+  long_by : (len : ℕ) (content : Content) → HasLength content len → content ≡ Good bytes → length bytes ≡ len
+  long_by len content has is = subst (λ (c : Content). HasLength c len) is has
 
   pub earlier_room : length bytes ≤ 256 * length blocks
   earlier_room = elim earlier.is [
@@ -49,8 +49,8 @@ module _ (kind : StoreKind) (now : List Bool) (standing : List IndexEntry) (view
     | inr some ↦ (
         let (was, seen, beside, named, content, there) = some in
         let s = zip_at IsSeenAs standing views beside.at was seen st.read beside.inside in
-        let has : HasLength (get_or standing beside.at was).len seen.content =
-        subst (λ (f : Entry). HasLength (get_or standing beside.at was).len f.content) beside.two s.value in
+        let has : HasLength seen.content (get_or standing beside.at was).len =
+        subst (λ (f : Entry). HasLength f.content (get_or standing beside.at was).len) beside.two s.value in
         let a = long_by (get_or standing beside.at was).len seen.content has content in
         let rules = each_at (IsEntry 2 kind) standing beside.at was st.rules beside.inside in
         let b = rules.blocks in

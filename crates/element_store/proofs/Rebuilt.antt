@@ -24,14 +24,13 @@ use Rattle.element_state.specs.Chosen.{chosen, or_first}
 use Rattle.element_state.specs.Clean.{IsClean}
 use Rattle.element_state.specs.Conditions.{IsInUse, IsShape}
 use Rattle.element_state.specs.Fit.{FitText, fit_index, fit_texts}
-use Rattle.element_state.specs.Kept.{heading, IsKeptCase, KeptThroughout}
+use Rattle.element_state.specs.Kept.{heading, IsKeptCase, KeptThroughout, IsHeaded}
 use Rattle.element_state.specs.States.{State, store_at, fresh_entry, fresh_map, fresh_view, fresh_state}
 use Rattle.element_state.specs.Views.{entry_view, qualifies}
 use Rattle.element_laws.specs.Phases.{IsOfPlace, UntouchedLaw, OpensAt, OpenedLaw, IsCorruptAt, CorruptLaw, IsSalvageAt}
 use Rattle.element_laws.specs.Phases.{IsAdopted, IsGivenUp, AdoptLaw, KeepLaw, ContentsLaw, ContentsDoneLaw, IndexLaw}
-use Rattle.element_laws.specs.Phases.{GivenUpLaw, TakesNamed, TakenBlocksLaw, AnewContentsLaw, AnewDoneLaw}
-use Rattle.element_laws.specs.Phases.{AnewIndexLaw}
-use Rattle.element_laws.specs.Phases.{IsHeaded, IsContentWritten, IsCarried}
+use Rattle.element_laws.specs.Phases.{GivenUpLaw, TakesNamed, TakenBlocksLaw, RebuiltContentsLaw, RebuiltDoneLaw}
+use Rattle.element_laws.specs.Phases.{RebuiltIndexLaw, IsContentWritten, IsCarried}
 use Rattle.element_laws.specs.lemmas.Lists.{In, zip_with, some_is, not_false, not_none}
 use Rattle.element_laws.specs.lemmas.Fits.{fit_at, fit-In, fit-spelled}
 use Rattle.element_store.specs.Plans.{HasAll}
@@ -101,7 +100,7 @@ module _ (shape : Shape) (start now : Image) (set : List Bool) (is : IsShape sha
   }
 
   -- beside what is held of a corrupt one
-  pub ready_given_up : AnewContentsLaw → AnewDoneLaw → AnewIndexLaw → (g : ℕ) → IsGivenUp shape start now
+  pub ready_given_up : RebuiltContentsLaw → RebuiltDoneLaw → RebuiltIndexLaw → (g : ℕ) → IsGivenUp shape start now
       → TakesNamed (contains set) shape.place now
       → ((copy h : ℕ) (u : List ℕ) → copy < shape.place.copies → Holds now shape.place copy h u → h < g)
       → ((text : FitText) → IsSalvageAt shape start text → g ≡ text.0.generation + 1) → IsGround shape start now set g
@@ -118,7 +117,8 @@ module _ (shape : Shape) (start now : Image) (set : List Bool) (is : IsShape sha
   }
 
   -- beside its salvage
-  pub ready_salvaged : GivenUpLaw → TakenBlocksLaw → AnewContentsLaw → AnewDoneLaw → AnewIndexLaw → (text : FitText)
+  pub ready_salvaged : GivenUpLaw → TakenBlocksLaw → RebuiltContentsLaw → RebuiltDoneLaw → RebuiltIndexLaw
+      → (text : FitText)
       → IsClean shape start → IsSalvageAt shape start text
       → fit_index shape text.0.text ≡ Some text.1 → IsIndex text.1
       → AllByRecursion (λ (e : IndexEntry). HasAll set e.blocks) text.1.entries
@@ -135,7 +135,7 @@ module _ (shape : Shape) (start now : Image) (set : List Bool) (is : IsShape sha
       (ap (λ (p : Bool × FitText). p.1) (some_is (false, text) (false, other) (sym salvage ∙ is))))
 
 -- beside nothing
-pub ready_none : CorruptLaw → AnewContentsLaw → AnewDoneLaw → AnewIndexLaw
+pub ready_none : CorruptLaw → RebuiltContentsLaw → RebuiltDoneLaw → RebuiltIndexLaw
     → (shape : Shape) (start : Image) (set : List Bool) → IsShape shape → IsClean shape start
     → chosen start shape ≡ None → IsGround shape start start set 1
 ready_none corrupt contents contents_done law shape start set is clean none =

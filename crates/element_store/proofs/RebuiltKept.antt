@@ -21,7 +21,7 @@ use Rattle.element_state.specs.Conditions.{IsInUse, IsShape}
 use Rattle.element_state.specs.Kept.{IsKeptCase, KeptThroughout}
 use Rattle.element_state.specs.States.{State, store_at, salvage_of, next_generation, fresh_map, fresh_state, fresh_view}
 use Rattle.element_store.specs.Spelled.{ShowsFresh, IsTextOf, IsContentsCase}
-use Rattle.element_store.specs.Rebuilds.{IsGround, IsMadeAnew}
+use Rattle.element_store.specs.Rebuilds.{IsGround, IsRebuilt}
 use Rattle.element_store.proofs.Around.{contents_around}
 use Rattle.element_store.proofs.Rebuilt.{contents_kept, anew_kept, rebuilt_in_use, rebuilt_opens}
 
@@ -110,7 +110,7 @@ pub anew_in_use : (mid image : Image) (shape : Shape) (g : ℕ) (contents : List
     → IsTextOf shape text index → index.format ≡ 2 → CellAt image cell text
     → Spares (IsNoSlot shape.place) mid image
     → ShowsFresh mid shape.place shape.m g contents index.entries → (n : ℕ) → g ≡ n
-    → IsMadeAnew shape image (fresh_view n (fresh_map contents))
+    → IsRebuilt shape image (fresh_view n (fresh_map contents))
 anew_in_use mid image shape g contents cell index text is of spelled two held same shown n e = record {
   index = index;
   format = two;

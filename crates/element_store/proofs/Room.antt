@@ -14,7 +14,7 @@ use Rattle.per_base.specs.Names.{name_cmp}
 use Rattle.per_base.specs.declared.elements.Change.{Change}
 use Rattle.per_base.specs.declared.elements.Change.TheVariants.{Put, Remove, Touch}
 use Rattle.per_base.specs.Changes.{changed_name}
-use Rattle.block_files.specs.Parts.{blocks_for}
+use Rattle.per_base.specs.Contents.{blocks_for}
 use Rattle.element_state.specs.declared.shapes.Shape.{Shape}
 use Rattle.element_state.specs.declared.shapes.View.{View}
 use Rattle.element_state.specs.Changes.{insert_item, without_item, entry_name, touched, after_change, after_changes}

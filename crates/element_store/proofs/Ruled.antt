@@ -13,7 +13,7 @@ use Rattle.per_base.specs.declared.elements.Fresh.{Fresh}
 use Rattle.per_base.specs.declared.elements.StoreKind.{StoreKind}
 use Rattle.per_base.specs.declared.elements.StoreKind.TheVariants.{Keys, Files}
 use Rattle.per_base.specs.Names.{name_cmp}
-use Rattle.block_files.specs.Parts.{blocks_for}
+use Rattle.per_base.specs.Contents.{blocks_for}
 use Rattle.block_files.specs.BlockSets.{contains, AreDistinct}
 use Rattle.index_text.specs.declared.entries.IndexEntry.{IndexEntry}
 use Rattle.index_text.specs.Rules.{IsEntry, IsIndex, blocks_of, names_of, max_len, has_info}

@@ -11,7 +11,7 @@ use Rattle.disk_model.specs.declared.place.Place.{Place}
 use Rattle.disk_model.specs.Image.{Image}
 use Rattle.disk_model.specs.Place.{area}
 use Rattle.m_of_n.specs.Vote.{voted}
-use Rattle.block_files.specs.Areas.{within}
+use Rattle.block_files.specs.Areas.{has_all_bytes}
 use Rattle.block_files.specs.Contents.{counting, lacks, lacking, first_content}
 use Rattle.index_text.specs.declared.entries.IndexEntry.{IndexEntry}
 use Rattle.element_state.specs.Views.{entry_view, given, content_of, counts}
@@ -58,7 +58,7 @@ gives v (Some t) false e = absurd (true_false e)
 pub view_gives : (image : Image) (place : Place) (m : ℕ) (e : IndexEntry) (v : List ℕ)
     → (entry_view image place m e).content ≡ Good v → (entry_view image place m e).lacking ≡ []
     → (c : ℕ) → c < place.copies → (counting (image (area place c)) e.blocks e.len e.hash ≡ Some v)
-    × (within (image (area place c)) e.blocks e.len ≡ true)
+    × (has_all_bytes (image (area place c)) e.blocks e.len ≡ true)
 unfolding entry_view
 view_gives image place m e v good none c lt =
     let is : voted m (given image place e) ≡ Some v = content_good (voted m (given image place e))
@@ -66,9 +66,9 @@ view_gives image place m e v good none c lt =
     let none_v : lacking (Some v) place e.blocks e.len e.hash image ≡ [] =
     subst (λ (o : Option (List ℕ)). lacking o place e.blocks e.len e.hash image ≡ []) is none in
     gives v (counting (image (area place c)) e.blocks e.len e.hash)
-    (within (image (area place c)) e.blocks e.len)
+    (has_all_bytes (image (area place c)) e.blocks e.len)
     (none_pass (λ c. lacks (Some v) (counting (image (area place c)) e.blocks e.len e.hash)
-    (within (image (area place c)) e.blocks e.len)) 0 place.copies none_v c (omega arith)
+    (has_all_bytes (image (area place c)) e.blocks e.len)) 0 place.copies none_v c (omega arith)
     (omega (arith, lt)))
 
 -- so it counts in each

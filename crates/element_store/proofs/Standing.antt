@@ -26,13 +26,14 @@ use Rattle.element_state.specs.Chosen.{IsReadBy}
 use Rattle.element_state.specs.Conditions.{AreCommittable, IsChange}
 use Rattle.element_state.specs.Conditions as conditions
 use Rattle.element_state.specs.Written.{commit_cost, change_cost}
+use Rattle.element_state.specs.Kept.{IsHeaded}
 use Rattle.element_store.specs.declared.jobs.Job.{Job}
 use Rattle.element_store.specs.declared.store.Store.{Store}
 use Rattle.element_store.specs.Jobs.{jobs_cost}
 use Rattle.element_store.specs.Plans.{HasAll, AreDisjoint, AreLaidApart}
 use Rattle.element_store.specs.Spelled.{IsTextOf, index_with}
 use Rattle.element_store.specs.Stores.{IsStore, AreTaken, view_in}
-use Rattle.element_store.specs.Commits.{IsHeadedBy, IsCommitPlan}
+use Rattle.element_store.specs.Commits.{IsCommitPlan}
 use Rattle.element_store.specs.Changing.{blocks_of_changes, IsSeenAs, AreStandingEntries, IsSoundEntry, IsPlanned}
 use Rattle.element_store.specs.Changing.{IsTraced}
 use Rattle.element_store.proofs.Places.{zip_length, zip_map}
@@ -168,7 +169,7 @@ sizes kind standing views jobs (e ∷ es) (f ∷ fs) zip =
     let r = sum_by-cons (λ (x : Entry). length x.name + x.len) f fs in
     omega (arith, one, rest, l, r)
   where
-    by : IsHeadedBy e f → length e.name + e.len ≡ length f.name + f.len
+    by : IsHeaded e f → length e.name + e.len ≡ length f.name + f.len
     by headed = ap (λ (h : List ℕ × Option FileInfo × ℕ × ℕ). length h.0 + h.2) headed
 
     same : Pair kind standing views jobs e f → length e.name + e.len ≡ length f.name + f.len

@@ -14,12 +14,11 @@ use Rattle.disk_model.specs.Orders.{named_in}
 use Rattle.block_files.specs.BlockSets.{contains, IsAdded}
 use Rattle.index_text.specs.declared.entries.IndexEntry.{IndexEntry}
 use Rattle.index_text.specs.Rules.{blocks_of}
-use Rattle.per_base.specs.Names.{name_cmp}
+use Rattle.per_base.specs.Names.{name_cmp, NamesAscend}
 use Rattle.per_base.specs.declared.elements.FileInfo.{FileInfo}
 use Rattle.per_base.specs.declared.elements.Change.{Change}
 use Rattle.per_base.specs.Changes.{changed_name}
 use Rattle.element_state.specs.Changes.{item_at, insert_item, without_item}
-use Rattle.element_store.specs.Named.{NamesAscend}
 use Rattle.element_store.specs.Plans.{HasAll}
 use Rattle.element_store.specs.Changing.{named_by, entry_of_name, AreOfOthers, KeepsOthers, IsGrownBy, IsTraced}
 use Rattle.element_store.specs.Changing.{touched_entry}

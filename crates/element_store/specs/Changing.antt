@@ -9,18 +9,19 @@ use Rattle.per_base.specs.declared.elements.Entry.{Entry}
 use Rattle.per_base.specs.declared.elements.Change.{Change}
 use Rattle.per_base.specs.declared.elements.Change.TheVariants.{Put, Remove, Touch}
 use Rattle.per_base.specs.Changes.{changed_name}
+use Rattle.per_base.specs.Contents.{blocks_for, HasLength}
+use Rattle.per_base.specs.Names.{NamesAscend}
 use Rattle.disk_model.specs.Orders.{named_in}
-use Rattle.block_files.specs.Parts.{blocks_for, changed_blocks}
+use Rattle.block_files.specs.Parts.{changed_blocks}
 use Rattle.block_files.specs.BlockSets.{contains}
 use Rattle.index_text.specs.declared.entries.IndexEntry.{IndexEntry}
 use Rattle.index_text.specs.Rules.{IsEntry, blocks_of}
 use Rattle.element_state.specs.Changes.{item_at}
-use Rattle.element_state.specs.Chosen.{HasLength}
 use Rattle.element_state.specs.Written.{cost_beside, content_named}
+use Rattle.element_state.specs.Kept.{IsHeaded}
 use Rattle.element_store.specs.declared.jobs.Job.{Job}
 use Rattle.element_store.specs.Plans.{HasAll, KeepsTaken, AreDisjoint, AreLaidApart, ArePlacedJobs}
-use Rattle.element_store.specs.Named.{NamesAscend}
-use Rattle.element_store.specs.Commits.{AreBeside, IsHeadedBy, IsCarriedFrom, IsWrittenBy, SharesWith}
+use Rattle.element_store.specs.Commits.{AreBeside, IsCarriedFrom, IsWrittenBy, SharesWith}
 
 abbrev pub named_by : IndexEntry → List ℕ
 named_by e = e.name
@@ -36,8 +37,8 @@ blocks_of_changes changes = sum_by change_blocks changes
 
 -- an element was read by this entry
 pub record IsSeenAs (e : IndexEntry) (f : Entry) : Type 0 where
-  pub headed : IsHeadedBy e f
-  pub value : HasLength e.len f.content
+  pub headed : IsHeaded e f
+  pub value : HasLength f.content e.len
 
 -- Entries that keep the rules, each with its element, whose blocks a set has.
 pub record AreStandingEntries (kind : StoreKind) (set : List Bool) (standing : List IndexEntry)

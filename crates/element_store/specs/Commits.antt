@@ -15,7 +15,7 @@ use Rattle.element_state.specs.declared.shapes.View.{View}
 use Rattle.element_state.specs.Changes.{after_changes}
 use Rattle.element_state.specs.Clean.{where_of}
 use Rattle.element_state.specs.Conditions.{IsGoodEntry}
-use Rattle.element_state.specs.Kept.{heading}
+use Rattle.element_state.specs.Kept.{IsHeaded}
 use Rattle.element_state.specs.Written.{commit_cost}
 use Rattle.element_store.specs.declared.jobs.Job.{Job}
 use Rattle.element_store.specs.Jobs.{jobs_cost}
@@ -30,10 +30,6 @@ pub record AreBeside {X Y : Type 0} (xs : List X) (ys : List Y) (x : X) (y : Y) 
   pub one : slice_index_or xs at x ≡ x
   pub two : slice_index_or ys at y ≡ y
 
--- an entry and its element have the same name, info, length and number
-abbrev pub IsHeadedBy : IndexEntry → Entry → Type 0
-IsHeadedBy e f = (e.name, e.info, e.len, e.changed) ≡ heading f
-
 -- an element keeps its content where one of these entries has it; one that is good may come to lack nothing
 pub record IsCarriedFrom (standing : List IndexEntry) (views : List Entry) (e : IndexEntry) (f : Entry) : Type 0 where
   pub was : IndexEntry
@@ -41,7 +37,7 @@ pub record IsCarriedFrom (standing : List IndexEntry) (views : List Entry) (e : 
   pub beside : AreBeside standing views was seen
   pub named : e.name ≡ was.name
   pub place : where_of e ≡ where_of was
-  pub headed : IsHeadedBy e f
+  pub headed : IsHeaded e f
   pub content : f.content ≡ seen.content
   pub lacking : (f.lacking ≡ seen.lacking) ⊎ ((f.lacking ≡ []) × IsGoodEntry (Some seen))
 
@@ -56,7 +52,7 @@ pub record IsWrittenBy (jobs : List Job) (e : IndexEntry) (f : Entry) : Type 0 w
   pub blocks : e.blocks ≡ job.blocks
   pub hash : e.hash ≡ sha256 job.bytes.now
   pub len : e.len ≡ length job.bytes.now
-  pub headed : IsHeadedBy e f
+  pub headed : IsHeaded e f
   pub content : f.content ≡ Good job.bytes.now
   pub lacking : f.lacking ≡ []
 

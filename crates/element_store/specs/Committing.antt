@@ -4,11 +4,11 @@ use Rattle.std.specs.List.{All}
 use Rattle.per_base.specs.declared.elements.StoreKind.{StoreKind}
 use Rattle.per_base.specs.declared.elements.Entry.{Entry}
 use Rattle.per_base.specs.declared.elements.Change.{Change}
+use Rattle.per_base.specs.Contents.{blocks_for}
 use Rattle.disk_model.specs.Medium.{Medium, Quiet, EachCase, Elapses}
 use Rattle.disk_model.specs.Frame.{Keeps, Spares}
 use Rattle.disk_model.specs.Place.{IsNoArea}
 use Rattle.index_text.specs.declared.entries.Index.{Index}
-use Rattle.block_files.specs.Parts.{blocks_for}
 use Rattle.index_text.specs.Sizes.{area_blocks, info_length}
 use Rattle.index_text.specs.Spelling.{index_text}
 use Rattle.element_store.specs.declared.jobs.Job.{Job}

@@ -1,5 +1,6 @@
 pub mod Jobs
 pub mod Plans
+pub mod Hashing
 pub mod Stores
 pub mod Taking
 pub mod Spelled

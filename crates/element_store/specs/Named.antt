@@ -1,13 +1,9 @@
 -- Lists in the order of names, and where a name stands in one.
-use Rattle.std.specs.Prelude.{◌≡◌, ◌<◌, ◌≤◌, ℕ, List, length, map, MatchResult, Result}
+use Rattle.std.specs.Prelude.{◌≡◌, ◌<◌, ◌≤◌, ℕ, List, length, MatchResult, Result}
 use Rattle.std.specs.List.{HoldsAt}
-use Rattle.std.specs.List.Sorted.{IsStrictlySortedBy, IsPartitionPoint}
+use Rattle.std.specs.List.Sorted.{IsPartitionPoint}
 use Rattle.std.specs.declared.cmp.Ordering.TheVariants.{Less, Greater}
 use Rattle.per_base.specs.Names.{name_cmp}
-
--- the names ascend, each once
-abbrev pub NamesAscend : {X : Type 0} → (X → List ℕ) → List X → Type 0
-NamesAscend name_of xs = IsStrictlySortedBy name_cmp (map name_of xs)
 
 -- where the name stands, or else where it belongs
 abbrev pub IsSearchResult : {X : Type 0} → (X → List ℕ) → List ℕ → List X → Result ℕ ℕ → Type 0

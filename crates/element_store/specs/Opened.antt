@@ -19,7 +19,7 @@ use Rattle.element_state.specs.Reports.{reports}
 use Rattle.element_store.specs.declared.opening.OpeningPlan.{OpeningPlan}
 use Rattle.element_store.specs.Stores.{AreTaken}
 
--- whatever the disk tells: a text that fits, its view, and what follows from these
+-- whether or not the disk is modelled: a text that fits, its view, and what follows from these
 pub record IsOpeningPlan (shape : Shape) (r : OpeningPlan) : Type 0 where
   pub text : IsFit shape (r.seen, r.index)
   pub generation : r.before.generation ≡ r.seen.generation

@@ -5,9 +5,10 @@ use Rattle.std.specs.List.{All, AllZip, AllByRecursion}
 use Rattle.sha2.specs.Sha256.{sha256}
 use Rattle.per_base.specs.declared.elements.Fresh.{Fresh}
 use Rattle.per_base.specs.Names.{IsName}
+use Rattle.per_base.specs.Contents.{blocks_for}
 use Rattle.disk_model.specs.declared.place.Place.{Place}
 use Rattle.disk_model.specs.Image.{Image}
-use Rattle.block_files.specs.Parts.{blocks_for, is_changed}
+use Rattle.block_files.specs.Parts.{is_changed}
 use Rattle.block_files.specs.BlockSets.{contains, free_of, AreDistinct}
 use Rattle.index_text.specs.declared.entries.IndexEntry.{IndexEntry}
 use Rattle.element_state.specs.Views.{entry_view}

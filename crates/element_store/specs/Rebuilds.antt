@@ -48,7 +48,7 @@ OneTextStops true place generation text start c = PutStops place generation text
 OneTextStops false place generation text start c = KeepStops place generation text start c
 
 -- a storage in use at a view, by an index of format 2
-pub record IsMadeAnew (shape : Shape) (image : Image) (v : View) : Type 0 where
+pub record IsRebuilt (shape : Shape) (image : Image) (v : View) : Type 0 where
   pub index : Index
   pub format : index.format ≡ 2
   pub in_use : IsInUse shape image index v

@@ -1,6 +1,6 @@
 -- A storage in use: what it keeps in memory, and what it shows.
 use Rattle.std.specs.Prelude.{◌≡◌, ◌≤◌, ◌+◌, ℕ, List, length, Bool, IsTrue}
-use Rattle.std.specs.List.{AllZip}
+use Rattle.std.specs.List.{All, AllZip}
 use Rattle.per_base.specs.declared.elements.Entry.{Entry}
 use Rattle.disk_model.specs.Image.{Image}
 use Rattle.disk_model.specs.Orders.{named_in}
@@ -15,6 +15,7 @@ use Rattle.element_state.specs.declared.shapes.View.{View}
 use Rattle.element_state.specs.States.{whole_view}
 use Rattle.element_state.specs.Chosen.{IsReadBy}
 use Rattle.element_state.specs.Conditions.{IsShape, IsInUse}
+use Rattle.element_store.specs.Hashing.{AreOfElement}
 use Rattle.element_store.specs.Spelled.{IsTextOf}
 use Rattle.element_store.specs.declared.store.Store.{Store}
 
@@ -40,8 +41,8 @@ pub record AreTaken (blocks : ℕ) (entries : List IndexEntry) (set : List Bool)
   pub exact : (b : ℕ) → contains set b ≡ named_in (blocks_of entries) b
   pub free : blocks ≤ free_of set + length (blocks_of entries)
 
--- what it keeps in memory, whatever the disk tells: a register at its place, and an index that fits, with its elements
--- and its blocks
+-- what it keeps in memory, whether or not the disk is modelled: a register at its place, and an index that fits, with
+-- its elements, its blocks, and states of the hasher after parts of contents
 pub record IsStore (store : Store) : Type 0 where
   pub place : place_of store.cell ≡ store.shape.place
   pub shape : IsShape store.shape
@@ -49,6 +50,7 @@ pub record IsStore (store : Store) : Type 0 where
   pub index : IsTextOf store.shape (index_text store.index) store.index
   pub entries : AllZip (IsReadBy store.shape.place.copies) store.index.entries store.entries.items
   pub taken : AreTaken (area_blocks store.shape.allowed) store.index.entries store.used
+  pub kept : All (AreOfElement store.entries.items) store.kept.items
 
 -- the storage is in use on a disk: where the disk's bytes are modelled, these are its own
 pub record IsUsed (told : Bool) (image : Image) (store : Store) : Type 0 where

@@ -4,25 +4,28 @@ ghost use Rattle.std.specs.Prelude.{◌≡◌, [], ◌∷◌, ◌<◌, ◌≤◌
 ghost use Rattle.std.specs.List.{AllByRecursion, AllZip, IsDistinct};
 ghost use Rattle.std.specs.Str.{bytes_eq};
 ghost use Rattle.std.specs.Vec.{vec_len, vec_capacity};
+ghost use Rattle.sha2.specs.Sha256.{sha256};
 ghost use Rattle.block_files.specs.BlockSets.{free_of};
 ghost use Rattle.per_base.specs.declared.elements.Entry.{Entry};
 ghost use Rattle.per_base.specs.declared.elements.Change.TheVariants.{Put};
 ghost use Rattle.per_base.specs.Changes.{changed_name};
+ghost use Rattle.per_base.specs.Names.{NamesAscend};
 ghost use Rattle.element_state.specs.Changes.{after_change, after_changes};
 ghost use Rattle.index_text.specs.Contents.{SuitsKind};
 ghost use Rattle.element_state.specs.Conditions.{IsChange};
 ghost use Rattle.element_state.specs.Written.{change_cost};
+ghost use Rattle.element_store.specs.Hashing.{IsHashedAs};
 ghost use Rattle.element_store.specs.Jobs.{jobs_cost};
-ghost use Rattle.element_store.specs.Named.{NamesAscend};
 ghost use Rattle.element_store.specs.Changing.{named_by, IsSeenAs, change_blocks, blocks_of_changes};
 ghost use Rattle.element_store.specs.Changing.{AreStandingEntries};
 ghost use Rattle.element_store.specs.Changing.{IsEarlierContent, IsPlanned, KeepsOthers, IsGrownBy, IsTraced};
 ghost use Rattle.element_store.specs.Changing.{touched_entry};
 
+use crate::hashing::Hashed;
 use crate::jobs::Job;
 use crate::named::{place_of, put_in, take_out};
 use crate::planning::{Plan, entry_of};
-use block_files::{BlockSet, reserve_shared};
+use block_files::{BlockSet, reserve_hashed};
 use index_text::IndexEntry;
 use per_base::{Change, Content, Entry, FileInfo, Fresh, Name, StoreKind};
 use std::alloc::{AllocError, Global};
@@ -48,8 +51,10 @@ pub(crate) fn plan_changes<'a>(
     alloc: Global,
     standing: Standing<'a>,
     changes: &'a [Change],
+    hashed: &[Hashed],
     used: &mut BlockSet,
 ) -> Result<Plan<'a>, AllocError>
+    requires hashed { AllZip IsHashedAs changes.now hashed.now }
     requires standing { AreStandingEntries standing.kind used.old standing.index.now standing.entries.now }
     requires changes { AllByRecursion (IsChange standing.kind standing.entries.now) changes.now }
     requires apart { IsDistinct bytes_eq (map changed_name changes.now) }
@@ -66,8 +71,8 @@ pub(crate) fn plan_changes<'a>(
     let entries = with_room(alloc, standing.index, changes.len())?;
     let jobs = Vec::new(alloc);
     let mut plan = Plan { entries, jobs };
-    for change in changes {
-        plan_change(alloc, standing, change, used, &mut plan)?;
+    for (i, change) in changes.iter().enumerate() {
+        plan_change(alloc, standing, change, &hashed[i], used, &mut plan)?;
     }
     Ok(plan)
 }
@@ -94,9 +99,11 @@ fn plan_change<'a>(
     alloc: Global,
     standing: Standing<'a>,
     change: &'a Change,
+    hashed: &Hashed,
     used: &mut BlockSet,
     plan: &mut Plan<'a>,
 ) -> Result<(), AllocError>
+    requires hashed { IsHashedAs change.now hashed.now }
     requires standing { AreStandingEntries standing.kind used.old standing.index.now standing.entries.now }
     requires change { IsChange standing.kind standing.entries.now change.now }
     requires ascend { NamesAscend named_by plan.old.entries.items }
@@ -119,7 +126,7 @@ fn plan_change<'a>(
     ensures one_more { OnOk result (vec_len plan.new.entries ≤ vec_len plan.old.entries + 1) }
 {
     match change {
-        Change::Put(fresh) => plan_put(alloc, standing, fresh, used, plan)?,
+        Change::Put(fresh) => plan_put(alloc, standing, fresh, hashed.hash, used, plan)?,
         Change::Remove(name) => take_out(&mut plan.entries, name),
         Change::Touch(name, info) => {
             touch_entry(&mut plan.entries, standing.generation, name, *info)
@@ -133,9 +140,11 @@ fn plan_put<'a>(
     alloc: Global,
     standing: Standing<'a>,
     fresh: &'a Fresh,
+    hash: [u8; 32],
     used: &mut BlockSet,
     plan: &mut Plan<'a>,
 ) -> Result<(), AllocError>
+    requires hash { hash ≡ sha256 fresh.now.bytes }
     requires standing { AreStandingEntries standing.kind used.old standing.index.now standing.entries.now }
     requires fresh { SuitsKind standing.kind fresh.now }
     requires ascend { NamesAscend named_by plan.old.entries.items }
@@ -159,7 +168,7 @@ fn plan_put<'a>(
 {
     let bytes = fresh.bytes.as_slice();
     let earlier = earlier_content(standing, &fresh.name);
-    let blob = reserve_shared(alloc, used, bytes, earlier.bytes, earlier.blocks)?;
+    let blob = reserve_hashed(alloc, used, bytes, hash, earlier.bytes, earlier.blocks)?;
     let blocks = blob.blocks.copy()?;
     let entry = entry_of(standing.generation, fresh, blob)?;
     let job = Job {

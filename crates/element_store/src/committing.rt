@@ -1,10 +1,11 @@
 //! A commit: all of its changes, or none.
 
 ghost use Rattle.std.specs.Prelude.{◌≡◌, [], ◌<◌, ◌≤◌, ◌+◌, ◌*◌, List, IsTrue, IfOk, IfErr, OnOk, IsErrOf, length, map};
-ghost use Rattle.std.specs.List.{AllByRecursion};
+ghost use Rattle.std.specs.List.{AllByRecursion, AllZip};
 ghost use Rattle.std.specs.Vec.{vec_len, vec_capacity};
 ghost use Rattle.hash_guard.specs.SealedText.{header};
 ghost use Rattle.per_base.specs.Causes.{Rose};
+ghost use Rattle.per_base.specs.Names.{NamesAscend};
 ghost use Rattle.disk_model.specs.Frame.{Spares, IsSettledOn};
 ghost use Rattle.disk_model.specs.Medium.{Quiet, EachCase, Elapses};
 ghost use Rattle.disk_model.specs.Place.{IsOutside};
@@ -12,13 +13,14 @@ ghost use Rattle.element_state.specs.Changes.{after_changes, committed_by, entry
 ghost use Rattle.element_state.specs.Conditions.{AreCommittable};
 ghost use Rattle.element_state.specs.States.{Opens};
 ghost use Rattle.element_state.specs.Kept.{KeptThroughout};
-ghost use Rattle.element_store.specs.Named.{NamesAscend};
 ghost use Rattle.element_store.specs.Changing.{IsSmallChange, KeepsOthers};
 ghost use Rattle.element_store.specs.Committing.{IsPrepared, IsReadyToPut};
+ghost use Rattle.element_store.specs.Hashing.{IsHashedAs};
 ghost use Rattle.element_store.specs.Stores.{IsStore, IsUsed, shape_of, view_in};
 
 use crate::changing::{Standing, plan_changes};
 use crate::creating::fresh_entry;
+use crate::hashing::{Hashed, kept_after};
 use crate::jobs::{Job, write_durably};
 use crate::named::{place_of, put_in, take_out};
 use crate::planning::Plan;
@@ -43,6 +45,7 @@ struct Ready {
     /// The blocks of the index that stands and of the next one.
     used: BlockSet,
     entries: Vec<Entry>,
+    hashed: Vec<Hashed>,
 }
 
 /// What a commit needs, and the contents that it writes first.
@@ -139,6 +142,7 @@ impl Store {
             mut room,
             mut used,
             entries: roomy,
+            hashed,
         } = ready;
         let Store {
             alloc,
@@ -147,6 +151,7 @@ impl Store {
             index: standing,
             entries,
             used: _,
+            kept,
         } = self;
         let Ok(cell) = cell.write_in(disk, text.as_slice(), &mut room) else {
             return Err(Fault::Device);
@@ -156,8 +161,9 @@ impl Store {
             standing.entries.as_slice(),
             index.entries.as_slice(),
         );
+        let kept = kept_after(kept, &changes, hashed);
         let entries = changed(alloc, cell.generation(), moved(entries, roomy), changes);
-        Ok(Store::new(alloc, shape, cell, index, entries, used))
+        Ok(Store::new(alloc, shape, cell, index, entries, used, kept))
     }
 
     // Takes all memory, and then makes the contents durable in blocks outside those of the index.
@@ -172,6 +178,7 @@ impl Store {
         ensures empty { IfOk result (λ ready. ready.entries.items ≡ []) }
         ensures capacity { IfOk result (λ ready.
             length (entries_of self.now) + length changes.now ≤ vec_capacity ready.entries) }
+        ensures hashed { IfOk result (λ ready. AllZip IsHashedAs changes.now ready.hashed.items) }
 
         ensures cost { (D.medium disk.new).written ≤ (D.medium disk.old).written
             + (shape_of self.now).place.copies * commit_cost (shape_of self.now).kind (entries_of self.now)
@@ -214,6 +221,7 @@ impl Store {
         ensures empty { IfOk result (λ p. p.ready.entries.items ≡ []) }
         ensures capacity { IfOk result (λ p.
             length (entries_of self.now) + length changes.now ≤ vec_capacity p.ready.entries) }
+        ensures hashed { IfOk result (λ p. AllZip IsHashedAs changes.now p.ready.hashed.items) }
     {
         let alloc = self.alloc;
         let standing = Standing {
@@ -223,7 +231,8 @@ impl Store {
             entries: self.entries.as_slice(),
         };
         let mut used = self.used.copy()?;
-        let Plan { entries, jobs } = plan_changes(alloc, standing, changes, &mut used)?;
+        let hashed = self.hash_changes(changes)?;
+        let Plan { entries, jobs } = plan_changes(alloc, standing, changes, &hashed, &mut used)?;
         let Spelled { index, text } = spell(alloc, standing.kind, entries)?;
         let room = Cell::room(alloc, text.len())?;
         let entries = Vec::with_capacity(alloc, standing.entries.len() + changes.len())?;
@@ -233,6 +242,7 @@ impl Store {
             room,
             used,
             entries,
+            hashed,
         };
         Ok(Prepared { ready, jobs })
     }

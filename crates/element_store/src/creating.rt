@@ -92,7 +92,15 @@ pub fn create<D: Disk>(
     )?;
     let entries = fresh_entries(alloc, 1, contents)?;
     let cell = format_cell(alloc, disk, shape.place, spelled.text.as_slice())?;
-    Ok(Store::new(alloc, shape, cell, spelled.index, entries, taken))
+    Ok(Store::new(
+        alloc,
+        shape,
+        cell,
+        spelled.index,
+        entries,
+        taken,
+        Vec::new(alloc),
+    ))
 }
 
 // The elements of contents that this generation wrote.

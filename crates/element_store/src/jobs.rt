@@ -1,4 +1,4 @@
-//! Contents on their way into blocks that were chosen for them. Nothing here takes memory.
+//! Contents on their way into blocks that were chosen for them. Nothing here allocates.
 
 ghost use Rattle.std.specs.Prelude.{◌≡◌, ◌⊎◌, ◌≤◌, ◌+◌, ◌*◌, IsTrue, IsOk, OnOk, OnErr, length};
 ghost use Rattle.per_base.specs.Causes.{Rose};

@@ -11,10 +11,15 @@
 //! nothing; [`reports_of`] gives what an opening reports of a view, and [`failed_report`] what it reports of a corrupt
 //! storage.
 //!
+//! A storage in use keeps the states of the hasher after each 32 KiB of the contents that it wrote, 104 bytes each, so
+//! that the next content of such an element is hashed from the last of them before the first byte that differs. Of a
+//! content that an opening read it keeps none: the first commit that changes it hashes it whole. Where memory is short
+//! it keeps fewer, and hashes more.
+//!
 //! The promise, on every image: the exact view, a quiet disk, a place that is clean where it was so or is rebuilt,
 //! and no file elsewhere changed at any moment. A stop at any moment of an opening, a commit or a rebuild leaves the
 //! storage of before or that of after. A failure of the disk comes only where its count of faults rose. What is read is
-//! a view on every disk, told or not: names ascend, and lengths are right.
+//! a view on every disk, modelled or not: names ascend, and lengths are right.
 //!
 //! Limits: at most 1,024 elements, 8 copies (a manifest allows 7), and 4,194,304 bytes of names and contents; one
 //! caller at a time. A creation gives up what its place held before it writes anything else, and a stop in it may
@@ -24,6 +29,7 @@
 mod changing;
 mod committing;
 mod creating;
+mod hashing;
 mod jobs;
 mod laws;
 mod mending;

@@ -2,8 +2,9 @@
 
 ghost use Rattle.std.specs.Prelude.{◌≡◌, ◌<◌, ◌≤◌, ◌+◌, ℕ, List};
 ghost use Rattle.std.specs.Vec.{vec_len, vec_capacity};
+ghost use Rattle.per_base.specs.Names.{NamesAscend};
 ghost use Rattle.element_state.specs.Changes.{insert_item, without_item};
-ghost use Rattle.element_store.specs.Named.{IsSearchResult, NamesAscend};
+ghost use Rattle.element_store.specs.Named.{IsSearchResult};
 
 use index_text::IndexEntry;
 use per_base::{Entry, Name};

@@ -122,7 +122,7 @@ pub fn open_store<D: Disk>(
     let cell = adopt_seen(alloc, disk, shape.place, &seen, slots)?;
     mend_durably(disk, &shape, &index, before.entries.as_slice())?;
     Ok(OpenedStore {
-        store: Store::new(alloc, shape, cell, index, entries, used),
+        store: Store::new(alloc, shape, cell, index, entries, used, Vec::new(alloc)),
         reports,
         before,
     })

@@ -3,7 +3,7 @@
 ghost use Rattle.std.specs.Prelude.{◌≡◌, ◌≤◌, IfOk, length};
 ghost use Rattle.std.specs.List.{All};
 ghost use Rattle.sha2.specs.Sha256.{sha256};
-ghost use Rattle.block_files.specs.Parts.{blocks_for};
+ghost use Rattle.per_base.specs.Contents.{blocks_for};
 ghost use Rattle.block_files.specs.BlockSets.{free_of};
 ghost use Rattle.element_store.specs.Plans.{IsPlanOf, IsWrittenEntry, blocks_of_all};
 

@@ -14,7 +14,7 @@ ghost use Rattle.element_state.specs.Clean.{IsClean};
 ghost use Rattle.index_text.specs.Contents.{AreContents};
 ghost use Rattle.element_state.specs.Conditions.{IsShape};
 ghost use Rattle.element_state.specs.Kept.{KeptThroughout};
-ghost use Rattle.element_store.specs.Rebuilds.{IsGround, IsMadeAnew, IsLeftWith, OneTextStops, HasNext};
+ghost use Rattle.element_store.specs.Rebuilds.{IsGround, IsRebuilt, IsLeftWith, OneTextStops, HasNext};
 
 use crate::taking::blocks_taken_by;
 use crate::writing::{blocks_in_area, put_contents};
@@ -45,7 +45,7 @@ pub fn rebuild<D: Disk>(
     ensures opens { IsTrue D.told → OnOk result (store_at (D.medium disk.new).image shape.now
         ≡ fresh_state (next_generation (salvage_of (store_at (D.medium disk.old).image shape.now)))
         (fresh_map contents.items)) }
-    ensures in_use { IsTrue D.told → OnOk result (IsMadeAnew shape.now (D.medium disk.new).image
+    ensures in_use { IsTrue D.told → OnOk result (IsRebuilt shape.now (D.medium disk.new).image
         (fresh_view (next_generation (salvage_of (store_at (D.medium disk.old).image shape.now)))
         (fresh_map contents.items))) }
     ensures clean { IsTrue D.told → OnOk result (IsClean shape.now (D.medium disk.new).image) }

@@ -2,6 +2,7 @@
 
 ghost use Rattle.std.specs.Prelude.{◌≡◌};
 
+use crate::hashing::KeptStates;
 use crate::named::place_of;
 use block_files::BlockSet;
 use element_state::Shape;
@@ -20,6 +21,8 @@ pub struct Store {
     pub(crate) entries: Vec<Entry>,
     /// The blocks of the index.
     pub(crate) used: BlockSet,
+    /// States of the hasher after parts of contents.
+    pub(crate) kept: Vec<KeptStates>,
 }
 
 impl Store {
@@ -37,6 +40,7 @@ impl Store {
         index: Index,
         entries: Vec<Entry>,
         used: BlockSet,
+        kept: Vec<KeptStates>,
     ) -> Store
         ensures { result ≡ record {
           alloc = alloc;
@@ -46,6 +50,7 @@ impl Store {
           entries = entries;
           used =
               used;
+          kept = kept;
         } }
     {
         Store {
@@ -55,6 +60,7 @@ impl Store {
             index,
             entries,
             used,
+            kept,
         }
     }
 

@@ -4,8 +4,8 @@ use Rattle.std.specs.List.{AllByRecursion}
 use Rattle.std.proofs.lemmas.List.Elements.{All-from_recursion}
 use Rattle.per_base.specs.declared.elements.Fresh.{Fresh}
 use Rattle.per_base.specs.declared.elements.StoreKind.{StoreKind}
+use Rattle.index_text.specs.lemmas.FieldReaders.{max_len_fits}
 use Rattle.export_text.specs.Exports.{IsExportable}
-use Rattle.export_text.proofs.FieldReaders.{max_len_fits}
 
 pub short_at : (kind : StoreKind) (fs : List Fresh) (i : ℕ) (f : Fresh) → AllByRecursion (IsExportable kind) fs
     → i < length fs → f ≡ get_or fs i f → length f.bytes < 2 ^ 32

@@ -12,27 +12,27 @@ use Rattle.sha2.specs.Sha256.{sha256}
 use Rattle.sha2.proofs.Facts256.{length-sha256}
 use Rattle.per_base.specs.declared.elements.Fresh.{Fresh}
 use Rattle.per_base.specs.declared.elements.StoreKind.{StoreKind}
-use Rattle.per_base.specs.Fields.{◌>>=◌, byte_at, bytes_at, many, number_at}
-use Rattle.per_base.specs.FieldLaws.{IsBytes, IsBytes-take, IsReader, Takes, Takes-then, bind_some, byte_reader}
-use Rattle.per_base.specs.FieldLaws.{bytes_reader, many_reader, moved, number_reader, only_some, only_true, some_is}
-use Rattle.per_base.specs.FieldLaws.{wide_16}
+use Rattle.per_base.specs.Fields.{◌>>=◌, byte_at, bytes_at, many, number_at, AreBytes}
+use Rattle.per_base.specs.FieldLaws.{AreBytes-take, IsReader, Takes, Takes-then, bind_some, byte_reader, bytes_reader}
+use Rattle.per_base.specs.FieldLaws.{many_reader, moved, number_reader, only_some, only_true, some_is, wide_16}
+use Rattle.value_code.specs.Reading.{is_content}
 use Rattle.index_text.specs.Reading.{ascends, coded_kind, info_at, len_at, name_at}
 use Rattle.index_text.specs.Rules.{max_len}
 use Rattle.index_text.specs.Spelling.{info_text, name_text, store_kind_code}
+use Rattle.index_text.specs.lemmas.FieldReaders.{coded_kind_again, info_reader, kind_back, len_reader, name_reader}
 use Rattle.export_text.specs.declared.errors.ExportError.{ExportError}
 use Rattle.export_text.specs.declared.errors.ExportError.TheVariants as errors
 use Rattle.export_text.specs.declared.exports.Export.{Export}
 use Rattle.export_text.specs.declared.reading.Header.{Header}
 use Rattle.export_text.specs.Exports.{IsExport, IsExportable, IsExportedElement, body_hashed, body_read, content_at}
 use Rattle.export_text.specs.Exports.{export_body, export_of, export_text, fresh_at, fresh_text, header_at, header_text}
-use Rattle.export_text.specs.Exports.{is_content, mark, marked_at, names_of}
+use Rattle.export_text.specs.Exports.{mark, marked_at, names_of}
 use Rattle.export_text.specs.Views.{Gives}
-use Rattle.export_text.proofs.FieldReaders.{coded_kind_again, info_reader, kind_back, len_reader, name_reader}
 use Rattle.export_text.proofs.Order.{ascends_from_sorted, sorted_from_ascends}
 
 -- ---- an element
 
-content_takes : (kind : StoreKind) (n : ℕ) (bytes x rest : List ℕ) → IsBytes bytes
+content_takes : (kind : StoreKind) (n : ℕ) (bytes x rest : List ℕ) → AreBytes bytes
     → content_at kind n bytes ≡ Some (x, rest) → Takes bytes x rest × ((length x ≡ n) × IsTrue (is_content kind x))
 unfolding content_at
 content_takes kind n bytes x rest fits e =
@@ -51,7 +51,7 @@ content_again kind n x rest fits = rw ((bytes_reader n).again x rest fits.0)
 abbrev IsGood : StoreKind → Fresh → Type 0
 IsGood kind f = IsExportable kind f × IsExportedElement f
 
-fresh_takes : (kind : StoreKind) (bytes : List ℕ) (x : Fresh) (rest : List ℕ) → IsBytes bytes
+fresh_takes : (kind : StoreKind) (bytes : List ℕ) (x : Fresh) (rest : List ℕ) → AreBytes bytes
     → fresh_at kind bytes ≡ Some (x, rest) → Takes bytes (fresh_text x) rest × IsGood kind x
 unfolding fresh_at fresh_text
 fresh_takes kind bytes x rest fits e =
@@ -119,7 +119,7 @@ from_parts kind (f ∷ fs) each elements = ((each.0, elements.0), from_parts kin
 
 -- ---- the header
 
-marked_takes : (bytes rest : List ℕ) → IsBytes bytes → marked_at bytes ≡ Some rest → Takes bytes mark rest
+marked_takes : (bytes rest : List ℕ) → AreBytes bytes → marked_at bytes ≡ Some rest → Takes bytes mark rest
 unfolding marked_at
 marked_takes bytes rest fits e =
     let first = bind_some (bytes_at 5 bytes) _ rest e in
@@ -133,7 +133,7 @@ marked_again : (rest : List ℕ) → marked_at (mark ++ rest) ≡ Some rest
 unfolding marked_at
 marked_again rest = rw ((bytes_reader 5).again mark rest refl) refl
 
-header_takes : (bytes : List ℕ) (h : Header) (rest : List ℕ) → IsBytes bytes → header_at bytes ≡ Some (h, rest)
+header_takes : (bytes : List ℕ) (h : Header) (rest : List ℕ) → AreBytes bytes → header_at bytes ≡ Some (h, rest)
     → Takes bytes (header_text h.kind h.count) rest × (h.count ≤ 1024)
 unfolding header_at
 header_takes bytes h rest fits e =
@@ -170,7 +170,8 @@ header_again h rest few =
 ends_there : (bytes text rest : List ℕ) → Takes bytes text rest → rest ≡ [] → bytes ≡ text
 ends_there bytes text rest took nothing = took.parts ∙ ap (λ (r : List ℕ). text ++ r) nothing ∙ append-nil text
 
-body_takes : (body : List ℕ) (x : Export) → IsBytes body → body_read body ≡ Some x → IsExport x × (body ≡ export_body x)
+body_takes : (body : List ℕ) (x : Export) → AreBytes body → body_read body ≡ Some x → IsExport x
+    × (body ≡ export_body x)
 unfolding body_read
 body_takes body x fits e =
     let header = bind_some (header_at body) _ x e in
@@ -210,13 +211,13 @@ body_again x is =
 -- ---- the whole text
 
 -- bytes before others are bytes
-front_fits : (text front rest : List ℕ) → IsBytes text → text ≡ front ++ rest → IsBytes front
+front_fits : (text front rest : List ℕ) → AreBytes text → text ≡ front ++ rest → AreBytes front
 front_fits text front rest fits parts =
-    subst IsBytes (take_at front rest (length front) refl)
-    (subst (λ (t : List ℕ). IsBytes (take (length front) t)) parts (IsBytes-take (length front) text fits))
+    subst AreBytes (take_at front rest (length front) refl)
+    (subst (λ (t : List ℕ). AreBytes (take (length front) t)) parts (AreBytes-take (length front) text fits))
 
-hashed_takes : (text body : List ℕ) → IsBytes text → body_hashed text ≡ Some body
-    → IsBytes body × (text ≡ body ++ sha256 body)
+hashed_takes : (text body : List ℕ) → AreBytes text → body_hashed text ≡ Some body
+    → AreBytes body × (text ≡ body ++ sha256 body)
 unfolding body_hashed
 hashed_takes text body fits e =
     let parts = bind_some (bytes_at (length text - 32) text) _ body e in
@@ -224,7 +225,7 @@ hashed_takes text body fits e =
     let took = (bytes_reader (length text - 32)).takes text parts.0.0 parts.0.1 fits parts.1 in
     let is : parts.0.1 ≡ sha256 parts.0.0 = (bytes_eq-Decides parts.0.1 (sha256 parts.0.0)).0 passed.0 in
     let whole : text ≡ parts.0.0 ++ sha256 parts.0.0 = took.0.parts ∙ ap (λ (h : List ℕ). parts.0.0 ++ h) is in
-    subst (λ (b : List ℕ). IsBytes b × (text ≡ b ++ sha256 b)) {x = parts.0.0} passed.1
+    subst (λ (b : List ℕ). AreBytes b × (text ≡ b ++ sha256 b)) {x = parts.0.0} passed.1
     (front_fits text parts.0.0 parts.0.1 fits took.0.parts, whole)
 
 hashed_again : (body : List ℕ) → body_hashed (body ++ sha256 body) ≡ Some body
@@ -236,7 +237,7 @@ hashed_again body =
     (only_true (bytes_eq (sha256 body) (sha256 body)) body ((bytes_eq-Decides (sha256 body) (sha256 body)).1 refl))
 
 -- what is read keeps the rules, and is spelled so
-pub export_takes : (text : List ℕ) (x : Export) → IsBytes text → export_of text ≡ Some x
+pub export_takes : (text : List ℕ) (x : Export) → AreBytes text → export_of text ≡ Some x
     → IsExport x × (text ≡ export_text x)
 unfolding export_of export_text
 export_takes text x fits e =
@@ -256,12 +257,13 @@ export_again x is = ap (λ (r : Option (List ℕ)). r >>= body_read) (hashed_aga
 pub one_export : (x y : Export) → IsExport x → IsExport y → export_text x ≡ export_text y → x ≡ y
 one_export x y x_is y_is same = some_is x y (sym (export_again x x_is) ∙ ap export_of same ∙ export_again y y_is)
 
-pub read_keeps_rules : (text : List ℕ) (r : Result Export ExportError) → IsBytes text
+pub read_keeps_rules : (text : List ℕ) (r : Result Export ExportError) → AreBytes text
     → Gives (λ x. x) r (export_of text) → IfOk r IsExport
 read_keeps_rules text (Ok x) fits given = (export_takes text x fits given).0
 read_keeps_rules text (Err e) fits given = tt
 
-pub read_is_spelled : (text : List ℕ) (r : Result Export ExportError) → IsBytes text → Gives (λ x. x) r (export_of text)
+pub read_is_spelled : (text : List ℕ) (r : Result Export ExportError) → AreBytes text
+    → Gives (λ x. x) r (export_of text)
     → IfOk r (λ x. text ≡ export_text x)
 read_is_spelled text (Ok x) fits given = (export_takes text x fits given).1
 read_is_spelled text (Err e) fits given = tt

@@ -1,6 +1,6 @@
 -- An export: which ones there are, the one text of each, and the export that a text spells.
-use Rattle.std.specs.Prelude.{◌≤◌, ◌-◌, ◌==◌, ◌&&◌, ℕ, List, [], ◌∷◌, ◌++◌, length, map, Bool, true, Option, Some}
-use Rattle.std.specs.Prelude.{is_some, nat_le, codes, IsTrue}
+use Rattle.std.specs.Prelude.{◌≤◌, ◌-◌, ◌==◌, ◌&&◌, ℕ, List, [], ◌∷◌, ◌++◌, length, map, Option, Some}
+use Rattle.std.specs.Prelude.{nat_le, codes, IsTrue}
 use Rattle.std.specs.Int.{w16, w32, to_le_bytes}
 use Rattle.std.specs.List.{AllByRecursion, flat_map}
 use Rattle.std.specs.List.Sorted.{IsStrictlySortedBy}
@@ -8,23 +8,17 @@ use Rattle.std.specs.Str.{bytes_eq}
 use Rattle.sha2.specs.Sha256.{sha256}
 use Rattle.per_base.specs.declared.elements.Fresh.{Fresh}
 use Rattle.per_base.specs.declared.elements.StoreKind.{StoreKind}
-use Rattle.per_base.specs.declared.elements.StoreKind.TheVariants.{Keys, Files}
 use Rattle.per_base.specs.Fields.{◌>>=◌, byte_at, bytes_at, many, number_at, only_if}
 use Rattle.per_base.specs.Names.{IsName, name_cmp}
 use Rattle.index_text.specs.Reading.{ascends, coded_kind, info_at, len_at, name_at}
 use Rattle.index_text.specs.Rules.{InfoIsInRange, has_info, max_len}
 use Rattle.index_text.specs.Spelling.{info_text, name_text, store_kind_code}
-use Rattle.value_code.specs.Reading.{decoded}
+use Rattle.value_code.specs.Reading.{is_content}
 use Rattle.export_text.specs.declared.exports.Export.{Export}
 use Rattle.export_text.specs.declared.reading.Header.{Header}
 pub use Rattle.export_text.specs.declared.exports.Export.{Export}
 
 -- ---- which exports there are
-
--- the bytes are a content of this kind: for a key they encode a value
-abbrev pub is_content : StoreKind → List ℕ → Bool
-is_content Keys bytes = is_some (decoded bytes)
-is_content Files bytes = true
 
 -- an info exactly for files, no more bytes than the kind allows, and bytes that are a content of it
 pub record IsExportable (kind : StoreKind) (f : Fresh) : Type 0 where
@@ -123,3 +117,9 @@ unfoldable pub export_of : List ℕ → Option Export
 export_of text = do
   body ← body_hashed text
   body_read body
+
+-- what stands before the elements of a text that ends in the hash of the rest
+unfoldable pub header_in : List ℕ → Option (Header × List ℕ)
+header_in text = do
+  body ← body_hashed text
+  header_at body

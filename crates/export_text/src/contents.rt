@@ -3,8 +3,9 @@
 ghost use Rattle.std.specs.Prelude.{◌≡◌, IfOk};
 ghost use Rattle.std.specs.Ordering.{is_lt};
 ghost use Rattle.per_base.specs.Names.{name_cmp};
+ghost use Rattle.value_code.specs.Reading.{is_content};
 ghost use Rattle.index_text.specs.Reading.{ascends};
-ghost use Rattle.export_text.specs.Exports.{is_content, names_of};
+ghost use Rattle.export_text.specs.Exports.{names_of};
 
 use per_base::{Fresh, Name, StoreKind};
 use std::alloc::{AllocError, Global};

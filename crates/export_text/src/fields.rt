@@ -1,6 +1,6 @@
 //! The fields of an element, each read from the start of what is left of a text.
 
-ghost use Rattle.std.specs.Prelude.{◌≡◌};
+ghost use Rattle.std.specs.Prelude.{◌≡◌, IsErrOf};
 ghost use Rattle.per_base.specs.Fields.{only_if};
 ghost use Rattle.per_base.specs.Names.{is_name};
 ghost use Rattle.index_text.specs.Reading.{cause_at, coded_cause, coded_kind, file_info_at, info_at, len_at, name_at};
@@ -41,7 +41,8 @@ fn name_from(alloc: Global, bytes: &[u8]) -> Result<Name, ExportError>
 }
 
 pub fn kind_from(code: u8) -> Result<StoreKind, ExportError>
-    ensures { Gives (λ kind. kind) result (coded_kind code) }
+    ensures read { Gives (λ kind. kind) result (coded_kind code) }
+    ensures memory { ¬ (IsErrOf result ExportError.OutOfMemory) }
 {
     match code {
         1 => Ok(StoreKind::Keys),

@@ -1,10 +1,10 @@
 //! Reading an export from its text.
 
-ghost use Rattle.std.specs.Prelude.{◌≡◌, ◌≢◌, IfOk, IsErrOf};
+ghost use Rattle.std.specs.Prelude.{◌≡◌, ◌≢◌, None, IfOk, IsErrOf};
 ghost use Rattle.per_base.specs.Fields.{many};
 ghost use Rattle.export_text.specs.declared.exports.Export.{Export};
 ghost use Rattle.export_text.specs.Exports.{IsExport, body_hashed, body_read, export_by, export_of, export_text};
-ghost use Rattle.export_text.specs.Exports.{fresh_at, header_at, marked_at};
+ghost use Rattle.export_text.specs.Exports.{fresh_at, header_at, header_in, marked_at};
 ghost use Rattle.export_text.specs.Views.{Gives};
 
 use crate::contents::names_ascend;
@@ -31,13 +31,17 @@ pub fn read_export(alloc: Global, bytes: &[u8]) -> Result<Export, ExportError>
 
     // Which export it is, as a function of the bytes.
     ensures read { Gives (λ x. x) result (export_of bytes.now) }
+
+    // Without its hash, the mark, a kind and a count of elements a text is refused, however little memory there is.
+    ensures memory { IsErrOf result ExportError.OutOfMemory → header_in bytes.now ≢ None }
 {
     read_whole(alloc, bytes)
 }
 
-#[tactic(auto, unfolding(crate::specs::Exports::export_of))]
+#[tactic(auto, unfolding(crate::specs::Exports::export_of, crate::specs::Exports::header_in))]
 fn read_whole(alloc: Global, text: &[u8]) -> Result<Export, ExportError>
-    ensures { Gives (λ x. x) result (export_of text.now) }
+    ensures read { Gives (λ x. x) result (export_of text.now) }
+    ensures memory { IsErrOf result ExportError.OutOfMemory → header_in text.now ≢ None }
 {
     let body = hashed_body(text)?;
     read_body(alloc, body)
@@ -46,7 +50,8 @@ fn read_whole(alloc: Global, text: &[u8]) -> Result<Export, ExportError>
 /// What stands before the hash, where it is the hash of that.
 #[tactic(auto, unfolding(crate::specs::Exports::body_hashed))]
 fn hashed_body(text: &[u8]) -> Result<&[u8], ExportError>
-    ensures { Gives (λ body. body.now) result (body_hashed text.now) }
+    ensures read { Gives (λ body. body.now) result (body_hashed text.now) }
+    ensures memory { ¬ (IsErrOf result ExportError.OutOfMemory) }
 {
     let (body, stated) = bytes_of(text.len().saturating_sub(HASH_BYTES), text)?;
     let digest = Sha256::digest(body);
@@ -58,7 +63,8 @@ fn hashed_body(text: &[u8]) -> Result<&[u8], ExportError>
 
 #[tactic(auto, unfolding(crate::specs::Exports::body_read))]
 fn read_body(alloc: Global, body: &[u8]) -> Result<Export, ExportError>
-    ensures { Gives (λ x. x) result (body_read body.now) }
+    ensures read { Gives (λ x. x) result (body_read body.now) }
+    ensures memory { IsErrOf result ExportError.OutOfMemory → header_at body.now ≢ None }
 {
     let (header, rest) = header_of(body)?;
     let (contents, rest) = contents_of(alloc, header, rest)?;
@@ -85,7 +91,8 @@ pub(crate) struct Header {
 
 #[tactic(auto, unfolding(crate::specs::Exports::marked_at))]
 fn marked_of(bytes: &[u8]) -> Result<&[u8], ExportError>
-    ensures { Gives (λ rest. rest.now) result (marked_at bytes.now) }
+    ensures read { Gives (λ rest. rest.now) result (marked_at bytes.now) }
+    ensures memory { ¬ (IsErrOf result ExportError.OutOfMemory) }
 {
     let (first, rest) = bytes_of(MARK.len(), bytes)?;
     if first != MARK.as_slice() {
@@ -96,7 +103,8 @@ fn marked_of(bytes: &[u8]) -> Result<&[u8], ExportError>
 
 #[tactic(auto, unfolding(crate::specs::Exports::header_at))]
 fn header_of(bytes: &[u8]) -> Result<(Header, &[u8]), ExportError>
-    ensures { Gives (λ x. (x.0, x.1.now)) result (header_at bytes.now) }
+    ensures read { Gives (λ x. (x.0, x.1.now)) result (header_at bytes.now) }
+    ensures memory { ¬ (IsErrOf result ExportError.OutOfMemory) }
 {
     let rest = marked_of(bytes)?;
     let (code, rest) = byte_of(rest)?;

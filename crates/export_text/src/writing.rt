@@ -1,17 +1,16 @@
 //! Writing an export as its text.
 
-ghost use Rattle.std.specs.Prelude.{◌≡◌, ◌≤◌, ◌<◌, ◌^◌, ◌++◌, IfOk, OnOk, Some, length};
+ghost use Rattle.std.specs.Prelude.{◌≡◌, ◌<◌, ◌^◌, ◌++◌, IfOk, OnOk, Some, length};
 ghost use Rattle.std.specs.List.{AllByRecursion, flat_map};
 ghost use Rattle.per_base.specs.declared.elements.Fresh.{Fresh};
-ghost use Rattle.index_text.specs.Rules.{InfoInRange, InfoIsInRange};
-ghost use Rattle.index_text.specs.Spelling.{cause_code, file_info_text, info_text, name_text, store_kind_code};
 ghost use Rattle.export_text.specs.declared.exports.Export.{Export};
 ghost use Rattle.export_text.specs.Exports.{AreExportable, IsExport, IsExportedElement, export_body, export_of};
 ghost use Rattle.export_text.specs.Exports.{export_text};
 ghost use Rattle.export_text.specs.Exports.{fresh_text, header_text};
 
 use crate::exports::MARK;
-use per_base::{Cause, FileInfo, Fresh, StoreKind};
+use index_text::{kind_byte, put_info, put_name};
+use per_base::{Fresh, StoreKind};
 use sha2::{Digest, Sha256};
 use std::alloc::{AllocError, Global};
 
@@ -59,27 +58,6 @@ fn put_header(text: &mut Vec<u8>, kind: StoreKind, count: u16) -> Result<(), All
     Ok(())
 }
 
-fn kind_byte(kind: StoreKind) -> u8
-    ensures { result ≡ store_kind_code kind }
-{
-    match kind {
-        StoreKind::Keys => 1,
-        StoreKind::Files => 2,
-    }
-}
-
-fn cause_byte(cause: Cause) -> u8
-    ensures { result ≡ cause_code cause }
-{
-    match cause {
-        Cause::Installation => 1,
-        Cause::Update => 2,
-        Cause::Reset => 3,
-        Cause::Recovery => 4,
-        Cause::Application => 5,
-    }
-}
-
 #[tactic(auto, unfolding(crate::specs::Exports::fresh_text))]
 fn put_element(text: &mut Vec<u8>, element: &Fresh) -> Result<(), AllocError>
     requires { length element.now.bytes < 2 ^ 32 }
@@ -90,36 +68,5 @@ fn put_element(text: &mut Vec<u8>, element: &Fresh) -> Result<(), AllocError>
     put_info(text, &element.info)?;
     text.extend_from_slice(&(element.bytes.len() as u32).to_le_bytes())?;
     text.extend_from_slice(element.bytes.as_slice())?;
-    Ok(())
-}
-
-fn put_name(text: &mut Vec<u8>, name: &str) -> Result<(), AllocError>
-    requires { length name.now ≤ 255 }
-    ensures { OnOk result (text.new.items ≡ text.old.items ++ name_text name.now) }
-{
-    text.push(name.len() as u8)?;
-    text.extend_from_slice(name.as_bytes())?;
-    Ok(())
-}
-
-fn put_info(text: &mut Vec<u8>, info: &Option<FileInfo>) -> Result<(), AllocError>
-    ensures text { OnOk result (text.new.items ≡ text.old.items ++ info_text info.now) }
-    ensures in_range { OnOk result (InfoIsInRange info.now) }
-{
-    match info {
-        None => Ok(()),
-        Some(info) => put_file_info(text, info),
-    }
-}
-
-fn put_file_info(text: &mut Vec<u8>, info: &FileInfo) -> Result<(), AllocError>
-    ensures text { OnOk result (text.new.items ≡ text.old.items ++ file_info_text info.now) }
-    ensures in_range { OnOk result (InfoInRange info.now) }
-{
-    text.extend_from_slice(&info.created.to_le_bytes())?;
-    text.extend_from_slice(&info.modified.to_le_bytes())?;
-    text.extend_from_slice(&info.accessed.to_le_bytes())?;
-    let causes = [cause_byte(info.creation), cause_byte(info.modification)];
-    text.extend_from_slice(&causes)?;
     Ok(())
 }

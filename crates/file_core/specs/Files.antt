@@ -1,5 +1,5 @@
 -- A file: an element with an info, whose length is that of its content; and what writing and cutting make of it.
-use Rattle.std.specs.Prelude.{◌≡◌, ℕ, ◌+◌, ◌<◌, ◌≤◌, List, [], length, take, Bool, true, false, not, cond, ◌==◌, nat_lt}
+use Rattle.std.specs.Prelude.{ℕ, ◌+◌, ◌<◌, ◌≤◌, List, length, take, not, cond, ◌==◌, nat_lt}
 use Rattle.std.specs.Prelude.{Option, Some, None, IsSome, option_map, Result, Ok}
 use Rattle.per_base.specs.declared.elements.Cause.{Cause}
 use Rattle.per_base.specs.declared.elements.Cause.TheVariants.{Application}
@@ -11,32 +11,18 @@ use Rattle.per_base.specs.declared.errors.Limit.TheVariants.{FileBytes}
 use Rattle.per_base.specs.declared.errors.PerError.{PerError}
 use Rattle.per_base.specs.declared.errors.PerError.TheVariants.{IllegalWriteAccess, InvalidSize, LimitReached}
 use Rattle.per_base.specs.declared.errors.PerError.TheVariants.{OutOfStorageSpace}
+use Rattle.per_base.specs.Contents.{readable_bytes, HasLength}
+use Rattle.per_base.specs.Refusals.{refuse, refused_by}
 use Rattle.file_core.specs.declared.cursor.Cursor.{Cursor}
 use Rattle.file_core.specs.declared.room.Room.{Room}
 use Rattle.file_core.specs.Infos.{info_changed, opened_info}
-use Rattle.file_core.specs.Places.{writes, moved, write_place, overwritten, within}
-use Rattle.file_core.specs.Refusals.{refuse, refused_by}
-
-abbrev pub is_good : Content → Bool
-is_good (Good bytes) = true
-is_good (Bad salvage) = false
-
--- the bytes of a readable content; an unreadable one gives none
-abbrev pub bytes_of : Content → List ℕ
-bytes_of (Good bytes) = bytes
-bytes_of (Bad salvage) = []
+use Rattle.file_core.specs.Places.{writes, moved, write_place, overwritten, moved_within}
 
 -- a content that is readable, or of which nothing verifies
 abbrev pub NoSalvage : Content → Type 0
 NoSalvage (Good bytes) = Unit {0}
 NoSalvage (Bad None) = Unit {0}
 NoSalvage (Bad (Some salvage)) = ⊥
-
--- what there is of the content, and the salvage likewise, has this length
-abbrev pub HasLength : Content → ℕ → Type 0
-HasLength (Good bytes) len = length bytes ≡ len
-HasLength (Bad None) len = Unit {0}
-HasLength (Bad (Some salvage)) len = length salvage ≡ len
 
 -- an element that is a file
 pub record IsFile (file : Element) : Type 0 where
@@ -63,12 +49,13 @@ too_long room len =
 
 -- a piece that is written reaches past the end
 abbrev pub GrowsBy : Cursor → Element → List ℕ → Type 0
-GrowsBy cursor file piece = length (bytes_of file.content) < write_place cursor (bytes_of file.content) + length piece
+GrowsBy cursor file piece = length (readable_bytes file.content) < write_place cursor
+    (readable_bytes file.content) + length piece
 
 -- a piece overwrites and extends from the place of writing, and the place is then past it
 abbrev pub written : Cursor → Element → List ℕ → ℕ → Room → Result (Cursor × Element) PerError
 written cursor file piece now room =
-    let bytes = bytes_of file.content in
+    let bytes = readable_bytes file.content in
     let from = write_place cursor bytes in
     let after = overwritten from piece bytes in
     refuse (not (writes cursor.kind)) IllegalWriteAccess
@@ -82,5 +69,5 @@ written cursor file piece now room =
 abbrev pub cut : Cursor → Element → ℕ → ℕ → Result (Cursor × Element) PerError
 cut cursor file size now =
     refuse (not (writes cursor.kind)) IllegalWriteAccess
-    (refuse (nat_lt (length (bytes_of file.content)) size) InvalidSize
-    (Ok (within cursor size, changed_to (take size (bytes_of file.content)) now Application file)))
+    (refuse (nat_lt (length (readable_bytes file.content)) size) InvalidSize
+    (Ok (moved_within cursor size, changed_to (take size (readable_bytes file.content)) now Application file)))

@@ -1,4 +1,3 @@
 pub mod Files
 pub mod Infos
 pub mod Places
-pub mod Refusals

@@ -10,8 +10,8 @@ use Rattle.per_base.specs.declared.opening.OpenMode.{OpenMode}
 use Rattle.per_base.specs.declared.opening.Origin.{Origin}
 use Rattle.per_base.specs.declared.opening.Origin.TheVariants.{Beginning, Current, End}
 use Rattle.per_base.specs.Modes.{at_beginning, at_end, truncates, appends}
+use Rattle.per_base.specs.Refusals.{refuse}
 use Rattle.file_core.specs.declared.cursor.Cursor.{Cursor}
-use Rattle.file_core.specs.Refusals.{refuse}
 
 abbrev pub reads : OpenKind → Bool
 reads Read = true
@@ -40,7 +40,7 @@ advanced cursor by = moved cursor (cursor.position + by)
 abbrev pub is_eof : Cursor → List ℕ → Bool
 is_eof cursor bytes = nat_le (length bytes) cursor.position
 
--- what is made of the bytes that are left, or the refusals of reading
+-- what a call gives for the bytes that are left, or the refusals of reading
 abbrev pub reading : {A : Type 0} → Cursor → List ℕ → (List ℕ → A) → Result A PerError
 reading cursor bytes use_rest =
     refuse (not (reads cursor.kind)) IllegalReadAccess
@@ -87,8 +87,8 @@ abbrev pub overwritten : ℕ → List ℕ → List ℕ → List ℕ
 overwritten from piece bytes = take from bytes ++ piece ++ drop (from + length piece) bytes
 
 -- a place beyond the size becomes the size
-abbrev pub within : Cursor → ℕ → Cursor
-within cursor size = moved cursor (min cursor.position size)
+abbrev pub moved_within : Cursor → ℕ → Cursor
+moved_within cursor size = moved cursor (min cursor.position size)
 
 abbrev pub set_position : Cursor → ℕ → ℕ → Result Cursor PerError
 set_position cursor size at = refuse (nat_lt size at) InvalidPosition (Ok (moved cursor at))

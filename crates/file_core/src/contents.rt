@@ -2,7 +2,8 @@
 
 ghost use Rattle.std.specs.Prelude.{◌≡◌, ◌<◌, ◌≤◌, ◌+◌, length, take, List, ℕ, IfOk, IfSome, IfNone, IsTrue, OnOk};
 ghost use Rattle.std.specs.Prelude.{OnErr};
-ghost use Rattle.file_core.specs.Files.{NoSalvage, bytes_of, is_good};
+ghost use Rattle.per_base.specs.Contents.{is_readable, readable_bytes};
+ghost use Rattle.file_core.specs.Files.{NoSalvage};
 ghost use Rattle.file_core.specs.Places.{overwritten};
 
 use per_base::{Bytes, Content};
@@ -15,12 +16,12 @@ pub fn overwrite_content(
     from: usize,
     piece: &[u8],
 ) -> Result<usize, AllocError>
-    requires good { IsTrue (is_good content.old) }
-    requires inside { from ≤ length (bytes_of content.old) }
-    ensures ok { OnOk result (content.new ≡ Content.Good (overwritten from piece.now (bytes_of content.old))) }
-    ensures len { IfOk result (λ len. len ≡ length (overwritten from piece.now (bytes_of content.old))) }
+    requires good { IsTrue (is_readable content.old) }
+    requires inside { from ≤ length (readable_bytes content.old) }
+    ensures ok { OnOk result (content.new ≡ Content.Good (overwritten from piece.now (readable_bytes content.old))) }
+    ensures len { IfOk result (λ len. len ≡ length (overwritten from piece.now (readable_bytes content.old))) }
     ensures unchanged { OnErr result (content.new ≡ content.old) }
-    ensures memory { OnErr result (length (bytes_of content.old) < from + length piece.now) }
+    ensures memory { OnErr result (length (readable_bytes content.old) < from + length piece.now) }
 {
     let Content::Good(bytes) = mem::replace(content, Content::Bad(None)) else {
         return Ok(0);
@@ -35,8 +36,8 @@ pub fn overwrite_content(
 
 /// Keeps that many bytes of a readable content.
 pub fn truncate_content(content: &mut Content, size: usize)
-    requires { IsTrue (is_good content.old) }
-    ensures { content.new ≡ Content.Good (take size (bytes_of content.old)) }
+    requires { IsTrue (is_readable content.old) }
+    ensures { content.new ≡ Content.Good (take size (readable_bytes content.old)) }
 {
     if let Content::Good(bytes) = mem::replace(content, Content::Bad(None)) {
         let mut bytes = bytes.into_vec();
@@ -66,7 +67,7 @@ pub fn recover_content(content: &mut Content) -> Option<usize>
 
 /// Puts the piece into the bytes from there on: it overwrites what stands there, and extends the bytes at their end.
 ///
-/// Takes memory only for what reaches past the end. After an error the bytes are as they were.
+/// Allocates only for what reaches past the end. After an error the bytes are as they were.
 fn overwrite(bytes: &mut Vec<u8>, from: usize, piece: &[u8]) -> Result<(), AllocError>
     requires { from ≤ length bytes.old.items }
     ensures ok { OnOk result (bytes.new.items ≡ overwritten from piece.now bytes.old.items) }

@@ -1,8 +1,8 @@
 //! A place in a content, and what may be done there.
 
 ghost use Rattle.std.specs.Prelude.{◌≡◌, ◌<◌, ◌≤◌, cond, length, min, IfOk, IfErr, IfSome, OnOk, OnErr};
+ghost use Rattle.per_base.specs.Refusals.{IsDue, IsRefusal};
 ghost use Rattle.file_core.specs.Places as places;
-ghost use Rattle.file_core.specs.Refusals.{IsDue, IsRefusal};
 
 use per_base::{OpenKind, OpenMode, Origin, PerError};
 use std::alloc::Global;

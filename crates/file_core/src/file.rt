@@ -2,11 +2,11 @@
 
 ghost use Rattle.std.specs.Prelude.{◌≡◌, ◌+◌, ◌<◌, ◌≤◌, ◌^◌, length, take, List, ℕ, IfOk, IfErr, IsTrue, OnOk, OnErr};
 ghost use Rattle.std.specs.Bool.{OnTrue, OnFalse};
-ghost use Rattle.file_core.specs.Files.{GrowsBy, IsFile, NoSalvage, bytes_of, changed_to, cut, file_of, is_good};
-ghost use Rattle.file_core.specs.Files.{opened_at, written};
+ghost use Rattle.per_base.specs.Contents.{is_readable, readable_bytes};
+ghost use Rattle.per_base.specs.Refusals.{IsDue, IsRefusal};
+ghost use Rattle.file_core.specs.Files.{GrowsBy, IsFile, NoSalvage, changed_to, cut, file_of, opened_at, written};
 ghost use Rattle.file_core.specs.Places as places;
 ghost use Rattle.file_core.specs.Places.{overwritten};
-ghost use Rattle.file_core.specs.Refusals.{IsDue, IsRefusal};
 
 use crate::contents::{overwrite_content, recover_content, truncate_content};
 use crate::cursor::{Cursor, writes};
@@ -84,16 +84,16 @@ impl File {
 
     /// Whether the content is readable.
     pub fn is_good(&self) -> bool
-        ensures { result ≡ is_good self.now.content }
+        ensures { result ≡ is_readable self.now.content }
     {
         matches!(&self.content, Content::Good(_))
     }
 
     /// The bytes; an unreadable file gives none.
     pub fn bytes(&self) -> &[u8]
-        ensures bytes { result.now ≡ bytes_of self.now.content }
+        ensures bytes { result.now ≡ readable_bytes self.now.content }
         ensures small { length result.now ≤ 1048576 }
-        ensures len { IsTrue (is_good self.now.content) → length result.now ≡ self.now.len }
+        ensures len { IsTrue (is_readable self.now.content) → length result.now ≡ self.now.len }
     {
         match &self.content {
             Content::Good(bytes) => bytes.as_slice(),
@@ -146,13 +146,13 @@ impl File {
         now: u64,
         room: Room,
     ) -> Result<(), PerError>
-        requires good { IsTrue (is_good self.old.content) }
+        requires good { IsTrue (is_readable self.old.content) }
         requires bounded { room.others ≤ 2 ^ 32 }
         ensures ok { OnOk result (written cursor.old self.old piece.now now room ≡ Ok (cursor.new, self.new)) }
         ensures refused { IfErr result (λ error. IsRefusal (written cursor.old self.old piece.now now room) error) }
         ensures unchanged { OnErr result ((self.new ≡ self.old) × (cursor.new ≡ cursor.old)) }
         ensures inside { cursor.old.position ≤ self.old.len → cursor.new.position ≤ self.new.len }
-        ensures good { IsTrue (is_good self.new.content) }
+        ensures good { IsTrue (is_readable self.new.content) }
         ensures kind { cursor.new.kind ≡ cursor.old.kind }
         ensures within { room.others + self.old.len ≤ room.allowed → room.others + self.new.len ≤ room.allowed }
         ensures writer { OnOk result (IsTrue (places.writes cursor.old.kind)) }
@@ -186,12 +186,12 @@ impl File {
     ///
     /// `IllegalWriteAccess` for a kind that only reads; `InvalidSize` where it is above the size.
     pub fn set_size(&mut self, cursor: &mut Cursor, size: u64, now: u64) -> Result<(), PerError>
-        requires { IsTrue (is_good self.old.content) }
+        requires { IsTrue (is_readable self.old.content) }
         ensures ok { OnOk result (cut cursor.old self.old size now ≡ Ok (cursor.new, self.new)) }
         ensures refused { IfErr result (λ error. cut cursor.old self.old size now ≡ Err error) }
         ensures unchanged { OnErr result ((self.new ≡ self.old) × (cursor.new ≡ cursor.old)) }
         ensures inside { cursor.old.position ≤ self.old.len → cursor.new.position ≤ self.new.len }
-        ensures good { IsTrue (is_good self.new.content) }
+        ensures good { IsTrue (is_readable self.new.content) }
         ensures kind { cursor.new.kind ≡ cursor.old.kind }
         ensures smaller { self.new.len ≤ self.old.len }
         ensures writer { OnOk result (IsTrue (places.writes cursor.old.kind)) }
@@ -209,13 +209,14 @@ impl File {
 
     /// Puts the piece into the content from there on.
     fn put(&mut self, from: usize, piece: &[u8], now: u64) -> Result<(), AllocError>
-        requires good { IsTrue (is_good self.old.content) }
-        requires inside { from ≤ length (bytes_of self.old.content) }
-        requires small { length (overwritten from piece.now (bytes_of self.old.content)) ≤ 1048576 }
-        ensures ok { OnOk result (self.new ≡ changed_to (overwritten from piece.now (bytes_of self.old.content)) now
+        requires good { IsTrue (is_readable self.old.content) }
+        requires inside { from ≤ length (readable_bytes self.old.content) }
+        requires small { length (overwritten from piece.now (readable_bytes self.old.content)) ≤ 1048576 }
+        ensures ok { OnOk result (self.new ≡ changed_to (overwritten from piece.now (readable_bytes self.old.content))
+            now
             Cause.Application self.old) }
         ensures unchanged { OnErr result (self.new ≡ self.old) }
-        ensures memory { OnErr result (length (bytes_of self.old.content) < from + length piece.now) }
+        ensures memory { OnErr result (length (readable_bytes self.old.content) < from + length piece.now) }
     {
         let len = overwrite_content(&mut self.content, from, piece)?;
         self.len = len as u32;
@@ -225,9 +226,9 @@ impl File {
 
     /// Keeps that many bytes of the content.
     fn keep(&mut self, size: usize, now: u64)
-        requires good { IsTrue (is_good self.old.content) }
-        requires inside { size ≤ length (bytes_of self.old.content) }
-        ensures { self.new ≡ changed_to (take size (bytes_of self.old.content)) now Cause.Application self.old }
+        requires good { IsTrue (is_readable self.old.content) }
+        requires inside { size ≤ length (readable_bytes self.old.content) }
+        ensures { self.new ≡ changed_to (take size (readable_bytes self.old.content)) now Cause.Application self.old }
     {
         truncate_content(&mut self.content, size);
         self.len = size as u32;

@@ -18,6 +18,7 @@ use Rattle.per_base.specs.declared.errors.PerError.{PerError}
 use Rattle.per_base.specs.declared.opening.OpenKind.TheVariants.{Write}
 use Rattle.per_base.specs.Maps.{Map, element_at, with_element}
 use Rattle.per_base.specs.Names.{name_cmp}
+use Rattle.per_base.specs.Modes.{truncating}
 use Rattle.file_core.specs.declared.cursor.Cursor.{Cursor}
 use Rattle.file_core.specs.declared.room.Room.{Room}
 use Rattle.file_core.specs.Files.{changed_to, file_of, too_long, written}
@@ -30,7 +31,7 @@ use Rattle.file_handles.specs.Opening.{busy, can_open, file_opened, no_room_to_c
 use Rattle.file_handles.specs.Opening.{would_fit}
 use Rattle.file_handles.specs.Sessions.{Handles, Session, blocking, free_number, handle_at, open_at, room_for}
 use Rattle.file_handles.specs.Sessions.{with_handle, without_handle}
-use Rattle.file_handles.specs.Whole.{and_then, put_whole, released, truncating}
+use Rattle.file_handles.specs.Whole.{and_then, put_whole, released}
 use Rattle.file_handles.specs.lemmas.Asked.{handle_there, no_place, put_is, refused_ok, same_others, writer_allowed}
 use Rattle.file_handles.specs.lemmas.Opens.{allowed, put_removed, put_there}
 

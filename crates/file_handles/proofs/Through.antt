@@ -4,9 +4,9 @@ use Rattle.std.specs.Prelude.{Option, Some, None, Result, Ok, Err}
 use Rattle.per_base.specs.declared.elements.Element.{Element}
 use Rattle.per_base.specs.declared.errors.PerError.{PerError}
 use Rattle.per_base.specs.Maps.{Map, element_at, size_of}
+use Rattle.per_base.specs.Contents.{is_readable}
 use Rattle.file_core.specs.declared.cursor.Cursor.{Cursor}
 use Rattle.file_core.specs.declared.room.Room.{Room}
-use Rattle.file_core.specs.Files.{is_good}
 use Rattle.file_handles.specs.declared.handle.Handle.{Handle}
 use Rattle.file_handles.specs.Handling.{at_handle, on_open, changing, close}
 use Rattle.file_handles.specs.Sessions.{Session, Handles, IsHeldAt, handle_at, open_at, with_file, readable}
@@ -17,7 +17,7 @@ use Rattle.file_handles.specs.Tables.{Held}
 pub record FileOf (files : Map) (handles : Handles) (number : ℕ) (handle : Handle) : Type 0 where
   pub file : Element
   pub there : element_at files handle.name ≡ Some file
-  pub good : is_good file.content ≡ true
+  pub good : is_readable file.content ≡ true
   pub inside : handle.cursor.position ≤ file.len
   pub open_there : open_at (record { files = files; handles = handles }) number ≡ Some (handle, file)
 
@@ -29,7 +29,7 @@ file_of_handle files handles number handle held at = by (element_at files handle
         → FileOf files handles number handle
     by None e h = absurd h
     by (Some file) e h =
-        let good : is_good file.content ≡ true = h.0 in
+        let good : is_readable file.content ≡ true = h.0 in
         record {
           file = file;
           there = e;

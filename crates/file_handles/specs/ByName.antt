@@ -6,17 +6,17 @@ use Rattle.per_base.specs.declared.elements.Content.TheVariants.{Good, Bad}
 use Rattle.per_base.specs.declared.elements.Element.{Element}
 use Rattle.per_base.specs.declared.elements.FileInfo.{FileInfo}
 use Rattle.per_base.specs.declared.errors.PerError.{PerError}
-use Rattle.per_base.specs.declared.errors.PerError.TheVariants.{FileNotFound, IllegalWriteAccess, InitValueNotAvailable}
+use Rattle.per_base.specs.declared.errors.PerError.TheVariants.{FileNotFound, IllegalWriteAccess}
 use Rattle.per_base.specs.declared.opening.OpenKind.TheVariants.{Write}
 use Rattle.per_base.specs.Maps.{Map, element_at, with_element, without}
+use Rattle.per_base.specs.Refusals.{with_initial, refuse, refused_by}
 use Rattle.file_core.specs.Files.{changed_to, file_of, too_long}
 use Rattle.file_core.specs.Infos.{made}
-use Rattle.file_core.specs.Refusals.{refuse, refused_by}
 use Rattle.file_handles.specs.declared.storage.Storage.{Storage}
 use Rattle.file_handles.specs.Opening.{busy, too_many}
 use Rattle.file_handles.specs.Sessions.{Session, blocking, room_for}
 
--- what is made of the file of a name, or that there is none
+-- what a call gives for the file of a name, or that there is none
 abbrev pub found : {A : Type 0} → Option Element → (Element → Result A PerError) → Result A PerError
 found None call = Err FileNotFound
 found (Some file) call = call file
@@ -31,8 +31,8 @@ info_or (Some info) = Ok info
 abbrev pub file_info : Map → List ℕ → Result FileInfo PerError
 file_info files name = found (element_at files name) (λ file. info_or file.info)
 
--- the refusals of each call that changes a file by its name, and what it makes of the file: any handle on it stands in
--- the way
+-- the refusals of each call that changes a file by its name, and what it makes of the file: any handle on it
+-- conflicts
 abbrev pub unless_held : {A : Type 0} → Storage → Session → List ℕ → (Element → Result A PerError) → Result A PerError
 unless_held storage s name call =
     refuse storage.read_only IllegalWriteAccess
@@ -87,10 +87,6 @@ recover_file storage s name now initial = unless_held storage s name
 abbrev pub reset : ℕ → List ℕ → Option Element → Element
 reset now bytes None = file_of (Some (made now Reset)) bytes
 reset now bytes (Some file) = changed_to bytes now Reset file
-
-abbrev pub with_initial : {A : Type 0} → Option (List ℕ) → (List ℕ → Result A PerError) → Result A PerError
-with_initial None call = Err InitValueNotAvailable
-with_initial (Some bytes) call = call bytes
 
 abbrev pub reset_file : Storage → Session → List ℕ → ℕ → Option (List ℕ) → Result Session PerError
 reset_file storage s name now initial =

@@ -5,6 +5,7 @@ use Rattle.per_base.specs.declared.errors.PerError.{PerError}
 use Rattle.per_base.specs.declared.errors.PerError.TheVariants.{NotOpen}
 use Rattle.per_base.specs.declared.opening.Origin.{Origin}
 use Rattle.per_base.specs.Maps.{Map}
+use Rattle.per_base.specs.Contents.{readable_bytes}
 use Rattle.file_core.specs.declared.cursor.Cursor.{Cursor}
 use Rattle.file_core.specs.Files as core
 use Rattle.file_core.specs.Places as places
@@ -13,7 +14,7 @@ use Rattle.file_handles.specs.declared.storage.Storage.{Storage}
 use Rattle.file_handles.specs.Sessions.{Session, open_at, with_cursor, with_handle, with_changed, without_handle}
 use Rattle.file_handles.specs.Sessions.{room_for}
 
--- what is made of an open handle and its file; a number that no handle has is not open
+-- what a call gives for an open handle and its file; a number that no handle has is not open
 abbrev pub on_open : {A : Type 0} → Option (Handle × Element) → (Handle → Element → Result A PerError)
     → Result A PerError
 on_open None call = Err NotOpen
@@ -28,23 +29,23 @@ moving s number handle (Ok answer) = Ok (answer.0, with_cursor s number handle a
 moving s number handle (Err error) = Err error
 
 abbrev pub peek_byte : Session → ℕ → Result ℕ PerError
-peek_byte s number = at_handle s number (λ handle file. places.peek_byte handle.cursor (core.bytes_of file.content))
+peek_byte s number = at_handle s number (λ handle file. places.peek_byte handle.cursor (readable_bytes file.content))
 
 abbrev pub get_byte : Session → ℕ → Result (ℕ × Session) PerError
 get_byte s number = at_handle s number (λ handle file.
-    moving s number handle (places.get_byte handle.cursor (core.bytes_of file.content)))
+    moving s number handle (places.get_byte handle.cursor (readable_bytes file.content)))
 
 abbrev pub read : Session → ℕ → ℕ → Result (List ℕ × Session) PerError
 read s number count = at_handle s number (λ handle file.
-    moving s number handle (places.read handle.cursor (core.bytes_of file.content) count))
+    moving s number handle (places.read handle.cursor (readable_bytes file.content) count))
 
 abbrev pub read_all : Session → ℕ → Result (List ℕ × Session) PerError
 read_all s number = at_handle s number (λ handle file.
-    moving s number handle (places.read_all handle.cursor (core.bytes_of file.content)))
+    moving s number handle (places.read_all handle.cursor (readable_bytes file.content)))
 
 abbrev pub read_line : Session → ℕ → ℕ → Result (List ℕ × Session) PerError
 read_line s number delimiter = at_handle s number (λ handle file.
-    moving s number handle (places.read_line handle.cursor (core.bytes_of file.content) delimiter))
+    moving s number handle (places.read_line handle.cursor (readable_bytes file.content) delimiter))
 
 abbrev pub move_position : Session → ℕ → Origin → ℤ → Result (ℕ × Session) PerError
 move_position s number origin offset = at_handle s number
@@ -66,7 +67,7 @@ abbrev pub position : Session → ℕ → Result ℕ PerError
 position s number = at_handle s number (λ handle file. Ok handle.cursor.position)
 
 abbrev pub is_eof : Session → ℕ → Result Bool PerError
-is_eof s number = at_handle s number (λ handle file. Ok (places.is_eof handle.cursor (core.bytes_of file.content)))
+is_eof s number = at_handle s number (λ handle file. Ok (places.is_eof handle.cursor (readable_bytes file.content)))
 
 -- the session in which the handle has moved and its file is another
 abbrev pub changing : Session → ℕ → Handle → Result (Cursor × Map) PerError → Result Session PerError

@@ -14,10 +14,11 @@ use Rattle.per_base.specs.declared.opening.OpenKind.{OpenKind}
 use Rattle.per_base.specs.declared.opening.OpenMode.{OpenMode}
 use Rattle.per_base.specs.Maps.{Map, element_at, has, with_element, size_of}
 use Rattle.per_base.specs.Modes.{truncates}
-use Rattle.file_core.specs.Files.{is_good, file_of, opened_at, changed_to, too_long}
+use Rattle.per_base.specs.Refusals.{or_next, refused_by}
+use Rattle.per_base.specs.Contents.{is_readable}
+use Rattle.file_core.specs.Files.{file_of, opened_at, changed_to, too_long}
 use Rattle.file_core.specs.Infos.{made}
 use Rattle.file_core.specs.Places.{writes, is_bad_mode, opening_place}
-use Rattle.file_core.specs.Refusals.{refused_by}
 use Rattle.file_handles.specs.declared.storage.Storage.{Storage}
 use Rattle.file_handles.specs.Sessions.{Session, with_handle, free_number, blocking, room_for}
 
@@ -25,14 +26,9 @@ use Rattle.file_handles.specs.Sessions.{Session, with_handle, free_number, block
 abbrev pub when : Bool → PerError → Option PerError
 when test error = cond test (Some error) None
 
--- the first of two refusals
-abbrev pub first : Option PerError → Option PerError → Option PerError
-first None later = later
-first (Some error) later = Some error
-
 abbrev pub is_unreadable : Option Element → Bool
 is_unreadable None = false
-is_unreadable (Some file) = not (is_good file.content)
+is_unreadable (Some file) = not (is_readable file.content)
 
 -- busy by this handle
 abbrev pub busy : Option ℕ → Option PerError
@@ -46,12 +42,12 @@ too_many files name = when (not (has files name) && nat_le 1024 (length files)) 
 -- what refuses an opening, but the lack of space
 abbrev pub can_open : Storage → Session → List ℕ → OpenKind → OpenMode → Option PerError
 can_open storage s name kind mode =
-    first (when (is_bad_mode kind mode) InvalidOpenMode)
-    (first (when (writes kind && storage.read_only) IllegalWriteAccess)
-    (first (when (not (writes kind) && not (has s.files name)) FileNotFound)
-    (first (when (is_unreadable (element_at s.files name)) (IntegrityCorrupted (Part storage.name name)))
-    (first (busy (blocking kind name s.handles))
-    (first (when (nat_le 64 (length s.handles)) (LimitReached limit.Handles))
+    or_next (when (is_bad_mode kind mode) InvalidOpenMode)
+    (or_next (when (writes kind && storage.read_only) IllegalWriteAccess)
+    (or_next (when (not (writes kind) && not (has s.files name)) FileNotFound)
+    (or_next (when (is_unreadable (element_at s.files name)) (IntegrityCorrupted (Part storage.name name)))
+    (or_next (busy (blocking kind name s.handles))
+    (or_next (when (nat_le 64 (length s.handles)) (LimitReached limit.Handles))
     (too_many s.files name))))))
 
 -- the file as an opening leaves it: made, emptied, or with the moment of the opening; a read-only storage keeps its

@@ -11,9 +11,10 @@ use Rattle.per_base.specs.declared.errors.PerError.{PerError}
 use Rattle.per_base.specs.declared.opening.OpenKind.{OpenKind}
 use Rattle.per_base.specs.Maps.{Map, element_at, with_element, size_of}
 use Rattle.per_base.specs.Names.{name_cmp}
+use Rattle.per_base.specs.Contents.{is_readable}
 use Rattle.file_core.specs.declared.cursor.Cursor.{Cursor}
 use Rattle.file_core.specs.declared.room.Room.{Room}
-use Rattle.file_core.specs.Files.{IsFile, is_good}
+use Rattle.file_core.specs.Files.{IsFile}
 use Rattle.file_core.specs.Places.{writes}
 use Rattle.file_handles.specs.declared.handle.Handle.{Handle}
 
@@ -48,18 +49,18 @@ abbrev pub lowest : Handles → Option ℕ
 lowest [] = None
 lowest (e ∷ es) = Some e.0
 
--- whether a handle stands in the way of an opening of this kind: a writer is alone with its file
+-- whether a handle conflicts with an opening of this kind: a writer is alone with its file
 abbrev pub blocks : OpenKind → List ℕ → Handle → Bool
 blocks kind name handle = bytes_eq handle.name name && (writes kind || writes handle.cursor.kind)
 
--- the lowest handle that stands in the way
+-- the lowest conflicting handle
 abbrev pub blocking : OpenKind → List ℕ → Handles → Option ℕ
 blocking kind name handles = option_map (λ e. e.0) (find (λ e. blocks kind name e.1) handles)
 
 -- a file with a handle is readable
 abbrev pub readable : Handle → Option Element → Option (Handle × Element)
 readable handle None = None
-readable handle (Some file) = cond (is_good file.content) (Some (handle, file)) None
+readable handle (Some file) = cond (is_readable file.content) (Some (handle, file)) None
 
 abbrev pub with_file : Map → Option Handle → Option (Handle × Element)
 with_file files None = None
@@ -68,7 +69,7 @@ with_file files (Some handle) = readable handle (element_at files handle.name)
 -- there is a file, it is readable, and the position is in it
 abbrev pub IsHeldAt : Option Element → ℕ → Type 0
 IsHeldAt None position = ⊥
-IsHeldAt (Some file) position = IsTrue (is_good file.content) × (position ≤ file.len)
+IsHeldAt (Some file) position = IsTrue (is_readable file.content) × (position ≤ file.len)
 
 -- what stands there is a file, where anything does
 abbrev pub IsFileAt : Option Element → Type 0

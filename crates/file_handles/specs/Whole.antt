@@ -5,24 +5,17 @@ use Rattle.std.specs.Map.{keys_of}
 use Rattle.per_base.specs.declared.elements.Element.{Element}
 use Rattle.per_base.specs.declared.errors.PerError.{PerError}
 use Rattle.per_base.specs.declared.opening.OpenKind.TheVariants.{Read, Write}
-use Rattle.per_base.specs.declared.opening.OpenMode.{OpenMode}
 use Rattle.per_base.specs.Maps.{element_at}
 use Rattle.per_base.specs.Names.{name_cmp}
-use Rattle.file_core.specs.Files.{bytes_of}
-use Rattle.file_core.specs.Refusals.{IsDue, refused_by}
+use Rattle.per_base.specs.Modes.{plain, truncating}
+use Rattle.per_base.specs.Contents.{readable_bytes}
+use Rattle.per_base.specs.Refusals.{IsDue, refused_by}
 use Rattle.file_handles.specs.declared.storage.Storage.{Storage}
 use Rattle.file_handles.specs.Handling.{write}
 use Rattle.file_handles.specs.Opening.{can_open, open_file, would_fit}
 use Rattle.file_handles.specs.Sessions.{Session, without_handle}
 
--- no flag, and the flag that truncates
-abbrev pub plain : OpenMode
-plain = record { 0 = 0 }
-
-abbrev pub truncating : OpenMode
-truncating = record { 0 = 4 }
-
--- what is made of an answer; a refusal stays
+-- what the next call gives for an answer; a refusal stays
 abbrev pub and_then : {A B : Type 0} → Result A PerError → (A → Result B PerError) → Result B PerError
 and_then (Ok answer) next = next answer
 and_then (Err error) next = Err error
@@ -34,7 +27,7 @@ released s number = record s { handles = without_handle s.handles number }
 -- the bytes of a file that is there
 abbrev pub bytes_of_file : Option Element → List ℕ
 bytes_of_file None = []
-bytes_of_file (Some file) = bytes_of file.content
+bytes_of_file (Some file) = readable_bytes file.content
 
 -- the whole content of a file
 abbrev pub cat : Storage → Session → List ℕ → ℕ → Result (List ℕ × Session) PerError

@@ -2,8 +2,8 @@
 
 ghost use Rattle.std.specs.Prelude.{◌≡◌, IfErr, IfOk, OnErr, OnOk, Ok, Err};
 ghost use Rattle.per_base.specs.Maps.{element_at};
-ghost use Rattle.file_core.specs.Refusals.{IsRefusal, NeedsMemory};
-ghost use Rattle.file_handles.specs.Whole as whole;
+ghost use Rattle.per_base.specs.Refusals.{IsRefusal, NeedsMemory};
+ghost use Rattle.per_base.specs.Modes as modes;
 ghost use Rattle.file_handles.specs.Whole.{bytes_of_file, cat, put_whole, released};
 
 use crate::laws::whole_contents_are_given;
@@ -92,7 +92,7 @@ impl FileTable {
 
 /// No flag.
 fn plain() -> OpenMode
-    ensures { result ≡ whole.plain }
+    ensures { result ≡ modes.plain }
 {
     OpenMode::empty()
 }

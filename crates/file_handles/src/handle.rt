@@ -14,14 +14,14 @@ pub struct Handle {
     pub cursor: Cursor,
 }
 
-/// Whether the handle stands in the way of an opening of this kind.
+/// Whether the handle conflicts with an opening of this kind.
 pub fn blocks(kind: OpenKind, name: &Name, handle: &Handle) -> bool
     ensures { result ≡ sessions.blocks kind name.now handle.now }
 {
     handle.name == *name && (writes(kind) || writes(handle.cursor.kind))
 }
 
-/// The lowest handle that stands in the way.
+/// The lowest conflicting handle.
 pub fn blocking(kind: OpenKind, name: &Name, handles: &BTreeMap<u32, Handle>) -> Option<u32>
     ensures { result ≡ sessions.blocking kind name.now handles.now.entries }
 {

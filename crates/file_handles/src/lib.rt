@@ -2,7 +2,7 @@
 //!
 //! A [`FileTable`] holds the files as they are now, by name, and the open handles, by number. A new handle gets the
 //! lowest free number from 1. Each call answers exactly by its definition: every refusal in its order with what it
-//! carries, a busy file by the lowest handle that stands in the way, and a refused call changes nothing. A writer is
+//! carries, a busy file by the lowest conflicting handle, and a refused call changes nothing. A writer is
 //! alone with its file; readers share one.
 //!
 //! The files are the table's own, apart from those on the disk: cutting a file does not allocate, and neither do the

@@ -2,8 +2,8 @@
 
 ghost use Rattle.std.specs.Prelude.{◌≡◌, ◌≢◌, ◌≤◌, ◌^◌, None, Some, IfErr, IfOk, IsTrue, OnErr, OnOk};
 ghost use Rattle.per_base.specs.Maps.{element_at, has};
+ghost use Rattle.per_base.specs.Refusals.{IsRefusal, NeedsMemory};
 ghost use Rattle.file_handles.specs.Sessions.{room_for};
-ghost use Rattle.file_core.specs.Refusals.{IsRefusal, NeedsMemory};
 ghost use Rattle.file_handles.specs.Opening as opening;
 
 use crate::handle::{blocking, free_number};
@@ -19,8 +19,8 @@ impl FileTable {
     ///
     /// Errors, in this order: `InvalidOpenMode` where the flags contradict one another or ask a reader to change the
     /// file; `IllegalWriteAccess` where the kind writes and the storage is read-only; `FileNotFound` where the kind is
-    /// Read and the file is missing; `IntegrityCorrupted` where it is unreadable; `ResourceBusy` with the lowest handle
-    /// that stands in the way; `LimitReached` with `Handles`, then with `Elements`. `OutOfMemory` comes only in the
+    /// Read and the file is missing; `IntegrityCorrupted` where it is unreadable; `ResourceBusy` with the lowest
+    /// conflicting handle; `LimitReached` with `Handles`, then with `Elements`. `OutOfMemory` comes only in the
     /// place of `IntegrityCorrupted`.
     pub fn can_open(&self, name: &Name, kind: OpenKind, mode: OpenMode) -> Result<(), PerError>
         ensures ok { OnOk result (opening.can_open self.now.storage self.now.session name.now kind mode ≡ None) }

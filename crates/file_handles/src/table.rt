@@ -2,7 +2,7 @@
 
 ghost use Rattle.std.specs.Prelude.{◌≡◌, ◌≤◌, ◌<◌, ℕ, [], None, length, IfSome, IsSome, IsTrue, MatchOption};
 ghost use Rattle.per_base.specs.Maps.{element_at, size_of};
-ghost use Rattle.file_core.specs.Files.{is_good};
+ghost use Rattle.per_base.specs.Contents.{is_readable};
 ghost use Rattle.file_handles.specs.Sessions.{IsHeldAt, free_number, handle_at, lowest, open_at, with_cursor};
 ghost use Rattle.file_handles.specs.Tables.{AreFiles, IsTable, Table};
 
@@ -130,7 +130,7 @@ impl FileTable {
             (λ o. open_at self.now.session number ≡ Some (o.0.now, o.1.now)) }
         ensures handle { IfSome result (λ o. handle_at self.now.session.handles number ≡ Some o.0.now) }
         ensures file { IfSome result (λ o. element_at self.now.session.files o.0.now.name ≡ Some o.1.now) }
-        ensures good { IfSome result (λ o. IsTrue (is_good o.1.now.content)) }
+        ensures good { IfSome result (λ o. IsTrue (is_readable o.1.now.content)) }
         ensures inside { IfSome result (λ o. o.0.now.cursor.position ≤ o.1.now.len) }
     {
         let handle = self.handles.get(&number)?;

@@ -19,11 +19,12 @@ use Rattle.per_base.specs.declared.opening.OpenMode.{OpenMode}
 use Rattle.per_base.specs.Maps.{Map, element_at, has, with_element, without}
 use Rattle.per_base.specs.Modes.{truncates}
 use Rattle.per_base.specs.Names.{name_cmp}
+use Rattle.per_base.specs.Contents.{is_readable, readable_bytes}
+use Rattle.per_base.specs.Refusals.{refuse, refused_by, with_initial}
 use Rattle.file_core.specs.declared.cursor.Cursor.{Cursor}
 use Rattle.file_core.specs.declared.room.Room.{Room}
-use Rattle.file_core.specs.Files.{is_good, written, cut, changed_to, opened_at, too_long, bytes_of}
-use Rattle.file_core.specs.Places.{writes, write_place, overwritten, moved, within, is_bad_mode, opening_place}
-use Rattle.file_core.specs.Refusals.{refuse, refused_by}
+use Rattle.file_core.specs.Files.{written, cut, changed_to, opened_at, too_long}
+use Rattle.file_core.specs.Places.{writes, write_place, overwritten, moved, moved_within, is_bad_mode, opening_place}
 use Rattle.file_handles.specs.declared.handle.Handle.{Handle}
 use Rattle.file_handles.specs.declared.storage.Storage.{Storage}
 use Rattle.file_handles.specs.Sessions.{Session, open_at, with_file, readable, with_cursor, with_handle, with_changed}
@@ -41,13 +42,14 @@ use Rattle.file_storage.specs.FileSessions.{FilesInUse, IsOpen}
 use Rattle.file_storage.specs.Scopes.{without_open_handle}
 
 pub record Keeps (files later : Map) : Type 0 where
-  pub unreadable : (name : List ℕ) (file : Element) → element_at later name ≡ Some file → is_good file.content ≡ false
+  pub unreadable : (name : List ℕ) (file : Element) → element_at later name ≡ Some file → is_readable file.content
+      ≡ false
       → element_at files name ≡ Some file
 
 pub keeps_same : (files later : Map) → later ≡ files → Keeps files later
 keeps_same files later is = record { unreadable = λ name file at bad. subst (λ m. element_at m name ≡ Some file) is at }
 
-pub keeps_put : (files : Map) (name : List ℕ) (new : Element) → is_good new.content ≡ true
+pub keeps_put : (files : Map) (name : List ℕ) (new : Element) → is_readable new.content ≡ true
     → Keeps files (with_element files name new)
 keeps_put files name new good = record {
   unreadable = λ q file at bad.
@@ -55,10 +57,10 @@ keeps_put files name new good = record {
 }
   where
     by : (q : List ℕ) (hit : Bool) (file : Element) → cond hit (Some new) (element_at files q) ≡ Some file
-        → is_good file.content ≡ false → element_at files q ≡ Some file
+        → is_readable file.content ≡ false → element_at files q ≡ Some file
     by q true file e bad =
         let same : new ≡ file = cc in
-        let good_too : is_good file.content ≡ true = subst (λ f. is_good f.content ≡ true) same good in
+        let good_too : is_readable file.content ≡ true = subst (λ f. is_readable f.content ≡ true) same good in
         absurd (cc)
     by q false file e bad = e
 
@@ -80,14 +82,14 @@ keeps_gone files name sorted = record {
 pub record IsOpenAt (s : Session) (number : ℕ) (handle : Handle) (file : Element) : Type 0 where
   pub handle_there : handle_at s.handles number ≡ Some handle
   pub file_there : element_at s.files handle.name ≡ Some file
-  pub good : is_good file.content ≡ true
+  pub good : is_readable file.content ≡ true
 
 open_parts : (s : Session) (number : ℕ) (handle : Handle) (file : Element) → open_at s number ≡ Some (handle, file)
     → IsOpenAt s number handle file
 open_parts s number handle file is = by (handle_at s.handles number) refl is
   where
     tested : (h : Handle) (f : Element) → handle_at s.handles number ≡ Some h → element_at s.files h.name ≡ Some f
-        → (b : Bool) → is_good f.content ≡ b → cond {A = Option (Handle × Element)} b (Some (h, f)) None
+        → (b : Bool) → is_readable f.content ≡ b → cond {A = Option (Handle × Element)} b (Some (h, f)) None
         ≡ Some (handle, file) → IsOpenAt s number handle file
     tested h f p q true good e =
         let pair : (let both : Handle × Element = (h, f) in both) ≡ (handle, file) = cc in
@@ -97,14 +99,14 @@ open_parts s number handle file is = by (handle_at s.handles number) refl is
           handle_there = subst (λ x. handle_at s.handles number ≡ Some x) one p;
           file_there = subst (λ x. element_at s.files x.name ≡ Some file) one
               (subst (λ x. element_at s.files h.name ≡ Some x) two q);
-          good = subst (λ x. is_good x.content ≡ true) two good;
+          good = subst (λ x. is_readable x.content ≡ true) two good;
         }
     tested h f p q false good e = absurd (cc)
 
     with_its : (h : Handle) → handle_at s.handles number ≡ Some h → (f : Option Element) → element_at s.files h.name ≡ f
         → readable h f ≡ Some (handle, file) → IsOpenAt s number handle file
     with_its h p None q e = absurd (cc)
-    with_its h p (Some f) q e = tested h f p q (is_good f.content) refl e
+    with_its h p (Some f) q e = tested h f p q (is_readable f.content) refl e
 
     by : (h : Option Handle) → handle_at s.handles number ≡ h → with_file s.files h ≡ Some (handle, file)
         → IsOpenAt s number handle file
@@ -178,8 +180,8 @@ pub record Changes (s later : Session) (number : ℕ) : Type 0 where
       → without_handle later.handles number ≡ without_handle s.handles number
 
 pub changing_changes : (s later : Session) (number : ℕ) (call : Handle → Element → Result (Cursor × Element) PerError)
-    → ((handle : Handle) (file : Element) (new : Cursor × Element) → is_good file.content ≡ true
-    → call handle file ≡ Ok new → is_good new.1.content ≡ true)
+    → ((handle : Handle) (file : Element) (new : Cursor × Element) → is_readable file.content ≡ true
+    → call handle file ≡ Ok new → is_readable new.1.content ≡ true)
     → calls.at_handle s number (λ handle file. calls.changing s number handle
     (with_changed s.files handle.name (call handle file))) ≡ Ok later → Changes s later number
 changing_changes s later number call good is =
@@ -189,7 +191,7 @@ changing_changes s later number call good is =
     t.answers
   where
     by : (handle : Handle) → handle_at s.handles number ≡ Some handle → (r : Result (Cursor × Element) PerError)
-        → ((new : Cursor × Element) → r ≡ Ok new → is_good new.1.content ≡ true)
+        → ((new : Cursor × Element) → r ≡ Ok new → is_readable new.1.content ≡ true)
         → calls.changing s number handle (with_changed s.files handle.name r) ≡ Ok later → Changes s later number
     by handle at (Ok new) fine e =
         let after : Session = record {
@@ -216,12 +218,12 @@ refuse_ok false error rest answer e = (refl, e)
 refuse_ok true error rest answer e = absurd (cc)
 
 written_good : (cursor : Cursor) (file : Element) (piece : List ℕ) (now : ℕ) (room : Room) (new : Cursor × Element)
-    → is_good file.content ≡ true → written cursor file piece now room ≡ Ok new → is_good new.1.content ≡ true
+    → is_readable file.content ≡ true → written cursor file piece now room ≡ Ok new → is_readable new.1.content ≡ true
 written_good cursor file piece now room new good is = by (length piece == 0)
     (refuse_ok (not (writes cursor.kind)) IllegalWriteAccess _ new is).1
   where
     bytes : List ℕ
-    bytes = bytes_of file.content
+    bytes = readable_bytes file.content
 
     by : (empty : Bool) → cond {A = Result (Cursor × Element) PerError} empty (Ok (cursor, file))
         (refused_by (too_long room (length (overwritten (write_place cursor bytes) piece bytes)))
@@ -229,9 +231,9 @@ written_good cursor file piece now room new good is = by (length piece == 0)
           moved cursor (write_place cursor bytes + length piece),
           changed_to (overwritten (write_place cursor bytes) piece bytes) now Application file,
         ))) ≡ Ok new
-        → is_good new.1.content ≡ true
+        → is_readable new.1.content ≡ true
     by true e = let same : (let both : Cursor × Element = (cursor, file) in both) ≡ new =
-        cc in subst (λ o. is_good o.1.content ≡ true) same good
+        cc in subst (λ o. is_readable o.1.content ≡ true) same good
     by false e =
         let after : Cursor × Element = (
           moved cursor (write_place cursor bytes + length piece),
@@ -240,7 +242,7 @@ written_good cursor file piece now room new good is = by (length piece == 0)
         let done : Ok after ≡ Ok new = (refused_ok (too_long room
         (length (overwritten (write_place cursor bytes) piece bytes))) (Ok after) new e).1 in
         let same : after ≡ new = cc in
-        subst (λ o. is_good o.1.content ≡ true) same refl
+        subst (λ o. is_readable o.1.content ≡ true) same refl
 
 pub write_changes : (storage : Storage) (s later : Session) (now number : ℕ) (piece : List ℕ)
     → calls.write storage s now number piece ≡ Ok later → Changes s later number
@@ -251,17 +253,18 @@ write_changes storage s later now number piece is =
     new good e) is
 
 cut_good : (cursor : Cursor) (file : Element) (size now : ℕ) (new : Cursor × Element)
-    → cut cursor file size now ≡ Ok new → is_good new.1.content ≡ true
+    → cut cursor file size now ≡ Ok new → is_readable new.1.content ≡ true
 cut_good cursor file size now new is =
     let after : Cursor × Element = (
-      within cursor size,
-      changed_to (take size (bytes_of file.content)) now Application
+      moved_within cursor size,
+      changed_to (take size (readable_bytes file.content)) now Application
           file,
     ) in
-    let done : Ok after ≡ Ok new = (refuse_ok (nat_lt (length (bytes_of file.content)) size) InvalidSize (Ok after) new
+    let done : Ok after ≡ Ok new = (refuse_ok (nat_lt (length (readable_bytes file.content)) size) InvalidSize
+    (Ok after) new
     (refuse_ok (not (writes cursor.kind)) IllegalWriteAccess _ new is).1).1 in
     let same : after ≡ new = cc in
-    subst (λ o. is_good o.1.content ≡ true) same refl
+    subst (λ o. is_readable o.1.content ≡ true) same refl
 
 pub cut_changes : (s later : Session) (now number size : ℕ) → calls.set_size s now number size ≡ Ok later
     → Changes s later number
@@ -287,15 +290,15 @@ pub record IsOpened (s later : Session) (number : ℕ) : Type 0 where
   pub handles : later.handles ≡ with_handle s.handles number handle
 
 opened_good : (read_only : Bool) (mode : OpenMode) (now : ℕ) (file : Option Element)
-    → opening.is_unreadable file ≡ false → is_good (opening.file_opened read_only mode now file).content ≡ true
+    → opening.is_unreadable file ≡ false → is_readable (opening.file_opened read_only mode now file).content ≡ true
 opened_good read_only mode now None e = refl
-opened_good read_only mode now (Some file) e = by read_only (truncates mode) (readable_one (is_good file.content) e)
+opened_good read_only mode now (Some file) e = by read_only (truncates mode) (readable_one (is_readable file.content) e)
   where
     readable_one : (b : Bool) → not b ≡ false → b ≡ true
     readable_one true e = refl
     readable_one false e = absurd (cc)
 
-    by : (ro cuts : Bool) → is_good file.content ≡ true → is_good
+    by : (ro cuts : Bool) → is_readable file.content ≡ true → is_readable
         (cond ro file (cond cuts (changed_to [] now Application (opened_at now file)) (opened_at now file))).content
         ≡ true
     by true cuts good = good
@@ -362,7 +365,7 @@ delete_keeps storage s later name sorted is =
     subst (λ t. Keeps s.files t.files) same (keeps_gone s.files name sorted)
 
 with_content_keeps : (storage : Storage) (s later : Session) (name : List ℕ) (file : Element)
-    → is_good file.content ≡ true → named.with_content storage s name file ≡ Ok later → Keeps s.files later.files
+    → is_readable file.content ≡ true → named.with_content storage s name file ≡ Ok later → Keeps s.files later.files
 with_content_keeps storage s later name file good is =
     let after : Session = record s { files = with_element s.files name file } in
     let done : Ok after ≡ Ok later = (refused_ok (too_long (room_for s.files name storage.maximum) file.len) (Ok after)
@@ -401,11 +404,11 @@ pub reset_keeps : (storage : Storage) (s later : Session) (name : List ℕ) (now
 reset_keeps storage s later name now initial is = by initial
     (refuse_ok storage.read_only IllegalWriteAccess _ later is).1
   where
-    good : (bytes : List ℕ) (file : Option Element) → is_good (named.reset now bytes file).content ≡ true
+    good : (bytes : List ℕ) (file : Option Element) → is_readable (named.reset now bytes file).content ≡ true
     good bytes None = refl
     good bytes (Some file) = refl
 
-    by : (content : Option (List ℕ)) → named.with_initial content
+    by : (content : Option (List ℕ)) → with_initial content
         (λ bytes. refused_by (opening.busy (blocking Write name s.handles))
         (refused_by (opening.too_many s.files name) (named.with_content storage s name
         (named.reset now bytes (element_at s.files name))))) ≡ Ok later → Keeps s.files later.files

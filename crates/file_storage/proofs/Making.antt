@@ -14,14 +14,14 @@ use Rattle.std.proofs.lemmas.Map.Text.{is_eq-slice_cmp}
 use Rattle.per_base.specs.declared.elements.Element.{Element}
 use Rattle.per_base.specs.declared.elements.FileInfo.{FileInfo}
 use Rattle.per_base.specs.Maps.{Map, element_at, names_of}
-use Rattle.per_base.specs.Names.{name_cmp}
+use Rattle.per_base.specs.Names.{name_cmp, NamesAscend}
 use Rattle.per_base.specs.declared.elements.Change.{Change}
 use Rattle.per_base.specs.declared.elements.Change.TheVariants.{Remove}
 use Rattle.per_base.specs.Changes.{changed_name, change_at}
 use Rattle.element_state.specs.Changes.{same_element}
 use Rattle.element_maps.specs.Differences.{MakeInto, arrival, difference, put, replacement, same_bytes}
 use Rattle.element_maps.specs.Differences.{touch}
-use Rattle.element_maps.specs.lemmas.InOrder.{ComesBeforeAll, NamesAscend, first, rest}
+use Rattle.element_maps.specs.lemmas.InOrder.{ComesBeforeAll, first, rest}
 use Rattle.element_maps.specs.lemmas.Names.{eq_back, greater_less, less_apart, less_less, same_names}
 use Rattle.file_storage.specs.Walks.{passing, removed, walked}
 

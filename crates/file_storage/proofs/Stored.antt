@@ -1,7 +1,7 @@
 -- The files of a storage that was read, as a map.
 use Rattle.std.proofs.Common.{◌≡◌, ℕ, suc, ◌+◌, ◌≤◌, cond, List, [], ◌∷◌, ◌++◌, length, Bool, true, false, refl, sym}
 use Rattle.std.proofs.Common.{◌∙◌, ap, subst, append_assoc, arith}
-use Rattle.std.specs.Prelude.{Some, None, IsTrue, map}
+use Rattle.std.specs.Prelude.{Some, IsTrue, map}
 use Rattle.std.specs.BTreeMap.{is_at}
 use Rattle.std.specs.List.{AllByRecursion}
 use Rattle.std.specs.List.Sorted.{IsStrictlySortedBy}
@@ -20,13 +20,11 @@ use Rattle.per_base.specs.Maps as maps
 use Rattle.per_base.specs.Maps.{Map, element_at, names_of, with_element}
 use Rattle.per_base.specs.Names.{name_cmp}
 use Rattle.disk_model.specs.Image.{Image}
-use Rattle.file_core.specs.Files as core
 use Rattle.file_core.specs.Files.{IsFile}
 use Rattle.file_handles.specs.Sessions.{IsFileAt}
 use Rattle.file_handles.specs.Tables.{AreFiles}
 use Rattle.index_text.specs.Rules.{has_info, max_len}
 use Rattle.element_state.specs.declared.shapes.Shape.{Shape}
-use Rattle.element_state.specs.Chosen as chosen
 use Rattle.element_state.specs.Chosen.{opened_of}
 use Rattle.element_state.specs.Conditions as conditions
 use Rattle.deployment_model.specs.Conditions.{IsStorage}
@@ -47,15 +45,10 @@ use Rattle.file_storage.specs.StoredFiles.{IsStoredFile}
 
 -- ---- entries are files
 
-measured : (len : ℕ) (content : Content) → chosen.HasLength len content → core.HasLength content len
-measured len (Good value) is = is
-measured len (Bad None) is = is
-measured len (Bad (Some salvage)) is = is
-
 pub stored_file : (shape : Shape) (e : Entry) → shape.kind ≡ kinds.Files → IsEntryOf shape e → IsStoredFile e
 stored_file shape e kind is = record {
   informed = subst (λ (k : StoreKind). IsTrue (has_info k e.info)) kind is.info;
-  measured = measured e.len e.content is.content;
+  measured = is.content;
   small = subst (λ (k : StoreKind). e.len ≤ max_len k) kind is.len;
 }
 

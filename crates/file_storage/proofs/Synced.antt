@@ -15,12 +15,12 @@ use Rattle.per_base.specs.Maps as maps
 use Rattle.per_base.specs.Maps.{Map, element_at, names_of}
 use Rattle.per_base.specs.Names.{name_cmp}
 use Rattle.per_base.specs.declared.elements.Change.{Change}
+use Rattle.per_base.specs.Contents.{HasLength, is_readable}
 use Rattle.disk_model.specs.Frame.{IsSettledOn, Spares}
 use Rattle.disk_model.specs.Medium.{EachCase, Elapses, Medium, Quiet, IsLawful}
 use Rattle.disk_model.specs.Place.{IsOutside}
 use Rattle.disk_model.specs.Laws.{elapses_none}
-use Rattle.file_core.specs.Files as core
-use Rattle.file_core.specs.Files.{IsFile, is_good}
+use Rattle.file_core.specs.Files.{IsFile}
 use Rattle.file_handles.specs.Opening as opening
 use Rattle.file_handles.specs.Sessions.{Handles, IsFileAt}
 use Rattle.file_handles.specs.Tables.{IsTable}
@@ -121,11 +121,11 @@ none_synced decides told s m used is = record {
 -- ---- what a commit needs
 
 held : (kind : StoreKind) (stored : Option Element) (file : Element) (content : Content) → kind ≡ kinds.Files
-    → file.content ≡ content → IsFile file → (is_good content ≡ false → stored ≡ Some file)
+    → file.content ≡ content → IsFile file → (is_readable content ≡ false → stored ≡ Some file)
     → IsHeldElement kind stored file content
 held kind stored file (Good bytes) of_files is whole unreadable = record {
   info = subst (λ k. IsTrue (has_info k file.info)) (sym of_files) whole.informed;
-  length = subst (λ c. core.HasLength c file.len) is whole.measured;
+  length = subst (λ c. HasLength c file.len) is whole.measured;
   small = subst (λ k. file.len ≤ max_len k) (sym of_files) whole.small;
 }
 held kind stored file (Bad salvage) of_files is whole unreadable = unreadable refl

@@ -4,11 +4,12 @@ use Rattle.std.specs.Prelude.{Result, Ok, Err}
 use Rattle.per_base.specs.declared.errors.PerError.{PerError}
 use Rattle.per_base.specs.declared.opening.OpenKind.TheVariants.{Read, Write}
 use Rattle.per_base.specs.Maps.{Map, element_at}
+use Rattle.per_base.specs.Modes.{plain, truncating}
 use Rattle.file_handles.specs.declared.storage.Storage.{Storage}
 use Rattle.file_handles.specs.Handling.{write}
 use Rattle.file_handles.specs.Opening.{can_open, open_file, would_fit}
 use Rattle.file_handles.specs.Sessions.{Session}
-use Rattle.file_handles.specs.Whole.{and_then, bytes_of_file, cat, plain, put_whole, released, truncating}
+use Rattle.file_handles.specs.Whole.{and_then, bytes_of_file, cat, put_whole, released}
 use Rattle.file_handles.specs.lemmas.Asked.{refused_ok}
 use Rattle.file_storage.proofs.Keeping.{Keeps, keeps_same, open_opens, write_changes}
 

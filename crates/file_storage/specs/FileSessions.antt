@@ -3,7 +3,7 @@ use Rattle.std.specs.Prelude.{◌≡◌, ℕ, List, false, Some}
 use Rattle.per_base.specs.declared.elements.Element.{Element}
 use Rattle.per_base.specs.declared.elements.StoreKind.TheVariants.{Files}
 use Rattle.per_base.specs.Maps.{Map, element_at}
-use Rattle.file_core.specs.Files.{is_good}
+use Rattle.per_base.specs.Contents.{is_readable}
 use Rattle.file_handles.specs.declared.storage.Storage.{Storage}
 use Rattle.file_handles.specs.Sessions.{Session}
 use Rattle.deployment_model.specs.Data.{StorageData}
@@ -32,7 +32,7 @@ stored_in store = map_of (view_in store)
 -- a working file that cannot be read is the very one that is synchronised
 abbrev pub AreAsStored : (stored files : Map) → Type 0
 AreAsStored stored files = (name : List ℕ) (file : Element) → element_at files name ≡ Some file
-    → is_good file.content ≡ false → element_at stored name ≡ Some file
+    → is_readable file.content ≡ false → element_at stored name ≡ Some file
 
 pub record IsOpen (config : StorageData) (store : Store) (storage : Storage) (files : Map) : Type 0 where
   pub valid : IsStorage config

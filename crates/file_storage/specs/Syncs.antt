@@ -4,10 +4,11 @@ use Rattle.per_base.specs.declared.elements.Element.{Element}
 use Rattle.per_base.specs.declared.errors.Limit.TheVariants as limit
 use Rattle.per_base.specs.declared.errors.PerError.{PerError}
 use Rattle.per_base.specs.declared.errors.PerError.TheVariants.{IllegalWriteAccess, LimitReached, NotOpen}
+use Rattle.per_base.specs.Refusals.{or_next}
 use Rattle.disk_model.specs.Medium.{Medium}
 use Rattle.file_core.specs.Places.{writes}
 use Rattle.file_handles.specs.declared.handle.Handle.{Handle}
-use Rattle.file_handles.specs.Opening.{busy, first, when}
+use Rattle.file_handles.specs.Opening.{busy, when}
 use Rattle.file_handles.specs.Sessions.{lowest, open_at}
 use Rattle.index_text.specs.Spelling.{index_text}
 use Rattle.element_state.specs.declared.shapes.View.{View}
@@ -34,11 +35,11 @@ no_writer (Some o) = when (not (writes o.0.cursor.kind)) IllegalWriteAccess
 
 -- what refuses a sync by the handle of this number
 abbrev pub sync_refused : FilesInUse → ℕ → Option PerError
-sync_refused s number = first (no_writer (open_at s.session number)) (worn s)
+sync_refused s number = or_next (no_writer (open_at s.session number)) (worn s)
 
 -- what refuses to close the storage
 abbrev pub close_refused : FilesInUse → Option PerError
-close_refused s = first (busy (lowest s.session.handles)) (worn s)
+close_refused s = or_next (busy (lowest s.session.handles)) (worn s)
 
 -- the view once the working files are durable: that of before where nothing differs
 abbrev pub synced_view : FilesInUse → View

@@ -7,8 +7,8 @@ ghost use Rattle.deployment_model.specs.Conditions.{IsStorage};
 ghost use Rattle.deployment_model.specs.Data.{storage_data};
 ghost use Rattle.per_base.specs.declared.elements.Element.{Element};
 ghost use Rattle.per_base.specs.Maps.{element_at, has, names_of, size_of};
+ghost use Rattle.per_base.specs.Refusals.{IsDue, IsRefusal};
 ghost use Rattle.deployment_model.specs.Lookups.{initial_of};
-ghost use Rattle.file_core.specs.Refusals.{IsDue, IsRefusal};
 ghost use Rattle.file_handles.specs.ByName as calls;
 ghost use Rattle.file_storage.specs.FileSessions.{storage_of};
 

@@ -1,7 +1,7 @@
 //! The calls on a handle that change its file or release it.
 
 ghost use Rattle.std.specs.Prelude.{◌≡◌, IfErr, OnErr, OnOk, Ok, Err};
-ghost use Rattle.file_core.specs.Refusals.{IsDue, IsRefusal};
+ghost use Rattle.per_base.specs.Refusals.{IsDue, IsRefusal};
 ghost use Rattle.file_handles.specs.Handling as calls;
 ghost use Rattle.file_handles.specs.Sessions.{open_at};
 ghost use Rattle.file_storage.specs.FileSessions.{storage_of};

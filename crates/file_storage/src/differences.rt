@@ -4,7 +4,7 @@ ghost use Rattle.std.specs.Prelude.{◌≡◌, ◌++◌, List, [], ◌∷◌, �
 ghost use Rattle.std.specs.Option.{option_to_list};
 ghost use Rattle.per_base.specs.declared.elements.Element.{Element};
 ghost use Rattle.per_base.specs.Maps.{Map};
-ghost use Rattle.file_core.specs.Files.{is_good};
+ghost use Rattle.per_base.specs.Contents.{same_content};
 ghost use Rattle.element_state.specs.Changes as changes;
 ghost use Rattle.element_state.specs.Views.{element_of};
 ghost use Rattle.element_maps.specs.Differences as differences;
@@ -143,7 +143,7 @@ fn is_same_info(old: Option<FileInfo>, new: FileInfo) -> bool
 
 /// Whether both contents are the same, with the same salvage where they cannot be read.
 fn is_same_content(old: &Content, new: &Content) -> bool
-    ensures { result ≡ changes.same_content old.now new.now }
+    ensures { result ≡ same_content old.now new.now }
 {
     match (old, new) {
         (Content::Good(old), Content::Good(new)) => old.as_slice() == new.as_slice(),

@@ -1,7 +1,7 @@
 //! The calls on a handle.
 
 ghost use Rattle.std.specs.Prelude.{◌≡◌, IfErr, IfOk, OnErr, OnOk, Ok, Err};
-ghost use Rattle.file_core.specs.Refusals.{IsDue, IsRefusal};
+ghost use Rattle.per_base.specs.Refusals.{IsDue, IsRefusal};
 ghost use Rattle.file_handles.specs.Handling as calls;
 ghost use Rattle.file_storage.specs.FileSessions.{storage_of};
 

@@ -2,7 +2,7 @@
 
 ghost use Rattle.std.specs.Prelude.{◌≡◌, ◌≢◌, IfErr, IfOk, OnErr, OnOk, Ok, Err, Some, None};
 ghost use Rattle.per_base.specs.declared.errors.Unit.TheVariants.{Part};
-ghost use Rattle.file_core.specs.Refusals.{IsRefusal, NeedsMemory};
+ghost use Rattle.per_base.specs.Refusals.{IsRefusal, NeedsMemory};
 ghost use Rattle.file_handles.specs.Opening as opening;
 ghost use Rattle.file_storage.specs.FileSessions.{storage_of};
 
@@ -113,8 +113,8 @@ impl Files {
     ///
     /// Errors, in this order: `InvalidOpenMode` where the flags contradict one another or ask a reader to change the
     /// file; `IllegalWriteAccess` where the kind writes and the storage is read-only; `FileNotFound` where the kind is
-    /// Read and the file is missing; `IntegrityCorrupted` where it is unreadable; `ResourceBusy` with the lowest handle
-    /// that stands in the way; `LimitReached` with `Handles`, then with `Elements`. `OutOfMemory` comes only in the
+    /// Read and the file is missing; `IntegrityCorrupted` where it is unreadable; `ResourceBusy` with the lowest
+    /// conflicting handle; `LimitReached` with `Handles`, then with `Elements`. `OutOfMemory` comes only in the
     /// place of `IntegrityCorrupted`.
     pub fn can_open(&self, name: &Name, kind: OpenKind, mode: OpenMode) -> Result<(), PerError>
         ensures ok { OnOk result (opening.can_open (storage_of self.now.config) self.now.session name.now kind mode

@@ -2,7 +2,7 @@
 
 ghost use Rattle.std.specs.Prelude.{◌≡◌, IfErr, IfOk, OnErr, OnOk, Ok, Err};
 ghost use Rattle.std.specs.Borrow.{sem, RestsIfErr};
-ghost use Rattle.file_core.specs.Refusals.{IsDue, IsRefusal, NeedsMemory};
+ghost use Rattle.per_base.specs.Refusals.{IsDue, IsRefusal, NeedsMemory};
 ghost use Rattle.file_handles.specs.Handling as calls;
 ghost use Rattle.file_handles.specs.Opening as opening;
 ghost use Rattle.file_handles.specs.Sessions.{open_at, without_handle};

@@ -1,7 +1,7 @@
 //! A whole content at once.
 
 ghost use Rattle.std.specs.Prelude.{◌≡◌, IfErr, IfOk, OnErr, OnOk, Ok};
-ghost use Rattle.file_core.specs.Refusals.{IsRefusal, NeedsMemory};
+ghost use Rattle.per_base.specs.Refusals.{IsRefusal, NeedsMemory};
 ghost use Rattle.file_handles.specs.Whole.{cat, put_whole};
 ghost use Rattle.file_storage.specs.FileSessions.{storage_of};
 

@@ -6,7 +6,7 @@ use Rattle.flash_model.specs.Pages.{Pages, TornPage, program_page, blank_page}
 use Rattle.flash_model.specs.State.{FlashState, IsStill, ProgramCase, FailsToProgram, programmed}
 use Rattle.flash_model.specs.FlashMedium.{FlashMedium, IsLawfulFlash, FlashElapses, EachFlashCase}
 use Rattle.flash_record.specs.PageRecord.{PageRecord, record_in}
-use Rattle.flash_disk.specs.declared.table.Place.{Place}
+use Rattle.flash_disk.specs.declared.table.FlashPage.{FlashPage}
 use Rattle.flash_disk.specs.declared.layer.LayerState.{LayerState}
 use Rattle.flash_disk.specs.Newest.{record_at, places}
 use Rattle.flash_disk.specs.Known.{page_of}
@@ -18,7 +18,9 @@ use Rattle.flash_disk.specs.PutPart.{PutPart, PutOrNot}
 use Rattle.flash_disk.specs.Standing.{DenotesFiles}
 use Rattle.flash_disk.specs.Sound.{files_on, Sound, IsSoundLayer, HasFreshPage, FitsIn, Enters, Pends, IsDescribedBy}
 use Rattle.flash_disk.specs.Sound.{LeavesPut}
-use Rattle.flash_disk.specs.Sound.{ShowsSame, ShowsPage}
+use Rattle.flash_disk.specs.Sound.{ShowsSame, ShowsPage, LeavesAdded}
+use Rattle.flash_disk.specs.Apart.{copy_of, KeepsHeld}
+use Rattle.flash_disk.proofs.Holding.{held_refl, held_same, held_added}
 use Rattle.flash_disk.proofs.Standing.{HasSameRecords, records_agreed}
 use Rattle.flash_disk.proofs.Growing.{adds_byte, adds_put, adds_agreed, grown_put}
 use Rattle.flash_disk.proofs.Tearing.{IsTorn, nothing_there, torn_program, torn_is, torn_adds_there, torn_add}
@@ -36,6 +38,20 @@ nothing_put m s sound file at len bytes = record {
   agreed = λ all. all;
 }
 
+-- nor added
+pub nothing_added : (m : FlashMedium) (s : LayerState) → IsSoundLayer m s → (block file at len : ℕ) (bytes : List ℕ)
+    → LeavesAdded block file at bytes len m m.state.pages
+nothing_added m s sound block file at len bytes = record {
+  put = nothing_put m s sound file at len bytes;
+  held = held_refl (copy_of file) block (places m.blocks) m.state.pages;
+}
+
+pub adds_nothing : (told : Bool) (m : FlashMedium) → IsLawfulFlash told m → (s : LayerState) → IsSoundLayer m s
+    → (block file at len : ℕ) (bytes : List ℕ)
+    → Does (LeavesAdded block file at bytes len m) m m
+adds_nothing told m lawful s sound block file at len bytes = does_nothing m m (LeavesAdded block file at bytes len m)
+    refl (λ x past. lawful.only_now x past) (nothing_added m s sound block file at len bytes)
+
 -- no call was made
 pub puts_nothing : (told : Bool) (m : FlashMedium) → IsLawfulFlash told m → (s : LayerState) → IsSoundLayer m s
     → (file at len : ℕ) (bytes : List ℕ)
@@ -49,10 +65,10 @@ pub shown_after : (a b d : FlashMedium) (file page : ℕ) (bytes : List ℕ) →
 shown_after a b d file page bytes same shown = λ f i. shown f i
     ∙ ap (λ z. cond (nat_eq f file && nat_eq (i / 256) page) (get_or bytes (i % 256) 0) z) (same f i)
 
-module _ (m now : FlashMedium) (s u : LayerState) (place : Place) (r : PageRecord) (whole : List ℕ)
+module _ (m now : FlashMedium) (s u : LayerState) (place : FlashPage) (r : PageRecord) (whole : List ℕ)
     (sound : IsSoundLayer m s) (room : s.fill < 64) (fits : FitsIn m s r.file r.page r.len r.bytes)
     (full : length r.bytes ≡ 256)
-    (at : place ≡ (let p : Place = record { block = s.current; page = s.fill } in p))
+    (at : place ≡ (let p : FlashPage = record { block = s.current; page = s.fill } in p))
     (sequence : r.sequence ≡ s.sequence + 1)
     (on : u ≡ record s { sequence = r.sequence; fill = 64 }) (is : record_in whole ≡ Some r) where
   abbrev pages : Pages
@@ -80,7 +96,7 @@ module _ (m now : FlashMedium) (s u : LayerState) (place : Place) (r : PageRecor
   within = omega (arith, small, block_in)
 
   blank : pages place.block place.page ≡ blank_page
-  blank = subst (λ (p : Place). pages p.block p.page ≡ blank_page) (sym at) fresh.blank
+  blank = subst (λ (p : FlashPage). pages p.block p.page ≡ blank_page) (sym at) fresh.blank
 
   apart : place.block ≢ s.spare
   apart = λ same. fresh.apart (sym block_is ∙ same)
@@ -98,10 +114,10 @@ module _ (m now : FlashMedium) (s u : LayerState) (place : Place) (r : PageRecor
   adds = whole_add pages n place whole r small within blank is newer
 
   -- the state while the record is added
-  abbrev pub adding : Option Place → LayerState
+  abbrev pub adding : Option FlashPage → LayerState
   adding w = record s { sequence = r.sequence; fill = 64; unsure = w }
 
-  still_sound : (w : Option Place) → Sound pages m.blocks (adding w)
+  still_sound : (w : Option FlashPage) → Sound pages m.blocks (adding w)
   still_sound w = record {
     knows = sound.knows;
     tops = λ j q inside there. (let less = newer j q inside there in omega (arith, less));
@@ -120,7 +136,7 @@ module _ (m now : FlashMedium) (s u : LayerState) (place : Place) (r : PageRecor
     fresh = λ more. absurd (omega (arith, more));
   }
 
-  entering : (w : Option Place) (left : Pages) → TornPage place.block place.page pages left
+  entering : (w : Option FlashPage) (left : Pages) → TornPage place.block place.page pages left
       → AddsRecord pages left n place r
       → Enters pages left m.blocks (adding w) place r
   entering w left torn added = record {
@@ -136,7 +152,7 @@ module _ (m now : FlashMedium) (s u : LayerState) (place : Place) (r : PageRecor
   -- the record was added
   pub added_sound : now.state ≡ programmed m.state place.block place.page whole → now.blocks ≡ m.blocks
       → (after : LayerState)
-      → ((old new : Pages) (b : ℕ) → Sound old b u → IsFalse u.disputed → Enters old new b u place r
+      → ((old new : Pages) (b : ℕ) → Sound old b u → IsFalse u.has_rivals → Enters old new b u place r
       → Sound new b after) → IsSoundLayer now after
   added_sound done blocks after enters =
       let state : adding s.unsure ≡ u = sym on in
@@ -144,13 +160,13 @@ module _ (m now : FlashMedium) (s u : LayerState) (place : Place) (r : PageRecor
       (subst (λ (z : FlashState). Sound z.pages m.blocks after) (sym done)
       (enters pages written m.blocks
       (subst (Sound pages m.blocks) state (still_sound s.unsure))
-      (subst (λ (q : LayerState). IsFalse q.disputed) state fresh.agreed)
+      (subst (λ (q : LayerState). IsFalse q.has_rivals) state fresh.agreed)
       (subst (λ q. Enters pages written m.blocks q place r) state
       (entering s.unsure written (whole_torn pages place.block place.page whole) adds))))
 
   -- its page has an entry from then on
   pub added_entries : (after : LayerState)
-      → ((old new : Pages) (b : ℕ) → Sound old b u → IsFalse u.disputed → Enters old new b u place r
+      → ((old new : Pages) (b : ℕ) → Sound old b u → IsFalse u.has_rivals → Enters old new b u place r
       → Occupies u.table after.table (page_of r))
       → Occupies s.table after.table (page_of r)
   added_entries after enters =
@@ -158,7 +174,7 @@ module _ (m now : FlashMedium) (s u : LayerState) (place : Place) (r : PageRecor
       subst (λ table. Occupies table after.table (page_of r)) (ap (λ (q : LayerState). q.table) on)
       (enters pages written m.blocks
       (subst (Sound pages m.blocks) state (still_sound s.unsure))
-      (subst (λ (q : LayerState). IsFalse q.disputed) state fresh.agreed)
+      (subst (λ (q : LayerState). IsFalse q.has_rivals) state fresh.agreed)
       (subst (λ q. Enters pages written m.blocks q place r) state
       (entering s.unsure written (whole_torn pages place.block place.page whole) adds)))
 
@@ -207,10 +223,22 @@ module _ (m now : FlashMedium) (s u : LayerState) (place : Place) (r : PageRecor
       })
 
   abbrev pub Puts : Pages → Type 0
-  Puts = LeavesPut r.file (256 * r.page) r.bytes r.len m
+  Puts = LeavesAdded s.current r.file (256 * r.page) r.bytes r.len m
 
-  leaves : (left : Pages) → HasSameRecords pages left ⊎ AddsRecord pages left n place r → Puts left
-  leaves left grows = record {
+  at_current : number place / 64 ≡ s.current
+  at_current = let few = small in let here = block_is in
+      (let is : number place / 64 ≡ s.current = omega (arith, few, here) in is)
+
+  only_there : (left : Pages) → HasSameRecords pages left ⊎ AddsRecord pages left n place r
+      → KeepsHeld (copy_of r.file) s.current n pages left
+  only_there left grows = ⊎_elim
+      (λ same. held_same pages left (copy_of r.file) s.current n same)
+      (λ added. held_added pages left (copy_of r.file) s.current n place r added at_current refl)
+      grows
+
+  puts : (left : Pages) → HasSameRecords pages left ⊎ AddsRecord pages left n place r
+      → LeavesPut r.file (256 * r.page) r.bytes r.len m left
+  puts left grows = record {
     put = grown_put pages left m.blocks place r grows fits.no_shorter fits.grows full;
     usable = ⊎_elim
         (λ same. records_usable pages left m.blocks same (sound_usable pages m.blocks s sound))
@@ -222,6 +250,9 @@ module _ (m now : FlashMedium) (s u : LayerState) (place : Place) (r : PageRecor
         grows;
   }
 
+  leaves : (left : Pages) → HasSameRecords pages left ⊎ AddsRecord pages left n place r → Puts left
+  leaves left grows = record { put = puts left grows; held = only_there left grows }
+
   -- it was added, or nothing was
   pub add_does : {T E : Type 0} → (result : Result T E)
       → OnOk result (now.state ≡ programmed m.state place.block place.page whole)
@@ -229,7 +260,7 @@ module _ (m now : FlashMedium) (s u : LayerState) (place : Place) (r : PageRecor
       → EachFlashCase (λ c. IsStill m.state c ⊎ (IsStill now.state c
       ⊎ ProgramCase place.block place.page whole m.state c)) m now → Does Puts m now
   add_does result done failed cases = program_does m now Puts place.block place.page whole result done failed cases
-      (nothing_put m s sound r.file (256 * r.page) r.len r.bytes)
+      (nothing_added m s sound s.current r.file (256 * r.page) r.len r.bytes)
       (leaves written (inr adds))
       (λ left torn plain. leaves left (torn_add pages n place whole r small within blank is newer left torn plain))
 
@@ -260,3 +291,15 @@ module _ (a b c : FlashMedium) (first : FlashElapses a b) (early : Does (Denotes
   pub puts_then : FlashElapses b c → Does (LeavesPut file at bytes len b) b c → Does (LeavesPut file at bytes len a) a c
   puts_then second late = does_then a b c (LeavesPut file at bytes len a) first second puts_not
       (does_weaken b c (LeavesPut file at bytes len b) (LeavesPut file at bytes len a) puts_since late)
+
+-- what is put, and what the blocks hold, of a record that was added
+pub added_puts : (block file at : ℕ) (bytes : List ℕ) (len : ℕ) (a b : FlashMedium)
+    → Does (LeavesAdded block file at bytes len a) a b → Does (LeavesPut file at bytes len a) a b
+added_puts block file at bytes len a b = does_weaken a b (LeavesAdded block file at bytes len a)
+    (LeavesPut file at bytes len a) (λ pages added. added.put)
+
+pub added_held : (block file at : ℕ) (bytes : List ℕ) (len : ℕ) (a b : FlashMedium)
+    → Does (LeavesAdded block file at bytes len a) a b
+    → Does (KeepsHeld (copy_of file) block (places a.blocks) a.state.pages) a b
+added_held block file at bytes len a b = does_weaken a b (LeavesAdded block file at bytes len a)
+    (KeepsHeld (copy_of file) block (places a.blocks) a.state.pages) (λ pages added. added.held)

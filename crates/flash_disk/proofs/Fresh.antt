@@ -9,7 +9,7 @@ use Rattle.flash_record.specs.Blank.{blank_is_none}
 use Rattle.flash_disk.specs.Newest.{record_at, with_record, newest, opens_page, page_count, places, is_of, IsUsable}
 use Rattle.flash_disk.specs.Standing.{IsAgreed, HasRivals, IsRivalled}
 use Rattle.flash_disk.specs.Fresh.{IsBlankFlash}
-use Rattle.flash_disk.specs.Apart.{IsApart}
+use Rattle.flash_disk.specs.Apart.{StandApart}
 use Rattle.flash_disk.proofs.Standing.{is_newest_of}
 
 module _ (pages : Pages) (blocks : ℕ) (blank : IsBlankFlash pages blocks) where
@@ -42,10 +42,10 @@ module _ (pages : Pages) (blocks : ℕ) (blank : IsBlankFlash pages blocks) wher
   blank_is_agreed file page x found = absurd (none-some x
       (sym (no_newest file page (places blocks) (omega arith)) ∙ found))
 
-  pub blank_is_apart : IsApart pages blocks
-  blank_is_apart block = (
+  pub blank_stands_apart : StandApart pages blocks
+  blank_stands_apart block = (
     0,
-    λ file page x found other. absurd (none-some x
+    λ file page x found j inside at there. absurd (none-some x
         (sym (no_newest file page (places blocks) (omega arith)) ∙ found)),
   )
 

@@ -10,7 +10,7 @@ use Rattle.std.proofs.lemmas.Option.{same_Some}
 use Rattle.std.proofs.lemmas.List.{get_or_past}
 use Rattle.flash_model.specs.Pages.{Pages}
 use Rattle.flash_record.specs.PageRecord.{PageRecord}
-use Rattle.flash_disk.specs.declared.table.Place.{Place}
+use Rattle.flash_disk.specs.declared.table.FlashPage.{FlashPage}
 use Rattle.flash_disk.specs.Newest.{is_of, newest, places, IsSpare}
 use Rattle.flash_disk.specs.FlashFiles.{byte_in, file_byte, file_len, flash_files}
 use Rattle.flash_disk.proofs.FlashFilesLaws.{file_len_is, one_len, length-flash_files, byte-flash_files}
@@ -33,9 +33,9 @@ other_page file page r other = ⊎_elim
     (λ is. is)
     (cases_Bool (is_of file page r))
 
-module _ (old new : Pages) (n : ℕ) (place : Place) (r : PageRecord) (adds : AddsRecord old new n place r) where
+module _ (old new : Pages) (n : ℕ) (place : FlashPage) (r : PageRecord) (adds : AddsRecord old new n place r) where
   -- the newest record of a page is the one that was added, or the one that it was
-  by_page : (file page : ℕ) → ((file ≡ r.file) × (page ≡ r.page)
+  pub by_page : (file page : ℕ) → ((file ≡ r.file) × (page ≡ r.page)
       × (newest new file page n ≡ Some (placed old new n place r adds)))
       ⊎ ((is_of file page r ≡ false) × (newest new file page n ≡ newest old file page n))
   by_page file page = ⊎_elim
@@ -187,7 +187,7 @@ out_of_page page i apart = ⊎_elim
     (cases_lt i (256 * page + 256)))))
     (cases_lt i (256 * page))
 
-module _ (old new : Pages) (blocks : ℕ) (place : Place) (r : PageRecord)
+module _ (old new : Pages) (blocks : ℕ) (place : FlashPage) (r : PageRecord)
     (adds : AddsRecord old new (places blocks) place r)
     (no_shorter : file_len old (places blocks) r.file ≤ r.len) where
   long_is : length (flash_files new blocks r.file) ≡ r.len
@@ -241,7 +241,7 @@ module _ (old new : Pages) (blocks : ℕ) (place : Place) (r : PageRecord)
   }
 
 -- the record was added, or no record changed: its bytes were put into its file, or no file changed
-pub grown_put : (old left : Pages) (blocks : ℕ) (place : Place) (r : PageRecord)
+pub grown_put : (old left : Pages) (blocks : ℕ) (place : FlashPage) (r : PageRecord)
     → HasSameRecords old left ⊎ AddsRecord old left (places blocks) place r
     → file_len old (places blocks) r.file ≤ r.len → MayGrow old (places blocks) r.file r.page r.len
     → length r.bytes ≡ 256

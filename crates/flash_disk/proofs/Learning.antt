@@ -10,7 +10,7 @@ use Rattle.std.proofs.lemmas.Option.{same_Some, none-some}
 use Rattle.flash_model.specs.Pages.{Pages}
 use Rattle.flash_record.specs.PageRecord.{PageRecord, record_in}
 use Rattle.flash_disk.specs.declared.table.FilePage.{FilePage}
-use Rattle.flash_disk.specs.declared.table.Place.{Place}
+use Rattle.flash_disk.specs.declared.table.FlashPage.{FlashPage}
 use Rattle.flash_disk.specs.declared.table.Newest.{Newest}
 use Rattle.flash_disk.specs.declared.table.Table.{Table}
 use Rattle.flash_disk.specs.Newest.{Placed, record_at, is_of, newer, with_record, newest, opens_page, page_count}
@@ -59,7 +59,8 @@ module _ (pages : Pages) (n : ℕ) where
   abbrev NoCopy : Placed → Type 0
   NoCopy x = record_at pages n ≡ Some x.says → n / 64 ≢ x.place / 64 → ⊥
 
-  twin_stays : (x : Placed) (twin : Option Place) → NoCopy x → TwinSays pages n x twin → TwinSays pages (suc n) x twin
+  twin_stays : (x : Placed) (twin : Option FlashPage) → NoCopy x → TwinSays pages n x twin
+      → TwinSays pages (suc n) x twin
   twin_stays x None none alone = λ j copy. ⊎_elim
       (λ below. alone j (record { within = below; apart = copy.apart; same = copy.same }))
       (λ last. none (subst (λ k. record_at pages k ≡ Some x.says) last copy.same)
@@ -113,7 +114,8 @@ module _ (pages : Pages) (n : ℕ) where
     leads = says.leads;
     place = says.place;
     twin = twin_stays x e.twin (λ same apart. none x refl x.says same (own_page_of x.says)) says.twin;
-    agreed = λ calm. unrivalled_stays x (λ q here of_page same. absurd (none x refl q here of_page)) (says.agreed calm);
+    agreed = λ no_rivals. unrivalled_stays x (λ q here of_page same. absurd (none x refl q here of_page))
+        (says.agreed no_rivals);
     rivals = λ so. rivalled_stays x (says.rivals so);
     page = says.page;
   }
@@ -244,7 +246,7 @@ module _ (pages : Pages) (n : ℕ) where
           (λ below. let lt = less j r below copy.same own_page in omega arith)
           (λ last. copy.apart (ap (λ k. k / 64) last))
           (below_suc j n copy.within));
-      agreed = λ calm j q within is of_page same. ⊎_elim
+      agreed = λ no_rivals j q within is of_page same. ⊎_elim
           (λ below. let lt = less j q below is of_page in absurd (omega (arith, lt, same)))
           (λ last. same_Some q r (sym (subst (λ k. record_at pages k ≡ Some q) last is) ∙ here))
           (below_suc j n within);
@@ -323,9 +325,9 @@ module _ (pages : Pages) (n : ℕ) where
               twin = twin_stays best.0 e.twin (λ same apart. let q : r.sequence ≡ best.0.says.sequence =
                   ap (λ z. z.sequence) (same_Some r best.0.says (sym here ∙ same)) in
                   let s = best.2.leads.sequence in omega arith) best.2.twin;
-              agreed = λ calm. unrivalled_stays best.0 (λ q same of_page number. let z : q.sequence ≡ r.sequence =
+              agreed = λ no_rivals. unrivalled_stays best.0 (λ q same of_page number. let z : q.sequence ≡ r.sequence =
                   ap (λ z. z.sequence) (same_Some q r (sym same ∙ here)) in
-                  let s = best.2.leads.sequence in absurd (omega (arith, z, s, number, less))) (best.2.agreed calm);
+                  let s = best.2.leads.sequence in absurd (omega (arith, z, s, number, less))) (best.2.agreed no_rivals);
               rivals = λ so. rivalled_stays best.0 (best.2.rivals so);
               page = best.2.page;
             }))
@@ -392,7 +394,7 @@ module _ (pages : Pages) (n : ℕ) where
         } in z) same.1)))
 
     module _ (old : Table) (e : Newest) (learnt : HasLearnt pages n old) (known_is : known old (page_of r) ≡ Some e)
-        (place : Place) (place_is : number place ≡ n) (small : place.page < 64) (sequence : e.sequence ≡ r.sequence)
+        (place : FlashPage) (place_is : number place ≡ n) (small : place.page < 64) (sequence : e.sequence ≡ r.sequence)
       where
         abbrev x : Placed
         x = (best old e learnt known_is).0
@@ -412,7 +414,7 @@ module _ (pages : Pages) (n : ℕ) where
         n_block : n / 64 ≡ place.block
         n_block = omega (arith, place_is, small)
 
-        module _ (first : Option PageRecord) (is : first ≡ Some x.says) (twin : Option Place)
+        module _ (first : Option PageRecord) (is : first ≡ Some x.says) (twin : Option FlashPage)
             (at : TwinAt first r e place twin) where
           -- the record is equal, and in another block
           copied : place.block ≢ e.place.block → SaysTheSame x.says r → TwinSays pages (suc n) x twin
@@ -443,7 +445,7 @@ module _ (pages : Pages) (n : ℕ) where
               (cases_eq x.says.len r.len)
 
         -- the twin after the record was seen
-        twin_says : (first : Option PageRecord) → first ≡ Some x.says → (twin : Option Place)
+        twin_says : (first : Option PageRecord) → first ≡ Some x.says → (twin : Option FlashPage)
             → TwinAt first r e place twin → TwinSays pages (suc n) x twin
         twin_says first is twin at = ⊎_elim
             (λ same_block. subst (TwinSays pages (suc n) x) (sym (at.same_block same_block))
@@ -454,7 +456,7 @@ module _ (pages : Pages) (n : ℕ) where
         -- whether it is rivalled after the record was seen
         agreed_says : (first : Option PageRecord) → first ≡ Some x.says → (rivalled : Bool)
             → RivalledAt first r e rivalled → IsFalse rivalled → Unrivalled pages (suc n) x
-        agreed_says first is rivalled at calm = let says = at.calm calm in unrivalled_stays x
+        agreed_says first is rivalled at no_rivals = let says = at.no_rivals no_rivals in unrivalled_stays x
             (λ q there of_page number. same_Some q r (sym there ∙ here)
             ∙ sym (same_record x.says is_newest.of_page (sym before_is.leads.sequence ∙ sequence) (says.1 x.says is)))
             (before_is.agreed says.0)
@@ -483,11 +485,11 @@ module _ (pages : Pages) (n : ℕ) where
 
         -- what is put in for a record with the newest one's number
         pub equal : (seen : Option PageRecord) → seen ≡ record_at pages (number e.place)
-            → (twin : Option Place) (rivalled : Bool) → TwinAt seen r e place twin
+            → (twin : Option FlashPage) (rivalled : Bool) → TwinAt seen r e place twin
             → RivalledAt seen r e rivalled
             → LearnsOf pages (suc n) (Some (record e { twin = twin; rivalled = rivalled }))
             (newer (newest pages r.file r.page n) placed)
-        equal seen is twin rivalled at calm = stays_newest old e learnt known_is
+        equal seen is twin rivalled at no_rivals = stays_newest old e learnt known_is
             (record e { twin = twin; rivalled = rivalled }) (omega (arith, sequence)) (record {
               leads = record {
                 small = before_is.leads.small;
@@ -499,7 +501,7 @@ module _ (pages : Pages) (n : ℕ) where
               };
               place = before_is.place;
               twin = twin_says seen (is ∙ before_is.leads.there) twin at;
-              agreed = agreed_says seen (is ∙ before_is.leads.there) rivalled calm;
-              rivals = rivals_say seen (is ∙ before_is.leads.there) rivalled calm;
+              agreed = agreed_says seen (is ∙ before_is.leads.there) rivalled no_rivals;
+              rivals = rivals_say seen (is ∙ before_is.leads.there) rivalled no_rivals;
               page = before_is.page;
             })

@@ -7,7 +7,7 @@ use Rattle.std.proofs.lemmas.Option.{same_Some, none-some}
 use Rattle.flash_model.specs.Pages.{Pages}
 use Rattle.flash_record.specs.PageRecord.{PageRecord}
 use Rattle.flash_disk.specs.declared.table.FilePage.{FilePage}
-use Rattle.flash_disk.specs.declared.table.Place.{Place}
+use Rattle.flash_disk.specs.declared.table.FlashPage.{FlashPage}
 use Rattle.flash_disk.specs.declared.table.Newest.{Newest}
 use Rattle.flash_disk.specs.declared.table.Table.{Table}
 use Rattle.flash_disk.specs.Newest.{Placed, record_at, is_of, newest, IsCopyOf, IsNewest, IsNewestOf, IsSpare, places}
@@ -123,7 +123,7 @@ module _ (pages : Pages) (n block : ℕ) where
             alone = subst (TwinSays pages n x.0) none x.2.twin;
           }) (own_block key e here)
 
-      module _ (key : FilePage) (e : Newest) (here : LeadsHere key e) (twin : Place) (twin_is : e.twin ≡ Some twin)
+      module _ (key : FilePage) (e : Newest) (here : LeadsHere key e) (twin : FlashPage) (twin_is : e.twin ≡ Some twin)
         where
           abbrev x : Placed
           x = (found key e here.0).0
@@ -216,7 +216,7 @@ module _ (pages : Pages) (n block : ℕ) where
         no_twin_found none = none_here (λ k w here. has_twin spare small k w here
             (ap (λ (q : FilePage × Newest). q.1.twin) (sym (only k w here)) ∙ none))
 
-        pub twin_found : known table key ≡ Some e → e.place.block ≡ block → e.place.page ≡ p → (twin : Place)
+        pub twin_found : known table key ≡ Some e → e.place.block ≡ block → e.place.page ≡ p → (twin : FlashPage)
             → e.twin ≡ Some twin → (new : Table) (done : Bool)
             → (HasCapacity table → IsFalse done ↔ ((known table key ≡ None) × (limit_of table ≤ page_len table)))
             → (IsTrue done → SetsEntry table new key (record e { place = twin })) → IsLeaving pages n block (p + 1) new
@@ -247,8 +247,8 @@ module _ (pages : Pages) (n block : ℕ) where
 
     unrivalled_by : (x : Placed) (k : Option Newest) → ((e : Newest) → k ≡ Some e → IsFalse e.rivalled)
         → LeavesOf pages n block k (Some x) → Unrivalled pages n x
-    unrivalled_by x None calm says = absurd says
-    unrivalled_by x (Some e) calm says = says.agreed (calm e refl)
+    unrivalled_by x None no_rivals says = absurd says
+    unrivalled_by x (Some e) no_rivals says = says.agreed (no_rivals e refl)
 
     of_key : (file page : ℕ) (x : Placed) → newest pages file page n ≡ Some x
         → page_of x.says ≡ record { file = file; page = page }
@@ -258,9 +258,9 @@ module _ (pages : Pages) (n block : ℕ) where
     -- where no entry is rivalled, the records are agreed
     pub agreed_at_last : ((key : FilePage) (e : Newest) → known table key ≡ Some e → IsFalse e.rivalled)
         → IsAgreed pages n
-    agreed_at_last calm file page x is j q within there of_page same =
+    agreed_at_last no_rivals file page x is j q within there of_page same =
         let key : FilePage = record { file = file; page = page } in
-        unrivalled_by x (known table key) (calm key) (subst (LeavesOf pages n block (known table key)) is
+        unrivalled_by x (known table key) (no_rivals key) (subst (LeavesOf pages n block (known table key)) is
         (leaving.says key)) j q within there
         (subst (λ (k : FilePage). is_of k.file k.page q ≡ true) (sym (of_key file page x is)) of_page) same
 

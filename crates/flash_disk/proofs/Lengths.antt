@@ -22,13 +22,13 @@ longest file [] = 0
 longest file (e ∷ es) = cond (nat_eq file e.0.file) (max e.1.len (longest file es)) (longest file es)
 
 -- a key that differs from all keys is not found
-not_found : (k : FilePage) (es : List Entry) → AllByRecursion (λ y. same_page k y ≡ false) (keys_of es)
+pub not_found : (k : FilePage) (es : List Entry) → AllByRecursion (λ y. same_page k y ≡ false) (keys_of es)
     → lookup (same_page k) es ≡ None
 not_found k [] none = refl
 not_found k (e ∷ es) none = rw none.0 (not_found k es none.1)
 
 -- what is found among the later entries is found among all, since their keys differ
-lift_by : (e : Entry) (es : List Entry) → AllByRecursion (λ y. same_page e.0 y ≡ false) (keys_of es)
+pub lift_by : (e : Entry) (es : List Entry) → AllByRecursion (λ y. same_page e.0 y ≡ false) (keys_of es)
     → (key : FilePage) (entry : Newest)
     → lookup (same_page key) es ≡ Some entry → (b : Bool) → same_page key e.0 ≡ b
     → cond b (Some e.1) (lookup (same_page key) es) ≡ Some entry

@@ -27,6 +27,10 @@ pub mod Moved
 mod Looking
 mod Turning
 mod Losing
+mod Marking
+mod Holding
+mod Filled
+mod Gathering
 mod Steps
 pub mod Entries
 pub mod Accounting

@@ -1,10 +1,10 @@
 -- Records are copied to the start of the spare block one by one, and nothing that counts changes.
-use Rattle.std.proofs.Common.{◌≡◌, ◌≢◌, ◌⊎◌, ℕ, ◌+◌, ◌*◌, ◌<◌, ◌≤◌, Bool, true, false, cond, slice_index_or, List, []}
-use Rattle.std.proofs.Common.{◌∷◌, ◌++◌, length, Result, Ok, Err, OnOk, OnErr, refl, sym, ap, subst, ◌∙◌, inl, inr}
-use Rattle.std.proofs.Common.{⊎_elim, arith, eq-eqb, length-append}
+use Rattle.std.proofs.Common.{◌≡◌, ◌≢◌, ◌⊎◌, ℕ, ◌+◌, ◌*◌, ◌/◌, ◌<◌, ◌≤◌, Bool, true, false, cond, slice_index_or}
+use Rattle.std.proofs.Common.{List, [], ◌∷◌, ◌++◌, length, Result, Ok, Err, OnOk, OnErr, refl, sym, ap, subst, ◌∙◌}
+use Rattle.std.proofs.Common.{inl, inr, ⊎_elim, arith, eq-eqb, length-append}
 use Rattle.std.specs.Prelude.{Option, Some, None, IsFalse, All, nat_eq, ◌&&◌, not, vec_capacity}
 use Rattle.std.proofs.lemmas.Bool.{cases_lt, cases_Bool, eqb-true, and_parts, and_from, true≢false}
-use Rattle.std.proofs.lemmas.Option.{same_Some}
+use Rattle.std.proofs.lemmas.Option.{same_Some, none-some}
 use Rattle.std.proofs.lemmas.List.Elements.{All-push}
 use Rattle.flash_model.specs.Pages.{Pages, TornPage, IsPlain, program_page, erase_block, blank_page}
 use Rattle.flash_model.specs.State.{FlashState, IsStill, ProgramCase, EraseCase, FailsToProgram, FailsToErase}
@@ -12,7 +12,7 @@ use Rattle.flash_model.specs.State.{programmed, erased}
 use Rattle.flash_model.specs.FlashMedium.{FlashMedium, FlashElapses, EachFlashCase}
 use Rattle.flash_record.specs.PageRecord.{PageRecord, record_in}
 use Rattle.flash_disk.specs.declared.table.FilePage.{FilePage}
-use Rattle.flash_disk.specs.declared.table.Place.{Place}
+use Rattle.flash_disk.specs.declared.table.FlashPage.{FlashPage}
 use Rattle.flash_disk.specs.declared.table.Newest.{Newest}
 use Rattle.flash_disk.specs.declared.table.Table.{Table}
 use Rattle.flash_disk.specs.declared.layer.LayerState.{LayerState}
@@ -23,16 +23,20 @@ use Rattle.flash_disk.specs.Learnt.{number, Led, LedOf, IsLed, HasPlace}
 use Rattle.flash_disk.specs.Does.{Does}
 use Rattle.flash_disk.specs.Standing.{DenotesFiles, KeepsRecords}
 use Rattle.flash_disk.specs.Sound.{Sound, IsSoundLayer, FitsIn, MayBeAdded, ShowsSame}
-use Rattle.flash_disk.specs.Moving.{IsMoved, HasKey, IsMoving}
+use Rattle.flash_disk.specs.Moving.{IsMoved, HasKey, IsMoving, StandsMoved}
+use Rattle.flash_disk.specs.Apart.{copy_of, KeepsHeld, HoldsOnly}
+use Rattle.flash_disk.specs.LedApart.{LeadsOnly}
 use Rattle.flash_disk.proofs.Learning.{record_at_place, same_page_refl}
-use Rattle.flash_disk.proofs.Standing.{is_newest_of, keeps_agreed, keeps_strayless, keeps_tops, keeps_known}
+use Rattle.flash_disk.proofs.Standing.{is_newest_of, keeps_said, keeps_agreed, keeps_strayless, keeps_tops, keeps_known}
 use Rattle.flash_disk.proofs.Standing.{keeps_files, keeps_refl, keeps_then, keeps_byte, keeps_len, keeps_may_grow}
 use Rattle.flash_disk.proofs.Sparing.{led_elsewhere, spare_of}
-use Rattle.flash_disk.proofs.Tearing.{torn_elsewhere, torn_copy, whole_copy, whole_torn, whole_here, LosesIn}
+use Rattle.flash_disk.proofs.Tearing.{IsTorn, torn_program, nothing_left, torn_elsewhere, torn_copy, whole_copy}
+use Rattle.flash_disk.proofs.Tearing.{whole_torn, whole_here, LosesIn}
 use Rattle.flash_disk.proofs.Tearing.{torn_erase, whole_erase, erase_keeps}
 use Rattle.flash_disk.proofs.Stretches.{does_then, does_weaken, does_nothing, program_does, erase_does}
 use Rattle.flash_disk.proofs.Entering.{as_said, sound_usable, lies_elsewhere}
 use Rattle.flash_disk.proofs.PageCount.{count_keeps}
+use Rattle.flash_disk.proofs.Holding.{held_refl, held_then, held_lost, held_copied}
 
 -- the newest record of a page to which an entry leads
 by_best : (pages : Pages) (n : ℕ) (key : FilePage) (e : Newest) (best : Option Placed)
@@ -58,7 +62,7 @@ record_of pages n table led key e is =
     )
 
 -- what counts is kept, and what the table leads to stands where it stood
-pub kept_sound : (old new : Pages) (blocks : ℕ) (s : LayerState) → Sound old blocks s → IsFalse s.disputed → 64 ≤ s.fill
+pub kept_sound : (old new : Pages) (blocks : ℕ) (s : LayerState) → Sound old blocks s → IsFalse s.has_rivals → 64 ≤ s.fill
     → KeepsRecords old new (places blocks)
     → ((key : FilePage) (e : Newest) → known s.table key ≡ Some e
     → record_at new (number e.place) ≡ record_at old (number e.place)) → Sound new blocks s
@@ -78,13 +82,13 @@ kept_sound old new blocks s sound agreed full keeps there =
       within = sound.within;
       is_spare = spare_of new n s.spare (led_elsewhere new n s.table knows.led s.spare (sound.apart agreed));
       agreed = λ _. keeps_agreed old new n all_agree keeps;
-      rivals = λ disputed. absurd (true≢false (sym disputed ∙ agreed));
+      rivals = λ has_rivals. absurd (true≢false (sym has_rivals ∙ agreed));
       apart = sound.apart;
       fresh = λ room. absurd (omega (arith, room, full));
     }
 
 -- the pages denote the files that they denoted
-pub kept_stands : (m : FlashMedium) (new : Pages) (s : LayerState) → IsSoundLayer m s → IsFalse s.disputed
+pub kept_stands : (m : FlashMedium) (new : Pages) (s : LayerState) → IsSoundLayer m s → IsFalse s.has_rivals
     → KeepsRecords m.state.pages new (places m.blocks) → Sound new m.blocks s
     → DenotesFiles m new
 kept_stands m new s sound agreed keeps now = record {
@@ -118,9 +122,42 @@ stands_then a b c first second early late =
     does_then a b c (DenotesFiles a) first second early (does_weaken b c (DenotesFiles b) (DenotesFiles a)
     (stands_since a b first.blocks early.now) late)
 
+-- nothing was moved yet
+pub moved_now : (table : Table) (from to : ℕ) (m : FlashMedium) (s : LayerState) → IsSoundLayer m s
+    → StandsMoved table from to m m.state.pages
+moved_now table from to m s sound = record {
+  stands = stands_now m s sound;
+  held = λ copy only. held_refl copy to (places m.blocks) m.state.pages;
+}
+
+pub moved_stands : (table : Table) (from to : ℕ) (a b : FlashMedium) → Does (StandsMoved table from to a) a b
+    → Does (DenotesFiles a) a b
+moved_stands table from to a b = does_weaken a b (StandsMoved table from to a) (DenotesFiles a) (λ pages moved.
+    moved.stands)
+
+pub moved_held : (table : Table) (from to copy : ℕ) (a b : FlashMedium) → LeadsOnly table copy from
+    → Does (StandsMoved table from to a) a b → Does (KeepsHeld copy to (places a.blocks) a.state.pages) a b
+moved_held table from to copy a b only = does_weaken a b (StandsMoved table from to a)
+    (KeepsHeld copy to (places a.blocks) a.state.pages) (λ pages moved. moved.held copy only)
+
+-- one stretch after the other
+pub moved_then : (table : Table) (from to : ℕ) (a b c : FlashMedium) → FlashElapses a b → FlashElapses b c
+    → Does (StandsMoved table from to a) a b → Does (StandsMoved table from to b) b c
+    → Does (StandsMoved table from to a) a c
+moved_then table from to a b c first second early late =
+    does_then a b c (StandsMoved table from to a) first second early
+    (does_weaken b c (StandsMoved table from to b) (StandsMoved table from to a)
+    (λ pages moved. record {
+      stands = stands_since a b first.blocks early.now.stands pages moved.stands;
+      held = λ copy only. held_then copy to (places a.blocks) a.state.pages b.state.pages pages
+          (early.now.held copy only)
+          (subst (λ k. KeepsHeld copy to (places k) b.state.pages pages) first.blocks (moved.held copy only));
+    })
+    late)
+
 -- ---- the spare block is erased
 
-module _ (m now : FlashMedium) (s : LayerState) (sound : IsSoundLayer m s) (agreed : IsFalse s.disputed) (full : 64
+module _ (m now : FlashMedium) (s : LayerState) (sound : IsSoundLayer m s) (agreed : IsFalse s.has_rivals) (full : 64
     ≤ s.fill)
   where
     abbrev pages : Pages
@@ -152,6 +189,29 @@ module _ (m now : FlashMedium) (s : LayerState) (sound : IsSoundLayer m s) (agre
         (loses_stands (erase_block pages s.spare) (whole_erase pages s.spare))
         (λ left torn plain. loses_stands left (torn_erase pages s.spare left torn plain))
 
+    loses_held : (copy home : ℕ) (left : Pages) → LosesIn s.spare pages left → KeepsHeld copy home n pages left
+    loses_held copy home left loses = held_lost pages left copy home n
+        (keeps_said pages left n (sound.agreed agreed) (loses_keeps left loses)) loses.only
+
+    -- whatever a block held alone it still does
+    pub erase_held : (copy : ℕ) → {T E : Type 0} → (result : Result T E)
+        → OnOk result (now.state ≡ erased m.state s.spare)
+        → OnErr result (FailsToErase s.spare m.state now.state)
+        → EachFlashCase (λ c. IsStill m.state c ⊎ (IsStill now.state c ⊎ EraseCase s.spare m.state c)) m now
+        → Does (λ left. (home : ℕ) → KeepsHeld copy home n pages left) m now
+    erase_held copy result done failed cases =
+        erase_does m now (λ left. (home : ℕ) → KeepsHeld copy home n pages left) s.spare result done failed cases
+        (λ home. held_refl copy home n pages)
+        (λ home. loses_held copy home (erase_block pages s.spare) (whole_erase pages s.spare))
+        (λ left torn plain home. loses_held copy home left (torn_erase pages s.spare left torn plain))
+
+    -- and the erased block holds nothing of any other copy
+    pub erased_holds : (copy : ℕ) → now.state ≡ erased m.state s.spare → now.blocks ≡ m.blocks
+        → HoldsOnly now.state.pages (places now.blocks) s.spare copy
+    erased_holds copy done blocks = λ file page x found j inside at there.
+        absurd (none-some x.says (sym (nothing_left pages s.spare j at)
+        ∙ subst (λ (z : FlashState). record_at z.pages j ≡ Some x.says) done there))
+
     pub erase_failed : FailsToErase s.spare m.state now.state → now.blocks ≡ m.blocks → IsSoundLayer now s
     erase_failed failed blocks = subst (λ b. Sound now.state.pages b s) (sym blocks)
         (loses_sound now.state.pages (torn_erase pages s.spare now.state.pages failed.torn failed.plain))
@@ -175,7 +235,7 @@ module _ (m now : FlashMedium) (s : LayerState) (sound : IsSoundLayer m s) (agre
           sound = subst (Sound (erase_block pages s.spare) m.blocks) (sym state)
               (as_said (erase_block pages s.spare) m.blocks s (record s { moved = t.moved })
               (loses_sound (erase_block pages s.spare) (whole_erase pages s.spare)) memory);
-          agreed = subst (λ (q : LayerState). IsFalse q.disputed) (sym state) agreed;
+          agreed = subst (λ (q : LayerState). IsFalse q.has_rivals) (sym state) agreed;
           full = subst (λ (q : LayerState). 64 ≤ q.fill) (sym state) full;
           spare = subst (λ (q : LayerState). q.spare ≡ to) (sym state) (sym spare);
           within = within;
@@ -264,7 +324,7 @@ module _ (m : FlashMedium) (s : LayerState) (from to done : ℕ) (moving : IsMov
   module _ (key : FilePage) (old : Newest) (is : known s.table key ≡ Some old) (block : old.place.block ≡ from)
       (page : old.place.page ≡ done)
       (count : ℕ) (count_is : count ≡ length s.moved.items) where
-    abbrev place : Place
+    abbrev place : FlashPage
     place = record { block = to; page = count }
 
     abbrev r : PageRecord
@@ -330,17 +390,49 @@ module _ (m : FlashMedium) (s : LayerState) (from to done : ℕ) (moving : IsMov
         (subst (λ (z : FlashState). Sound z.pages m.blocks s) (sym done_now)
         (left_sound written written_torn written_keeps))
 
+    file_is : r.file ≡ key.file
+    file_is = ap (λ (k : FilePage). k.file) (page_says key old is block page).2
+
+    left_held : (left : Pages) → IsTorn m.state.pages left (number place) (Some r)
+        → KeepsRecords m.state.pages left (places m.blocks) → (copy : ℕ) → LeadsOnly s.table copy from
+        → KeepsHeld copy to (places m.blocks) m.state.pages left
+    left_held left torn keeps copy only = held_copied m.state.pages left copy to (places m.blocks)
+        (keeps_said m.state.pages left (places m.blocks) (moving.sound.agreed moving.agreed) keeps) (number place) r
+        torn
+        (let few = small in let here : number place / 64 ≡ to = omega (arith, few) in here)
+        (ap copy_of file_is ∙ only key old is block)
+
+    left_is : (left : Pages) → TornPage to count m.state.pages left
+        → IsPlain m.state.pages (program_page m.state.pages to count bytes) left
+        → IsTorn m.state.pages left (number place) (Some r)
+    left_is left torn plain = subst (IsTorn m.state.pages left (number place))
+        (page_says key old is block page).3
+        (torn_program m.state.pages to count small blank left bytes torn plain)
+
+    written_is : IsTorn m.state.pages written (number place) (Some r)
+    written_is = record {
+      elsewhere = λ j apart. torn_elsewhere m.state.pages to count written written_torn j apart;
+      here = inr (whole_here m.state.pages to count small bytes ∙ (page_says key old is block page).3);
+    }
+
     pub copy_does : {T E : Type 0} → (now : FlashMedium) (result : Result T E)
         → OnOk result (now.state ≡ programmed m.state to count bytes)
         → OnErr result (FailsToProgram to count bytes m.state now.state)
         → EachFlashCase (λ c. IsStill m.state c ⊎ (IsStill now.state c ⊎ ProgramCase to count bytes m.state c)) m now
-        → Does (DenotesFiles m) m now
-    copy_does now result ok failed cases = program_does m now (DenotesFiles m) to count bytes result ok failed cases
-        (stands_now m s moving.sound)
-        (kept_stands m written s moving.sound moving.agreed written_keeps
-        (left_sound written written_torn written_keeps))
-        (λ left torn plain. kept_stands m left s moving.sound moving.agreed (left_keeps left torn plain)
-        (left_sound left torn (left_keeps left torn plain)))
+        → Does (StandsMoved s.table from to m) m now
+    copy_does now result ok failed cases =
+        program_does m now (StandsMoved s.table from to m) to count bytes result ok failed cases
+        (moved_now s.table from to m s moving.sound)
+        (record {
+          stands = kept_stands m written s moving.sound moving.agreed written_keeps
+              (left_sound written written_torn written_keeps);
+          held = left_held written written_is written_keeps;
+        })
+        (λ left torn plain. record {
+          stands = kept_stands m left s moving.sound moving.agreed (left_keeps left torn plain)
+              (left_sound left torn (left_keeps left torn plain));
+          held = left_held left (left_is left torn plain) (left_keeps left torn plain);
+        })
 
     abbrev pub moved_entry : FilePage × Newest
     moved_entry = (key, record old { place = place })
@@ -396,7 +488,7 @@ module _ (m : FlashMedium) (s : LayerState) (from to done : ℕ) (moving : IsMov
           sound = subst (Sound written m.blocks) (sym state)
               (as_said written m.blocks s (record s { moved = t.moved }) (left_sound written written_torn written_keeps)
               memory);
-          agreed = subst (λ (q : LayerState). IsFalse q.disputed) (sym state) moving.agreed;
+          agreed = subst (λ (q : LayerState). IsFalse q.has_rivals) (sym state) moving.agreed;
           full = subst (λ (q : LayerState). 64 ≤ q.fill) (sym state) moving.full;
           spare = subst (λ (q : LayerState). q.spare ≡ to) (sym state) moving.spare;
           within = moving.within;
@@ -448,8 +540,13 @@ module _ (m look : FlashMedium) (same : look.state ≡ m.state) (blocks : look.b
       → Does (DenotesFiles m) m look
   look_stands still s sound = does_nothing m look (DenotesFiles m) same still (stands_now m s sound)
 
+  pub look_moved : (table : Table) (from to : ℕ) → EachFlashCase (IsStill m.state) m look → (s : LayerState)
+      → IsSoundLayer m s → Does (StandsMoved table from to m) m look
+  look_moved table from to still s sound = does_nothing m look (StandsMoved table from to m) same still
+      (moved_now table from to m s sound)
+
 -- what was kept in one stretch after the other
-pub keeps_on : (m mid : FlashMedium) (s : LayerState) → IsSoundLayer m s → IsFalse s.disputed → mid.blocks ≡ m.blocks
+pub keeps_on : (m mid : FlashMedium) (s : LayerState) → IsSoundLayer m s → IsFalse s.has_rivals → mid.blocks ≡ m.blocks
     → KeepsRecords m.state.pages mid.state.pages (places m.blocks)
     → (after : Pages) → KeepsRecords mid.state.pages after (places mid.blocks)
     → KeepsRecords m.state.pages after (places m.blocks)
@@ -458,7 +555,7 @@ keeps_on m mid s sound agreed blocks keeps after then =
     (subst (λ b. KeepsRecords mid.state.pages after (places b)) blocks then)
 
 -- no byte changed
-pub shows_same : (m now : FlashMedium) (s : LayerState) → IsSoundLayer m s → IsFalse s.disputed
+pub shows_same : (m now : FlashMedium) (s : LayerState) → IsSoundLayer m s → IsFalse s.has_rivals
     → KeepsRecords m.state.pages now.state.pages (places m.blocks) → now.blocks ≡ m.blocks
     → ShowsSame m now
 shows_same m now s sound agreed keeps blocks f i =
@@ -466,7 +563,7 @@ shows_same m now s sound agreed keeps blocks f i =
     (keeps_byte m.state.pages now.state.pages (places m.blocks) (sound.agreed agreed) keeps f i)
 
 -- a record that might be added still may
-pub fits_kept : (m now : FlashMedium) (s t : LayerState) → IsSoundLayer m s → IsFalse s.disputed
+pub fits_kept : (m now : FlashMedium) (s t : LayerState) → IsSoundLayer m s → IsFalse s.has_rivals
     → KeepsRecords m.state.pages now.state.pages (places m.blocks) → now.blocks ≡ m.blocks
     → ((key : FilePage) → HasPlace s.table key → HasPlace t.table key) → (file page len : ℕ) (bytes : List ℕ)
     → FitsIn m s file page len bytes → FitsIn now t file page len bytes

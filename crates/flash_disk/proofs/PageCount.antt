@@ -13,7 +13,7 @@ use Rattle.flash_model.specs.Pages.{Pages}
 use Rattle.flash_record.specs.PageRecord.{PageRecord}
 use Rattle.flash_disk.specs.declared.table.FilePage.{FilePage}
 use Rattle.flash_disk.specs.declared.table.Newest.{Newest}
-use Rattle.flash_disk.specs.declared.table.Place.{Place}
+use Rattle.flash_disk.specs.declared.table.FlashPage.{FlashPage}
 use Rattle.flash_disk.specs.declared.table.Table.{Table}
 use Rattle.flash_disk.specs.Newest.{Placed, record_at, is_of, newer, with_record, newest, opens_page, page_count}
 use Rattle.flash_disk.specs.Newest.{IsNewestOf}
@@ -29,7 +29,7 @@ use Rattle.flash_disk.proofs.Programming.{placed, newest_here, newest_elsewhere}
 page_decides : (a b : FilePage) → Decides (same_page a b) (a ≡ b)
 page_decides a b = (same_page_is a b, λ is. subst (λ k. same_page a k ≡ true) is (same_page_refl a))
 
-page_laws : IsEquivalence same_page
+pub page_laws : IsEquivalence same_page
 page_laws = decided same_page page_decides
 
 -- ---- the pages that have a record
@@ -151,7 +151,7 @@ count_same old new n same = same_pages (page_count new n) (page_count old n) (λ
     (opened_pages new n) (opened_pages old n) (opened_is new n) (opened_is old n)
     (λ key. same_some (newest new key.file key.page n) (newest old key.file key.page n) (same key.file key.page))
 
-module _ (old new : Pages) (n : ℕ) (place : Place) (r : PageRecord) (adds : AddsRecord old new n place r) where
+module _ (old new : Pages) (n : ℕ) (place : FlashPage) (r : PageRecord) (adds : AddsRecord old new n place r) where
   added_page : (key : FilePage) (b : Bool) → is_of key.file key.page r ≡ b
       → is_some (newest new key.file key.page n) ≡ is_some
       (cond b (newer (newest old key.file key.page n) (record { place = n; says = r }))

@@ -9,7 +9,7 @@ use Rattle.flash_record.specs.PageRecord.{PageRecord}
 use Rattle.flash_disk.specs.Newest.{Placed, record_at, is_of, newest, IsNewest, IsNewestOf}
 use Rattle.flash_disk.proofs.NewestLaws.{newest_is}
 use Rattle.flash_disk.specs.declared.table.FilePage.{FilePage}
-use Rattle.flash_disk.specs.declared.table.Place.{Place}
+use Rattle.flash_disk.specs.declared.table.FlashPage.{FlashPage}
 use Rattle.flash_disk.specs.declared.table.Newest.{Newest}
 use Rattle.flash_disk.specs.declared.table.Table.{Table}
 use Rattle.flash_disk.specs.Known.{same_page, page_of, known, limit_of, SetsEntry}
@@ -42,7 +42,7 @@ module _ (pages : Pages) (file page n : ℕ) where
   one_newest (Some x) None is_a is_b = absurd (is_b x.place x.says is_a.within is_a.there is_a.of_page)
   one_newest (Some x) (Some y) is_a is_b = ap Some (same_placed x y is_a is_b)
 
-module _ (old new : Pages) (n : ℕ) (place : Place) (r : PageRecord) (adds : AddsRecord old new n place r) where
+module _ (old new : Pages) (n : ℕ) (place : FlashPage) (r : PageRecord) (adds : AddsRecord old new n place r) where
   abbrev pub placed : Placed
   placed = record { place = number place; says = r }
 
@@ -130,7 +130,7 @@ module _ (old new : Pages) (n : ℕ) (place : Place) (r : PageRecord) (adds : Ad
   led_here e (at, sequence, len, filled) = record {
     within = subst (λ p. number p < n) (sym at) adds.within;
     leads = record {
-      small = subst (λ (p : Place). p.page < 64) (sym at) adds.small;
+      small = subst (λ (p : FlashPage). p.page < 64) (sym at) adds.small;
       there = ap (λ p. record_at new (number p)) at ∙ adds.here;
       sequence = sequence;
       len = len;

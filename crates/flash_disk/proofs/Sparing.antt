@@ -6,7 +6,7 @@ use Rattle.flash_record.specs.PageRecord.{PageRecord}
 use Rattle.flash_disk.specs.Newest.{Placed, record_at, newest, IsSpare}
 use Rattle.flash_disk.specs.declared.table.FilePage.{FilePage}
 use Rattle.flash_disk.specs.declared.table.Newest.{Newest}
-use Rattle.flash_disk.specs.declared.table.Place.{Place}
+use Rattle.flash_disk.specs.declared.table.FlashPage.{FlashPage}
 use Rattle.flash_disk.specs.declared.table.Table.{Table}
 use Rattle.flash_disk.specs.Known.{known}
 use Rattle.flash_disk.specs.Learnt.{number, LedOf, IsLed}
@@ -36,7 +36,7 @@ elsewhere_kept old new n block agreed keeps elsewhere stays file page x found =
     (copy.0, copy.1, copy.2, stays copy.0 before.0.says copy.2 copy.3 ∙ ap Some before.2)
 
 -- the block of a place
-pub number_block : (place : Place) → place.page < 64 → number place / 64 ≡ place.block
+pub number_block : (place : FlashPage) → place.page < 64 → number place / 64 ≡ place.block
 number_block place small = let e : (64 * place.block + place.page) / 64 ≡ place.block = omega (arith, small) in e
 
 module _ (pages : Pages) (n : ℕ) (table : Table) (led : IsLed pages n table) where

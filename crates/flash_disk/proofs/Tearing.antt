@@ -9,7 +9,7 @@ use Rattle.flash_model.specs.Pages.{Pages, blank_page, program_page, erase_block
 use Rattle.flash_record.specs.PageRecord.{PageRecord, record_in}
 use Rattle.flash_record.specs.Blank.{blank_is_none}
 use Rattle.flash_record.specs.lemmas.Bodies.{record_in-plain}
-use Rattle.flash_disk.specs.declared.table.Place.{Place}
+use Rattle.flash_disk.specs.declared.table.FlashPage.{FlashPage}
 use Rattle.flash_disk.specs.Newest.{record_at}
 use Rattle.flash_disk.specs.Learnt.{number, AddsRecord}
 use Rattle.flash_disk.specs.Standing.{KeepsRecords}
@@ -111,7 +111,7 @@ module _ (old left : Pages) (i : ℕ) (r : Option PageRecord) (nothing : record_
       (λ apart. torn.elsewhere j apart)
       (cases_eq j i)
 
-module _ (old left : Pages) (n : ℕ) (place : Place) (r : PageRecord) (small : place.page < 64)
+module _ (old left : Pages) (n : ℕ) (place : FlashPage) (r : PageRecord) (small : place.page < 64)
     (within : number place < n)
     (nothing : record_at old (number place) ≡ None)
     (newer : (j : ℕ) (q : PageRecord) → j < n → record_at old j ≡ Some q → q.sequence < r.sequence) where
@@ -143,7 +143,7 @@ module _ (old left : Pages) (n : ℕ) (place : Place) (r : PageRecord) (small : 
         (sym (torn_is old left (number place) r q torn there)) (newer j p inside was);
   }
 
-module _ (old : Pages) (n : ℕ) (place : Place) (bytes : List ℕ) (r : PageRecord) (small : place.page < 64)
+module _ (old : Pages) (n : ℕ) (place : FlashPage) (bytes : List ℕ) (r : PageRecord) (small : place.page < 64)
     (within : number place < n)
     (blank : old place.block place.page ≡ blank_page) (is : record_in bytes ≡ Some r)
     (newer : (j : ℕ) (q : PageRecord) → j < n → record_at old j ≡ Some q → q.sequence < r.sequence) where
@@ -187,7 +187,7 @@ module _ (old left : Pages) (n i k : ℕ) (r : PageRecord) (nothing : record_at 
     ));
   }
 
-module _ (old : Pages) (n k : ℕ) (place : Place) (bytes : List ℕ) (r : PageRecord) (small : place.page < 64)
+module _ (old : Pages) (n k : ℕ) (place : FlashPage) (bytes : List ℕ) (r : PageRecord) (small : place.page < 64)
     (blank : old place.block place.page ≡ blank_page) (is : record_in bytes ≡ Some r) (inside : k < n)
     (copied : record_at old k ≡ Some r) where
   -- a record was to be copied, which was cut short

@@ -8,7 +8,7 @@ use Rattle.flash_model.specs.State.{IsStill, settle_pages}
 use Rattle.flash_model.specs.FlashMedium.{FlashMedium, IsLawfulFlash, FlashElapses, EachFlashCase}
 use Rattle.flash_record.specs.PageRecord.{PageRecord}
 use Rattle.flash_disk.specs.declared.table.Newest.{Newest}
-use Rattle.flash_disk.specs.declared.table.Place.{Place}
+use Rattle.flash_disk.specs.declared.table.FlashPage.{FlashPage}
 use Rattle.flash_disk.specs.declared.layer.LayerState.{LayerState}
 use Rattle.flash_disk.specs.Newest.{record_at, newest, places, page_count, page_limit, IsSpare, IsUsable}
 use Rattle.flash_disk.specs.Known.{page_of, known, page_len, limit_of}
@@ -46,7 +46,7 @@ module _ (sure pages : Pages) (blocks : ℕ) (s : LayerState) (sound : Sound sur
       (records_spare sure pages same (places blocks) s.spare sound.is_spare)
 
   -- a record that came to be in a page has an entry, or room for one
-  added_fits : (place : Place) (r : PageRecord) → Enters sure pages blocks s place r
+  added_fits : (place : FlashPage) (r : PageRecord) → Enters sure pages blocks s place r
       → page_count pages (places blocks) ≤ page_limit blocks
   added_fits place r enters =
       let count = count_adds sure pages (places blocks) place r enters.adds in
@@ -63,7 +63,7 @@ module _ (sure pages : Pages) (blocks : ℕ) (s : LayerState) (sound : Sound sur
       omega (arith, count, most, known_count, limit)
 
   -- whatever a page in doubt holds
-  pending_usable : (place : Place) → Pends sure pages blocks s place → (o : Option PageRecord)
+  pending_usable : (place : FlashPage) → Pends sure pages blocks s place → (o : Option PageRecord)
       → record_at pages (number place) ≡ o → IsUsable pages blocks
   pending_usable place pends None none = same_usable
       (torn_same sure pages (number place) (record_at pages (number place)) pends.nothing
@@ -72,12 +72,12 @@ module _ (sure pages : Pages) (blocks : ℕ) (s : LayerState) (sound : Sound sur
       (adds_is_spare sure pages (places blocks) place r (pends.may_enter r some).adds s.spare sound.is_spare
       (λ same. pends.apart (sym (number_block place pends.small) ∙ same)))
 
-  kept_usable : (unsure : Option Place) → PendsAt sure pages blocks s unsure → IsUsable pages blocks
+  kept_usable : (unsure : Option FlashPage) → PendsAt sure pages blocks s unsure → IsUsable pages blocks
   kept_usable None same = subst (λ p. IsUsable p blocks) (sym same) (with_spare sure sure_fits sound.is_spare)
   kept_usable (Some place) pends = pending_usable place pends (record_at pages (number place)) refl
 
 pub holds_usable : (m : FlashMedium) (s : LayerState) → IsDescribedBy m s → IsUsable m.state.pages m.blocks
-holds_usable m s holds = kept_usable holds.sure m.state.pages m.blocks s holds.sound s.unsure holds.pends
+holds_usable m s described = kept_usable described.sure m.state.pages m.blocks s described.sound s.unsure described.pends
 
 -- ---- calls
 

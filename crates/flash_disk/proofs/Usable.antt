@@ -6,7 +6,7 @@ use Rattle.std.proofs.lemmas.Bool.{cases_lt}
 use Rattle.std.proofs.lemmas.Option.{same_Some, none-some}
 use Rattle.flash_model.specs.Pages.{Pages}
 use Rattle.flash_record.specs.PageRecord.{PageRecord}
-use Rattle.flash_disk.specs.declared.table.Place.{Place}
+use Rattle.flash_disk.specs.declared.table.FlashPage.{FlashPage}
 use Rattle.flash_disk.specs.declared.table.Newest.{Newest}
 use Rattle.flash_disk.specs.declared.table.Table.{Table}
 use Rattle.flash_disk.specs.Newest.{Placed, record_at, newest, page_count, IsCopyOf, IsNewest, IsNewestOf, IsNeeded}
@@ -26,11 +26,11 @@ pub up_to : (pages : Pages) (m n limit : ℕ) → m ≤ n → limit < page_count
 up_to pages m n limit le less = let e : (n - m) + m ≡ n =
     omega arith in subst (λ k. limit < page_count pages k) e (more_pages pages (n - m) m limit less)
 
-pub some_not_none : (twin : Option Place) → is_some twin ≡ true → twin ≡ None → ⊥
+pub some_not_none : (twin : Option FlashPage) → is_some twin ≡ true → twin ≡ None → ⊥
 some_not_none None some none = true≢false (sym some)
 some_not_none (Some place) some none = none-some place (sym none)
 
-pub not_some : (twin : Option Place) → is_some twin ≡ false → twin ≡ None
+pub not_some : (twin : Option FlashPage) → is_some twin ≡ false → twin ≡ None
 not_some None none = refl
 not_some (Some place) none = absurd (true≢false none)
 
@@ -70,7 +70,7 @@ module _ (pages : Pages) (n : ℕ) where
           × IsNewest pages r.file r.page n x
       found = best_of pages n r table e learnt known_is
 
-      alone : (twin : Option Place) → e.twin ≡ twin → twin ≡ None → (j : ℕ) → IsCopyOf pages n found.0 j → ⊥
+      alone : (twin : Option FlashPage) → e.twin ≡ twin → twin ≡ None → (j : ℕ) → IsCopyOf pages n found.0 j → ⊥
       alone twin is none = subst (TwinSays pages n found.0) (is ∙ none) found.2.twin
 
       pub small : e.place.page < 64
@@ -92,7 +92,8 @@ module _ (pages : Pages) (n : ℕ) where
       needed_place (x, needed, at) = found.2.place ∙ (ap (λ z. z.place)
           (same_Some found.0 x (sym found.1 ∙ newest_here x needed at)) ∙ at)
 
-      no_twin : (x : Placed) → found.0 ≡ x → IsNeeded pages n x → (twin : Option Place) → TwinSays pages n found.0 twin
+      no_twin : (x : Placed) → found.0 ≡ x → IsNeeded pages n x → (twin : Option FlashPage)
+          → TwinSays pages n found.0 twin
           → twin ≡ None
       no_twin x same needed None says = refl
       no_twin x same needed (Some place) says = absurd (needed.alone (number place)

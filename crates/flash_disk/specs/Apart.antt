@@ -1,8 +1,9 @@
 -- Copies that are kept apart: no block holds what counts of two of them, so that the loss of a block costs one.
 use Rattle.std.specs.Prelude.{◌≡◌, ◌≢◌, ◌⊎◌, ℕ, ◌+◌, ◌*◌, ◌/◌, ◌%◌, ◌<◌, None, Some}
+use Rattle.disk_model.specs.Damage.{AtLeast}
 use Rattle.flash_model.specs.Pages.{Pages}
 use Rattle.flash_record.specs.PageRecord.{record_in}
-use Rattle.flash_disk.specs.Newest.{Placed, record_at, newest, places}
+use Rattle.flash_disk.specs.Newest.{Placed, record_at, newest, places, IsSpare}
 use Rattle.flash_disk.specs.FlashFiles.{flash_files}
 
 -- which copy a file is of: a place has four files for each copy, and begins at a multiple of 32
@@ -18,6 +19,37 @@ IsOfCopy pages n block copy = (file page : ℕ) (x : Placed) → newest pages fi
 -- each block of a flash of that many blocks is of one copy
 abbrev pub IsApart : Pages → ℕ → Type 0
 IsApart pages blocks = (block : ℕ) → (copy : ℕ) × IsOfCopy pages (places blocks) block copy
+
+-- a block in which nothing counts but files of one copy, also where another block has an equal record
+abbrev pub HoldsOnly : Pages → (n block copy : ℕ) → Type 0
+HoldsOnly pages n block copy = (file page : ℕ) (x : Placed) → newest pages file page n ≡ Some x → (j : ℕ) → j < n
+    → j / 64 ≡ block → record_at pages j ≡ Some x.says → copy_of file ≡ copy
+
+-- what held only one copy holds only that copy, but for one block, which may come to hold this copy too
+abbrev pub KeepsHeld : (copy home n : ℕ) → (old new : Pages) → Type 0
+KeepsHeld copy home n old new = (block own : ℕ) → (block ≡ home → copy ≡ own) → HoldsOnly old n block own
+    → HoldsOnly new n block own
+
+-- in each block of a flash of that many blocks nothing counts but files of one copy
+abbrev pub StandApart : Pages → ℕ → Type 0
+StandApart pages blocks = (block : ℕ) → (copy : ℕ) × HoldsOnly pages (places blocks) block copy
+
+-- a record that is equal to the newest of its page of a file is in this place
+abbrev pub Counts : Pages → (n place : ℕ) → Type 0
+Counts pages n place = (file page : ℕ) × (x : Placed) × (newest pages file page n ≡ Some x)
+    × (record_at pages place ≡ Some x.says)
+
+-- fewer than 8 pages of a block hold no such record
+abbrev pub IsPacked : Pages → (n block : ℕ) → Type 0
+IsPacked pages n block = AtLeast (λ p. Counts pages n (64 * block + p)) 64 57
+
+-- no block but a spare one has room for a copy: all others in which nothing else counts are packed
+pub record HasNoRoom (pages : Pages) (blocks copy : ℕ) : Type 0 where
+  pub spare : ℕ
+  pub within : spare < blocks
+  pub is_spare : IsSpare pages (places blocks) spare
+  pub packed : (block : ℕ) → block < blocks → block ≢ spare → HoldsOnly pages (places blocks) block copy
+      → IsPacked pages (places blocks) block
 
 -- pages of a block were lost: each is no record any more, or as it was, and all others are as they were
 pub record LosesPages (block : ℕ) (old new : Pages) : Type 0 where

@@ -3,7 +3,7 @@ use Rattle.std.specs.Prelude.{◌≡◌, ◌≢◌, ◌⊎◌, ℕ, ◌+◌, ◌
 use Rattle.std.specs.Prelude.{IsFalse, IsSome, nat_lt, slice_index, if◌then◌else◌}
 use Rattle.flash_model.specs.Pages.{Pages}
 use Rattle.flash_disk.specs.declared.table.FilePage.{FilePage}
-use Rattle.flash_disk.specs.declared.table.Place.{Place}
+use Rattle.flash_disk.specs.declared.table.FlashPage.{FlashPage}
 use Rattle.flash_disk.specs.declared.table.Newest.{Newest}
 use Rattle.flash_disk.specs.declared.table.Table.{Table}
 use Rattle.flash_disk.specs.Newest.{Placed, record_at, is_of, newest, page_count, IsCopyOf, IsSpare}
@@ -12,7 +12,7 @@ use Rattle.flash_disk.specs.Known.{known, page_len, limit_of, len_known, HasCapa
 use Rattle.flash_disk.specs.Standing.{IsRivalled}
 use Rattle.flash_disk.specs.FlashFiles.{file_byte, file_len, IsFileLen}
 
-abbrev pub number : Place → ℕ
+abbrev pub number : FlashPage → ℕ
 number place = 64 * place.block + place.page
 
 -- an entry leads to this record, and says its number, its length and where its last byte other than zero ends
@@ -24,7 +24,7 @@ pub record EntryLeadsTo (pages : Pages) (entry : Newest) (x : Placed) : Type 0 w
   pub filled : (j : ℕ) → entry.filled ≤ j → slice_index x.says.bytes j ≡ 0
 
 -- a twin is a copy in another block; without a twin there is none
-abbrev pub TwinSays : Pages → ℕ → Placed → Option Place → Type 0
+abbrev pub TwinSays : Pages → ℕ → Placed → Option FlashPage → Type 0
 TwinSays pages n x None = (j : ℕ) → IsCopyOf pages n x j → ⊥
 TwinSays pages n x (Some place) = (place.page < 64) × IsCopyOf pages n x (number place)
 
@@ -67,15 +67,15 @@ SaysTheSame a b = (a.len ≡ b.len) × (a.bytes ≡ b.bytes)
 
 -- where the twin is after a record with the newest one's number was found in this place: there, if it is equal and in
 -- another block
-pub record TwinAt (first : Option PageRecord) (r : PageRecord) (old : Newest) (place : Place)
-    (twin : Option Place) : Type 0 where
+pub record TwinAt (first : Option PageRecord) (r : PageRecord) (old : Newest) (place : FlashPage)
+    (twin : Option FlashPage) : Type 0 where
   pub same_block : place.block ≡ old.place.block → twin ≡ old.twin
   pub equal : (q : PageRecord) → first ≡ Some q → place.block ≢ old.place.block → SaysTheSame q r → twin ≡ Some place
   pub other : (q : PageRecord) → first ≡ Some q → (SaysTheSame q r → ⊥) → twin ≡ old.twin
 
 -- whether the newest record is rivalled after a record with its number was found: where it is not, the two are equal
 pub record RivalledAt (first : Option PageRecord) (r : PageRecord) (old : Newest) (rivalled : Bool) : Type 0 where
-  pub calm : IsFalse rivalled → IsFalse old.rivalled × ((q : PageRecord) → first ≡ Some q → SaysTheSame q r)
+  pub no_rivals : IsFalse rivalled → IsFalse old.rivalled × ((q : PageRecord) → first ≡ Some q → SaysTheSame q r)
   pub rivals : IsTrue rivalled → IsTrue old.rivalled ⊎ ((q : PageRecord) → first ≡ Some q → SaysTheSame q r → ⊥)
 
 -- all these places are learnt, and there are not too many pages; or there are
@@ -142,7 +142,7 @@ IsContent pages n key bytes = (j : ℕ) → j < 256
     (256 * key.page + j) else 0)
 
 -- a record came to be where none was, newer than all others
-pub record AddsRecord (old new : Pages) (n : ℕ) (place : Place) (r : PageRecord) : Type 0 where
+pub record AddsRecord (old new : Pages) (n : ℕ) (place : FlashPage) (r : PageRecord) : Type 0 where
   pub small : place.page < 64
   pub within : number place < n
   pub nothing : record_at old (number place) ≡ None

@@ -1,11 +1,30 @@
 -- A table that leads for each block to records of one copy alone.
-use Rattle.std.specs.Prelude.{◌≡◌, ℕ, Some}
+use Rattle.std.specs.Prelude.{◌≡◌, ℕ, ◌<◌, Some, List, length, slice_index}
+use Rattle.std.specs.HashMap.{IsUnique}
 use Rattle.flash_disk.specs.declared.table.FilePage.{FilePage}
 use Rattle.flash_disk.specs.declared.table.Newest.{Newest}
 use Rattle.flash_disk.specs.declared.table.Table.{Table}
-use Rattle.flash_disk.specs.Known.{known}
+use Rattle.flash_disk.specs.Known.{known, same_page}
 use Rattle.flash_disk.specs.Apart.{copy_of}
 
 abbrev pub IsLedApart : Table → Type 0
 IsLedApart table = (owner : ℕ → ℕ) × ((key : FilePage) (entry : Newest) → known table key ≡ Some entry
     → owner entry.place.block ≡ copy_of key.file)
+
+-- each entry that leads into a block is of a file of this copy
+abbrev pub LeadsOnly : Table → (copy block : ℕ) → Type 0
+LeadsOnly table copy block = (key : FilePage) (entry : Newest) → known table key ≡ Some entry
+    → entry.place.block ≡ block → copy_of key.file ≡ copy
+
+-- one that leads into a block is of a file of this copy
+abbrev pub LeadsSome : Table → (copy block : ℕ) → Type 0
+LeadsSome table copy block = (key : FilePage) × (entry : Newest) × (known table key ≡ Some entry)
+    × (entry.place.block ≡ block) × (copy_of key.file ≡ copy)
+
+-- each page of a file has one entry at most
+abbrev pub HasOneEach : Table → Type 0
+HasOneEach table = IsUnique same_page table.newest
+
+-- a block is one of those that can be marked, and is not
+abbrev pub IsFree : List ℕ → ℕ → Type 0
+IsFree marks block = (block < length marks) × (slice_index marks block ≡ 0)

@@ -2,6 +2,7 @@ pub mod Newest
 pub mod FlashFiles
 pub mod Apart
 pub mod LedApart
+pub mod KeepsApart
 pub mod Known
 pub mod Counted
 pub mod Learnt

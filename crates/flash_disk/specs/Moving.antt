@@ -5,10 +5,14 @@ use Rattle.flash_disk.specs.declared.table.FilePage.{FilePage}
 use Rattle.flash_disk.specs.declared.table.Newest.{Newest}
 use Rattle.flash_disk.specs.declared.table.Table.{Table}
 use Rattle.flash_disk.specs.declared.layer.LayerState.{LayerState}
-use Rattle.flash_disk.specs.Newest.{record_at}
+use Rattle.flash_disk.specs.Newest.{record_at, places}
 use Rattle.flash_disk.specs.Known.{same_page, known}
 use Rattle.flash_disk.specs.Learnt.{number}
 use Rattle.flash_disk.specs.Sound.{Sound}
+use Rattle.flash_disk.specs.Standing.{DenotesFiles}
+use Rattle.flash_disk.specs.Apart.{KeepsHeld}
+use Rattle.flash_disk.specs.LedApart.{LeadsOnly}
+use Rattle.flash_model.specs.FlashMedium.{FlashMedium}
 
 -- an entry that leads to the copy in place of the record that was copied, among the first few pages of a block
 pub record IsMoved (pages : Pages) (table : Table) (from to count : ℕ) (e : FilePage × Newest) : Type 0 where
@@ -28,7 +32,7 @@ HasKey key (e ∷ es) = (same_page e.0 key ≡ true) ⊎ HasKey key es
 -- of the first few pages of a block the newest records are copied to the start of the spare one
 pub record IsMoving (pages : Pages) (blocks : ℕ) (s : LayerState) (from to done : ℕ) : Type 0 where
   pub sound : Sound pages blocks s
-  pub agreed : IsFalse s.disputed
+  pub agreed : IsFalse s.has_rivals
   pub full : 64 ≤ s.fill
   pub spare : s.spare ≡ to
   pub within : from < blocks
@@ -38,3 +42,10 @@ pub record IsMoving (pages : Pages) (blocks : ℕ) (s : LayerState) (from to don
   pub moved : All (IsMoved pages s.table from to (length s.moved.items)) s.moved.items
   pub all : (key : FilePage) (entry : Newest) → known s.table key ≡ Some entry → entry.place.block ≡ from
       → entry.place.page < done → HasKey key s.moved.items
+
+-- the pages denote the files that a flash denoted; where the entries that lead into a block are of one copy, only that
+-- copy came to another
+pub record StandsMoved (table : Table) (from to : ℕ) (old : FlashMedium) (pages : Pages) : Type 0 where
+  pub stands : DenotesFiles old pages
+  pub held : (copy : ℕ) → LeadsOnly table copy from
+      → KeepsHeld copy to (places old.blocks) old.state.pages pages

@@ -8,7 +8,7 @@ use Rattle.flash_model.specs.FlashMedium.{FlashMedium}
 use Rattle.flash_record.specs.PageRecord.{PageRecord}
 use Rattle.flash_disk.specs.declared.table.FilePage.{FilePage}
 use Rattle.flash_disk.specs.declared.table.Newest.{Newest}
-use Rattle.flash_disk.specs.declared.table.Place.{Place}
+use Rattle.flash_disk.specs.declared.table.FlashPage.{FlashPage}
 use Rattle.flash_disk.specs.declared.table.Table.{Table}
 use Rattle.flash_disk.specs.declared.layer.LayerState.{LayerState}
 use Rattle.flash_disk.specs.Newest.{record_at, places, page_count, page_limit, IsSpare, IsUsable}
@@ -18,6 +18,7 @@ use Rattle.flash_disk.specs.Learnt.{number, KnowsLengths, AddsRecord, HasPlace, 
 use Rattle.flash_disk.specs.FlashFiles.{file_byte, file_len, flash_files}
 use Rattle.flash_disk.specs.Standing.{IsAgreed, HasRivals, IsStrayless, MayGrow, StaysAgreed}
 use Rattle.flash_disk.specs.PutPart.{PutOrNot}
+use Rattle.flash_disk.specs.Apart.{copy_of, KeepsHeld}
 
 abbrev pub files_on : FlashMedium → Image
 files_on m = flash_files m.state.pages m.blocks
@@ -32,7 +33,7 @@ SameFill old new = (new.fill ≡ old.fill) × (new.unsure ≡ old.unsure) × (ne
 
 -- the page that is to be filled next is blank, and is not in the spare block
 pub record HasFreshPage (pages : Pages) (blocks : ℕ) (s : LayerState) : Type 0 where
-  pub agreed : IsFalse s.disputed
+  pub agreed : IsFalse s.has_rivals
   pub within : s.current < blocks
   pub apart : s.current ≢ s.spare
   pub blank : pages s.current s.fill ≡ blank_page
@@ -53,9 +54,9 @@ pub record Sound (pages : Pages) (blocks : ℕ) (s : LayerState) : Type 0 where
   -- the spare block may be erased
   pub within : s.spare < blocks
   pub is_spare : IsSpare pages (places blocks) s.spare
-  pub agreed : IsFalse s.disputed → IsAgreed pages (places blocks)
-  pub rivals : IsTrue s.disputed → HasRivals pages (places blocks)
-  pub apart : IsFalse s.disputed → LeavesOut s.table s.spare
+  pub agreed : IsFalse s.has_rivals → IsAgreed pages (places blocks)
+  pub rivals : IsTrue s.has_rivals → HasRivals pages (places blocks)
+  pub apart : IsFalse s.has_rivals → LeavesOut s.table s.spare
   pub fresh : s.fill < 64 → HasFreshPage pages blocks s
 
 abbrev pub IsSoundLayer : FlashMedium → LayerState → Type 0
@@ -72,7 +73,7 @@ abbrev pub FitsIn : FlashMedium → LayerState → (file page len : ℕ) → Lis
 FitsIn m s file page len bytes = MayBeAdded m.state.pages m.blocks s file page len bytes
 
 -- the record came to be in this place of the block that is being filled
-pub record Enters (old new : Pages) (blocks : ℕ) (s : LayerState) (place : Place) (r : PageRecord) : Type 0 where
+pub record Enters (old new : Pages) (blocks : ℕ) (s : LayerState) (place : FlashPage) (r : PageRecord) : Type 0 where
   pub adds : AddsRecord old new (places blocks) place r
   pub fits : MayBeAdded old blocks s r.file r.page r.len r.bytes
   pub full : length r.bytes ≡ 256
@@ -82,8 +83,8 @@ pub record Enters (old new : Pages) (blocks : ℕ) (s : LayerState) (place : Pla
   pub behind : place.block ≡ s.current → place.page < s.fill
 
 -- what a page may hold in which a call that failed may have left anything
-pub record Pends (sure pages : Pages) (blocks : ℕ) (s : LayerState) (place : Place) : Type 0 where
-  pub agreed : IsFalse s.disputed
+pub record Pends (sure pages : Pages) (blocks : ℕ) (s : LayerState) (place : FlashPage) : Type 0 where
+  pub agreed : IsFalse s.has_rivals
   pub small : place.page < 64
   pub within : place.block < blocks
   pub apart : place.block ≢ s.spare
@@ -92,7 +93,7 @@ pub record Pends (sure pages : Pages) (blocks : ℕ) (s : LayerState) (place : P
   pub elsewhere : TornPage place.block place.page sure pages
   pub may_enter : (r : PageRecord) → record_at pages (number place) ≡ Some r → Enters sure pages blocks s place r
 
-abbrev pub PendsAt : Pages → Pages → ℕ → LayerState → Option Place → Type 0
+abbrev pub PendsAt : Pages → Pages → ℕ → LayerState → Option FlashPage → Type 0
 PendsAt sure pages blocks s None = pages ≡ sure
 PendsAt sure pages blocks s (Some place) = Pends sure pages blocks s place
 
@@ -107,6 +108,11 @@ pub record LeavesPut (file at : ℕ) (bytes : List ℕ) (len : ℕ) (old : Flash
   pub put : PutOrNot file at bytes len (files_on old) (flash_files pages old.blocks)
   pub usable : IsUsable pages old.blocks
   pub agreed : StaysAgreed old pages
+
+-- and nothing came to be in any block but records of the file's copy in this one
+pub record LeavesAdded (block file at : ℕ) (bytes : List ℕ) (len : ℕ) (old : FlashMedium) (pages : Pages) : Type 0 where
+  pub put : LeavesPut file at bytes len old pages
+  pub held : KeepsHeld (copy_of file) block (places old.blocks) old.state.pages pages
 
 -- no byte of a file shows between its end and this byte
 abbrev pub ShowsZeros : FlashMedium → (file until : ℕ) → Type 0

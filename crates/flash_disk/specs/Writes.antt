@@ -1,4 +1,4 @@
--- What a write into a file does to a flash: what it was told of, and what a crash meanwhile leaves.
+-- What a write into a file does to a flash: what is announced to it, and what a crash meanwhile leaves.
 use Rattle.std.specs.Prelude.{◌≡◌, ◌⊎◌, ℕ, List, [], ◌∷◌, ◌++◌, length}
 use Rattle.disk_model.specs.Image.{TornImage}
 use Rattle.flash_model.specs.Pages.{Pages, IsPlain}

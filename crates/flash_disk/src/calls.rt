@@ -16,6 +16,8 @@ impl<F: Flash> Disk for FlashDisk<F> {
     ghost use Rattle.flash_disk.specs.FlashDiskMedium.{flash_disk_medium, disk_seen, ChangesNoPage};
     ghost use Rattle.flash_disk.specs.OwnFaults.{EndsTooLate, WantsTooMany, FailsAlone, IsAllowed, TakesPages};
     ghost use Rattle.flash_disk.specs.Throughout.{KeepsUsable, KeepsAgreed};
+    ghost use Rattle.flash_disk.specs.Apart.{copy_of};
+    ghost use Rattle.flash_disk.specs.KeepsApart.{KeepsApart};
     ghost use Rattle.flash_disk.specs.FlashDiskLaws.{disk_is_lawful};
 
     ghost told = { F.told };
@@ -94,6 +96,9 @@ impl<F: Flash> Disk for FlashDisk<F> {
         // At every moment a crash leaves what can be opened, and no rivals come.
         ensures usable { IsTrue F.told → KeepsUsable (F.medium self.old.flash) (F.medium self.new.flash) }
         ensures agreed { IsTrue F.told → KeepsAgreed (F.medium self.old.flash) (F.medium self.new.flash) }
+
+        // Where the copies stand apart they do so at every moment, as long as there is room for the file's.
+        ensures apart { IsTrue F.told → KeepsApart (copy_of file) (F.medium self.old.flash) (F.medium self.new.flash) }
     {
         if bytes.is_empty() {
             // So that what is kept of the flash is known here.

@@ -15,10 +15,12 @@ ghost use Rattle.flash_disk.specs.PutPart.{PutPart};
 ghost use Rattle.flash_disk.specs.Newest.{places};
 ghost use Rattle.flash_disk.specs.Standing.{DenotesFiles, KeepsRecords};
 ghost use Rattle.flash_disk.specs.Accounts.{Accounts};
+ghost use Rattle.flash_disk.specs.Apart.{copy_of};
+ghost use Rattle.flash_disk.specs.KeepsApart.{KeepsApart, HasHome};
 
 use crate::layer::Layer;
 use crate::opening::newest_at;
-use crate::table::{FilePage, Newest, Place};
+use crate::table::{FilePage, FlashPage, Newest};
 use disk_model::DiskFailed;
 use flash_model::{BLANK_PAGE, BLOCK_PAGES, Flash, PAGE_BYTES};
 use flash_record::{RECORD_BYTES, Record, read_record, record_page};
@@ -26,15 +28,15 @@ use flash_record::{RECORD_BYTES, Record, read_record, record_page};
 impl<F: Flash> Layer<F> {
     ghost use Rattle.flash_disk.specs.Sound.{files_on, Sound, IsSoundLayer, IsDescribedBy, HasFreshPage, FitsIn};
     ghost use Rattle.flash_disk.specs.Sound.{Enters};
-    ghost use Rattle.flash_disk.specs.Sound.{LeavesPut};
+    ghost use Rattle.flash_disk.specs.Sound.{LeavesPut, LeavesAdded};
     ghost use Rattle.flash_disk.specs.Sound.{ShowsPage, ShowsSame};
-    ghost use Rattle.flash_disk.specs.Moving.{IsMoving};
+    ghost use Rattle.flash_disk.specs.Moving.{IsMoving, StandsMoved};
     ghost use Rattle.flash_disk.specs.Steps.{LearnsNothing, IsSure, StaysSound, AddsRecords};
 
     // Reads again what a failed call may have left anything in.
     pub(crate) fn make_sure(&mut self) -> Result<(), DiskFailed>
-        requires holds { IsTrue F.told → IsDescribedBy (F.medium self.old.flash) self.old.state }
-        ensures holds { IsTrue F.told → IsDescribedBy (F.medium self.new.flash) self.new.state }
+        requires described { IsTrue F.told → IsDescribedBy (F.medium self.old.flash) self.old.state }
+        ensures described { IsTrue F.told → IsDescribedBy (F.medium self.new.flash) self.new.state }
         ensures stays { StaysSound F.told F.medium self.new result }
         ensures sequence { self.new.state.sequence ≡ self.old.state.sequence }
         ensures unchanged { IsTrue F.told → (F.medium self.new.flash).state ≡ (F.medium self.old.flash).state }
@@ -89,10 +91,11 @@ impl<F: Flash> Layer<F> {
             page bytes.now) }
         ensures does { IsTrue F.told → Does (LeavesPut file (256 * page) bytes.now len (F.medium self.old.flash))
             (F.medium self.old.flash) (F.medium self.new.flash) }
+        ensures apart { IsTrue F.told → KeepsApart (copy_of file) (F.medium self.old.flash) (F.medium self.new.flash) }
         ensures rises { OnOk result (self.old.state.sequence < self.new.state.sequence) }
         ensures entries { IsTrue F.told → OnOk result (Occupies self.old.state.table self.new.state.table
             (record { file = file; page = page })) }
-        ensures calm { IsTrue F.told → OnOk result (IsFalse self.old.state.disputed) }
+        ensures no_rivals { IsTrue F.told → OnOk result (IsFalse self.old.state.has_rivals) }
     {
         self.make_room(file)?;
         self.add(file, page, len, bytes)
@@ -109,17 +112,17 @@ impl<F: Flash> Layer<F> {
             (files_on (F.medium self.old.flash)) (files_on (F.medium self.new.flash))) }
         ensures shown { IsTrue F.told → OnOk result (ShowsPage (F.medium self.old.flash) (F.medium self.new.flash) file
             page bytes.now) }
-        ensures does { IsTrue F.told → Does (LeavesPut file (256 * page) bytes.now len (F.medium self.old.flash))
-            (F.medium self.old.flash) (F.medium self.new.flash) }
+        ensures does { IsTrue F.told → Does (LeavesAdded self.old.state.current file (256 * page) bytes.now len
+            (F.medium self.old.flash)) (F.medium self.old.flash) (F.medium self.new.flash) }
         ensures rises { OnOk result (self.old.state.sequence < self.new.state.sequence) }
         ensures accounts { Accounts F.told F.medium 1 self.old self.new result }
         ensures own { IsTrue F.told → (self.new.own ≡ self.old.own) ⊎ (self.new.state.sequence ≡ 18446744073709551615) }
         ensures entries { IsTrue F.told → OnOk result (Occupies self.old.state.table self.new.state.table
             (record { file = file; page = page })) }
-        ensures calm { IsTrue F.told → OnOk result (IsFalse self.old.state.disputed) }
+        ensures no_rivals { IsTrue F.told → OnOk result (IsFalse self.old.state.has_rivals) }
     {
         let sequence = self.next_sequence()?;
-        let place = Place {
+        let place = FlashPage {
             block: self.state.current,
             page: self.state.fill,
         };
@@ -135,6 +138,10 @@ impl<F: Flash> Layer<F> {
         match self.program_page(place, &page_with(record)) {
             Ok(()) => {
                 self.enter(place, record);
+                self.streams.end_with(FilePage {
+                    file,
+                    page: page as u64,
+                });
                 Ok(())
             }
             Err(e) => {
@@ -145,17 +152,17 @@ impl<F: Flash> Layer<F> {
     }
 
     // A record is the newest of its page.
-    fn enter(&mut self, place: Place, found: Record<'_>)
+    fn enter(&mut self, place: FlashPage, found: Record<'_>)
         ensures flash { self.new.flash ≡ self.old.flash }
         ensures own { self.new.own ≡ self.old.own }
         ensures unsure { self.new.state.unsure ≡ self.old.state.unsure }
         ensures sequence { self.new.state.sequence ≡ self.old.state.sequence }
         ensures sound { (old new : Pages) (blocks : ℕ) → Sound old blocks self.old.state
-            → IsFalse self.old.state.disputed
+            → IsFalse self.old.state.has_rivals
             → Enters old new blocks self.old.state place (stated found.entry) → Sound new blocks self.new.state }
-        ensures disputed { self.new.state.disputed ≡ self.old.state.disputed }
+        ensures has_rivals { self.new.state.has_rivals ≡ self.old.state.has_rivals }
         ensures entries { (old new : Pages) (blocks : ℕ) → Sound old blocks self.old.state
-            → IsFalse self.old.state.disputed
+            → IsFalse self.old.state.has_rivals
             → Enters old new blocks self.old.state place (stated found.entry)
             → Occupies self.old.state.table self.new.state.table (page_of (stated found.entry)) }
     {
@@ -180,12 +187,15 @@ impl<F: Flash> Layer<F> {
         ensures does { IsTrue F.told → Does (DenotesFiles (F.medium self.old.flash))
             (F.medium self.old.flash) (F.medium self.new.flash) }
         ensures shown { IsTrue F.told → OnOk result (ShowsSame (F.medium self.old.flash) (F.medium self.new.flash)) }
+        ensures apart { IsTrue F.told → KeepsApart (copy_of file) (F.medium self.old.flash) (F.medium self.new.flash) }
+        ensures home { IsTrue F.told → OnOk result (HasHome (copy_of file) (F.medium self.old.flash)
+            (F.medium self.new.flash) self.new.state.current) }
         ensures sequence { self.new.state.sequence ≡ self.old.state.sequence }
         ensures accounts { Accounts F.told F.medium 0 self.old self.new result }
-        ensures own { IsTrue F.told → IsFalse self.old.state.disputed → self.new.own ≡ self.old.own }
+        ensures own { IsTrue F.told → IsFalse self.old.state.has_rivals → self.new.own ≡ self.old.own }
         ensures entries { IsTrue F.told → OnOk result (SameEntries self.old.state.table self.new.state.table) }
     {
-        let next = self.streams.next_of(file);
+        let next = self.streams.next_of(&self.state.table, file);
         let fresh = self.is_fresh(next)?;
         if fresh {
             self.state.current = next.block;
@@ -206,9 +216,12 @@ impl<F: Flash> Layer<F> {
         ensures does { IsTrue F.told → Does (DenotesFiles (F.medium self.old.flash))
             (F.medium self.old.flash) (F.medium self.new.flash) }
         ensures shown { IsTrue F.told → OnOk result (ShowsSame (F.medium self.old.flash) (F.medium self.new.flash)) }
+        ensures apart { IsTrue F.told → KeepsApart (copy_of file) (F.medium self.old.flash) (F.medium self.new.flash) }
+        ensures home { IsTrue F.told → OnOk result (HasHome (copy_of file) (F.medium self.old.flash)
+            (F.medium self.new.flash) self.new.state.current) }
         ensures sequence { self.new.state.sequence ≡ self.old.state.sequence }
         ensures accounts { Accounts F.told F.medium 0 self.old self.new result }
-        ensures own { IsTrue F.told → IsFalse self.old.state.disputed → self.new.own ≡ self.old.own }
+        ensures own { IsTrue F.told → IsFalse self.old.state.has_rivals → self.new.own ≡ self.old.own }
         ensures entries { IsTrue F.told → OnOk result (SameEntries self.old.state.table self.new.state.table) }
     {
         self.state.fill = BLOCK_PAGES;
@@ -220,14 +233,14 @@ impl<F: Flash> Layer<F> {
     }
 
     // Whether a page may be filled next: records may be added, it is outside the spare block, and it is blank.
-    fn is_fresh(&mut self, place: Place) -> Result<bool, DiskFailed>
+    fn is_fresh(&mut self, place: FlashPage) -> Result<bool, DiskFailed>
         ensures reads { LearnsNothing F.told F.medium self.old self.new result }
         ensures page { IfOk result (λ fresh. IsTrue fresh → place.page < 64) }
         ensures fresh { IsTrue F.told → IfOk result (λ fresh. IsTrue fresh → HasFreshPage
             (F.medium self.old.flash).state.pages (F.medium self.old.flash).blocks
             (record self.old.state { current = place.block; fill = place.page })) }
     {
-        if self.state.disputed || place.block == self.state.spare || !self.has(place) {
+        if self.state.has_rivals || place.block == self.state.spare || !self.has(place) {
             return Ok(false);
         }
         let mut page = BLANK_PAGE;
@@ -236,8 +249,8 @@ impl<F: Flash> Layer<F> {
     }
 
     // Moves the newest records of a block into the spare block, which is the current one from then on. It is a block
-    // with records of the same copy as the file's alone, or with none that count; where there is no such block that
-    // leaves a page, it is the one where they are fewest.
+    // with newest records of the file's copy alone, or with none; where there is no such block that leaves a page, it
+    // is the one where they are fewest.
     fn collect(&mut self, file: u32) -> Result<(), DiskFailed>
         requires ready { IsSure F.told F.medium self.old }
         requires full { 64 ≤ self.old.state.fill }
@@ -248,16 +261,19 @@ impl<F: Flash> Layer<F> {
         ensures does { IsTrue F.told → Does (DenotesFiles (F.medium self.old.flash))
             (F.medium self.old.flash) (F.medium self.new.flash) }
         ensures shown { IsTrue F.told → OnOk result (ShowsSame (F.medium self.old.flash) (F.medium self.new.flash)) }
+        ensures apart { IsTrue F.told → KeepsApart (copy_of file) (F.medium self.old.flash) (F.medium self.new.flash) }
+        ensures home { IsTrue F.told → OnOk result (HasHome (copy_of file) (F.medium self.old.flash)
+            (F.medium self.new.flash) self.new.state.current) }
         ensures sequence { self.new.state.sequence ≡ self.old.state.sequence }
         ensures accounts { Accounts F.told F.medium 0 self.old self.new result }
         ensures light { IsTrue F.told → OnOk result (self.new.state.fill < 64) }
-        ensures own { IsTrue F.told → IsFalse self.old.state.disputed → self.new.own ≡ self.old.own }
+        ensures own { IsTrue F.told → IsFalse self.old.state.has_rivals → self.new.own ≡ self.old.own }
         ensures entries { IsTrue F.told → OnOk result (SameEntries self.old.state.table self.new.state.table) }
     {
         let target = self.state.spare;
         let own = self.streams.lightest(&self.state.table, file, target);
         let victim = self.state.table.given_up(own, target);
-        if self.state.disputed || victim == target {
+        if self.state.has_rivals || victim == target {
             return Err(self.fault());
         }
         self.erase_block(target)?;
@@ -283,20 +299,20 @@ impl<F: Flash> Layer<F> {
         ensures state { self.new.state ≡ record self.old.state { moved = self.new.state.moved } }
         ensures keeps { IsTrue F.told → KeepsRecords (F.medium self.old.flash).state.pages
             (F.medium self.new.flash).state.pages (places (F.medium self.old.flash).blocks) }
-        ensures does { IsTrue F.told → Does (DenotesFiles (F.medium self.old.flash))
+        ensures does { IsTrue F.told → Does (StandsMoved self.old.state.table from to (F.medium self.old.flash))
             (F.medium self.old.flash) (F.medium self.new.flash) }
         ensures accounts { Accounts F.told F.medium 0 self.old self.new result }
         ensures few { vec_len self.new.state.moved ≤ entries_in self.old.state.table from }
         ensures own { IsTrue F.told → self.new.own ≡ self.old.own }
     {
         for page in 0..BLOCK_PAGES {
-            self.copy_one(Place { block: from, page }, to)?;
+            self.copy_one(FlashPage { block: from, page }, to)?;
         }
         Ok(())
     }
 
     // Copies a record to the next page of another block, if it is the newest of its page.
-    fn copy_one(&mut self, from: Place, to: u32) -> Result<(), DiskFailed>
+    fn copy_one(&mut self, from: FlashPage, to: u32) -> Result<(), DiskFailed>
         requires page { from.page < 64 }
         requires count { vec_len self.old.state.moved ≤ from.page }
         requires moving { IsTrue F.told
@@ -310,8 +326,8 @@ impl<F: Flash> Layer<F> {
         ensures state { self.new.state ≡ record self.old.state { moved = self.new.state.moved } }
         ensures keeps { IsTrue F.told → KeepsRecords (F.medium self.old.flash).state.pages
             (F.medium self.new.flash).state.pages (places (F.medium self.old.flash).blocks) }
-        ensures does { IsTrue F.told → Does (DenotesFiles (F.medium self.old.flash))
-            (F.medium self.old.flash) (F.medium self.new.flash) }
+        ensures does { IsTrue F.told → Does (StandsMoved self.old.state.table from.block to
+            (F.medium self.old.flash)) (F.medium self.old.flash) (F.medium self.new.flash) }
         ensures accounts { Accounts F.told F.medium 0 self.old self.new result }
         ensures few { vec_len self.old.state.moved ≤ copied_below self.old.state.table from.block from.page
             → vec_len self.new.state.moved ≤ copied_below self.old.state.table from.block (from.page + 1) }
@@ -325,7 +341,7 @@ impl<F: Flash> Layer<F> {
         if old.place != from {
             return Ok(());
         }
-        let place = Place {
+        let place = FlashPage {
             block: to,
             page: self.state.moved.len() as u32,
         };

@@ -5,7 +5,7 @@ ghost use Rattle.flash_model.specs.Pages.{Pages};
 ghost use Rattle.flash_disk.specs.Newest.{places, IsUsable, IsUnusable};
 ghost use Rattle.flash_disk.specs.Standing.{IsAgreed, HasRivals};
 ghost use Rattle.flash_disk.specs.Fresh.{IsBlankFlash};
-ghost use Rattle.flash_disk.specs.Apart.{copy_of, IsApart, IsOfCopy, LosesPages, CostsOneCopy};
+ghost use Rattle.flash_disk.specs.Apart.{copy_of, IsApart, StandApart, IsOfCopy, LosesPages, CostsOneCopy};
 
 /// A fresh flash can be opened, has no rivals, and keeps the copies apart. No call makes rivals where the records
 /// agree, and where they agree there are none: so on a flash that only such disks wrote, no write fails for rivals.
@@ -13,6 +13,7 @@ pub fn fresh_flashes_open()
     ensures usable { (pages : Pages) (blocks : ℕ) → 0 < blocks → IsBlankFlash pages blocks → IsUsable pages blocks }
     ensures agreed { (pages : Pages) (blocks : ℕ) → IsBlankFlash pages blocks → IsAgreed pages (places blocks) }
     ensures apart { (pages : Pages) (blocks : ℕ) → IsBlankFlash pages blocks → IsApart pages blocks }
+    ensures stand { (pages : Pages) (blocks : ℕ) → IsBlankFlash pages blocks → StandApart pages blocks }
     ensures no_rivals { (pages : Pages) (blocks : ℕ) → IsAgreed pages (places blocks) → HasRivals pages (places blocks)
         → ⊥ }
 {}
@@ -22,12 +23,13 @@ pub fn usable_flashes_are_taken()
     ensures { (pages : Pages) (blocks : ℕ) → IsUsable pages blocks → IsUnusable pages blocks → ⊥ }
 {}
 
-/// What a loss of pages within one block costs: the files of one copy, where the block is of one copy alone. The files
-/// of copy c of a place are of copy c.
+/// What a loss of pages within one block costs: the files of one copy, where the block is of one copy alone. So each is
+/// where the copies stand apart, as every write keeps them (`KeepsApart`). Copy c of a place has the files of copy c.
 pub fn lost_pages_cost_one_copy()
     ensures of_copy { (old new : Pages) (blocks block copy : ℕ) → IsAgreed old (places blocks)
         → IsOfCopy old (places blocks) block copy → LosesPages block old new → CostsOneCopy copy blocks old new }
     ensures apart { (old new : Pages) (blocks block : ℕ) → IsAgreed old (places blocks) → IsApart old blocks
         → LosesPages block old new → (copy : ℕ) × CostsOneCopy copy blocks old new }
+    ensures stand { (pages : Pages) (blocks : ℕ) → StandApart pages blocks → IsApart pages blocks }
     ensures copies { (first copy k : ℕ) → first % 32 ≡ 0 → copy < 8 → k < 4 → copy_of (first + 4 * copy + k) ≡ copy }
 {}

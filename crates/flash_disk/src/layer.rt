@@ -10,8 +10,8 @@ ghost use Rattle.flash_disk.specs.Accounts.{Accounts};
 ghost use Rattle.flash_disk.specs.Steps.{LearnsNothing};
 ghost use Rattle.flash_disk.specs.Apart.{IsApart};
 
-use crate::streams::Streams;
-use crate::table::{FilePage, Newest, Place, Table};
+use crate::streams::{Streams, are_apart};
+use crate::table::{FilePage, FlashPage, Newest, Table};
 use disk_model::DiskFailed;
 use flash_model::{BLANK_PAGE, BLOCK_PAGES, Flash, PAGE_BYTES};
 
@@ -36,11 +36,11 @@ pub struct LayerState {
     /// The greatest sequence number that was used.
     pub sequence: u64,
     /// A page that a failed call may have left anything in.
-    pub unsure: Option<Place>,
+    pub unsure: Option<FlashPage>,
     /// What was moved into the block that is to be filled next, with room for a block.
     pub moved: Vec<(FilePage, Newest)>,
     /// Whether two records of a page have its greatest number and differ, so that no block may be erased.
-    pub disputed: bool,
+    pub has_rivals: bool,
     /// Where the last byte other than zero ended that a newest record had past the end of its file at the opening; 0
     /// where there was none.
     pub stray_end: u64,
@@ -64,7 +64,7 @@ impl<F: Flash> Layer<F> {
         DiskFailed
     }
 
-    // Whether nothing is unsure, and each newest record is in a block with records of its copy alone.
+    // Whether nothing is unsure, and each newest record is in a block with newest records of its copy alone.
     pub(crate) fn is_apart(&self) -> bool
         ensures { IsTrue F.told → IsDescribedBy (F.medium self.now.flash) self.now.state → IsTrue result
             → IsApart (F.medium self.now.flash).state.pages (F.medium self.now.flash).blocks }
@@ -72,13 +72,13 @@ impl<F: Flash> Layer<F> {
         if self.state.unsure.is_some() {
             return false;
         }
-        self.streams.are_apart(&self.state.table)
+        are_apart(&self.state.table)
     }
 
     // Reads a page of the flash; one that the flash does not have reads as blank.
     pub(crate) fn read_page(
         &mut self,
-        place: Place,
+        place: FlashPage,
         out: &mut [u8; PAGE_BYTES],
     ) -> Result<(), DiskFailed>
         ensures bytes { IsTrue F.told → OnOk result (place.block < (F.medium self.old.flash).blocks → place.page < 64
@@ -100,7 +100,7 @@ impl<F: Flash> Layer<F> {
     // Programs a page that is blank.
     pub(crate) fn program_page(
         &mut self,
-        place: Place,
+        place: FlashPage,
         bytes: &[u8; PAGE_BYTES],
     ) -> Result<(), DiskFailed>
         requires within { IsTrue F.told → (place.block < (F.medium self.old.flash).blocks) × (place.page < 64) }
@@ -152,7 +152,7 @@ impl<F: Flash> Layer<F> {
     }
 
     // Whether the flash has this page.
-    pub(crate) fn has(&self, place: Place) -> bool
+    pub(crate) fn has(&self, place: FlashPage) -> bool
         ensures { IsTrue result ↔ ((place.block < (F.medium self.now.flash).blocks) × (place.page < 64)) }
     {
         place.block < self.flash.blocks() && place.page < BLOCK_PAGES

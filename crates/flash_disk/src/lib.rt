@@ -13,11 +13,14 @@
 //! is erased again.
 //!
 //! On 16 blocks or more each copy goes on in a block of its own: file f is of copy `f / 4 % 8`. The block whose records
-//! are moved for a copy is one that holds records of that copy alone, or none that count; where no such block leaves as
-//! much as a quarter of the pages that another leaves, it is the one where they are fewest, and copies mix. A disk says
-//! of its flash whether they are apart ([`FlashDisk::keeps_copies_apart`]); then the loss of pages of one block costs
-//! files of one copy ([`lost_pages_cost_one_copy`]). An opening goes on after the newest record of each copy, but for
-//! one page that a stop may have torn. [`erase_all`] makes a flash blank.
+//! are moved for a copy is the one with the fewest of those in which nothing counts but that copy. So where the copies
+//! stand apart, as on a blank flash, every write leaves them so, also at any moment of it, unless at some moment no
+//! block but the spare one has room for the copy: each other holds what counts of another, or fewer than 8 of its pages
+//! hold nothing that counts. Then the block with the fewest records may be moved, whatever they are of, and copies mix:
+//! else wear would have no bound. Where they stand
+//! apart, the loss of pages of one block costs files of one copy ([`lost_pages_cost_one_copy`]); a disk says of its
+//! flash whether they are ([`FlashDisk::keeps_copies_apart`]). An opening goes on after the newest record of each copy,
+//! but for one page that a stop may have torn. [`erase_all`] makes a flash blank.
 //!
 //! A flash that another program wrote may hold what this one never writes. Of two records of one page with one number
 //! the first place counts; while two that differ both have the greatest number of their page nothing is erased, and a

@@ -16,7 +16,7 @@ ghost use Rattle.per_base.specs.Causes.{CountsFaults, Rose};
 use crate::disk::{FlashDisk, FlashOpenError, FlashRefused};
 use crate::layer::{Layer, LayerState};
 use crate::streams::Streams;
-use crate::table::{FilePage, Newest, Place, Table};
+use crate::table::{FilePage, FlashPage, Newest, Table};
 use disk_model::DiskFailed;
 use flash_model::{BLANK_PAGE, BLOCK_PAGES, Flash};
 use flash_record::{Record, read_record};
@@ -83,12 +83,7 @@ impl<F: Flash> FlashDisk<F> {
                 error: FlashOpenError::OutOfMemory,
             });
         };
-        let Ok(streams) = Streams::new(alloc, blocks) else {
-            return Err(FlashRefused {
-                flash,
-                error: FlashOpenError::OutOfMemory,
-            });
-        };
+        let streams = Streams::new(&state.table);
         let mut layer = Layer {
             flash,
             state,
@@ -126,7 +121,7 @@ fn empty_state(alloc: Global, blocks: u32) -> Result<LayerState, AllocError>
         sequence: 0,
         unsure: None,
         moved: Vec::with_capacity(alloc, BLOCK_PAGES as usize)?,
-        disputed: false,
+        has_rivals: false,
         stray_end: 0,
     })
 }
@@ -172,8 +167,8 @@ impl<F: Flash> Layer<F> {
         self.leave_spare()?;
         self.state.table.measure();
         self.state.stray_end = self.state.table.stray_end();
-        self.state.disputed = self.state.table.is_disputed();
-        self.streams.leave_mixed();
+        self.state.has_rivals = self.state.table.has_rivals();
+        self.streams.leave_mixed(&self.state.table);
         match self.flash.settle() {
             Ok(()) => Ok(true),
             Err(_) => Err(DiskFailed),
@@ -213,7 +208,7 @@ impl<F: Flash> Layer<F> {
             self.new.state.sequence) }
     {
         for page in 0..BLOCK_PAGES {
-            if !self.learn_page(Place { block, page })? {
+            if !self.learn_page(FlashPage { block, page })? {
                 return Ok(false);
             }
         }
@@ -252,13 +247,13 @@ impl<F: Flash> Layer<F> {
     {
         let spare = self.state.spare;
         for page in 0..BLOCK_PAGES {
-            self.leave_page(Place { block: spare, page })?;
+            self.leave_page(FlashPage { block: spare, page })?;
         }
         Ok(())
     }
 
     // Leads from the record in a page, if it is a newest one, to the equal one in another block.
-    fn leave_page(&mut self, place: Place) -> Result<(), DiskFailed>
+    fn leave_page(&mut self, place: FlashPage) -> Result<(), DiskFailed>
         ensures step { IsOpeningStep F.told F.medium self.old self.new result }
         ensures sequence { self.new.state.sequence ≡ self.old.state.sequence }
         ensures spare { self.new.state.spare ≡ self.old.state.spare }
@@ -295,7 +290,7 @@ impl<F: Flash> Layer<F> {
             ↔ IsSpare (F.medium self.old.flash).state.pages (places (F.medium self.old.flash).blocks) block) }
     {
         for page in 0..BLOCK_PAGES {
-            if self.is_needed(Place { block, page })? {
+            if self.is_needed(FlashPage { block, page })? {
                 return Ok(false);
             }
         }
@@ -303,7 +298,7 @@ impl<F: Flash> Layer<F> {
     }
 
     // Whether a page holds a record that is needed.
-    fn is_needed(&mut self, place: Place) -> Result<bool, DiskFailed>
+    fn is_needed(&mut self, place: FlashPage) -> Result<bool, DiskFailed>
         requires block { place.block < (F.medium self.old.flash).blocks }
         requires page { place.page < 64 }
         ensures reads { LearnsNothing F.told F.medium self.old self.new result }
@@ -333,7 +328,7 @@ impl<F: Flash> Layer<F> {
     }
 
     // Learns what one page holds; `false` where there is no room for it.
-    fn learn_page(&mut self, place: Place) -> Result<bool, DiskFailed>
+    fn learn_page(&mut self, place: FlashPage) -> Result<bool, DiskFailed>
         requires block { place.block < (F.medium self.old.flash).blocks }
         requires page { place.page < 64 }
         ensures step { IsOpeningStep F.told F.medium self.old self.new result }
@@ -351,12 +346,16 @@ impl<F: Flash> Layer<F> {
             return Ok(true);
         };
         self.state.sequence = self.state.sequence.max(record.sequence);
-        self.streams.learn(record.file, record.sequence, place);
+        let key = FilePage {
+            file: record.file,
+            page: record.page as u64,
+        };
+        self.streams.learn(key, record.sequence, place);
         self.learn_record(place, record)
     }
 
     // Learns of a record that was found in this place; `false` where there is no room for it.
-    fn learn_record(&mut self, place: Place, found: Record<'_>) -> Result<bool, DiskFailed>
+    fn learn_record(&mut self, place: FlashPage, found: Record<'_>) -> Result<bool, DiskFailed>
         requires block { place.block < (F.medium self.old.flash).blocks }
         requires page { place.page < 64 }
         requires long { length found.bytes.now ≡ 256 }
@@ -389,7 +388,7 @@ impl<F: Flash> Layer<F> {
         &mut self,
         key: FilePage,
         old: Newest,
-        place: Place,
+        place: FlashPage,
         found: Record<'_>,
     ) -> Result<bool, DiskFailed>
         requires block { place.block < (F.medium self.old.flash).blocks }
@@ -417,12 +416,12 @@ impl<F: Flash> Layer<F> {
 }
 
 // The entry of a record that was found in this place.
-pub(crate) fn newest_at(place: Place, found: Record<'_>) -> Newest
+pub(crate) fn newest_at(place: FlashPage, found: Record<'_>) -> Newest
     ensures place { result.place ≡ place }
     ensures sequence { result.sequence ≡ found.entry.sequence }
     ensures len { result.len ≡ found.entry.len }
     ensures twin { result.twin ≡ None }
-    ensures calm { IsFalse result.rivalled }
+    ensures no_rivals { IsFalse result.rivalled }
     ensures page { found.entry.page < 4294967296 }
     ensures filled { length found.entry.bytes.now ≡ 256 → (j : ℕ) → result.filled ≤ j
         → slice_index found.entry.bytes.now j ≡ 0 }
@@ -451,7 +450,7 @@ fn filled_of(bytes: &[u8]) -> u32
 }
 
 // Where the twin of a newest record is, after another with its number was found in this place.
-fn twin_at(page: &[u8], found: Record<'_>, old: Newest, place: Place) -> Option<Place>
+fn twin_at(page: &[u8], found: Record<'_>, old: Newest, place: FlashPage) -> Option<FlashPage>
     ensures at { TwinAt (record_in page.now) (stated found.entry) old place result }
     ensures one { (result ≡ old.twin) ⊎ (result ≡ Some place) }
 {

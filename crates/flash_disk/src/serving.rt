@@ -3,6 +3,8 @@
 ghost use Rattle.std.specs.Prelude.{◌≡◌, ◌⊎◌, ◌↔◌, ◌+◌, ◌-◌, ◌*◌, ◌/◌, ◌≤◌, ◌<◌, ◌^◌, ℕ, IsTrue, IsFalse, IfOk, OnOk};
 ghost use Rattle.std.specs.Prelude.{None, length, min, max, take, drop, nat_lt, slice_index, if◌then◌else◌};
 ghost use Rattle.flash_disk.specs.Accounts.{Accounts};
+ghost use Rattle.flash_disk.specs.Apart.{copy_of};
+ghost use Rattle.flash_disk.specs.KeepsApart.{KeepsApart};
 ghost use Rattle.flash_disk.specs.Steps.{LearnsNothing, IsSure, AddsRecords};
 ghost use Rattle.disk_model.specs.Image.{put_image};
 ghost use Rattle.flash_record.specs.PageRecord.{record_in};
@@ -72,10 +74,11 @@ impl<F: Flash> Layer<F> {
             (files_on (F.medium self.old.flash)) (files_on (F.medium self.new.flash))) }
         ensures does { IsTrue F.told → Does (LeavesPut file (256 * page + from) bytes.now len (F.medium self.old.flash))
             (F.medium self.old.flash) (F.medium self.new.flash) }
+        ensures apart { IsTrue F.told → KeepsApart (copy_of file) (F.medium self.old.flash) (F.medium self.new.flash) }
         ensures rises { OnOk result (self.old.state.sequence < self.new.state.sequence) }
         ensures entries { IsTrue F.told → OnOk result (Occupies self.old.state.table self.new.state.table
             (record { file = file; page = page })) }
-        ensures calm { IsTrue F.told → OnOk result (IsFalse self.old.state.disputed) }
+        ensures no_rivals { IsTrue F.told → OnOk result (IsFalse self.old.state.has_rivals) }
     {
         let key = FilePage {
             file,
@@ -95,6 +98,7 @@ impl<F: Flash> Layer<F> {
         ensures wiped { IsTrue F.told → OnOk result (ShowsZeros (F.medium self.new.flash) file until) }
         ensures does { IsTrue F.told → Does (DenotesFiles (F.medium self.old.flash))
             (F.medium self.old.flash) (F.medium self.new.flash) }
+        ensures apart { IsTrue F.told → KeepsApart (copy_of file) (F.medium self.old.flash) (F.medium self.new.flash) }
         ensures entries { IsTrue F.told → OnOk result (SameEntries self.old.state.table self.new.state.table) }
     {
         let len = self.state.table.len_of(file);
@@ -117,6 +121,7 @@ impl<F: Flash> Layer<F> {
             page) }
         ensures does { IsTrue F.told → Does (DenotesFiles (F.medium self.old.flash))
             (F.medium self.old.flash) (F.medium self.new.flash) }
+        ensures apart { IsTrue F.told → KeepsApart (copy_of file) (F.medium self.old.flash) (F.medium self.new.flash) }
         ensures entries { IsTrue F.told → OnOk result (SameEntries self.old.state.table self.new.state.table) }
     {
         let key = FilePage {
@@ -165,8 +170,9 @@ impl<F: Flash> Layer<F> {
             → files_on (F.medium self.new.flash) ≡ put_image (files_on (F.medium self.old.flash)) file at bytes.now) }
         ensures does { IsTrue F.told → Does (LeavesTorn file at (length bytes.now) (F.medium self.old.flash))
             (F.medium self.old.flash) (F.medium self.new.flash) }
+        ensures apart { IsTrue F.told → KeepsApart (copy_of file) (F.medium self.old.flash) (F.medium self.new.flash) }
         ensures rises { OnOk result (length bytes.now + 256 * self.old.state.sequence ≤ 256 * self.new.state.sequence) }
-        ensures calm { IsTrue F.told → OnOk result (0 < length bytes.now → IsFalse self.old.state.disputed) }
+        ensures no_rivals { IsTrue F.told → OnOk result (0 < length bytes.now → IsFalse self.old.state.has_rivals) }
         ensures takes { IsTrue F.told → OnOk result (page_len self.new.state.table
             ≤ page_len self.old.state.table + missing self.old.state.table file (at / 256)
             (div_ceil (at + length bytes.now) 256 - at / 256)) }
@@ -192,12 +198,13 @@ impl<F: Flash> Layer<F> {
     pub(crate) fn write_file(&mut self, file: u32, at: u64, bytes: &[u8]) -> Result<(), DiskFailed>
         requires some { 0 < length bytes.now }
         requires ready { IsSure F.told F.medium self.old }
-        ensures holds { IsTrue F.told → IsDescribedBy (F.medium self.new.flash) self.new.state }
+        ensures described { IsTrue F.told → IsDescribedBy (F.medium self.new.flash) self.new.state }
         ensures put { IsTrue F.told → OnOk result (files_on (F.medium self.new.flash)
             ≡ put_image (files_on (F.medium self.old.flash)) file at bytes.now) }
         ensures rises { OnOk result (length bytes.now + 256 * self.old.state.sequence ≤ 256 * self.new.state.sequence) }
         ensures writes { IsTrue F.told → WritesInto file at bytes.now (F.medium self.old.flash)
             (F.medium self.new.flash) }
+        ensures apart { IsTrue F.told → KeepsApart (copy_of file) (F.medium self.old.flash) (F.medium self.new.flash) }
         ensures announced { IsTrue F.told → OnOk result ((F.medium self.new.flash).state.announced
             ≡ with_write (F.medium self.old.flash).state file at bytes.now) }
         ensures accounts { Accounts F.told F.medium (length bytes.now + div_ceil (at + length bytes.now) 256) self.old
@@ -229,12 +236,13 @@ impl<F: Flash> Layer<F> {
         requires ready { IsSure F.told F.medium self.old }
         requires room { missing self.old.state.table file (at / 256) (div_ceil end 256 - at / 256)
             ≤ limit_of self.old.state.table - page_len self.old.state.table }
-        ensures holds { IsTrue F.told → IsDescribedBy (F.medium self.new.flash) self.new.state }
+        ensures described { IsTrue F.told → IsDescribedBy (F.medium self.new.flash) self.new.state }
         ensures put { IsTrue F.told → OnOk result (files_on (F.medium self.new.flash)
             ≡ put_image (files_on (F.medium self.old.flash)) file at bytes.now) }
         ensures rises { OnOk result (length bytes.now + 256 * self.old.state.sequence ≤ 256 * self.new.state.sequence) }
         ensures writes { IsTrue F.told → WritesInto file at bytes.now (F.medium self.old.flash)
             (F.medium self.new.flash) }
+        ensures apart { IsTrue F.told → KeepsApart (copy_of file) (F.medium self.old.flash) (F.medium self.new.flash) }
         ensures announced { IsTrue F.told → OnOk result ((F.medium self.new.flash).state.announced
             ≡ with_write (F.medium self.old.flash).state file at bytes.now) }
         ensures accounts { Accounts F.told F.medium (length bytes.now + div_ceil (at + length bytes.now) 256) self.old

@@ -5,10 +5,18 @@ ghost use Rattle.std.specs.Prelude.{IsFalse, Some, None, All, length, max, slice
 ghost use Rattle.std.specs.HashMap.{get, hash_map_len, spare};
 ghost use Rattle.flash_disk.specs.Known.{same_page, len_in, HasLenIn, IsLongest, IsFilledUpTo};
 ghost use Rattle.flash_disk.specs.Apart.{copy_of};
+ghost use Rattle.flash_disk.specs.LedApart.{LeadsOnly, LeadsSome, HasOneEach, IsFree};
 ghost use Rattle.flash_disk.specs.Counted.{leads_into, had_in, entries_in, IsInside, IsCountedTable};
 
+use flash_model::BLOCK_PAGES;
 use std::alloc::{AllocError, Global};
 use std::collections::HashMap;
+
+/// The least number of blocks of a flash on which copies are kept apart.
+const LEAST_BLOCKS: u32 = 16;
+
+/// The greatest number of blocks of a flash.
+pub const MOST_BLOCKS: usize = 4096;
 
 /// A page of a file. Records are only of pages below 2^32.
 #[derive(Clone, Copy, Debug, PartialEq, Eq, Hash)]
@@ -19,7 +27,7 @@ pub struct FilePage {
 
 /// A page of the flash.
 #[derive(Clone, Copy, Debug, PartialEq, Eq)]
-pub struct Place {
+pub struct FlashPage {
     pub block: u32,
     pub page: u32,
 }
@@ -27,12 +35,12 @@ pub struct Place {
 /// The newest record of a page of a file.
 #[derive(Clone, Copy, Debug)]
 pub struct Newest {
-    pub place: Place,
+    pub place: FlashPage,
     pub sequence: u64,
     /// How long the record says that the file is.
     pub len: u64,
     /// Where another block has an equal record.
-    pub twin: Option<Place>,
+    pub twin: Option<FlashPage>,
     /// Whether another record of the page has its number and says something else.
     pub rivalled: bool,
     /// How many of its bytes are left without the zeros at their end.
@@ -197,11 +205,102 @@ impl Table {
         ensures within { result ≢ but → result < self.now.blocks }
         ensures light { (block : ℕ) → block < self.now.blocks → block ≢ but → (result ≢ but)
             × ((load_known self.now result < 64) ⊎ (load_known self.now result ≤ load_known self.now block)) }
+        ensures own { own ≢ but → own < self.now.blocks → load_known self.now own < 64 → result ≡ own }
     {
         if own != but && own < self.blocks && self.load_of(own) < 64 {
             return own;
         }
         self.lightest_but(but)
+    }
+
+    /// Whether the flash has enough blocks for each copy to go on in a block of its own.
+    pub fn has_many_blocks(&self) -> bool
+        ensures { IsTrue result ↔ (16 ≤ self.now.blocks) }
+    {
+        self.blocks >= LEAST_BLOCKS
+    }
+
+    /// Whether the newest record of a page of a file is in this block, and of the copy of another file.
+    pub fn has_in(&self, key: FilePage, file: u32, block: u32) -> bool
+        ensures { IsTrue result → LeadsSome self.now (copy_of file) block }
+    {
+        match self.find(key) {
+            Some(newest) => newest.place.block == block && key.file / 4 % 8 == file / 4 % 8,
+            None => false,
+        }
+    }
+
+    /// Marks each block that holds the newest record of a page of another copy than a file's.
+    pub fn mark_foreign(&self, file: u32, foreign: &mut [u8])
+        ensures len { length foreign.new ≡ length foreign.old }
+        ensures unique { HasOneEach self.now }
+        ensures own { (block : ℕ) → IsFree foreign.new block → LeadsOnly self.now (copy_of file) block }
+        ensures foreign { (block : ℕ) → LeadsOnly self.now (copy_of file) block → IsFree foreign.old block
+            → IsFree foreign.new block }
+    {
+        for (key, newest) in self.newest.iter() {
+            if key.file / 4 % 8 != file / 4 % 8 {
+                mark(foreign, newest.place.block);
+            }
+        }
+    }
+
+    /// The block other than this one that is not marked and whose newest records take the fewest pages to move; this
+    /// one where none leaves a page.
+    pub fn lightest_own(&self, foreign: &[u8], but: u32) -> u32
+        ensures own { result ≢ but → (result < self.now.blocks) × IsFree foreign.now result
+            × (load_known self.now result < 64) }
+        ensures lightest { (block : ℕ) → block < self.now.blocks → block ≢ but → IsFree foreign.now block
+            → (64 ≤ load_known self.now block)
+            ⊎ ((result ≢ but) × (load_known self.now result ≤ load_known self.now block)) }
+    {
+        let mut best = but;
+        for block in 0..self.blocks {
+            if self.is_better(foreign, block, best, but) {
+                best = block;
+            }
+        }
+        best
+    }
+
+    // Whether a block that is not marked leaves a page, and is better than the best other than `but` so far or the
+    // first.
+    fn is_better(&self, foreign: &[u8], block: u32, best: u32, but: u32) -> bool
+        ensures good { IsTrue result → (block ≢ but) × IsFree foreign.now block × (load_known self.now block < 64)
+            × (best ≢ but → load_known self.now block ≤ load_known self.now best) }
+        ensures worse { IsFalse result → block ≢ but → IsFree foreign.now block → (64 ≤ load_known self.now block)
+            ⊎ ((best ≢ but) × (load_known self.now best ≤ load_known self.now block)) }
+    {
+        let load = self.load_of(block);
+        if block == but || load >= 64 || !is_free(foreign, block) {
+            return false;
+        }
+        best == but || load < self.load_of(best)
+    }
+
+    /// Whether a block leaves fewer than 8 pages, and less than a quarter of those that the lightest but the spare one
+    /// would.
+    pub fn leaves_little(&self, block: u32, spare: u32) -> bool
+        ensures { IsTrue result → 57 ≤ load_known self.now block }
+    {
+        let leaves = BLOCK_PAGES.saturating_sub(self.load_of(block));
+        let most = BLOCK_PAGES.saturating_sub(self.load_of(self.lightest_but(spare)));
+        leaves < 8 && 4 * leaves < most
+    }
+
+    /// Says of each block of which copy the newest records in it are: `none` where there is none, and `several` where
+    /// they are of several.
+    pub fn find_owners(&self, owners: &mut [u8], none: u8, several: u8) {
+        for (key, newest) in self.newest.iter() {
+            let copy = (key.file / 4 % 8) as u8;
+            if let Some(owner) = owners.get_mut(newest.place.block as usize) {
+                *owner = if *owner == none || *owner == copy {
+                    copy
+                } else {
+                    several
+                };
+            }
+        }
     }
 
     /// The block other than this one whose newest records take the fewest pages to move; this one where there is no
@@ -243,8 +342,8 @@ impl Table {
     }
 
     /// Whether two records of a page have its greatest number and differ.
-    pub fn is_disputed(&self) -> bool
-        ensures calm { IsFalse result → (key : FilePage) (entry : Newest) → known self.now key ≡ Some entry
+    pub fn has_rivals(&self) -> bool
+        ensures no_rivals { IsFalse result → (key : FilePage) (entry : Newest) → known self.now key ≡ Some entry
             → IsFalse entry.rivalled }
         ensures rivals { IsTrue result → (key : FilePage) × (entry : Newest) × (known self.now key ≡ Some entry)
             × IsTrue entry.rivalled }
@@ -349,6 +448,27 @@ fn raise_known(lens: &mut HashMap<u32, u64>, file: u32, len: u64)
 {
     if let Some(known) = lens.get_mut(&file) {
         *known = len.max(*known);
+    }
+}
+
+// Marks a block.
+fn mark(foreign: &mut [u8], block: u32)
+    ensures len { length foreign.new ≡ length foreign.old }
+    ensures here { block < length foreign.old → slice_index foreign.new block ≡ 1 }
+    ensures others { (b : ℕ) → b ≢ block → slice_index foreign.new b ≡ slice_index foreign.old b }
+{
+    if (block as usize) < foreign.len() {
+        foreign[block as usize] = 1;
+    }
+}
+
+// Whether a block can be marked and is not.
+fn is_free(foreign: &[u8], block: u32) -> bool
+    ensures { IsTrue result ↔ IsFree foreign.now block }
+{
+    match foreign.get(block as usize) {
+        Some(marked) => *marked == 0,
+        None => false,
     }
 }
 

@@ -1,1 +1,3 @@
+mod Contents
+mod Costs
 mod Outvoted

@@ -1,13 +1,13 @@
 -- What every copy holds alone stands when one copy holds anything.
-use Rattle.std.proofs.Common.{◌≡◌, ◌≢◌, ◌⊎◌, ℕ, zero, suc, ◌+◌, ◌*◌, ◌<◌, ◌≤◌, List, sym, ap, subst, ◌∙◌, inl, inr}
+use Rattle.std.proofs.Common.{◌≡◌, ◌≢◌, ℕ, zero, suc, ◌+◌, ◌*◌, ◌<◌, ◌≤◌, List, sym, subst, inl, inr}
 use Rattle.std.proofs.Common.{⊎_elim, arith}
 use Rattle.std.proofs.lemmas.Bool.{cases_eq}
-use Rattle.hash_guard.specs.SealedText.{VerifiesAs, generation_in}
+use Rattle.hash_guard.specs.SealedText.{VerifiesAs}
 use Rattle.disk_model.specs.Image.{Image}
 use Rattle.disk_model.specs.Damage.{AtLeast}
-use Rattle.disk_model.specs.Place.{slot}
 use Rattle.disk_model.specs.declared.place.Place.{Place}
-use Rattle.guarded_cell.specs.Register.{own, other, Holds, IsAlone, IsStanding}
+use Rattle.guarded_cell.specs.Register.{own, Holds, IsHeldBy, IsAlone, IsStanding}
+use Rattle.guarded_cell.specs.lemmas.StopLaws.{at_least_one, alone_only}
 
 at_least_all : (P : ℕ → Type 0) (n m : ℕ) → ((c : ℕ) → c < n → P c) → m ≤ n → AtLeast P n m
 at_least_all P n zero all few = tt
@@ -18,7 +18,7 @@ at_least_all P (suc n) (suc m) all few = inl (
 )
 
 -- all but one are enough
-at_least_but : (P : ℕ → Type 0) (lost n m : ℕ) → ((c : ℕ) → c < n → c ≢ lost → P c) → m < n → AtLeast P n m
+pub at_least_but : (P : ℕ → Type 0) (lost n m : ℕ) → ((c : ℕ) → c < n → c ≢ lost → P c) → m < n → AtLeast P n m
 at_least_but P lost n zero all few = tt
 at_least_but P lost zero (suc m) all few = absurd (omega (arith, few))
 at_least_but P lost (suc n) (suc m) all few = ⊎_elim
@@ -30,25 +30,13 @@ at_least_but P lost (suc n) (suc m) all few = ⊎_elim
     ))
     (cases_eq n lost)
 
-one_of : (P : ℕ → Type 0) (n m : ℕ) → 1 ≤ m → AtLeast P n m → (c : ℕ) × (c < n) × P c
-one_of P n zero some has = absurd (omega (arith, some))
-one_of P zero (suc m) some has = absurd has
-one_of P (suc n) (suc m) some has = ⊎_elim
-    (λ both. (n, omega arith, both.0))
-    (λ rest. let found = one_of P n (suc m) some rest in (
-      found.0,
-      (let below = found.1 in omega (arith, below)),
-      found.2,
-    ))
-    has
-
 -- of two or more one is not the lost one
-another_of : (P : ℕ → Type 0) (lost n m : ℕ) → 2 ≤ m → AtLeast P n m → (c : ℕ) × (c < n) × (c ≢ lost) × P c
+pub another_of : (P : ℕ → Type 0) (lost n m : ℕ) → 2 ≤ m → AtLeast P n m → (c : ℕ) × (c < n) × (c ≢ lost) × P c
 another_of P lost n zero two has = absurd (omega (arith, two))
 another_of P lost zero (suc m) two has = absurd has
 another_of P lost (suc n) (suc m) two has = ⊎_elim
     (λ both. ⊎_elim
-    (λ last. let found = one_of P n m (omega (arith, two)) both.1 in let below = found.1 in (
+    (λ last. let found = at_least_one P n m (omega (arith, two)) both.1 in let below = found.1 in (
       found.0,
       omega (arith, below),
       (λ same. omega (arith, below, last, same)),
@@ -64,9 +52,6 @@ another_of P lost (suc n) (suc m) two has = ⊎_elim
     ))
     has
 
-other_own : (a b : ℕ) → own a ≢ own b → own a ≡ other b
-other_own a b apart = omega (arith, apart)
-
 module _ (old new : Image) (place : Place) (lost g : ℕ) (text : List ℕ)
     (same : (c k : ℕ) → c < place.copies → c ≢ lost → k < 4
     → new (place.first + 4 * c + k) ≡ old (place.first + 4 * c + k))
@@ -75,22 +60,31 @@ module _ (old new : Image) (place : Place) (lost g : ℕ) (text : List ℕ)
   still_held c inside apart = subst (λ s. VerifiesAs s g text)
       (sym (same c (own g) inside apart (omega arith))) (alone.held c inside)
 
-  one_generation : (c h : ℕ) (t : List ℕ) → c < place.copies → c ≢ lost → Holds new place c h t → h ≡ g
-  one_generation c h t inside apart holds =
-      let was : VerifiesAs (old (slot place c (own h))) h t = subst (λ s. VerifiesAs s h t)
-      (same c (own h) inside apart (omega arith)) holds in
-      ⊎_elim
-      (λ alike. was.generation_is ∙ (ap (λ p. generation_in (old (slot place c p))) alike
-      ∙ sym (alone.held c inside).generation_is))
-      (λ differ. absurd (alone.blank c inside h t
-      (subst (λ p. VerifiesAs (old (slot place c p)) h t) (other_own h g differ) was)))
-      (cases_eq (own h) (own g))
+  -- a copy that was not lost holds no other
+  still_alone : (c h : ℕ) (t : List ℕ) → c < place.copies → c ≢ lost → Holds new place c h t → (h ≡ g) × (t ≡ text)
+  still_alone c h t inside apart holds = alone_only old place g text alone c inside h t
+      (subst (λ s. VerifiesAs s h t) (same c (own h) inside apart (omega arith)) holds)
+
+  enough : (m : ℕ) → m < place.copies → IsHeldBy new place m g text
+  enough m few = at_least_but (λ c. Holds new place c g text) lost place.copies m still_held few
+
+  pub outvoted_only : (m : ℕ) → 2 ≤ m → (h : ℕ) (t : List ℕ) → IsHeldBy new place m h t → (h ≡ g) × (t ≡ text)
+  outvoted_only m two h t held =
+      let found = another_of (λ c. Holds new place c h t) lost place.copies m two held in
+      still_alone found.0 h t found.1 found.2 found.3
 
   pub outvoted : (m : ℕ) → 2 ≤ m → m < place.copies → IsStanding new place m g text
   outvoted m two few = record {
-    enough = at_least_but (λ c. Holds new place c g text) lost place.copies m still_held few;
+    enough = enough m few;
+    greatest = λ h t held. (let same : h ≡ g = (outvoted_only m two h t held).0 in omega (arith, same));
+  }
+
+  -- also where one copy is enough, unless one gives a greater generation
+  pub stands_still : (m : ℕ) → 1 ≤ m → m < place.copies
+      → ((c h : ℕ) (t : List ℕ) → c < place.copies → Holds new place c h t → h ≤ g) → IsStanding new place m g text
+  stands_still m positive few most = record {
+    enough = enough m few;
     greatest = λ h t held.
-        (let found = another_of (λ c. Holds new place c h t) lost place.copies m two held in
-        let same : h ≡ g = one_generation found.0 h t found.1 found.2 found.3 in
-        omega (arith, same));
+        (let found = at_least_one (λ c. Holds new place c h t) place.copies m positive held in
+        most found.0 h t found.1 found.2);
   }

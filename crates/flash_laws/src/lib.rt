@@ -1,26 +1,35 @@
 //! What lost pages of a flash leave of what was synchronised.
 #![tactic(auto)]
 
-ghost use Rattle.std.specs.Prelude.{◌≡◌, ◌%◌, ◌<◌, ◌≤◌, ℕ, List};
-ghost use Rattle.disk_model.specs.declared.place.Place.{Place};
+ghost use Rattle.std.specs.Prelude.{ℕ};
 ghost use Rattle.flash_model.specs.Pages.{Pages};
 ghost use Rattle.flash_disk.specs.Apart.{IsApart, LosesPages};
 ghost use Rattle.flash_disk.specs.FlashFiles.{flash_files};
+ghost use Rattle.flash_disk.specs.KeepsApart.{ApartSince};
 ghost use Rattle.flash_disk.specs.Newest.{places};
 ghost use Rattle.flash_disk.specs.Standing.{IsAgreed};
-ghost use Rattle.guarded_cell.specs.Register.{IsAlone, IsStanding};
+ghost use Rattle.flash_disk.specs.Throughout.{AgreedSince};
+ghost use Rattle.flash_laws.specs.Outvotes.{Outvotes, OutlastsSince};
 
 use flash_disk::lost_pages_cost_one_copy;
+use flash_model::Flash;
 
-/// What the loss of pages of one block leaves of a text that was synchronised, so that each copy of its place holds it
-/// alone: it stands, where m copies have to agree, at least 2 and fewer than there are. The flash keeps the copies
-/// apart, as its disk says (`FlashDisk::keeps_copies_apart`), and has no rivals. Roots are such places, with 2 of 3.
+/// What the loss of pages of one block leaves of what was synchronised, on a flash that has no rivals and keeps the
+/// copies apart: the files of all places but those of one copy are as they were, and the other copies outvote it.
 pub fn lost_pages_are_outvoted()
-    ensures { (old new : Pages) (blocks block m generation : ℕ) (text : List ℕ) (place : Place)
-        → IsAgreed old (places blocks) → IsApart old blocks → LosesPages block old new
-        → place.first % 32 ≡ 0 → place.copies ≤ 8 → 2 ≤ m → m < place.copies
-        → IsAlone (flash_files old blocks) place generation text
-        → IsStanding (flash_files new blocks) place m generation text }
+    ensures { (old new : Pages) (blocks block : ℕ) → IsAgreed old (places blocks) → IsApart old blocks
+        → LosesPages block old new → Outvotes (flash_files old blocks) (flash_files new blocks) }
 {
+    lost_pages_cost_one_copy();
+}
+
+/// So it is now and after a crash at any moment since one when the flash, of 16 blocks or more, had no rivals and the
+/// copies stood apart: each loss of pages of one block is outvoted then, unless at some moment there was no room for a
+/// copy. The calls of a disk keep both (`Elapses`), from its opening on (`IsJustOpened`).
+pub fn lost_pages_are_outvoted_since<F: Flash>()
+    ensures { (flash : F) (t : ℕ) → AgreedSince (F.medium flash) t → ApartSince (F.medium flash) t
+        → OutlastsSince (F.medium flash) t }
+{
+    lost_pages_are_outvoted();
     lost_pages_cost_one_copy();
 }

@@ -15,7 +15,7 @@ use Rattle.flash_model.specs.declared.record.FlashCall.TheVariants.{Announce, Se
 use Rattle.flash_model.specs.HistoryLaws.{counts_now, only_now}
 use Rattle.flash_model.specs.Memory.{mem_flash, starved_count, IsUnchanged, AnswersAsPlanned, Fails, Shows, SameRecord}
 use Rattle.flash_model.specs.Memory.{Begins}
-use Rattle.flash_model.specs.Memory.{Succeeds, Wants}
+use Rattle.flash_model.specs.Memory.{RunsOut, Succeeds}
 use Rattle.flash_model.proofs.Pushed.{state_after-append, during, within, pushed}
 
 -- what a flash shows is all that it is as a flash
@@ -68,7 +68,7 @@ begin_failed old new begins same = failed old new same begins.later (begins.fail
     })
 
 -- OutOfMemory makes a call fail
-pub want_failed : (old mid new : MemFlash) → Begins old mid false → SameRecord old mid → Wants mid new
+pub want_failed : (old mid new : MemFlash) → Begins old mid false → SameRecord old mid → RunsOut mid new
     → SameRecord mid new → Fails old new
 want_failed old mid new begins first wants next =
     let faults : (mem_flash new).faults ≡ raised (mem_flash old).faults =
@@ -132,7 +132,7 @@ left_alone done Tears old new torn same = subst (λ s. IsLeftBy done Tears old s
 -- OutOfMemory in the rest of a call makes it fail
 pub want_after : (old mid next new : MemFlash) → Begins old mid false → SameRecord old mid → SameRecord mid next
     → Succeeds mid next
-    → SameRecord next new → Wants next new → Fails old new
+    → SameRecord next new → RunsOut next new → Fails old new
 want_after old mid next new begins first second succeeds third wants = want_failed old mid new begins first
     (record {
       later = le_trans (le_of_eq (sym succeeds.counts.faults)) wants.later;

@@ -6,7 +6,7 @@ use Rattle.flash_model.specs.State.{FlashState, FlashCase, IsStill}
 pub record FlashMedium : Type 1 where
   -- how many blocks it has
   pub blocks : ℕ
-  -- its pages, and what it was told of
+  -- its pages, and what was announced to it
   pub state : FlashState
   -- the clock
   pub moment : ℕ

@@ -98,7 +98,7 @@ pub record Succeeds (old new : MemFlash) : Type 0 where
   pub orders : new.orders ≡ old.orders
 
 -- the rest of a call fails because memory ran out
-pub record Wants (old new : MemFlash) : Type 0 where
+pub record RunsOut (old new : MemFlash) : Type 0 where
   pub later : (mem_flash old).faults ≤ (mem_flash new).faults
   pub faults : (mem_flash new).faults ≡ raised (mem_flash old).faults
   pub starved : starved_count new ≡ raised (starved_count old)

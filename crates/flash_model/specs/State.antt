@@ -1,4 +1,4 @@
--- What a flash holds and what it was told of, and what a crash leaves of it.
+-- What a flash holds and what was announced to it, and what a crash leaves of it.
 use Rattle.std.specs.Prelude.{◌≡◌, ℕ, List, [], ◌∷◌, ◌++◌}
 use Rattle.flash_model.specs.Pages.{Pages, program_page, erase_block, TornPage, TornBlock, IsPlain}
 

@@ -23,7 +23,7 @@ pub struct FlashFailed;
 /// A flash: blocks of 64 pages of 512 bytes, each programmed while it is blank and erased with its block.
 ///
 /// What is said of pages holds where the flash models them, and so does what is said of crashes: a flash that models
-/// nothing names no case. Whether a flash tells is a constant of its type, so it never changes from call to call.
+/// nothing names no case. Whether a flash is modelled is a constant of its type, so it never changes from call to call.
 ///
 /// Limits, which a device has to keep beneath this trait:
 ///
@@ -36,8 +36,8 @@ pub trait Flash {
     /// Whether the pages of a flash of this type are modelled.
     ghost told: { Bool };
 
-    /// How many blocks it has, what its pages hold, what it was told of, what a crash may have left, the clock, and the
-    /// count of faults.
+    /// How many blocks it has, what its pages hold, what was announced to it, what a crash may have left, the clock,
+    /// and the count of faults.
     ghost medium: { Self → FlashMedium };
 
     /// How many blocks it has, which no call changes.

@@ -15,7 +15,8 @@ use crate::record::{FlashCall, PageList, blank_block, blank_pages, page_in, set_
 use disk_model::Orders;
 use std::alloc::{AllocError, Global};
 
-/// A flash in memory. It tells all of its pages, and keeps a record of its calls, so that it answers for every moment.
+/// A flash in memory. All of its pages are modelled, and it keeps a record of its calls, so that it answers for every
+/// moment.
 #[derive(Drop)]
 pub struct MemFlash {
     alloc: Global,
@@ -32,7 +33,7 @@ pub struct MemFlash {
 
 impl MemFlash {
     ghost use Rattle.flash_model.specs.Memory.{mem_flash, starved_count, is_planned, is_stopped, HasNoOrders, IsFresh};
-    ghost use Rattle.flash_model.specs.Memory.{IsUnchanged, KeepsCounts, Shows, SameRecord, Begins, Succeeds, Wants};
+    ghost use Rattle.flash_model.specs.Memory.{IsUnchanged, KeepsCounts, Shows, SameRecord, Begins, Succeeds, RunsOut};
     ghost use Rattle.flash_model.specs.Memory.{Passes, Fails};
 
     /// A flash of that many blocks, all blank.
@@ -127,7 +128,7 @@ impl MemFlash {
     // Counts a failed allocation.
     fn starve(&mut self) -> FlashFailed
         ensures record { SameRecord self.old self.new }
-        ensures wants { Wants self.old self.new }
+        ensures wants { RunsOut self.old self.new }
     {
         self.faults = self.faults.saturating_add(1);
         self.starved = self.starved.saturating_add(1);

@@ -5,7 +5,7 @@
 //! (8), and the 256 bytes of that page. Numbers are little-endian. What follows the text does not matter.
 //!
 //! [`read_record`] answers a record exactly where a page is one, and [`record_page`] makes the page that reads as what
-//! it was given. A blank page is no record. Neither call takes memory.
+//! it was given. A blank page is no record. Neither call allocates.
 #![tactic(auto)]
 
 mod reading;

@@ -15,7 +15,6 @@ use disk_model::{Disk, Place};
 use hash_guard::verify;
 use per_base::{Bytes, Numbers};
 use std::alloc::{AllocError, Global};
-use std::mem;
 
 /// A text that some copies hold.
 #[derive(Debug, Drop)]
@@ -210,7 +209,7 @@ fn first_seen(alloc: Global, copy: u32, generation: u64, text: &[u8]) -> Result<
 fn add_copy(alloc: Global, seen: &mut Seen, copy: u32) -> Result<(), AllocError>
     ensures { OnOk result (seen.new ≡ record seen.old { copies = seen.old.copies ++ copy ∷ [] }) }
 {
-    let mut copies = mem::replace(&mut seen.copies, Numbers::new(Vec::new(alloc))).into_vec();
+    let mut copies = Vec::from_slice(alloc, seen.copies.as_slice())?;
     copies.push(copy)?;
     seen.copies = Numbers::new(copies);
     Ok(())

@@ -6,7 +6,7 @@
 //!
 //! [`verify`] answers a generation and a body exactly where a slot's start is a sealed text, and what
 //! [`seal`] writes verifies as what was sealed. Both hash in place, without a copy of the body, and
-//! only `seal` takes memory.
+//! only `seal` allocates.
 //!
 //! The hash guards against damage, not against malice: it is no signature, and whoever can write a
 //! slot can seal a text.

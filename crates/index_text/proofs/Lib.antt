@@ -1,3 +1,2 @@
-pub mod FieldReaders
 pub mod Loop
 pub mod Whole

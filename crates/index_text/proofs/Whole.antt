@@ -12,18 +12,18 @@ use Rattle.index_text.specs.declared.entries.Index.{Index}
 use Rattle.index_text.specs.declared.reading.Header.{Header}
 use Rattle.index_text.specs.declared.errors.IndexError.{IndexError}
 use Rattle.index_text.specs.declared.errors.IndexError.TheVariants as errors
-use Rattle.index_text.specs.Rules.{EntriesInRange, EntryInRange, IsEntry, IsIndex, block_count, blocks_of, is_format}
-use Rattle.index_text.specs.Rules.{names_of}
+use Rattle.index_text.specs.Rules.{EntriesInRange, EntryInRange, IsEntry, IsIndex, blocks_of, is_format, names_of}
 use Rattle.index_text.specs.Spelling.{changed_text, entry_text, header_text, index_text, info_text, store_kind_code}
 use Rattle.index_text.specs.Spelling.{name_text}
-use Rattle.per_base.specs.Fields.{byte_at, bytes_at, many, number_at}
+use Rattle.per_base.specs.Fields.{AreBytes, byte_at, bytes_at, many, number_at}
 use Rattle.index_text.specs.Reading.{Gives, are_distinct, ascends, changed_at, entry_at, header_at, index_of, info_at}
 use Rattle.index_text.specs.Reading.{coded_kind, len_at, name_at}
-use Rattle.per_base.specs.FieldLaws.{IsBytes, IsReader, Takes, Takes-then, bind_some, byte_reader, bytes_reader}
+use Rattle.per_base.specs.FieldLaws.{IsReader, Takes, Takes-then, bind_some, byte_reader, bytes_reader}
 use Rattle.per_base.specs.FieldLaws.{many_reader, moved, number_reader, only_some, only_true, some_is, wide_16, wide_32}
-use Rattle.index_text.proofs.FieldReaders.{changed_reader, info_reader, coded_kind_again, kind_back, len_reader}
-use Rattle.index_text.proofs.FieldReaders.{name_reader}
+use Rattle.per_base.specs.Contents.{blocks_for}
 use Rattle.index_text.specs.lemmas.Order.{apart_from_test, ascends_from_sorted, sorted_from_ascends, test_from_apart}
+use Rattle.index_text.specs.lemmas.FieldReaders.{changed_reader, info_reader, coded_kind_again, kind_back, len_reader}
+use Rattle.index_text.specs.lemmas.FieldReaders.{name_reader}
 
 -- ---- an entry
 
@@ -34,7 +34,7 @@ numbers n = many_reader (number_at w32) (to_le_bytes w32) (λ x. x < 2 ^ 32) (nu
 abbrev IsGoodEntry : ℕ → StoreKind → IndexEntry → Type 0
 IsGoodEntry format kind e = IsEntry format kind e × EntryInRange e
 
-entry_takes : (format : ℕ) (kind : StoreKind) (bytes : List ℕ) (x : IndexEntry) (rest : List ℕ) → IsBytes bytes
+entry_takes : (format : ℕ) (kind : StoreKind) (bytes : List ℕ) (x : IndexEntry) (rest : List ℕ) → AreBytes bytes
     → entry_at format kind bytes ≡ Some (x, rest) → Takes bytes (entry_text format x) rest × IsGoodEntry format kind x
 unfolding entry_at entry_text
 entry_takes format kind bytes x rest fits e =
@@ -43,13 +43,13 @@ entry_takes format kind bytes x rest fits e =
     let changed = bind_some (changed_at format info.0.1) _ (x, rest) info.2 in
     let len = bind_some (len_at kind changed.0.1) _ (x, rest) changed.2 in
     let hash = bind_some (bytes_at 32 len.0.1) _ (x, rest) len.2 in
-    let blocks = bind_some (many (number_at w32) (block_count len.0.0) hash.0.1) _ (x, rest) hash.2 in
+    let blocks = bind_some (many (number_at w32) (blocks_for len.0.0) hash.0.1) _ (x, rest) hash.2 in
     let t0 = name_reader.takes bytes name.0.0 name.0.1 fits name.1 in
     let t1 = (info_reader kind).takes name.0.1 info.0.0 info.0.1 t0.0.rest_fits info.1 in
     let t2 = (changed_reader format).takes info.0.1 changed.0.0 changed.0.1 t1.0.rest_fits changed.1 in
     let t3 = (len_reader kind).takes changed.0.1 len.0.0 len.0.1 t2.0.rest_fits len.1 in
     let t4 = (bytes_reader 32).takes len.0.1 hash.0.0 hash.0.1 t3.0.rest_fits hash.1 in
-    let t5 = (numbers (block_count len.0.0)).takes hash.0.1 blocks.0.0 blocks.0.1 t4.0.rest_fits blocks.1 in
+    let t5 = (numbers (blocks_for len.0.0)).takes hash.0.1 blocks.0.0 blocks.0.1 t4.0.rest_fits blocks.1 in
     let from_blocks : List ℕ = flat_map (to_le_bytes w32) blocks.0.0 in
     let from_hash : List ℕ = hash.0.0 ++ from_blocks in
     let from_len : List ℕ = to_le_bytes w32 len.0.0 ++ from_hash in
@@ -111,7 +111,7 @@ entry_again format kind x rest good =
     let changed = (changed_reader format).again x.changed from_len (good.0.changed, good.1.changed) in
     let len = (len_reader kind).again x.len from_hash good.0.len in
     let hash = (bytes_reader 32).again x.hash from_blocks good.0.hash in
-    let numbers_again = (numbers (block_count x.len)).again x.blocks rest (good.0.blocks, good.1.blocks) in
+    let numbers_again = (numbers (blocks_for x.len)).again x.blocks rest (good.0.blocks, good.1.blocks) in
     ap (entry_at format kind) (regroup_6 (name_text x.name) (info_text x.info) (changed_text format x.changed)
     (to_le_bytes w32 x.len) x.hash blocks rest)
     ∙ rw (name, info, changed, len, hash, numbers_again) refl
@@ -140,7 +140,7 @@ from_parts format kind (x ∷ es) each range = ((each.0, range.0), from_parts fo
 
 -- ---- the header
 
-header_takes : (bytes : List ℕ) (h : Header) (rest : List ℕ) → IsBytes bytes → header_at bytes ≡ Some (h, rest)
+header_takes : (bytes : List ℕ) (h : Header) (rest : List ℕ) → AreBytes bytes → header_at bytes ≡ Some (h, rest)
     → Takes bytes (header_text h.format h.kind h.count) rest × (IsTrue (is_format h.format) × (h.count ≤ 1024))
 unfolding header_at
 header_takes bytes h rest fits e =
@@ -176,7 +176,7 @@ ends_there : (bytes text rest : List ℕ) → Takes bytes text rest → rest ≡
 ends_there bytes text rest took nothing = took.parts ∙ ap (λ (r : List ℕ). text ++ r) nothing ∙ append-nil text
 
 -- what is read keeps the rules, and is spelled so
-pub index_takes : (text : List ℕ) (i : Index) → IsBytes text → index_of text ≡ Some i
+pub index_takes : (text : List ℕ) (i : Index) → AreBytes text → index_of text ≡ Some i
     → (IsIndex i × EntriesInRange i) × (text ≡ index_text i)
 unfolding index_of index_text
 index_takes text i fits e =
@@ -233,12 +233,12 @@ pub one_index : (i j : Index) → IsIndex i → EntriesInRange i → IsIndex j �
 one_index i j i_rules i_range j_rules j_range same =
     some_is i j (sym (index_again i i_rules i_range) ∙ ap index_of same ∙ index_again j j_rules j_range)
 
-pub read_keeps_rules : (text : List ℕ) (r : Result Index IndexError) → IsBytes text → Gives (λ i. i) r (index_of text)
+pub read_keeps_rules : (text : List ℕ) (r : Result Index IndexError) → AreBytes text → Gives (λ i. i) r (index_of text)
     → IfOk r (λ i. IsIndex i × EntriesInRange i)
 read_keeps_rules text (Ok i) fits given = (index_takes text i fits given).0
 read_keeps_rules text (Err e) fits given = tt
 
-pub read_is_spelled : (text : List ℕ) (r : Result Index IndexError) → IsBytes text → Gives (λ i. i) r (index_of text)
+pub read_is_spelled : (text : List ℕ) (r : Result Index IndexError) → AreBytes text → Gives (λ i. i) r (index_of text)
     → IfOk r (λ i. text ≡ index_text i)
 read_is_spelled text (Ok i) fits given = (index_takes text i fits given).1
 read_is_spelled text (Err e) fits given = tt

@@ -11,12 +11,13 @@ use Rattle.per_base.specs.declared.elements.StoreKind.TheVariants.{Keys, Files}
 use Rattle.per_base.specs.declared.elements.FileInfo.{FileInfo}
 use Rattle.per_base.specs.Fields.{◌>>=◌, byte_at, bytes_at, number_at, only_if, many}
 use Rattle.per_base.specs.Names.{is_name, name_cmp}
+use Rattle.per_base.specs.Contents.{blocks_for}
 use Rattle.index_text.specs.declared.entries.IndexEntry.{IndexEntry}
 use Rattle.index_text.specs.declared.entries.Index.{Index}
 use Rattle.index_text.specs.declared.reading.Header.{Header}
 use Rattle.index_text.specs.declared.errors.IndexError.{IndexError}
 use Rattle.index_text.specs.declared.errors.IndexError.TheVariants as errors
-use Rattle.index_text.specs.Rules.{block_count, max_len, is_format, names_of, blocks_of}
+use Rattle.index_text.specs.Rules.{max_len, is_format, names_of, blocks_of}
 
 -- what a function returned, seen by view, is what reading gives, unless memory ran out
 abbrev pub FailsToRead : {Y : Type 0} → IndexError → Option Y → Type 0
@@ -89,7 +90,7 @@ entry_at format kind bytes = do
   changed ← changed_at format info.1
   len ← len_at kind changed.1
   hash ← bytes_at 32 len.1
-  blocks ← many (number_at w32) (block_count len.0) hash.1
+  blocks ← many (number_at w32) (blocks_for len.0) hash.1
   Some (
     record { name = name.0; info = info.0; changed = changed.0; len = len.0; hash = hash.0; blocks = blocks.0 },
     blocks.1,

@@ -1,5 +1,5 @@
 -- The rules that an index keeps.
-use Rattle.std.specs.Prelude.{◌≡◌, ◌≤◌, ◌<◌, ℕ, ◌+◌, ◌/◌, ◌^◌, List, length, map, Bool, ◌||◌, ◌==◌, nat_eq, Option}
+use Rattle.std.specs.Prelude.{◌≡◌, ◌≤◌, ◌<◌, ℕ, ◌^◌, List, length, map, Bool, ◌||◌, ◌==◌, nat_eq, Option}
 use Rattle.std.specs.Prelude.{None, Some, is_none, is_some, ⊤, IsTrue}
 use Rattle.std.specs.List.{flat_map, AllByRecursion, IsDistinct}
 use Rattle.std.specs.List.Sorted.{IsStrictlySortedBy}
@@ -7,12 +7,9 @@ use Rattle.per_base.specs.declared.elements.StoreKind.{StoreKind}
 use Rattle.per_base.specs.declared.elements.StoreKind.TheVariants.{Keys, Files}
 use Rattle.per_base.specs.declared.elements.FileInfo.{FileInfo}
 use Rattle.per_base.specs.Names.{IsName, name_cmp}
+use Rattle.per_base.specs.Contents.{blocks_for}
 use Rattle.index_text.specs.declared.entries.IndexEntry.{IndexEntry}
 use Rattle.index_text.specs.declared.entries.Index.{Index}
-
--- a content has a block for each 256 bytes, the last maybe not full
-abbrev pub block_count : ℕ → ℕ
-block_count len = (len + 255) / 256
 
 -- the most bytes of a content
 abbrev pub max_len : StoreKind → ℕ
@@ -37,7 +34,7 @@ pub record IsEntry (format : ℕ) (kind : StoreKind) (e : IndexEntry) : Type 0 w
   pub changed : IsTrue (has_changed format e.changed)
   pub len : e.len ≤ max_len kind
   pub hash : length e.hash ≡ 32
-  pub blocks : length e.blocks ≡ block_count e.len
+  pub blocks : length e.blocks ≡ blocks_for e.len
 
 abbrev pub names_of : List IndexEntry → List (List ℕ)
 names_of es = map (λ (e : IndexEntry). e.name) es

@@ -1,2 +1,3 @@
+pub mod FieldReaders
 pub mod Lengths
 pub mod Order

@@ -3,8 +3,9 @@
 ghost use Rattle.std.specs.Prelude.{◌≡◌};
 ghost use Rattle.std.specs.Int.{w32};
 ghost use Rattle.per_base.specs.Names.{is_name};
-ghost use Rattle.index_text.specs.Rules.{block_count, max_len};
+ghost use Rattle.index_text.specs.Rules.{max_len};
 ghost use Rattle.per_base.specs.Fields.{bytes_at, many, number_at, only_if};
+ghost use Rattle.per_base.specs.Contents.{blocks_for};
 ghost use Rattle.index_text.specs.Reading.{Gives, cause_at, coded_cause, changed_at, file_info_at, info_at, coded_kind};
 ghost use Rattle.index_text.specs.Reading.{len_at, name_at};
 
@@ -147,7 +148,7 @@ pub fn hash_of(bytes: &[u8]) -> Result<([u8; 32], &[u8]), IndexError>
 
 /// The block numbers of a content of `len` bytes.
 pub fn blocks_of(alloc: Global, len: u32, bytes: &[u8]) -> Result<(Numbers, &[u8]), IndexError>
-    ensures { Gives (λ x. (x.0, x.1.now)) result (many (number_at w32) (block_count len) bytes.now) }
+    ensures { Gives (λ x. (x.0, x.1.now)) result (many (number_at w32) (blocks_for len) bytes.now) }
 {
     let (blocks, rest) = numbers_of(alloc, len.div_ceil(BLOCK as u32), bytes)?;
     Ok((Numbers::new(blocks), rest))

@@ -9,6 +9,8 @@
 //! their kind, an info exactly for files, and no block twice in the whole text. A text has one index and an index one
 //! text, and that of an index that fits the largest storage has at most 403,460 bytes. Reading goes over the text once,
 //! and looks for repeated blocks by an ordered set, never by pairs.
+//!
+//! [`put_name`], [`put_info`] and [`kind_byte`] write the parts that the text of an export has too.
 #![tactic(auto)]
 
 mod entries;
@@ -23,4 +25,4 @@ pub use entries::{Index, IndexEntry};
 pub use errors::IndexError;
 pub use laws::{blocks_are_few, one_index, text_is_short};
 pub use reading::read_index;
-pub use writing::write_index;
+pub use writing::{kind_byte, put_info, put_name, write_index};

@@ -35,7 +35,8 @@ pub fn write_index(alloc: Global, index: &Index) -> Result<Vec<u8>, AllocError>
     Ok(text)
 }
 
-fn kind_byte(kind: StoreKind) -> u8
+/// The byte of a kind of storage.
+pub fn kind_byte(kind: StoreKind) -> u8
     ensures { result ≡ store_kind_code kind }
 {
     match kind {
@@ -70,7 +71,12 @@ fn put_entry(text: &mut Vec<u8>, format: u8, entry: &IndexEntry) -> Result<(), A
     Ok(())
 }
 
-fn put_name(text: &mut Vec<u8>, name: &str) -> Result<(), AllocError>
+/// Appends a name under its length.
+///
+/// # Errors
+///
+/// Memory ran out; what was appended before stays.
+pub fn put_name(text: &mut Vec<u8>, name: &str) -> Result<(), AllocError>
     requires { length name.now ≤ 255 }
     ensures { OnOk result (text.new.items ≡ text.old.items ++ name_text name.now) }
 {
@@ -79,7 +85,12 @@ fn put_name(text: &mut Vec<u8>, name: &str) -> Result<(), AllocError>
     Ok(())
 }
 
-fn put_info(text: &mut Vec<u8>, info: &Option<FileInfo>) -> Result<(), AllocError>
+/// Appends the info of a file, and nothing for a key.
+///
+/// # Errors
+///
+/// Memory ran out; what was appended before stays.
+pub fn put_info(text: &mut Vec<u8>, info: &Option<FileInfo>) -> Result<(), AllocError>
     ensures text { OnOk result (text.new.items ≡ text.old.items ++ info_text info.now) }
     ensures in_range { OnOk result (InfoIsInRange info.now) }
 {

@@ -2,29 +2,15 @@
 use Rattle.std.specs.Prelude.{◌≡◌, ℕ, List, [], ◌∷◌, map, filter_map, Bool, true, false, cond, ◌&&◌, nat_eq, Option}
 use Rattle.std.specs.Prelude.{None, Some}
 use Rattle.std.specs.List.Sorted.{IsStrictlySortedBy}
-use Rattle.std.specs.Str.{bytes_eq}
-use Rattle.per_base.specs.Changes.{change_at, changed_name}
+use Rattle.per_base.specs.Changes.{change_at, changed_name, removal}
 use Rattle.per_base.specs.declared.elements.Change.{Change}
-use Rattle.per_base.specs.declared.elements.Change.TheVariants.{Put, Remove}
-use Rattle.per_base.specs.declared.elements.Content.{Content}
-use Rattle.per_base.specs.declared.elements.Content.TheVariants.{Good, Bad}
+use Rattle.per_base.specs.declared.elements.Change.TheVariants.{Put}
 use Rattle.per_base.specs.declared.elements.Element.{Element}
 use Rattle.per_base.specs.Maps.{Map, element_at}
 use Rattle.per_base.specs.Names.{name_cmp}
+use Rattle.per_base.specs.Contents.{readable_bytes, same_content}
 use Rattle.key_maps.specs.declared.key_states.KeyState.{KeyState}
 use Rattle.key_maps.specs.KeyStates.{KeyStates, synced_of, visible_of}
-
-abbrev pub same_salvage : Option (List ℕ) → Option (List ℕ) → Bool
-same_salvage None None = true
-same_salvage None (Some there) = false
-same_salvage (Some here) None = false
-same_salvage (Some here) (Some there) = bytes_eq here there
-
-abbrev pub same_content : Content → Content → Bool
-same_content (Good here) (Good there) = bytes_eq here there
-same_content (Good here) (Bad there) = false
-same_content (Bad here) (Good there) = false
-same_content (Bad here) (Bad there) = same_salvage here there
 
 abbrev pub same_key : Element → Element → Bool
 same_key here there = nat_eq here.len there.len && same_content here.content there.content
@@ -33,16 +19,8 @@ abbrev pub is_same_key : Option Element → Element → Bool
 is_same_key None key = false
 is_same_key (Some old) key = same_key old key
 
-abbrev pub bytes_of : Content → List ℕ
-bytes_of (Good bytes) = bytes
-bytes_of (Bad salvage) = []
-
 abbrev pub put : List ℕ → Element → Change
-put name key = Put (record { name = name; info = None; bytes = bytes_of key.content })
-
-abbrev pub removal : List ℕ → Option Element → Option Change
-removal name None = None
-removal name (Some old) = Some (Remove name)
+put name key = Put (record { name = name; info = None; bytes = readable_bytes key.content })
 
 -- what is to be done at a name where the one stands and the other shall, and nothing where both are the same
 abbrev pub difference : List ℕ → (old new : Option Element) → Option Change

@@ -1,11 +1,12 @@
 -- A key: an element without an info. What is on the disk is judged: bytes that encode no value are unreadable, and no
 -- salvage.
-use Rattle.std.specs.Prelude.{◌≡◌, ℕ, ◌≤◌, List, length, map, Bool, true, false, cond, Option, None, Some, IsTrue}
+use Rattle.std.specs.Prelude.{◌≡◌, ℕ, ◌≤◌, List, length, map, cond, Option, None, Some, IsTrue}
 use Rattle.per_base.specs.declared.elements.Content.{Content}
 use Rattle.per_base.specs.declared.elements.Content.TheVariants.{Good, Bad}
 use Rattle.per_base.specs.declared.elements.Element.{Element}
 use Rattle.per_base.specs.declared.elements.Entry.{Entry}
 use Rattle.per_base.specs.Maps.{Map}
+use Rattle.per_base.specs.Contents.{HasLength}
 use Rattle.value_model.specs.Encoding.{encoding}
 use Rattle.value_model.specs.Trees.{Tree}
 use Rattle.value_model.specs.Validity.{IsValue}
@@ -21,10 +22,6 @@ pub record IsStoredValue (bytes : List ℕ) (value : Tree) : Type 0 where
 -- the readable key with this encoding
 abbrev pub key_of : List ℕ → Element
 key_of bytes = record { info = None; len = length bytes; content = Good bytes }
-
-abbrev pub is_readable : Content → Bool
-is_readable (Good bytes) = true
-is_readable (Bad salvage) = false
 
 -- what there is of the content, and the salvage likewise, encodes a value and has this length
 abbrev pub Encodes : Content → ℕ → Type 0
@@ -50,14 +47,8 @@ abbrev pub judged_key_content : Content → Content
 judged_key_content (Good bytes) = cond (is_encoding bytes) (Good bytes) (Bad None)
 judged_key_content (Bad salvage) = Bad (judged_salvage salvage)
 
-abbrev pub judged : Element → Element
-judged element = record element { content = judged_key_content element.content }
-
--- what there is of the content, and the salvage likewise, has this length
-abbrev pub HasLength : Content → ℕ → Type 0
-HasLength (Good bytes) len = length bytes ≡ len
-HasLength (Bad None) len = Unit {0}
-HasLength (Bad (Some salvage)) len = length salvage ≡ len
+abbrev pub key_judged : Element → Element
+key_judged element = record element { content = judged_key_content element.content }
 
 -- an entry of a storage of keys
 pub record IsKeyEntry (entry : Entry) : Type 0 where
@@ -67,7 +58,7 @@ pub record IsKeyEntry (entry : Entry) : Type 0 where
 
 -- the keys that these entries are
 abbrev pub judged_map : List Entry → Map
-judged_map entries = map (λ (e : Entry). (e.name, judged (entry_element e))) entries
+judged_map entries = map (λ (e : Entry). (e.name, key_judged (entry_element e))) entries
 
 abbrev pub entry_names : List Entry → List (List ℕ)
 entry_names entries = map (λ (e : Entry). e.name) entries

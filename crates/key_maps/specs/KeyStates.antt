@@ -8,11 +8,12 @@ use Rattle.per_base.specs.declared.elements.Element.{Element}
 use Rattle.per_base.specs.declared.elements.Entry.{Entry}
 use Rattle.per_base.specs.Maps.{Map, size_of}
 use Rattle.per_base.specs.Names.{name_cmp}
+use Rattle.per_base.specs.Contents.{is_readable}
 use Rattle.key_maps.specs.declared.key_states.KeyState.{KeyState}
 use Rattle.key_maps.specs.declared.key_states.Pending.{Pending}
 use Rattle.key_maps.specs.declared.key_states.Pending.TheVariants.{Same, Removed, Now}
 use Rattle.key_maps.specs.declared.extents.Extent.{Extent}
-use Rattle.key_maps.specs.KeyElements.{IsKey, entry_element, is_readable, judged}
+use Rattle.key_maps.specs.KeyElements.{IsKey, entry_element, key_judged}
 use Rattle.key_maps.specs.Picked.{picked}
 
 abbrev pub KeyStates : Type 0
@@ -86,7 +87,7 @@ pub record IsMarkedSynced (old new : KeyStates) : Type 0 where
 
 -- the states of what is on the disk, with nothing pending
 abbrev pub opened_state : Entry → List ℕ × KeyState
-opened_state entry = (entry.name, record { synced = Some (judged (entry_element entry)); pending = Same })
+opened_state entry = (entry.name, record { synced = Some (key_judged (entry_element entry)); pending = Same })
 
 abbrev pub opened_states : List Entry → KeyStates
 opened_states entries = map opened_state entries

@@ -4,7 +4,8 @@ use Rattle.std.specs.List.Sorted.{IsStrictlySortedBy}
 use Rattle.per_base.specs.declared.elements.Element.{Element}
 use Rattle.per_base.specs.Maps.{Map, element_at, names_of, size_of}
 use Rattle.per_base.specs.Names.{name_cmp}
-use Rattle.key_maps.specs.KeyElements.{IsKey, is_readable}
+use Rattle.per_base.specs.Contents.{is_readable}
+use Rattle.key_maps.specs.KeyElements.{IsKey}
 
 -- what is on the disk, and what calls see
 pub record TwoMaps : Type 0 where

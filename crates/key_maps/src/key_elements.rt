@@ -2,9 +2,10 @@
 
 ghost use Rattle.std.specs.Prelude.{◌≡◌, ◌≤◌, IfOk, IfSome, IsTrue, None, Some, Option, length, option_copied, is_some};
 ghost use Rattle.per_base.specs.declared.elements.Content.TheVariants.{Bad, Good};
-ghost use Rattle.key_maps.specs.Changes as changes;
-ghost use Rattle.key_maps.specs.Changes.{bytes_of, same_key};
-ghost use Rattle.key_maps.specs.KeyElements.{IsKey, IsKeyEntry, entry_element, is_readable, judged, judged_key_content};
+ghost use Rattle.per_base.specs.Contents as contents;
+ghost use Rattle.per_base.specs.Contents.{is_readable, readable_bytes};
+ghost use Rattle.key_maps.specs.Changes.{same_key};
+ghost use Rattle.key_maps.specs.KeyElements.{IsKey, IsKeyEntry, entry_element, judged_key_content, key_judged};
 ghost use Rattle.key_maps.specs.KeyElements.{judged_salvage, key_of};
 ghost use Rattle.key_maps.specs.Shown.{content_shown, good_bytes, salvage_in};
 
@@ -58,7 +59,7 @@ impl KeyElement {
     /// The key that this entry is: bytes that encode no value are unreadable, and no salvage.
     pub fn judge(alloc: Global, entry: &Entry) -> Result<KeyElement, AllocError>
         requires { IsKeyEntry entry.now }
-        ensures { IfOk result (λ key. key ≡ judged (entry_element entry.now)) }
+        ensures { IfOk result (λ key. key ≡ key_judged (entry_element entry.now)) }
     {
         let content = judge_content(alloc, &entry.content)?;
         Ok(KeyElement {
@@ -101,7 +102,7 @@ impl KeyElement {
 
     /// A copy of the encoding of a readable key; an unreadable one gives no bytes.
     pub fn copy_bytes(&self, alloc: Global) -> Result<Bytes, AllocError>
-        ensures { IfOk result (λ bytes. bytes ≡ bytes_of self.now.content) }
+        ensures { IfOk result (λ bytes. bytes ≡ readable_bytes self.now.content) }
     {
         match &self.content {
             KeyContent::Good(stored) => stored.copy_bytes(),
@@ -123,7 +124,7 @@ impl KeyElement {
 
 /// The content that this one is: bytes that encode no value are unreadable, and no salvage.
 fn judge_content(alloc: Global, content: &Content) -> Result<KeyContent, AllocError>
-    ensures { IfOk result (λ judged. content_shown judged ≡ judged_key_content content.now) }
+    ensures { IfOk result (λ answer. content_shown answer ≡ judged_key_content content.now) }
 {
     match content {
         Content::Good(bytes) => match read(alloc, bytes.as_slice())? {
@@ -147,7 +148,7 @@ fn read(alloc: Global, bytes: &[u8]) -> Result<Option<Stored>, AllocError>
 }
 
 fn same_content(here: &KeyContent, there: &KeyContent) -> bool
-    ensures { result ≡ changes.same_content (content_shown here.now) (content_shown there.now) }
+    ensures { result ≡ contents.same_content (content_shown here.now) (content_shown there.now) }
 {
     match here {
         KeyContent::Good(here) => match there {
@@ -162,7 +163,7 @@ fn same_content(here: &KeyContent, there: &KeyContent) -> bool
 }
 
 fn same_salvage(here: &Option<Stored>, there: &Option<Stored>) -> bool
-    ensures { result ≡ changes.same_salvage here.now there.now }
+    ensures { result ≡ contents.same_salvage here.now there.now }
 {
     match here {
         Some(here) => match there {

@@ -7,9 +7,9 @@ ghost use Rattle.std.specs.Map.{keys_of};
 ghost use Rattle.std.specs.Option.{option_and_then};
 ghost use Rattle.per_base.specs.Maps.{element_at, names_of, with_element, without};
 ghost use Rattle.per_base.specs.Names.{name_cmp};
+ghost use Rattle.per_base.specs.Contents.{is_readable};
 ghost use Rattle.key_maps.specs.Changes as spec;
 ghost use Rattle.key_maps.specs.Changes.{change_of, changes_of, has_any};
-ghost use Rattle.key_maps.specs.KeyElements.{is_readable};
 ghost use Rattle.key_maps.specs.declared.key_states.KeyState.{KeyState};
 ghost use Rattle.key_maps.specs.declared.key_states.Pending.TheVariants.{Same};
 ghost use Rattle.key_maps.specs.KeyStates.{AreKeyStates, IsMarkedSynced, IsStep, state_at, synced_map, synced_of};
@@ -173,7 +173,7 @@ fn add_pending(
     add(states, name, state)
 }
 
-/// Puts a readable key at a name. Takes memory only for a name that has no state.
+/// Puts a readable key at a name. Allocates only for a name that has no state.
 pub fn put(
     states: &mut BTreeMap<Name, KeyState>,
     name: &Name,

@@ -5,8 +5,8 @@ ghost use Rattle.std.specs.Prelude.{Some, length, option_copied, is_some, ℕ};
 ghost use Rattle.std.specs.Bool.{OnFalse, OnTrue};
 ghost use Rattle.per_base.specs.declared.elements.Element.{Element};
 ghost use Rattle.per_base.specs.Maps.{element_at, has, names_of, size_of, with_element, without};
+ghost use Rattle.per_base.specs.Contents.{is_readable};
 ghost use Rattle.key_maps.specs.Changes.{AreChanges};
-ghost use Rattle.key_maps.specs.KeyElements.{is_readable};
 ghost use Rattle.key_maps.specs.TwoMaps.{AreTwoMaps};
 
 use crate::extents::Extent;
@@ -116,7 +116,7 @@ impl KeyMaps {
         }
     }
 
-    /// Puts a readable key under this name. Takes memory only for a name that stands in neither map.
+    /// Puts a readable key under this name. Allocates only for a name that stands in neither map.
     pub fn put(&mut self, name: &Name, key: KeyElement) -> Result<(), AllocError>
         requires readable { IsTrue (is_readable key.content) }
         requires place { element_at self.old.visible name.now ≡ None → length self.old.visible < KEYS }

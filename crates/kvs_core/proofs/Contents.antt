@@ -10,26 +10,25 @@ use Rattle.per_base.specs.declared.errors.PerError.{PerError}
 use Rattle.per_base.specs.declared.errors.PerError.TheVariants.{IntegrityCorrupted}
 use Rattle.per_base.specs.declared.errors.Unit.TheVariants.{Part}
 use Rattle.per_base.specs.Maps.{Map, element_at, has, with_element}
-use Rattle.value_model.specs.Kinds.{Kind}
+use Rattle.per_base.specs.Refusals.{IsTextRefusal, NeedsMemory}
+use Rattle.value_model.specs.Kinds.{Kind, same_kind}
 use Rattle.value_model.specs.Trees.{Tree, type_of}
 use Rattle.value_code.specs.Reading.{decoded}
-use Rattle.value_text.specs.Limits.{same_kind}
+use Rattle.value_text.specs.Texts.{mismatch}
 use Rattle.deployment_model.specs.Data.{StorageData}
 use Rattle.deployment_model.specs.Lookups.{initial_of}
 use Rattle.key_maps.specs.KeyElements.{key_of}
 use Rattle.key_maps.specs.Shown.{good_bytes}
-use Rattle.kvs_core.specs.Calls.{as_kind, get_any, get_as, mismatch, read, reset_key, stored_kind, takes_any}
-use Rattle.kvs_core.specs.Calls.{with_placed}
+use Rattle.kvs_core.specs.Calls.{as_kind, get_any, get_as, read_key, reset_key, stored_kind, takes_any, with_placed}
 use Rattle.kvs_core.specs.Calls.{unless_differ, unless_refused, unless_typed, with_place, with_room}
-use Rattle.kvs_core.specs.Refusals.{IsTextRefusal, NeedsMemory}
 
 pub read_stored : (c : StorageData) (name : List ℕ) (content : Content) (bytes : List ℕ) (value : Tree)
-    → Some bytes ≡ good_bytes content → decoded bytes ≡ Some value → read c name content ≡ Ok value
+    → Some bytes ≡ good_bytes content → decoded bytes ≡ Some value → read_key c name content ≡ Ok value
 read_stored c name (Good there) bytes value is reads = let same : there ≡ bytes = cc in rw (same, reads) refl
 read_stored c name (Bad salvage) bytes value is reads = absurd (cc)
 
 pub read_bad : (c : StorageData) (name : List ℕ) (content : Content) → None ≡ good_bytes content
-    → read c name content ≡ Err (IntegrityCorrupted (Part c.name name))
+    → read_key c name content ≡ Err (IntegrityCorrupted (Part c.name name))
 read_bad c name (Good there) is = absurd (cc)
 read_bad c name (Bad salvage) is = refl
 

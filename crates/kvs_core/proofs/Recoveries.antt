@@ -9,16 +9,17 @@ use Rattle.per_base.specs.Maps.{Map, element_at, names_of, size_of, with_element
 use Rattle.per_base.specs.Names.{name_cmp}
 use Rattle.std.proofs.lemmas.Bool.Decides.{nat_tests}
 use Rattle.per_base.specs.declared.errors.PerError.{PerError}
+use Rattle.per_base.specs.Refusals.{IsRefusal}
+use Rattle.per_base.specs.Contents.{is_readable}
 use Rattle.value_model.specs.Encoding.{encoding}
 use Rattle.value_model.specs.Kinds.{kind_depth}
 use Rattle.value_model.specs.Trees.{Tree, type_of}
 use Rattle.value_model.specs.Validity.{IsValue, max_depth, max_length}
 use Rattle.key_maps.specs.TwoMaps.{TwoMaps}
-use Rattle.kvs_core.specs.Refusals.{IsRefusal}
 use Rattle.kvs_core.specs.Sessions.{HasRoom}
 use Rattle.deployment_model.specs.Data.{StorageData}
 use Rattle.deployment_model.specs.Lookups.{initial_of}
-use Rattle.key_maps.specs.KeyElements.{is_readable, key_of}
+use Rattle.key_maps.specs.KeyElements.{key_of}
 use Rattle.key_maps.specs.Shown.{salvage_in}
 use Rattle.key_maps.specs.lemmas.Both.{size_gone, size_set, without_absent}
 use Rattle.kvs_core.specs.Calls.{recovered, restored, set_any, set_value}

@@ -5,9 +5,8 @@ use Rattle.std.specs.List.{AllByRecursion}
 use Rattle.std.specs.Str.{bytes_eq}
 use Rattle.per_base.specs.declared.elements.StoreKind.{StoreKind}
 use Rattle.per_base.specs.declared.elements.StoreKind.TheVariants.{Keys}
-use Rattle.value_model.specs.Kinds.{Kind, kind_fits}
+use Rattle.value_model.specs.Kinds.{Kind, kind_fits, same_kind}
 use Rattle.value_model.specs.Encoding.{encoding}
-use Rattle.value_text.specs.Limits.{same_kind}
 use Rattle.deployment_model.specs.Conditions.{HasTypeFor, IsElement, IsStorage, StartsAs}
 use Rattle.deployment_model.specs.Data.{ElementData, StorageData}
 use Rattle.deployment_model.specs.Lookups.{element_named, initial_of}

@@ -7,23 +7,22 @@ use Rattle.per_base.specs.declared.elements.Element.{Element}
 use Rattle.per_base.specs.declared.errors.Limit.TheVariants as limit
 use Rattle.per_base.specs.declared.errors.PerError.{PerError}
 use Rattle.per_base.specs.declared.errors.PerError.TheVariants.{KeyNotFound, IllegalWriteAccess, IntegrityCorrupted}
-use Rattle.per_base.specs.declared.errors.PerError.TheVariants.{DataTypeMismatch, InitValueNotAvailable}
 use Rattle.per_base.specs.declared.errors.PerError.TheVariants.{OutOfStorageSpace, LimitReached}
 use Rattle.per_base.specs.declared.errors.Unit.TheVariants.{Part}
 use Rattle.per_base.specs.Maps.{Map, element_at, has, size_of, with_element, without}
+use Rattle.per_base.specs.Refusals.{with_initial, refuse}
+use Rattle.per_base.specs.Contents.{is_readable}
 use Rattle.value_model.specs.Encoding.{encoding}
-use Rattle.value_model.specs.Kinds.{Kind, kind_depth}
+use Rattle.value_model.specs.Kinds.{Kind, kind_depth, same_kind}
 use Rattle.value_model.specs.Trees.{Tree, type_of}
 use Rattle.value_model.specs.Validity.{max_depth, max_length}
 use Rattle.value_code.specs.Reading.{decoded}
-use Rattle.value_text.specs.Limits.{same_kind}
-use Rattle.value_text.specs.Texts.{type_text}
+use Rattle.value_text.specs.Texts.{mismatch}
 use Rattle.deployment_model.specs.Data.{ElementData, StorageData}
 use Rattle.deployment_model.specs.Lookups.{element_named, initial_of}
-use Rattle.key_maps.specs.KeyElements.{is_readable, key_of}
-use Rattle.kvs_core.specs.Refusals.{refuse}
+use Rattle.key_maps.specs.KeyElements.{key_of}
 
--- what is made of the key of a name, or that there is none
+-- what a call gives for the key of a name, or that there is none
 abbrev pub found : {A : Type 0} → Option Element → (Element → Result A PerError) → Result A PerError
 found None call = Err KeyNotFound
 found (Some key) call = call key
@@ -40,15 +39,12 @@ abbrev pub readable_value : Option Tree → Result Tree PerError
 readable_value None = Err KeyNotFound
 readable_value (Some value) = Ok value
 
-abbrev pub read : StorageData → List ℕ → Content → Result Tree PerError
-read c name (Good bytes) = readable_value (decoded bytes)
-read c name (Bad salvage) = Err (IntegrityCorrupted (Part c.name name))
+abbrev pub read_key : StorageData → List ℕ → Content → Result Tree PerError
+read_key c name (Good bytes) = readable_value (decoded bytes)
+read_key c name (Bad salvage) = Err (IntegrityCorrupted (Part c.name name))
 
 abbrev pub get_any : StorageData → Map → List ℕ → Result Tree PerError
-get_any c m name = found (element_at m name) (λ key. read c name key.content)
-
-abbrev pub mismatch : Kind → Kind → PerError
-mismatch stored asked = DataTypeMismatch (type_text stored) (type_text asked)
+get_any c m name = found (element_at m name) (λ key. read_key c name key.content)
 
 -- refused where the types differ, with both
 abbrev pub unless_differ : {A : Type 0} → Kind → Kind → Result A PerError → Result A PerError
@@ -140,10 +136,6 @@ recovered c m name (Bad None) = restored c m name (initial_of c name)
 abbrev pub recover_key : StorageData → Map → List ℕ → Result Map PerError
 recover_key c m name = refuse c.read_only IllegalWriteAccess
     (found (element_at m name) (λ key. recovered c m name key.content))
-
-abbrev pub with_initial : {A : Type 0} → Option (List ℕ) → (List ℕ → Result A PerError) → Result A PerError
-with_initial None call = Err InitValueNotAvailable
-with_initial (Some bytes) call = call bytes
 
 abbrev pub reset_key : StorageData → Map → List ℕ → Result Map PerError
 reset_key c m name = refuse c.read_only IllegalWriteAccess

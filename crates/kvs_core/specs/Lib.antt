@@ -1,4 +1,3 @@
 pub mod Calls
-pub mod Refusals
 pub mod Sessions
 pub mod lemmas

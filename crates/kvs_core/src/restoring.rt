@@ -3,10 +3,10 @@
 ghost use Rattle.std.specs.Prelude.{◌≡◌, ◌≤◌, IfErr, IfOk, IsSome, IsTrue, OnErr, OnOk, Some, length};
 ghost use Rattle.per_base.specs.declared.elements.Element.{Element};
 ghost use Rattle.per_base.specs.Maps.{element_at, has, size_of, with_element};
+ghost use Rattle.per_base.specs.Refusals.{IsRefusal, NeedsMemory};
 ghost use Rattle.deployment_model.specs.Lookups.{initial_of};
 ghost use Rattle.key_maps.specs.KeyElements.{key_of};
 ghost use Rattle.kvs_core.specs.Calls as calls;
-ghost use Rattle.kvs_core.specs.Refusals.{IsRefusal, NeedsMemory};
 
 use crate::session::KeySession;
 use key_maps::{KeyElement, Stored};

@@ -4,12 +4,12 @@ ghost use Rattle.std.specs.Prelude.{◌≡◌, ◌≢◌, IfErr, IsTrue, OnOk, R
 ghost use Rattle.per_base.specs.declared.elements.Element.{Element};
 ghost use Rattle.per_base.specs.declared.errors.PerError.{PerError};
 ghost use Rattle.per_base.specs.Maps.{Map, element_at};
+ghost use Rattle.per_base.specs.Refusals.{IsRefusal, NeedsMemory};
+ghost use Rattle.value_text.specs.Texts as texts;
 ghost use Rattle.deployment_model.specs.Lookups.{element_named};
-ghost use Rattle.kvs_core.specs.Refusals.{IsRefusal, NeedsMemory};
-ghost use Rattle.value_model.specs.Kinds.{kind_fits};
+ghost use Rattle.value_model.specs.Kinds.{kind_fits, same_kind};
 ghost use Rattle.value_model.specs.Trees.{type_of};
 ghost use Rattle.value_model.specs.Views.{kind_of};
-ghost use Rattle.value_text.specs.Limits.{same_kind};
 ghost use Rattle.kvs_core.specs.Calls as calls;
 
 use crate::session::KeySession;
@@ -31,7 +31,7 @@ pub fn has_type(value: &Value, value_type: &ValueType) -> bool
 fn mismatch(alloc: Global, stored: &ValueType, asked: &ValueType) -> PerError
     requires stored { IsTrue (kind_fits (kind_of stored.now)) }
     requires asked { IsTrue (kind_fits (kind_of asked.now)) }
-    ensures { result ≢ PerError.OutOfMemory → result ≡ calls.mismatch (kind_of stored.now) (kind_of asked.now) }
+    ensures { result ≢ PerError.OutOfMemory → result ≡ texts.mismatch (kind_of stored.now) (kind_of asked.now) }
 {
     let Ok(stored) = print_type(alloc, stored) else {
         return PerError::OutOfMemory;
@@ -50,7 +50,7 @@ impl KeySession {
     #[tactic(auto, using(value_code::specs::lemmas::ValueLaws::typed_fits))]
     pub(crate) fn differs(&self, value: &Value, asked: &ValueType) -> PerError
         requires { IsTrue (kind_fits (kind_of asked.now)) }
-        ensures { result ≢ PerError.OutOfMemory → result ≡ calls.mismatch (type_of value.now) (kind_of asked.now) }
+        ensures { result ≢ PerError.OutOfMemory → result ≡ texts.mismatch (type_of value.now) (kind_of asked.now) }
     {
         let _valid = value.node();
         match value.value_type(self.alloc) {
@@ -63,7 +63,7 @@ impl KeySession {
     #[tactic(auto, using(value_code::specs::lemmas::ValueLaws::typed_fits))]
     fn differs_from(&self, stored: &ValueType, value: &Value) -> PerError
         requires { IsTrue (kind_fits (kind_of stored.now)) }
-        ensures { result ≢ PerError.OutOfMemory → result ≡ calls.mismatch (kind_of stored.now) (type_of value.now) }
+        ensures { result ≢ PerError.OutOfMemory → result ≡ texts.mismatch (kind_of stored.now) (type_of value.now) }
     {
         let _valid = value.node();
         match value.value_type(self.alloc) {

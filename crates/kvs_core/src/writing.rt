@@ -4,12 +4,13 @@ ghost use Rattle.std.specs.Prelude.{◌≡◌, ◌≢◌, ◌<◌, ◌≤◌, �
 ghost use Rattle.std.specs.Prelude.{length};
 ghost use Rattle.per_base.specs.declared.elements.Element.{Element};
 ghost use Rattle.per_base.specs.Maps.{element_at, has, size_of, with_element};
+ghost use Rattle.per_base.specs.Contents.{is_readable};
+ghost use Rattle.per_base.specs.Refusals.{IsRefusal, NeedsMemory};
 ghost use Rattle.value_model.specs.Encoding.{encoding};
 ghost use Rattle.value_model.specs.Trees.{type_of};
-ghost use Rattle.per_value.specs.Memory.{TakesMemory};
-ghost use Rattle.key_maps.specs.KeyElements.{is_readable, key_of};
+ghost use Rattle.per_value.specs.Memory.{Allocates};
+ghost use Rattle.key_maps.specs.KeyElements.{key_of};
 ghost use Rattle.kvs_core.specs.Calls as calls;
-ghost use Rattle.kvs_core.specs.Refusals.{IsRefusal, NeedsMemory};
 
 use crate::session::KeySession;
 use key_maps::{KEYS, KeyElement, Stored};
@@ -57,7 +58,7 @@ impl KeySession {
             (calls.set_value self.old.config self.old.visible name.now (T.tree value.now)) error) }
         // `OutOfMemory` replaces `OutOfStorageSpace` alone, but where the value itself is allocated, which comes first.
         ensures memory { IfErr result (λ error. error ≡ PerError.OutOfMemory
-            → TakesMemory T.kind ⊎ NeedsMemory (calls.takes_any self.old.config self.old.visible name.now
+            → Allocates T.kind ⊎ NeedsMemory (calls.takes_any self.old.config self.old.visible name.now
             (type_of (T.tree value.now)))) }
         ensures beside { self.new ≡ record self.old { visible = self.new.visible } }
         ensures unchanged { OnErr result (self.new ≡ self.old) }
@@ -142,7 +143,7 @@ impl KeySession {
     pub(crate) fn is_full(&self, name: &Name) -> bool
         ensures { result ≡ (not (has self.now.visible name.now) && nat_le 1024 (length self.now.visible)) }
     {
-        !self.maps.has(name) && self.maps.count() >= KEYS
+        self.maps.count() >= KEYS && !self.maps.has(name)
     }
 
     /// Puts an encoding under a name that has a place, where there is room for it.

@@ -10,6 +10,7 @@ use Rattle.per_base.specs.declared.errors.PerError.{PerError}
 use Rattle.per_base.specs.declared.errors.PerError.TheVariants.{IllegalWriteAccess, LimitReached, OutOfStorageSpace}
 use Rattle.per_base.specs.Maps.{Map, element_at, has, size_of, with_element}
 use Rattle.per_base.specs.Names.{name_cmp}
+use Rattle.per_base.specs.Refusals.{refuse}
 use Rattle.value_model.specs.Encoding.{encoding}
 use Rattle.value_model.specs.Kinds.{Kind, kind_depth}
 use Rattle.value_model.specs.Trees.{Tree, type_of}
@@ -19,7 +20,6 @@ use Rattle.deployment_model.specs.Data.{StorageData}
 use Rattle.deployment_model.specs.Lookups.{element_named}
 use Rattle.key_maps.specs.KeyElements.{key_of}
 use Rattle.kvs_core.specs.Calls.{get_as, kind_for, set_any, set_value, unless_typed, with_placed, with_room}
-use Rattle.kvs_core.specs.Refusals.{refuse}
 use Rattle.kvs_laws.proofs.SameKinds.{same_kind_self}
 
 -- ---- a call that is answered passed each refusal

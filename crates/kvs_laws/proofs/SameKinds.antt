@@ -1,9 +1,8 @@
 -- A kind is the same as itself.
 use Rattle.std.proofs.Common.{◌≡◌, true, refl}
 use Rattle.value_model.specs.Kinds.{Kind, Kinds, Size, bool_kind, bytes_kind, eight, fields_kind, four, kind_then}
-use Rattle.value_model.specs.Kinds.{list_kind}
-use Rattle.value_model.specs.Kinds.{no_kinds, one, signed_kind, text_kind, two, unsigned_kind}
-use Rattle.value_text.specs.Limits.{same_kind, same_kinds, same_size}
+use Rattle.value_model.specs.Kinds.{list_kind, no_kinds, one, same_kind, same_kinds, signed_kind, text_kind, two}
+use Rattle.value_model.specs.Kinds.{unsigned_kind, same_size}
 
 same_size_self : (s : Size) → same_size s s ≡ true
 same_size_self one = refl

@@ -23,7 +23,7 @@ use Rattle.element_state.specs.Kept.{HasEnough, IsKeptOn, IsSpared, KeepsGood, S
 use Rattle.element_state.specs.States.{Opens, store_at}
 use Rattle.element_state.specs.Views.{element_of, judged_content, judged_entry}
 use Rattle.key_maps.specs.KeyElements.{is_encoding}
-use Rattle.kvs_core.specs.Calls.{as_kind, get_as, read}
+use Rattle.kvs_core.specs.Calls.{as_kind, get_as, read_key}
 use Rattle.kvs_store.specs.Storages.{keys_in}
 use Rattle.kvs_laws.specs.Values.{Asked, HasValue, ReadsAs}
 
@@ -59,10 +59,10 @@ pub readable : (c : StorageData) (m : Map) (name : List ℕ) (asked : Kind) (val
 readable c m name asked value is = by (element_at m name) refl
   where
     in_key : (key : Element) (content : Content) → element_at m name ≡ Some key → key.content ≡ content
-        → as_kind asked (read c name content) ≡ Ok value → IsThere m name
+        → as_kind asked (read_key c name content) ≡ Ok value → IsThere m name
     in_key key (Good bytes) there good reads = decoding (decoded bytes) refl
       where
-        decoding : (read : Option Tree) → decoded bytes ≡ read → IsThere m name
+        decoding : (tree : Option Tree) → decoded bytes ≡ tree → IsThere m name
         decoding None none = let h = rw none at reads in absurd (cc)
         decoding (Some tree) some = record {
           key = key;

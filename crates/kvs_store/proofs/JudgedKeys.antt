@@ -16,6 +16,7 @@ use Rattle.per_base.specs.declared.elements.Scope.TheVariants as scope
 use Rattle.per_base.specs.declared.reports.Report.{Report}
 use Rattle.per_base.specs.Maps.{Map, element_at}
 use Rattle.per_base.specs.Names.{name_cmp}
+use Rattle.per_base.specs.Contents.{is_readable}
 use Rattle.element_state.specs.declared.shapes.Shape.{Shape}
 use Rattle.element_state.specs.declared.shapes.View.{View}
 use Rattle.element_state.specs.Reports.{element_failed, element_reports, is_readable_by, recovered_reports, report_of}
@@ -34,7 +35,7 @@ use Rattle.kvs_store.specs.Judged.{shown_entry, shown_view}
 
 -- the map has the key of this entry
 abbrev Stands : Map → Entry → Type 0
-Stands m e = element_at m e.name ≡ Some (keys.judged (keys.entry_element e))
+Stands m e = element_at m e.name ≡ Some (keys.key_judged (keys.entry_element e))
 
 -- one before all others hides none of them
 stand_later : (m : Map) (e : List ℕ × Element) (es : List Entry) → Above name_cmp e.0 (entry_names es)
@@ -50,7 +51,7 @@ all_stand : (es : List Entry) → IsStrictlySortedBy name_cmp (entry_names es)
 all_stand [] sorted = tt
 all_stand (e ∷ es) sorted = (
   rw (tied_itself nat_list_cmp_total e.name) refl,
-  stand_later (judged_map es) (e.name, keys.judged (keys.entry_element e)) es
+  stand_later (judged_map es) (e.name, keys.key_judged (keys.entry_element e)) es
       (sorted_head name_cmp e.name (entry_names es) sorted)
       (all_stand es (sorted_tail name_cmp e.name (entry_names es) sorted)),
 )
@@ -58,12 +59,12 @@ all_stand (e ∷ es) sorted = (
 -- ---- reports
 
 readable_is : (c : Content)
-    → is_readable_by (λ bytes. true) (cond (keys.is_readable (keys.judged_key_content c)) c (Bad None))
+    → is_readable_by (λ bytes. true) (cond (is_readable (keys.judged_key_content c)) c (Bad None))
     ≡ is_readable_by is_encoding c
 readable_is (Good value) = by (is_encoding value)
   where
     by : (b : Bool)
-        → is_readable_by (λ bytes. true) (cond (keys.is_readable (cond b (Good value) (Bad None))) (Good value)
+        → is_readable_by (λ bytes. true) (cond (is_readable (cond b (Good value) (Bad None))) (Good value)
         (Bad None))
         ≡ b
     by true = refl
@@ -122,7 +123,7 @@ judged_synchronised v = each v.entries
 -- ---- mending
 
 key_in : Entry → List ℕ × Element
-key_in e = (e.name, keys.judged (keys.entry_element e))
+key_in e = (e.name, keys.key_judged (keys.entry_element e))
 
 mended_key : (e : Entry) (c : Content) → key_in (mended_by c e) ≡ key_in e
 unfolding key_in

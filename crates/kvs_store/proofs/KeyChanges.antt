@@ -3,13 +3,10 @@
 use Rattle.std.proofs.Common.{◌≡◌, ℕ, List, Bool, true, false, cond, refl, sym, ◌∙◌, ap}
 use Rattle.std.specs.Prelude.{Option, Some, None, IfSome}
 use Rattle.per_base.specs.declared.elements.Change.{Change}
-use Rattle.per_base.specs.declared.elements.Content.{Content}
-use Rattle.per_base.specs.declared.elements.Content.TheVariants.{Good, Bad}
 use Rattle.per_base.specs.declared.elements.Element.{Element}
 use Rattle.per_base.specs.declared.elements.FileInfo.{FileInfo}
 use Rattle.per_base.specs.Maps.{Map, element_at}
 use Rattle.element_state.specs.Changes as changes
-use Rattle.element_state.specs.Written as written
 use Rattle.element_maps.specs.Differences as made
 use Rattle.element_maps.specs.Differences.{MakeInto, same_bytes}
 use Rattle.key_maps.specs.Changes as keys
@@ -19,30 +16,14 @@ use Rattle.key_maps.specs.TwoMaps.{AreTwoMaps, IsKeyMap}
 
 -- ---- one key
 
-same_bytes_of : (c : Content) → written.bytes_of c ≡ keys.bytes_of c
-same_bytes_of (Good bytes) = refl
-same_bytes_of (Bad salvage) = refl
-
-same_salvage : (a b : Option (List ℕ)) → changes.same_content (Bad a) (Bad b) ≡ keys.same_salvage a b
-same_salvage None None = refl
-same_salvage None (Some b) = refl
-same_salvage (Some a) None = refl
-same_salvage (Some a) (Some b) = refl
-
-same_content : (a b : Content) → changes.same_content a b ≡ keys.same_content a b
-same_content (Good a) (Good b) = refl
-same_content (Good a) (Bad b) = refl
-same_content (Bad a) (Good b) = refl
-same_content (Bad a) (Bad b) = same_salvage a b
-
 same_infos : (a b : Option FileInfo) → a ≡ None → b ≡ None → changes.same_info a b ≡ true
 same_infos a b p q = rw (p, q) refl
 
 same_keys : (a b : Element) → IsKey a → IsKey b → changes.same_element a b ≡ keys.same_key a b
-same_keys a b one other = rw (same_infos a.info b.info one.plain other.plain, same_content a.content b.content) refl
+same_keys a b one other = rw (same_infos a.info b.info one.plain other.plain) refl
 
 put_key : (name : List ℕ) (key : Element) → IsKey key → made.put name key ≡ keys.put name key
-put_key name key is = rw (is.plain, same_bytes_of key.content) refl
+put_key name key is = rw is.plain refl
 
 touch_key : (name : List ℕ) (key : Element) (info : Option FileInfo) → info ≡ None
     → made.touch name key info ≡ made.put name key

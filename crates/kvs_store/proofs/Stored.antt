@@ -2,8 +2,6 @@
 use Rattle.std.proofs.Common.{◌≡◌, ℕ, ◌≤◌, refl, subst, arith}
 use Rattle.std.specs.Prelude.{Option, Some, None, IsTrue}
 use Rattle.std.specs.List.{All}
-use Rattle.per_base.specs.declared.elements.Content.{Content}
-use Rattle.per_base.specs.declared.elements.Content.TheVariants.{Good, Bad}
 use Rattle.per_base.specs.declared.elements.Entry.{Entry}
 use Rattle.per_base.specs.declared.elements.FileInfo.{FileInfo}
 use Rattle.per_base.specs.declared.elements.StoreKind.{StoreKind}
@@ -12,10 +10,9 @@ use Rattle.per_base.specs.Maps.{size_of}
 use Rattle.index_text.specs.Rules.{has_info, max_len}
 use Rattle.element_state.specs.declared.shapes.Shape.{Shape}
 use Rattle.element_state.specs.declared.shapes.View.{View}
-use Rattle.element_state.specs.Chosen as chosen
 use Rattle.element_state.specs.Read.{IsEntryOf, IsView}
 use Rattle.element_state.specs.lemmas.Entrywise.{all_at, all_less}
-use Rattle.key_maps.specs.KeyElements.{HasLength, IsKeyEntry, judged_map}
+use Rattle.key_maps.specs.KeyElements.{IsKeyEntry, judged_map}
 use Rattle.key_maps.specs.lemmas.Opened.{judged_size}
 
 none_in : (info : Option FileInfo) → IsTrue (has_info Keys info) → info ≡ None
@@ -25,15 +22,10 @@ none_in (Some info) has = absurd (cc)
 pub plain_of : (kind : StoreKind) (info : Option FileInfo) → kind ≡ Keys → IsTrue (has_info kind info) → info ≡ None
 plain_of kind info is has = none_in info (subst (λ (k : StoreKind). IsTrue (has_info k info)) is has)
 
-long_as : (content : Content) (len : ℕ) → chosen.HasLength len content → HasLength content len
-long_as (Good bytes) len is = is
-long_as (Bad None) len is = tt
-long_as (Bad (Some salvage)) len is = is
-
 key_entry : (shape : Shape) → shape.kind ≡ Keys → (e : Entry) → IsEntryOf shape e → IsKeyEntry e
 key_entry shape keys e is = record {
   plain = plain_of shape.kind e.info keys is.info;
-  measured = long_as e.content e.len is.content;
+  measured = is.content;
   small = subst (λ (k : StoreKind). e.len ≤ max_len k) keys is.len;
 }
 

@@ -10,6 +10,7 @@ use Rattle.per_base.specs.declared.elements.StoreKind.{StoreKind}
 use Rattle.per_base.specs.declared.elements.StoreKind.TheVariants.{Keys}
 use Rattle.per_base.specs.Maps.{Map, element_at}
 use Rattle.per_base.specs.declared.elements.Change.{Change}
+use Rattle.per_base.specs.Contents.{is_readable}
 use Rattle.disk_model.specs.Frame.{IsSettledOn, Spares}
 use Rattle.disk_model.specs.Medium.{EachCase, Elapses, Medium, Quiet, IsLawful}
 use Rattle.disk_model.specs.Place.{IsOutside}
@@ -34,7 +35,7 @@ use Rattle.element_store.specs.Changing.{KeepsOthers}
 use Rattle.element_store.specs.Committing.{index_in, index_length}
 use Rattle.element_store.specs.Stores.{IsUsed, entries_of, shape_of, view_in}
 use Rattle.element_laws.specs.lemmas.Untouched.{kept_mending, none_around, none_kept}
-use Rattle.key_maps.specs.KeyElements.{Encodes, IsKey, is_encoding, is_readable}
+use Rattle.key_maps.specs.KeyElements.{Encodes, IsKey, is_encoding}
 use Rattle.key_maps.specs.TwoMaps.{AreTwoMaps}
 use Rattle.kvs_core.specs.Sessions.{HasRoom}
 use Rattle.kvs_store.specs.Storages.{IsOpen, KvsSession, keys_in, kvs_session}

@@ -2,11 +2,11 @@
 
 ghost use Rattle.std.specs.Prelude.{◌≡◌, IfErr, IfOk, IsTrue};
 ghost use Rattle.per_base.specs.Maps.{has, names_of, size_of};
+ghost use Rattle.per_base.specs.Refusals.{IsRefusal, IsTextRefusal, NeedsMemory};
 ghost use Rattle.value_model.specs.Kinds.{kind_fits};
 ghost use Rattle.value_model.specs.Validity.{IsValue};
 ghost use Rattle.value_model.specs.Views.{kind_of};
 ghost use Rattle.kvs_core.specs.Calls as calls;
-ghost use Rattle.kvs_core.specs.Refusals.{IsRefusal, IsTextRefusal, NeedsMemory};
 ghost use Rattle.kvs_store.specs.Storages.{kvs_session};
 
 use crate::storages::Kvs;

@@ -3,11 +3,11 @@
 ghost use Rattle.std.specs.Prelude.{◌≡◌, ◌⊎◌, IfErr, OnErr, OnOk, Some};
 ghost use Rattle.per_base.specs.declared.elements.Element.{Element};
 ghost use Rattle.per_base.specs.Maps.{element_at};
+ghost use Rattle.per_base.specs.Refusals.{IsRefusal, NeedsMemory};
 ghost use Rattle.value_model.specs.Trees.{type_of};
-ghost use Rattle.per_value.specs.Memory.{TakesMemory};
+ghost use Rattle.per_value.specs.Memory.{Allocates};
 ghost use Rattle.deployment_model.specs.Lookups.{initial_of};
 ghost use Rattle.kvs_core.specs.Calls as calls;
-ghost use Rattle.kvs_core.specs.Refusals.{IsRefusal, NeedsMemory};
 ghost use Rattle.kvs_store.specs.Storages.{kvs_session, showing};
 
 use crate::storages::Kvs;
@@ -52,7 +52,7 @@ impl Kvs {
             IsRefusal (calls.set_value (kvs_session self.old).config (kvs_session self.old).visible name.now
             (T.tree value.now)) error) }
         // `OutOfMemory` replaces `OutOfStorageSpace` alone, but where the value itself is allocated, which comes first.
-        ensures memory { IfErr result (λ error. error ≡ PerError.OutOfMemory → TakesMemory T.kind
+        ensures memory { IfErr result (λ error. error ≡ PerError.OutOfMemory → Allocates T.kind
             ⊎ NeedsMemory (calls.takes_any (kvs_session self.old).config (kvs_session self.old).visible name.now
             (type_of (T.tree value.now)))) }
         ensures beside { self.new ≡ showing self.old (kvs_session self.new).visible }

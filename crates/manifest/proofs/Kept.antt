@@ -362,7 +362,7 @@ keeps d h =
 
 -- ---- what was read
 
--- the least rule that a text breaks, where it is short or not and denotes this
+-- the first rule that a text violates, where it is short or not and denotes this
 unfoldable pub least_of : Option Data → Bool → Option ℕ
 least_of o short = or_else (if short then (if is_some o then None else Some 2) else Some 1) (broken_in o)
 

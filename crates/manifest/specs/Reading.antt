@@ -1,4 +1,4 @@
--- What the text of a manifest says: the least rule that it breaks, or a deployment.
+-- What the text of a manifest says: the first rule that it violates, or a deployment.
 use Rattle.std.specs.Prelude.{◌≡◌, ℕ, Bool, List, [], ◌∷◌, length, nat_le, if◌then◌else◌, Option, None, Some, is_some}
 use Rattle.std.specs.Prelude.{⊤, Result, Ok, Err}
 use Rattle.std.specs.Str.{is_utf8}
@@ -34,7 +34,7 @@ abbrev pub broken_in : Option Data → Option ℕ
 broken_in None = None
 broken_in (Some d) = least_broken d
 
--- the least rule that the text breaks
+-- the first rule that the text violates
 unfoldable pub broken_rule : List ℕ → Option ℕ
 broken_rule text = or_else (first_broken text_rules text) (broken_in (value_of text))
 

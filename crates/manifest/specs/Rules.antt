@@ -226,7 +226,7 @@ abbrev pub or_else : Option ℕ → Option ℕ → Option ℕ
 or_else None later = later
 or_else (Some rule) later = Some rule
 
--- the least rule that a value breaks
+-- the first rule that a value violates
 unfoldable pub least_broken : Data → Option ℕ
 least_broken d = or_else (first_broken whole_rules d) (or_else (first_broken storage_rules (storages d))
     (first_broken element_rules (storages d)))

@@ -26,7 +26,7 @@ const MAX_BYTES: usize = 65_536;
 ///
 /// # Errors
 ///
-/// `Rejected` with the least rule that the text breaks, exactly where it breaks one; `OutOfMemory`.
+/// `Rejected` with the first rule that the text violates, exactly where it violates one; `OutOfMemory`.
 pub fn read_manifest(alloc: Global, bytes: &[u8]) -> Result<Deployment, ManifestError>
     // the text decides: which rule is the first violated, and which deployment it says where none is
     ensures rejected { IfErr result (RefusesManifest (broken_rule bytes.now)) }

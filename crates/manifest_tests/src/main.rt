@@ -2,7 +2,7 @@
 //!
 //! | row | what is printed |
 //! |---|---|
-//! | `rule MANIFEST` | the least rule that is broken, and 0 where none is |
+//! | `rule MANIFEST` | the first violated rule, and 0 where none is |
 //! | `fronts MANIFEST` | the same of each proper prefix of the manifest, from the empty one on |
 //! | `read MANIFEST` | the deployment |
 //! | `copy MANIFEST` | a copy of the deployment |

@@ -4,7 +4,7 @@ use manifest::{ManifestError, read_manifest};
 use std::alloc::Global;
 use test_rows::{RowError, spelled_bytes};
 
-/// The least rule that a manifest breaks, and 0 where it breaks none.
+/// The first rule that a manifest violates, and 0 where it violates none.
 pub(crate) fn rule(alloc: Global, row: &str) -> Result<String, RowError> {
     let text = spelled_bytes(alloc, row)?;
     let rule = rule_of(alloc, text.as_slice())?;

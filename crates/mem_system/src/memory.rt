@@ -163,8 +163,8 @@ impl MemSystem {
 
 impl System for MemSystem {
     ghost use Rattle.std.specs.Prelude.{false};
-    ghost use Rattle.mem_system.specs.Untold.{untold};
     ghost use Rattle.disk_model.specs.Silence.{silent_is_lawful};
+    ghost use Rattle.system_model.specs.Untold.{untold};
 
     type File = MemFile;
 

@@ -4,12 +4,11 @@ use Rattle.std.proofs.Common.{None, refl, sym, ap, subst, ◌∙◌, arith, inl,
 use Rattle.std.specs.Prelude.{◌⊎◌, ◌&&◌, nat_le, slice_get, option_map}
 use Rattle.std.proofs.lemmas.Bool.{eq-eqb, le-leb, leb-true, lt-ltb}
 use Rattle.std.proofs.lemmas.Option.{slice_get_past}
-use Rattle.value_model.specs.Kinds.{Kind}
+use Rattle.value_model.specs.Kinds.{Kind, same_kind}
 use Rattle.migrate_fns.specs.Chains.{usable, linked, fitting, list_less, IsShortestChain, or_later, with_link}
 use Rattle.migrate_fns.specs.Chains.{first_link}
 use Rattle.migrate_fns.specs.Chains.{if_same, links, shortest, chain_of}
 use Rattle.migrate_fns.specs.Rules.{Rule}
-use Rattle.migrate_fns.specs.SameKind.{same_kind}
 use Rattle.migrate_fns.specs.lemmas.Facts.{not_false, is_false, both_true, true_both, not_none, some_is, split, compare}
 use Rattle.migrate_fns.specs.lemmas.Facts.{less_not_equal, nil_of, cons_of}
 

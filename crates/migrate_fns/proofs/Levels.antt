@@ -6,14 +6,13 @@ use Rattle.std.specs.Prelude.{◌⊎◌, ◌&&◌, not, nat_eq, is_some, slice_g
 use Rattle.std.proofs.lemmas.List.{drop_all, get_or-replicate, length-replicate, get_or-set_same, get_or-set_other}
 use Rattle.std.proofs.lemmas.List.{length-set, append-nil, map-append}
 use Rattle.std.proofs.lemmas.Option.{slice_get-get_or, slice_get-map, slice_get_past, slice_get_read, slice_get_within}
-use Rattle.value_model.specs.Kinds.{Kind}
+use Rattle.value_model.specs.Kinds.{Kind, same_kind}
 use Rattle.value_model.specs.Trees.{Tree, type_of}
 use Rattle.migrate_fns.specs.Chains.{usable, linked, IsShortestChain, or_later, with_link, first_link, if_same, links}
 use Rattle.migrate_fns.specs.Chains.{shortest, chain_of, first_place, takes}
 use Rattle.migrate_fns.specs.Links.{AllDiffer, AreLevels, AreLinks, IsLevel, LinkLeads, entered, is_link, levels_view}
 use Rattle.migrate_fns.specs.Links.{link_place}
 use Rattle.migrate_fns.specs.Rules.{Rule, Answers, ConvertsTo, is_for, first_type, last_type, reached, if_takes}
-use Rattle.migrate_fns.specs.SameKind.{same_kind}
 use Rattle.migrate_fns.specs.declared.numbering.Link.{Link}
 use Rattle.migrate_fns.proofs.Found.{Least, first_least, linked_cons, fitting_parts, chain_is_found}
 use Rattle.migrate_fns.specs.lemmas.SameKinds.{kind_is, same_from_is}

@@ -5,11 +5,10 @@ use Rattle.std.specs.Prelude.{◌&&◌, nat_eq, slice_get}
 use Rattle.std.proofs.lemmas.List.{length-map, map-append}
 use Rattle.std.proofs.lemmas.Option.{slice_get_within}
 use Rattle.std.proofs.lemmas.Bool.{eq-eqb, eqb-true}
-use Rattle.value_model.specs.Kinds.{Kind}
+use Rattle.value_model.specs.Kinds.{Kind, same_kind}
 use Rattle.value_model.specs.Views.{kind_of}
 use Rattle.migrate_fns.specs.Links.{AllDiffer, AreLinks, KeepsNumbers, has_number, is_link}
 use Rattle.migrate_fns.specs.Rules.{Rule, is_for}
-use Rattle.migrate_fns.specs.SameKind.{same_kind}
 use Rattle.migrate_fns.specs.declared.numbering.Link.{Link}
 use Rattle.migrate_fns.specs.declared.fingerprints.Marked.{Marked}
 use Rattle.migrate_fns.specs.lemmas.Facts.{not_false, is_false, both_true, true_both, not_none, some_is, at_end}

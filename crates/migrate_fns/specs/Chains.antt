@@ -1,9 +1,8 @@
 -- Chains of converters: which lists of places fit, which of them is the shortest and then least, and the search for it.
 use Rattle.std.specs.Prelude.{◌≡◌, ◌⊎◌, ℕ, zero, suc, List, [], ◌∷◌, length, Bool, true, false, cond, ◌&&◌, nat_le}
 use Rattle.std.specs.Prelude.{nat_lt, nat_eq, Option, Some, None, option_map, slice_get, ⊤}
-use Rattle.value_model.specs.Kinds.{Kind}
+use Rattle.value_model.specs.Kinds.{Kind, same_kind}
 use Rattle.migrate_fns.specs.Rules.{Rule, is_for}
-use Rattle.migrate_fns.specs.SameKind.{same_kind}
 
 -- the converter may be used for this element on this type
 abbrev pub usable : List ℕ → Kind → Rule → Bool

@@ -2,7 +2,6 @@ pub mod Chains
 pub mod Fingerprints
 pub mod Links
 pub mod Rules
-pub mod SameKind
 pub mod Samples
 pub mod Stored
 pub mod Widened

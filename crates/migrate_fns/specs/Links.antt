@@ -2,10 +2,9 @@
 use Rattle.std.specs.Prelude.{◌≡◌, ℕ, suc, List, length, Bool, true, false, ◌&&◌, not, nat_eq, Option, Some, None}
 use Rattle.std.specs.Prelude.{cond, is_some, option_map, map, slice_get, slice_index_or, slice_set, IfSome, Vec}
 use Rattle.std.specs.declared.alloc.Global.{Global}
-use Rattle.value_model.specs.Kinds.{Kind}
+use Rattle.value_model.specs.Kinds.{Kind, same_kind}
 use Rattle.migrate_fns.specs.Chains.{first_place, links}
 use Rattle.migrate_fns.specs.Rules.{Rule, is_for}
-use Rattle.migrate_fns.specs.SameKind.{same_kind}
 use Rattle.migrate_fns.specs.declared.numbering.Link.{Link}
 
 -- the number of each type is its place, and no type stands twice

@@ -2,9 +2,8 @@
 use Rattle.std.specs.Prelude.{◌≡◌, ℕ, List, [], ◌∷◌, Bool, true, cond, ◌&&◌, Option, Some, None, option_map}
 use Rattle.std.specs.Prelude.{option_and_then, slice_get}
 use Rattle.std.specs.Str.{bytes_eq}
-use Rattle.value_model.specs.Kinds.{Kind}
+use Rattle.value_model.specs.Kinds.{Kind, same_kind}
 use Rattle.value_model.specs.Trees.{Tree}
-use Rattle.migrate_fns.specs.SameKind.{same_kind}
 
 -- a converter for one element, or for every one
 pub record Rule : Type 0 where

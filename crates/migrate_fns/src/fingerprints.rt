@@ -2,7 +2,7 @@
 
 ghost use Rattle.std.specs.Prelude.{◌≡◌, ◌<◌, ◌^◌};
 ghost use Rattle.value_model.specs.Views.{kind_of, kinds_view};
-ghost use Rattle.migrate_fns.specs.SameKind.{same_kind};
+ghost use Rattle.value_model.specs.Kinds.{same_kind};
 ghost use Rattle.migrate_fns.specs.Fingerprints.{fingerprint as fingerprint_of, fingerprints as fingerprints_of};
 ghost use Rattle.migrate_fns.specs.Fingerprints.{mixed as mixed_of};
 

@@ -7,8 +7,8 @@ ghost use Rattle.std.specs.Result.{ForOk};
 ghost use Rattle.value_model.specs.Codes.{kinds_same-prop};
 ghost use Rattle.value_model.specs.Trees.{type_of};
 ghost use Rattle.value_model.specs.Views.{kind_of};
+ghost use Rattle.value_model.specs.Kinds.{same_kind};
 ghost use Rattle.migrate_fns.specs.Rules.{is_for, serves};
-ghost use Rattle.migrate_fns.specs.SameKind.{same_kind};
 
 use per_base::Name;
 use std::alloc::AllocError;

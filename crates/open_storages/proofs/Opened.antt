@@ -5,6 +5,7 @@ use Rattle.per_base.specs.declared.elements.StoreKind.{StoreKind}
 use Rattle.per_base.specs.declared.elements.StoreKind.TheVariants as kinds
 use Rattle.per_base.specs.Maps.{Map}
 use Rattle.disk_model.specs.Image.{Image}
+use Rattle.value_code.specs.Reading.{is_content}
 use Rattle.deployment_model.specs.Data.{StorageData}
 use Rattle.element_state.specs.declared.shapes.Shape.{Shape}
 use Rattle.element_state.specs.declared.shapes.View.{View}
@@ -18,7 +19,6 @@ use Rattle.file_handles.specs.Sessions.{Session}
 use Rattle.file_storage.specs.declared.opening.OpenedFiles.{OpenedFiles}
 use Rattle.file_storage.specs.FileSessions.{stored_in}
 use Rattle.file_storage.specs.Opened.{opened_as}
-use Rattle.deploy_rows.specs.Recovering.{is_content}
 use Rattle.run_model.specs.Sessions.{files, session_of}
 use Rattle.open_storages.specs.declared.opens.Open.TheVariants.{Files}
 use Rattle.open_storages.specs.declared.opening.Opening.TheVariants as opening

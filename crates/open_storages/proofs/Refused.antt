@@ -4,11 +4,11 @@ use Rattle.std.specs.Prelude.{not, Option, Some, None, Ok, ⊤}
 use Rattle.per_base.specs.declared.elements.Element.{Element}
 use Rattle.per_base.specs.declared.errors.PerError.{PerError}
 use Rattle.per_base.specs.declared.errors.PerError.TheVariants.{IllegalWriteAccess}
+use Rattle.per_base.specs.Refusals.{refuse, or_next}
 use Rattle.file_core.specs.Places.{writes}
-use Rattle.file_core.specs.Refusals.{refuse}
 use Rattle.file_handles.specs.declared.handle.Handle.{Handle}
 use Rattle.file_handles.specs.Handling.{on_open}
-use Rattle.file_handles.specs.Opening.{first, when}
+use Rattle.file_handles.specs.Opening.{when}
 use Rattle.file_handles.specs.Sessions.{open_at}
 use Rattle.file_storage.specs.FileSessions.{FilesInUse}
 use Rattle.file_storage.specs.Syncs as below
@@ -25,5 +25,5 @@ no_writer_is None = refl
 no_writer_is (Some o) = refused_when (not (writes o.0.cursor.kind)) IllegalWriteAccess
 
 pub flush_refused_is : (f : FilesInUse) (handle : ℕ) → flush_refused (Files f) handle ≡ below.sync_refused f handle
-flush_refused_is f handle = ap (λ (e : Option PerError). first e (below.worn f))
+flush_refused_is f handle = ap (λ (e : Option PerError). or_next e (below.worn f))
     (no_writer_is (open_at f.session handle))

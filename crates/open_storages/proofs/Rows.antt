@@ -2,7 +2,7 @@
 use Rattle.std.proofs.Common.{◌≡◌, ap, sym, subst}
 use Rattle.std.specs.Prelude.{Result, Ok, Err, IfErr, IfOk, OnErr, IsErr, IsErrAnd}
 use Rattle.per_base.specs.declared.errors.PerError.{PerError}
-use Rattle.file_core.specs.Refusals.{IsRefusal}
+use Rattle.per_base.specs.Refusals.{IsRefusal}
 use Rattle.command_text.specs.declared.replies.Answer.{Answer}
 use Rattle.command_text.specs.Replies.{HasText}
 use Rattle.deploy_rows.specs.Rows.{◌>>=◌}

@@ -16,11 +16,14 @@ use Rattle.per_base.specs.declared.opening.OpenKind.TheVariants.{Read, Write}
 use Rattle.per_base.specs.declared.opening.OpenMode.{OpenMode}
 use Rattle.per_base.specs.declared.opening.Origin.{Origin}
 use Rattle.per_base.specs.Maps.{Map, element_at, has, size_of, with_element, without}
+use Rattle.per_base.specs.Refusals.{with_initial, IsRefusal, refuse, refused_by, or_next}
+use Rattle.per_base.specs.Contents.{readable_bytes}
+use Rattle.per_base.specs.Modes.{plain, truncating}
 use Rattle.value_model.specs.Encoding.{encoding}
-use Rattle.value_model.specs.Kinds.{Kind}
+use Rattle.value_model.specs.Kinds.{Kind, same_kind}
 use Rattle.value_model.specs.Trees.{Tree, type_of}
 use Rattle.value_code.specs.Reading.{decoded}
-use Rattle.value_text.specs.Limits.{same_kind}
+use Rattle.value_text.specs.Texts.{mismatch}
 use Rattle.deployment_model.specs.Data.{StorageData}
 use Rattle.deployment_model.specs.Lookups.{element_named, initial_of}
 use Rattle.kvs_core.specs.Calls as kvs
@@ -28,7 +31,6 @@ use Rattle.file_core.specs.declared.cursor.Cursor.{Cursor}
 use Rattle.file_core.specs.declared.room.Room.{Room}
 use Rattle.file_core.specs.Files as core
 use Rattle.file_core.specs.Places as places
-use Rattle.file_core.specs.Refusals.{IsRefusal, refuse, refused_by}
 use Rattle.file_handles.specs.declared.handle.Handle.{Handle}
 use Rattle.file_handles.specs.declared.storage.Storage.{Storage}
 use Rattle.file_handles.specs.ByName as by_name
@@ -91,7 +93,7 @@ fine_when true error callers = callers
 fine_when false error callers = tt
 
 fine_first : (one later : Option PerError) → IsFineOption one → IsFineOption later
-    → IsFineOption (opening.first one later)
+    → IsFineOption (or_next one later)
 fine_first None later fine next = next
 fine_first (Some error) later fine next = fine
 
@@ -115,23 +117,23 @@ fine_value : (value : Option Tree) → IsFine (kvs.readable_value value)
 fine_value None = tt
 fine_value (Some value) = tt
 
-fine_read : (c : StorageData) (name : List ℕ) (content : Content) → IsFine (kvs.read c name content)
+fine_read : (c : StorageData) (name : List ℕ) (content : Content) → IsFine (kvs.read_key c name content)
 fine_read c name (Good bytes) = fine_value (decoded bytes)
 fine_read c name (Bad salvage) = tt
 
 fine_get : (c : StorageData) (m : Map) (name : List ℕ) → IsFine (kvs.get_any c m name)
-fine_get c m name = fine_found (element_at m name) (λ key. kvs.read c name key.content)
+fine_get c m name = fine_found (element_at m name) (λ key. kvs.read_key c name key.content)
     (λ key. fine_read c name key.content)
 
 fine_as : (asked : Kind) (row : Result Tree PerError) → IsFine row → IsFine (kvs.as_kind asked row)
-fine_as asked (Ok value) fine = fine_refuse (not (same_kind (type_of value) asked)) (kvs.mismatch (type_of value) asked)
+fine_as asked (Ok value) fine = fine_refuse (not (same_kind (type_of value) asked)) (mismatch (type_of value) asked)
     (Ok value) tt tt
 fine_as asked (Err error) fine = fine
 
 fine_typed : {A : Type 0} (kind : Option Kind) (asked : Kind) (rest : Result A PerError) → IsFine rest
     → IsFine (kvs.unless_typed kind asked rest)
 fine_typed None asked rest fine = fine
-fine_typed (Some stored) asked rest fine = fine_refuse (not (same_kind stored asked)) (kvs.mismatch stored asked) rest
+fine_typed (Some stored) asked rest fine = fine_refuse (not (same_kind stored asked)) (mismatch stored asked) rest
     tt fine
 
 fine_room : (c : StorageData) (new : Map) → IsFine (kvs.with_room c new)
@@ -177,13 +179,13 @@ fine_recover c m name = fine_refuse c.read_only error.IllegalWriteAccess
     (λ key. fine_recovered c m name key.content))
 
 fine_initial : {A : Type 0} (initial : Option (List ℕ)) (call : List ℕ → Result A PerError)
-    → ((bytes : List ℕ) → IsFine (call bytes)) → IsFine (kvs.with_initial initial call)
+    → ((bytes : List ℕ) → IsFine (call bytes)) → IsFine (with_initial initial call)
 fine_initial None call fine = tt
 fine_initial (Some bytes) call fine = fine bytes
 
 fine_reset : (c : StorageData) (m : Map) (name : List ℕ) → IsFine (kvs.reset_key c m name)
 fine_reset c m name = fine_refuse c.read_only error.IllegalWriteAccess
-    (kvs.with_initial (initial_of c name) (λ bytes. kvs.with_placed c m name bytes)) tt
+    (with_initial (initial_of c name) (λ bytes. kvs.with_placed c m name bytes)) tt
     (fine_initial (initial_of c name) (λ bytes. kvs.with_placed c m name bytes) (λ bytes. fine_placed c m name bytes))
 
 pub keys_fine : (c : StorageData) (s : KeySession) (l : Call) → IsFine (on_keys c s l)
@@ -244,11 +246,6 @@ fine_file_recovered storage s name now initial file (Bad (Some salvage)) = tt
 fine_file_recovered storage s name now (Some bytes) file (Bad None) = fine_content storage s name _
 fine_file_recovered storage s name now None file (Bad None) = tt
 
-fine_file_initial : {A : Type 0} (initial : Option (List ℕ)) (call : List ℕ → Result A PerError)
-    → ((bytes : List ℕ) → IsFine (call bytes)) → IsFine (by_name.with_initial initial call)
-fine_file_initial None call fine = tt
-fine_file_initial (Some bytes) call fine = fine bytes
-
 fine_many : (files : Map) (name : List ℕ) → IsFineOption (opening.too_many files name)
 fine_many files name = fine_when (not (has files name) && nat_le 1024 (length files))
     (error.LimitReached limit.Elements) tt
@@ -256,7 +253,7 @@ fine_many files name = fine_when (not (has files name) && nat_le 1024 (length fi
 fine_file_reset : (storage : Storage) (s : Session) (name : List ℕ) (now : ℕ) (initial : Option (List ℕ))
     → IsFine (by_name.reset_file storage s name now initial)
 fine_file_reset storage s name now initial = fine_refuse storage.read_only error.IllegalWriteAccess _ tt
-    (fine_file_initial initial _ (λ bytes. fine_refused_by (opening.busy (blocking Write name s.handles)) _
+    (fine_initial initial _ (λ bytes. fine_refused_by (opening.busy (blocking Write name s.handles)) _
     (fine_busy (blocking Write name s.handles))
     (fine_refused_by (opening.too_many s.files name) _ (fine_many s.files name)
     (fine_content storage s name (by_name.reset now bytes (element_at s.files name))))))
@@ -326,7 +323,7 @@ fine_written cursor file piece now room = fine_refuse (not (places.writes cursor
 
 fine_cut : (cursor : Cursor) (file : Element) (size now : ℕ) → IsFine (core.cut cursor file size now)
 fine_cut cursor file size now = fine_refuse (not (places.writes cursor.kind)) error.IllegalWriteAccess _ tt
-    (fine_refuse (nat_lt (length (core.bytes_of file.content)) size) error.InvalidSize _ tt tt)
+    (fine_refuse (nat_lt (length (readable_bytes file.content)) size) error.InvalidSize _ tt tt)
 
 fine_write : (storage : Storage) (s : Session) (now number : ℕ) (piece : List ℕ)
     → IsFine (handling.write storage s now number piece)
@@ -342,26 +339,26 @@ fine_set_size s now number size = fine_at s number _ (λ handle file.
 
 fine_get_byte : (s : Session) (number : ℕ) → IsFine (handling.get_byte s number)
 fine_get_byte s number = fine_at s number _ (λ handle file.
-    fine_moving s number handle (places.get_byte handle.cursor (core.bytes_of file.content))
-    (fine_reading {A = ℕ × Cursor} handle.cursor (core.bytes_of file.content)
+    fine_moving s number handle (places.get_byte handle.cursor (readable_bytes file.content))
+    (fine_reading {A = ℕ × Cursor} handle.cursor (readable_bytes file.content)
     (λ rest. (slice_index rest 0, places.advanced handle.cursor 1))))
 
 fine_read_some : (s : Session) (number count : ℕ) → IsFine (handling.read s number count)
 fine_read_some s number count = fine_at s number _ (λ handle file.
-    fine_moving s number handle (places.read handle.cursor (core.bytes_of file.content) count)
-    (fine_reading {A = List ℕ × Cursor} handle.cursor (core.bytes_of file.content)
+    fine_moving s number handle (places.read handle.cursor (readable_bytes file.content) count)
+    (fine_reading {A = List ℕ × Cursor} handle.cursor (readable_bytes file.content)
     (λ rest. (take count rest, places.advanced handle.cursor (min count (length rest))))))
 
 fine_read_all : (s : Session) (number : ℕ) → IsFine (handling.read_all s number)
 fine_read_all s number = fine_at s number _ (λ handle file.
-    fine_moving s number handle (places.read_all handle.cursor (core.bytes_of file.content))
-    (fine_reading {A = List ℕ × Cursor} handle.cursor (core.bytes_of file.content)
+    fine_moving s number handle (places.read_all handle.cursor (readable_bytes file.content))
+    (fine_reading {A = List ℕ × Cursor} handle.cursor (readable_bytes file.content)
     (λ rest. (rest, places.advanced handle.cursor (length rest)))))
 
 fine_read_line : (s : Session) (number delimiter : ℕ) → IsFine (handling.read_line s number delimiter)
 fine_read_line s number delimiter = fine_at s number _
-    (λ handle file. fine_moving s number handle (places.read_line handle.cursor (core.bytes_of file.content) delimiter)
-    (fine_reading {A = List ℕ × Cursor} handle.cursor (core.bytes_of file.content)
+    (λ handle file. fine_moving s number handle (places.read_line handle.cursor (readable_bytes file.content) delimiter)
+    (fine_reading {A = List ℕ × Cursor} handle.cursor (readable_bytes file.content)
     (λ rest. (
       places.before (places.next_delimiter delimiter rest) rest,
       places.advanced handle.cursor (places.past (places.next_delimiter delimiter rest) rest),
@@ -388,17 +385,17 @@ fine_seek s number position = fine_at s number _ (λ handle file.
 -- ---- whole contents
 
 fine_cat : (storage : Storage) (s : Session) (name : List ℕ) (now : ℕ) → IsFine (whole.cat storage s name now)
-fine_cat storage s name now = fine_and_then (opening.open_file storage s name Read whole.plain now) _
-    (fine_open storage s name Read whole.plain now) (λ o. tt)
+fine_cat storage s name now = fine_and_then (opening.open_file storage s name Read plain now) _
+    (fine_open storage s name Read plain now) (λ o. tt)
 
 fine_put : (storage : Storage) (s : Session) (name bytes : List ℕ) (now : ℕ)
     → IsFine (whole.put_whole storage s name bytes now)
-fine_put storage s name bytes now = fine_refused_by (opening.can_open storage s name Write whole.truncating) _
-    (fine_can_open storage s name Write whole.truncating)
+fine_put storage s name bytes now = fine_refused_by (opening.can_open storage s name Write truncating) _
+    (fine_can_open storage s name Write truncating)
     (fine_refused_by (opening.would_fit storage s.files name (length bytes)) _
     (fine_long (room_for s.files name storage.maximum) (length bytes))
-    (fine_and_then (opening.open_file storage s name Write whole.truncating now) _
-    (fine_open storage s name Write whole.truncating now)
+    (fine_and_then (opening.open_file storage s name Write truncating now) _
+    (fine_open storage s name Write truncating now)
     (λ o. fine_and_then (handling.write storage o.1 now o.0 bytes) _ (fine_write storage o.1 now o.0 bytes)
     (λ after. tt))))
 
@@ -411,7 +408,7 @@ files_fine c now w (call.OpenFile n f k m) = fine_then (opening.open_file (run.s
     (fine_open (run.storage_of c) w f k m now) (λ x. tt)
 files_fine c now w (call.CloseFile n h) = fine_then (handling.close w h) _ (fine_at w h _ (λ handle file. tt)) (λ x. tt)
 files_fine c now w (call.Peek n h) = fine_then (handling.peek_byte w h) _
-    (fine_at w h _ (λ handle file. fine_reading {A = ℕ} handle.cursor (core.bytes_of file.content)
+    (fine_at w h _ (λ handle file. fine_reading {A = ℕ} handle.cursor (readable_bytes file.content)
     (λ rest. slice_index rest 0))) (λ x. tt)
 files_fine c now w (call.Byte n h) = fine_then (handling.get_byte w h) _ (fine_get_byte w h) (λ x. tt)
 files_fine c now w (call.Read n h count) = fine_then (handling.read w h count) _ (fine_read_some w h count) (λ x. tt)

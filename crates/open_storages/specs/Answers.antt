@@ -1,7 +1,7 @@
 -- How a call on an open storage is answered.
 use Rattle.std.specs.Prelude.{◌≡◌, Bool, true, false, Result, Ok, Err}
 use Rattle.per_base.specs.declared.errors.PerError.{PerError}
-use Rattle.file_core.specs.Refusals.{IsRefusal}
+use Rattle.per_base.specs.Refusals.{IsRefusal}
 use Rattle.command_text.specs.declared.calls.Call.{Call}
 use Rattle.command_text.specs.declared.calls.Call.TheVariants as call
 use Rattle.command_text.specs.declared.replies.Answer.{Answer}

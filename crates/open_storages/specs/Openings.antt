@@ -1,13 +1,13 @@
 -- What the opening of a storage gives.
 use Rattle.std.specs.Prelude.{◌≡◌, List, ⊤}
 use Rattle.per_base.specs.declared.reports.Report.{Report}
+use Rattle.value_code.specs.Reading.{is_content}
 use Rattle.deployment_model.specs.Data.{StorageData}
 use Rattle.element_state.specs.declared.shapes.Shape.{Shape}
 use Rattle.element_state.specs.declared.shapes.View.{View}
 use Rattle.element_state.specs.Reports.{failed_report, reports}
 use Rattle.element_state.specs.States.{State, Opens, Corrupt, mended_view}
 use Rattle.element_store.specs.Stores.{shape_of, view_in}
-use Rattle.deploy_rows.specs.Recovering.{is_content}
 use Rattle.run_model.specs.Sessions.{session_of}
 use Rattle.open_storages.specs.declared.opens.Open.{Open}
 use Rattle.open_storages.specs.declared.opening.Opening.{Opening}

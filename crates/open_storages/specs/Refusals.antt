@@ -3,11 +3,12 @@ use Rattle.std.specs.Prelude.{ℕ, Bool, not, ◌&&◌, Option, Some, None, Resu
 use Rattle.per_base.specs.declared.errors.Limit.TheVariants as limit
 use Rattle.per_base.specs.declared.errors.PerError.{PerError}
 use Rattle.per_base.specs.declared.errors.PerError.TheVariants.{LimitReached}
+use Rattle.per_base.specs.Refusals.{or_next}
 use Rattle.element_state.specs.declared.shapes.View.{View}
 use Rattle.element_state.specs.States.{is_worn}
 use Rattle.element_store.specs.Stores.{shape_of, view_in}
 use Rattle.element_maps.specs.Sessions.{same_map, view_once_synced}
-use Rattle.file_handles.specs.Opening.{busy, first, when}
+use Rattle.file_handles.specs.Opening.{busy, when}
 use Rattle.run_model.specs.Calls.{lowest_handle, may_flush}
 use Rattle.run_model.specs.Sessions.{seen_of, synced_in_session}
 use Rattle.open_storages.specs.declared.opens.Open.{Open}
@@ -36,7 +37,7 @@ sync_refused o = when (worn o) (LimitReached limit.Generations)
 
 -- by a handle: whether it may write is asked first
 abbrev pub flush_refused : Open → (handle : ℕ) → Option PerError
-flush_refused o handle = first (error_of (may_flush (session_in o) handle)) (sync_refused o)
+flush_refused o handle = or_next (error_of (may_flush (session_in o) handle)) (sync_refused o)
 
 -- the pending changes of keys are dropped, so that no generation is needed
 abbrev pub leaving_refused : Open → Option PerError
@@ -44,4 +45,4 @@ leaving_refused (Keys k) = None
 leaving_refused (Files f) = sync_refused (Files f)
 
 abbrev pub close_refused : Open → Option PerError
-close_refused o = first (busy (lowest_handle (session_in o))) (leaving_refused o)
+close_refused o = or_next (busy (lowest_handle (session_in o))) (leaving_refused o)

@@ -1,7 +1,7 @@
 //! The calls on files.
 
 ghost use Rattle.std.specs.Prelude.{◌≡◌, IfErr, IfOk, OnErr, OnOk, Ok, true, false, ℕ};
-ghost use Rattle.file_core.specs.Refusals.{IsRefusal};
+ghost use Rattle.per_base.specs.Refusals.{IsRefusal};
 ghost use Rattle.file_handles.specs.Handling as handling;
 ghost use Rattle.file_handles.specs.Opening.{open_file};
 ghost use Rattle.run_model.specs.Sessions.{on_working, storage_of};

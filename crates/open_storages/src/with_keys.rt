@@ -1,8 +1,8 @@
 //! The calls on keys.
 
 ghost use Rattle.std.specs.Prelude.{◌≡◌, IfErr, IfOk, OnErr, OnOk, Ok};
+ghost use Rattle.per_base.specs.Refusals.{IsRefusal};
 ghost use Rattle.kvs_core.specs.Calls as calls;
-ghost use Rattle.kvs_core.specs.Refusals.{IsRefusal};
 ghost use Rattle.kvs_store.specs.Storages.{kvs_session, showing};
 ghost use Rattle.run_model.specs.Sessions.{on_keys};
 ghost use Rattle.open_storages.specs.Answers.{IsAnsweredAsRow};

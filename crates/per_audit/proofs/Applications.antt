@@ -19,7 +19,7 @@ use Rattle.per_audit.specs.declared.noting.Notes.{Notes}
 use Rattle.per_audit.specs.Audits.{damaged_by, each_storage, elements_of, findings_of, listed_of, of_storage}
 use Rattle.per_audit.specs.Audits.{storages_if, storages_of, unless_sole}
 use Rattle.per_audit.specs.Noted.{AddsNotes, elements_seen, findings_seen, of_previous, of_version, version_in_bank}
-use Rattle.per_audit.specs.Noted.{within}
+use Rattle.per_audit.specs.Noted.{over_storages}
 
 -- ---- the storages of both versions
 
@@ -28,13 +28,13 @@ module _ {A : Type 0} (f : ℕ → StorageData → State → List A) (image : Im
   each_more : (bank number : ℕ) (ss : List StorageData) (rest : List (ℕ × StorageData)) (shapes : List Shape)
       → each_storage f (map (λ s. (bank, s)) ss ++ rest) (map (store_at image)
       (shapes_from app bank number ss ++ shapes))
-      ≡ within f image app bank number ss ++ each_storage f rest (map (store_at image) shapes)
+      ≡ over_storages f image app bank number ss ++ each_storage f rest (map (store_at image) shapes)
   each_more bank number [] rest shapes = refl
   each_more bank number (s ∷ ss) rest shapes =
       ap (λ (xs : List A). f bank s (store_at image (storage_shape app bank number s)) ++ xs)
       (each_more bank (suc number) ss rest shapes)
       ∙ sym (append_assoc (f bank s (store_at image (storage_shape app bank number s)))
-      (within f image app bank (suc number) ss) (each_storage f rest (map (store_at image) shapes)))
+      (over_storages f image app bank (suc number) ss) (each_storage f rest (map (store_at image) shapes)))
 
   versions_each : (active : Named) (previous : Option Named)
       → each_storage f (storages_of active ++ storages_if previous)

@@ -16,7 +16,7 @@ use Rattle.element_state.specs.States.{State, store_at}
 use Rattle.deploy_laws.specs.Places.{storage_shape}
 use Rattle.deploy_laws.specs.Apps.{app_at, root_sole}
 use Rattle.per_audit.specs.Audits.{elements_at, elements_of, findings_at, findings_of, listed_of, of_storage}
-use Rattle.per_audit.specs.Noted.{AddsNotes, within}
+use Rattle.per_audit.specs.Noted.{AddsNotes, over_storages}
 use Rattle.per_audit.specs.declared.findings.Finding.{Finding}
 use Rattle.per_audit.specs.declared.findings.Listed.{Listed}
 use Rattle.per_audit.specs.declared.noting.Notes.{Notes}
@@ -27,8 +27,8 @@ use Rattle.per_audit.specs.declared.noting.Notes.{Notes}
 abbrev pub Left : {A : Type 0} → (ℕ → StorageData → State → List A) → Image → (app bank number : ℕ) → List StorageConfig
     → (start now : List A) → Type 0
 Left f image app bank number storages start now =
-    now ++ within f image app bank number (map storage_data (drop number storages))
-    ≡ start ++ within f image app bank 0 (map storage_data storages)
+    now ++ over_storages f image app bank number (map storage_data (drop number storages))
+    ≡ start ++ over_storages f image app bank 0 (map storage_data storages)
 
 module _ {A : Type 0} (f : ℕ → StorageData → State → List A) (image : Image) (app bank : ℕ)
     (storages : List StorageConfig) (start : List A) where
@@ -40,21 +40,21 @@ module _ {A : Type 0} (f : ℕ → StorageData → State → List A) (image : Im
   left_more number x now new lt is left added =
       let here = f bank (storage_data x) (store_at image (storage_shape app bank number (storage_data x))) in
       let later = drop (number + 1) storages in
-      let rest = within f image app bank (suc number) (map storage_data later) in
+      let rest = over_storages f image app bank (suc number) (map storage_data later) in
       let next : number + 1 ≡ suc number = omega arith in
       let step : drop number storages ≡ x ∷ later = drop_more storages number x lt
       ∙ ap (λ (y : StorageConfig). y ∷ later) (sym is) in
-      ap (λ n. new ++ within f image app bank n (map storage_data later)) next
+      ap (λ n. new ++ over_storages f image app bank n (map storage_data later)) next
       ∙ ap (λ (xs : List A). xs ++ rest) added
       ∙ append_assoc now here rest
-      ∙ sym (ap (λ (ys : List StorageConfig). now ++ within f image app bank number (map storage_data ys)) step)
+      ∙ sym (ap (λ (ys : List StorageConfig). now ++ over_storages f image app bank number (map storage_data ys)) step)
       ∙ left
 
   left_all : (number : ℕ) (now : List A) → length storages ≤ number → Left f image app bank number storages start now
-      → now ≡ start ++ within f image app bank 0 (map storage_data storages)
+      → now ≡ start ++ over_storages f image app bank 0 (map storage_data storages)
   left_all number now past left =
       sym (append-nil now)
-      ∙ sym (ap (λ (ys : List StorageConfig). now ++ within f image app bank number (map storage_data ys))
+      ∙ sym (ap (λ (ys : List StorageConfig). now ++ over_storages f image app bank number (map storage_data ys))
       (drop_all number storages past))
       ∙ left
 
@@ -80,8 +80,8 @@ module _ (image : Image) (app bank : ℕ) (storages : List StorageConfig) (start
 
   pub none_are_left : (number : ℕ) (now : Notes) → length storages ≤ number
       → AreLeft image app bank number storages start now
-      → AddsNotes (within (listed_of app) image app bank 0 (map storage_data storages))
-      (within (of_storage app) image app bank 0 (map storage_data storages)) start now
+      → AddsNotes (over_storages (listed_of app) image app bank 0 (map storage_data storages))
+      (over_storages (of_storage app) image app bank 0 (map storage_data storages)) start now
   none_are_left number now past left = record {
     elements_are = left_all (listed_of app) image app bank storages start.elements.items number now.elements.items past
         left.elements;

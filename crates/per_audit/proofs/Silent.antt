@@ -10,6 +10,7 @@ use Rattle.per_base.specs.declared.errors.Unit.TheVariants.{Root, Whole, Part}
 use Rattle.per_base.specs.declared.reports.Report.{Report}
 use Rattle.per_base.specs.declared.reports.ReportKind.{ReportKind}
 use Rattle.disk_model.specs.Image.{Image}
+use Rattle.value_code.specs.Reading.{is_content}
 use Rattle.deployment_model.specs.Data.{StorageData}
 use Rattle.element_state.specs.declared.shapes.Shape.{Shape}
 use Rattle.element_state.specs.declared.shapes.View.{View}
@@ -18,7 +19,6 @@ use Rattle.element_state.specs.Reports.{recovered_reports, report_of, report_som
 use Rattle.element_state.specs.States.{State, Opens, Corrupt, store_at}
 use Rattle.deploy_laws.specs.Apps.{Says, nothing, absent, installed, app_at, root_sole, says_at, shapes_named}
 use Rattle.deploy_laws.specs.Places.{Named, shapes_from, shapes_if, shapes_in, storage_shape}
-use Rattle.deploy_rows.specs.Recovering.{is_content}
 use Rattle.per_audit.specs.declared.findings.Finding.{Finding}
 use Rattle.per_audit.specs.declared.findings.FindingKind.TheVariants.{Lost}
 use Rattle.per_audit.specs.Audits.{damaged_by, each_storage, finding, findings_at, findings_of, is_none_left}

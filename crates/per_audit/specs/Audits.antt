@@ -7,13 +7,13 @@ use Rattle.per_base.specs.declared.elements.Scope.TheVariants as scope
 use Rattle.per_base.specs.declared.errors.Unit.{Unit}
 use Rattle.per_base.specs.declared.errors.Unit.TheVariants.{Root, Whole, Part}
 use Rattle.disk_model.specs.Image.{Image}
+use Rattle.value_code.specs.Reading.{is_content}
 use Rattle.deployment_model.specs.Data.{StorageData}
 use Rattle.element_state.specs.declared.shapes.View.{View}
 use Rattle.element_state.specs.Reports.{is_readable_by}
 use Rattle.element_state.specs.States.{State, Opens, Corrupt}
 use Rattle.deploy_laws.specs.Apps.{App, Says, nothing, absent, installed, app_at, root_sole}
 use Rattle.deploy_laws.specs.Places.{Named}
-use Rattle.deploy_rows.specs.Recovering.{is_content}
 use Rattle.per_audit.specs.declared.findings.Finding.{Finding}
 use Rattle.per_audit.specs.declared.findings.FindingKind.{FindingKind}
 use Rattle.per_audit.specs.declared.findings.FindingKind.TheVariants.{Damaged, Lost, Unsettled}

@@ -2,13 +2,13 @@
 use Rattle.std.specs.Prelude.{◌≡◌, ◌<◌, ℕ, [], true}
 use Rattle.std.specs.List.{AllByRecursion}
 use Rattle.disk_model.specs.Image.{Image}
+use Rattle.value_code.specs.Reading.{is_content}
 use Rattle.element_maps.specs.Storages.{IsOpened, Opened}
 use Rattle.element_state.specs.declared.shapes.Shape.{Shape}
 use Rattle.element_state.specs.declared.shapes.View.{View}
 use Rattle.element_state.specs.Reports.{reports}
 use Rattle.element_state.specs.States.{Opens, store_at}
 use Rattle.deploy_laws.specs.Apps.{nothing, app_at, root_sole, says_at, shapes_named}
-use Rattle.deploy_rows.specs.Recovering.{is_content}
 use Rattle.per_audit.specs.Audits.{findings_at}
 
 -- a storage opens, no copy lacks it, no other text is held that could be its own, and its opening has nothing to report

@@ -52,15 +52,16 @@ elements_found app bank s (Some found) = elements_by app bank s found.opens foun
 
 -- ---- the storages of a version, from this number on
 
-abbrev pub within : {A : Type 0} → (ℕ → StorageData → State → List A) → Image → (app bank number : ℕ) → List StorageData
+abbrev pub over_storages : {A : Type 0} → (ℕ → StorageData → State → List A) → Image → (app bank number : ℕ)
+    → List StorageData
     → List A
-within f image app bank number storages =
+over_storages f image app bank number storages =
     each_storage f (map (λ s. (bank, s)) storages) (map (store_at image) (shapes_from app bank number storages))
 
 -- ---- an application, by how its root is seen
 
 abbrev pub of_version : {A : Type 0} → (ℕ → StorageData → State → List A) → Image → (app : ℕ) → Named → List A
-of_version f image app v = within f image app v.bank 0 v.deployment.storages
+of_version f image app v = over_storages f image app v.bank 0 v.deployment.storages
 
 -- a version in this bank, where there is one
 abbrev pub version_in_bank : (bank : ℕ) → Option Deployment → Option Named

@@ -13,7 +13,8 @@ ghost use Rattle.deploy.specs.declared.viewing.RootView.TheVariants.{Installed};
 ghost use Rattle.deploy_laws.specs.Apps.{app_at, root_sole};
 ghost use Rattle.deploy_laws.specs.Places.{storage_shape};
 ghost use Rattle.per_audit.specs.Audits.{elements_at, elements_of, findings_at, findings_of, listed_of, of_storage};
-ghost use Rattle.per_audit.specs.Noted.{AddsNotes, elements_seen, findings_seen, of_previous, version_in_bank, within};
+ghost use Rattle.per_audit.specs.Noted.{AddsNotes, elements_seen, findings_seen, of_previous, over_storages};
+ghost use Rattle.per_audit.specs.Noted.{version_in_bank};
 
 use crate::findings::Audit;
 use crate::noting::{Notes, note_bad_root, note_root, note_storage};
@@ -213,9 +214,10 @@ fn audit_storages<D: Disk>(
     requires bank { bank ≤ 1 }
     requires few { length storages.now ≤ 16 }
     requires each { AllByRecursion IsStorage (map storage_data storages.now) }
-    ensures adds { IsTrue D.told → OnOk result (AddsNotes (within (listed_of app) (D.medium disk.old).image app bank 0
+    ensures adds { IsTrue D.told → OnOk result (AddsNotes (over_storages (listed_of app)
+        (D.medium disk.old).image app bank 0
         (map storage_data storages.now))
-        (within (of_storage app) (D.medium disk.old).image app bank 0 (map storage_data storages.now)) notes.old
+        (over_storages (of_storage app) (D.medium disk.old).image app bank 0 (map storage_data storages.now)) notes.old
         notes.new) }
     ensures image { (D.medium disk.new).image ≡ (D.medium disk.old).image }
     ensures idle { Quiet (D.medium disk.old) → IsIdle (D.medium disk.old) (D.medium disk.new) }

@@ -4,9 +4,9 @@
 ghost use Rattle.std.specs.Prelude.{◌≡◌, ◌∷◌, ◌++◌, [], IfOk, None, OnOk, Some, map};
 ghost use Rattle.std.specs.List.{flat_map, range_with_len};
 ghost use Rattle.per_base.specs.declared.errors.Unit.TheVariants.{Root, Whole};
+ghost use Rattle.value_code.specs.Reading.{is_content};
 ghost use Rattle.deployment_model.specs.Data.{storage_data};
 ghost use Rattle.element_state.specs.Reports.{is_readable_by};
-ghost use Rattle.deploy_rows.specs.Recovering.{is_content};
 ghost use Rattle.per_audit.specs.declared.findings.FindingKind.TheVariants.{Lost};
 ghost use Rattle.per_audit.specs.Audits.{damaged_by, finding, lacking_named, listed_element, of_element, unless_sole};
 ghost use Rattle.per_audit.specs.Noted.{AddsNotes, elements_found, findings_found, of_corrupt, of_view};

@@ -2,11 +2,10 @@
 
 ghost use Rattle.std.specs.Prelude.{◌≡◌, ◌++◌, IfOk, OnOk, string_bytes};
 ghost use Rattle.std.specs.List.{flat_map};
-ghost use Rattle.command_text.specs.Replies.{copies_text, unit_text};
 ghost use Rattle.per_audit.specs.AuditText.{audit_text, bank_text, element_line, finding_line, kind_word, verdict};
 
 use crate::findings::{Audit, Finding, FindingKind, Listed};
-use per_base::Unit;
+use command_text::{push_copies, push_unit};
 use std::alloc::{AllocError, Global};
 use std::fmt::Write;
 
@@ -87,34 +86,6 @@ fn push_bank(out: &mut String, bank: Option<u32>) -> Result<(), AllocError>
         None => out.push_str("-"),
         Some(bank) => write!(out, "{bank}"),
     }
-}
-
-fn push_unit(out: &mut String, unit: &Unit) -> Result<(), AllocError>
-    ensures { OnOk result (string_bytes out.new ≡ string_bytes out.old ++ unit_text unit.now) }
-{
-    match unit {
-        Unit::Root => out.push_str("root"),
-        Unit::Whole(storage) => out.push_str(storage.as_str()),
-        Unit::Part(storage, element) => {
-            out.push_str(storage.as_str())?;
-            out.push_str(":")?;
-            out.push_str(element.as_str())
-        }
-    }
-}
-
-// The numbers of copies, joined by commas.
-fn push_copies(out: &mut String, copies: &[u32]) -> Result<(), AllocError>
-    ensures { OnOk result (string_bytes out.new ≡ string_bytes out.old ++ copies_text copies.now) }
-{
-    let Some((first, others)) = copies.split_first() else {
-        return out.push_str("-");
-    };
-    write!(out, "{first}")?;
-    for copy in others {
-        write!(out, ",{copy}")?;
-    }
-    Ok(())
 }
 
 // What the findings come to.

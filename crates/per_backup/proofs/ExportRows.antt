@@ -11,26 +11,25 @@ use Rattle.per_base.specs.declared.elements.Content.TheVariants.{Good, Bad}
 use Rattle.per_base.specs.declared.elements.Entry.{Entry}
 use Rattle.per_base.specs.declared.elements.Fresh.{Fresh}
 use Rattle.per_base.specs.declared.elements.StoreKind.{StoreKind}
-use Rattle.per_base.specs.declared.elements.StoreKind.TheVariants.{Keys, Files}
 use Rattle.per_base.specs.declared.errors.PerError.{PerError}
 use Rattle.per_base.specs.declared.errors.PerError.TheVariants as error
 use Rattle.per_base.specs.declared.errors.Unit.TheVariants as unit
 use Rattle.per_base.specs.Names.{name_cmp}
+use Rattle.per_base.specs.Contents.{HasLength}
 use Rattle.disk_model.specs.Image.{Image}
+use Rattle.value_code.specs.Reading.{is_content}
 use Rattle.index_text.specs.Rules.{has_info, max_len}
 use Rattle.deployment_model.specs.Data.{StorageData}
 use Rattle.element_state.specs.declared.shapes.Shape.{Shape}
 use Rattle.element_state.specs.declared.shapes.View.{View}
-use Rattle.element_state.specs.Chosen.{HasLength, opened_of}
+use Rattle.element_state.specs.Chosen.{opened_of}
 use Rattle.element_state.specs.Read.{IsEntryOf, IsView}
 use Rattle.element_state.specs.States.{State, Opens, Corrupt, store_at}
 use Rattle.element_state.specs.Views.{judged_content}
 use Rattle.deploy_laws.specs.Apps.{App}
-use Rattle.deploy_rows.specs.Recovering.{is_content}
 use Rattle.deploy_rows.specs.Rows.{◌>>=◌}
 use Rattle.export_text.specs.declared.exports.Export.{Export}
 use Rattle.export_text.specs.Exports.{AreExportable, IsExportable, export_text}
-use Rattle.export_text.specs.Exports as exports
 use Rattle.per_backup.specs.declared.exporting.Exported.{Exported}
 use Rattle.per_backup.specs.declared.finding.Located.{Located}
 use Rattle.per_backup.specs.Backups.{exported_contents, exported_from, exporting, fresh_by, fresh_of, text_from}
@@ -104,10 +103,6 @@ fresh_bad s e salvage is = ap (λ (c : Content). fresh_by s.name e (judged_conte
 
 -- ---- what is exported is an export
 
-pub agrees : (kind : StoreKind) (bytes : List ℕ) → exports.is_content kind bytes ≡ is_content kind bytes
-agrees Keys bytes = refl
-agrees Files bytes = refl
-
 -- an element that is exported
 record IsOne (kind : StoreKind) (e : Entry) (f : Fresh) : Type 0 where
   pub name : f.name ≡ e.name
@@ -124,7 +119,7 @@ module _ (shape : Shape) (s : StorageData) (kind : shape.kind ≡ s.kind) where
       made = record { name = e.name; info = e.info; bytes = bytes }
 
       long : length bytes ≤ max_len s.kind
-      long = let same = subst (λ (c : Content). HasLength e.len c) is entry.content in
+      long = let same = subst (λ (c : Content). HasLength c e.len) is entry.content in
           subst (λ (k : StoreKind). length bytes ≤ max_len k) kind
           (subst (λ (n : ℕ). n ≤ max_len shape.kind) (sym same) entry.len)
 
@@ -136,7 +131,7 @@ module _ (shape : Shape) (s : StorageData) (kind : shape.kind ≡ s.kind) where
               info = subst (λ (k : StoreKind). IsTrue (has_info k e.info)) kind entry.info;
               len =
                   long;
-              content = agrees s.kind bytes ∙ counts;
+              content = counts;
             };
           })
       by false fails = absurd (no_ok (error.IntegrityCorrupted (unit.Part s.name e.name)) f

@@ -12,7 +12,9 @@ use Rattle.per_base.specs.declared.errors.PerError.{PerError}
 use Rattle.per_base.specs.declared.errors.Limit.TheVariants as limit
 use Rattle.per_base.specs.declared.errors.PerError.TheVariants as error
 use Rattle.per_base.specs.declared.errors.PerError.TheVariants.{ExportRejected}
-use Rattle.per_base.specs.FieldLaws.{IsBytes}
+use Rattle.per_base.specs.Refusals.{refused_by}
+use Rattle.per_base.specs.Fields.{AreBytes}
+use Rattle.value_code.specs.Reading.{is_content}
 use Rattle.index_text.specs.Contents.{SuitsKind, fresh_size}
 use Rattle.deployment_model.specs.Data.{StorageData}
 use Rattle.element_state.specs.States.{State, Corrupt, Opens, fresh_entry, fresh_element, fresh_map, fresh_state}
@@ -21,7 +23,7 @@ use Rattle.update_plan.specs.Plans.{is_kind}
 use Rattle.deployment_model.specs.Lookups.{storage_number}
 use Rattle.deploy_laws.specs.Places.{Named}
 use Rattle.deploy_laws.specs.Apps.{App, Says, absent, installed, nothing}
-use Rattle.deploy_rows.specs.Recovering.{if_contents_fit, is_content, is_worn_out, rebuilding}
+use Rattle.deploy_rows.specs.Recovering.{if_contents_fit, is_worn_out, rebuilding}
 use Rattle.deploy_rows.specs.Rows.{◌>>=◌}
 use Rattle.deploy.specs.Recovered.{AreElements}
 use Rattle.export_text.specs.declared.exports.Export.{Export}
@@ -29,9 +31,9 @@ use Rattle.export_text.specs.Exports.{AreExportable, IsExport, IsExportable, exp
 use Rattle.export_text.specs.Exports as exports
 use Rattle.run_model.specs.Found.{Found, found_at, found_in, found_with, storage_in, with_storage_state}
 use Rattle.per_backup.specs.Backups.{export_for, exported_contents, exported_from, exporting, fresh_of, importing}
-use Rattle.per_backup.specs.Backups.{importing_into, least_mismatch, text_from, unless}
+use Rattle.per_backup.specs.Backups.{importing_into, least_mismatch, text_from}
 use Rattle.per_backup.specs.Laws.{AgainLaw, ExportedLaw, ImportsLaw}
-use Rattle.per_backup.proofs.ExportRows.{agrees, fresh_counts}
+use Rattle.per_backup.proofs.ExportRows.{fresh_counts}
 use Rattle.per_backup.proofs.Lists.{get_set, no_ok, ok_same, some_same}
 use Rattle.per_backup.proofs.Rows.{exporting_found, importing_found, importing_missing, with_row}
 
@@ -57,10 +59,10 @@ kind_is Files Files is = refl
 
 row_of : (s : StorageData) (state : State) (text : List ℕ) (found : Option Export) → export_of text ≡ found
     → importing s state text ≡ (export_for s.kind found >>= λ x.
-    unless (least_mismatch s x.contents) (if_contents_fit s state x.contents))
+    refused_by (least_mismatch s x.contents) (if_contents_fit s state x.contents))
 unfolding importing
 row_of s state text found is = ap (λ (o : Option Export). export_for s.kind o >>= λ x.
-    unless (least_mismatch s x.contents) (if_contents_fit s state x.contents)) is
+    refused_by (least_mismatch s x.contents) (if_contents_fit s state x.contents)) is
 
 pub row_rejected : (s : StorageData) (text : List ℕ) → export_of text ≡ None → (state : State)
     → importing s state text ≡ Err ExportRejected
@@ -69,10 +71,10 @@ row_rejected s text is state = row_of s state text None is
 row_kind : (s : StorageData) (text : List ℕ) (x : Export) → export_of text ≡ Some x → (b : Bool)
     → is_kind s.kind x.kind ≡ b → (state : State)
     → importing s state text ≡ (cond b (Ok x) (Err ExportRejected) >>= λ y.
-    unless (least_mismatch s y.contents) (if_contents_fit s state y.contents))
+    refused_by (least_mismatch s y.contents) (if_contents_fit s state y.contents))
 row_kind s text x is b same state = row_of s state text (Some x) is
     ∙ ap (λ (c : Bool). cond c (Ok x) (Err ExportRejected) >>= λ y.
-    unless (least_mismatch s y.contents) (if_contents_fit s state y.contents)) same
+    refused_by (least_mismatch s y.contents) (if_contents_fit s state y.contents)) same
 
 pub row_other : (s : StorageData) (text : List ℕ) (x : Export) → export_of text ≡ Some x → is_kind s.kind x.kind ≡ false
     → (state : State) → importing s state text ≡ Err ExportRejected
@@ -80,20 +82,20 @@ row_other s text x is differ state = row_kind s text x is false differ state
 
 pub row_taken : (s : StorageData) (text : List ℕ) (x : Export) → export_of text ≡ Some x → is_kind s.kind x.kind ≡ true
     → (state : State)
-    → importing s state text ≡ unless (least_mismatch s x.contents) (if_contents_fit s state x.contents)
+    → importing s state text ≡ refused_by (least_mismatch s x.contents) (if_contents_fit s state x.contents)
 row_taken s text x is same state = row_kind s text x is true same state
 
 pub row_typed : (s : StorageData) (text : List ℕ) (x : Export) → export_of text ≡ Some x → is_kind s.kind x.kind ≡ true
     → (e : PerError) → least_mismatch s x.contents ≡ Some e
     → (state : State) → importing s state text ≡ Err e
 row_typed s text x is same e typed state = row_taken s text x is same state
-    ∙ ap (λ (o : Option PerError). unless o (if_contents_fit s state x.contents)) typed
+    ∙ ap (λ (o : Option PerError). refused_by o (if_contents_fit s state x.contents)) typed
 
 pub row_fits : (s : StorageData) (text : List ℕ) (x : Export) → export_of text ≡ Some x → is_kind s.kind x.kind ≡ true
     → least_mismatch s x.contents ≡ None
     → (fs : List Fresh) → fs ≡ x.contents → (state : State) → importing s state text ≡ if_contents_fit s state fs
 row_fits s text x is same typed fs are state = row_taken s text x is same state
-    ∙ ap (λ (o : Option PerError). unless o (if_contents_fit s state x.contents)) typed
+    ∙ ap (λ (o : Option PerError). refused_by o (if_contents_fit s state x.contents)) typed
     ∙ ap (λ (gs : List Fresh). if_contents_fit s state gs) (sym are)
 
 pub elements_taken : (kind : StoreKind) (x : Export) → IsExport x → is_kind kind x.kind ≡ true → (fs : List Fresh)
@@ -129,21 +131,22 @@ record IsMade (s : StorageData) (state : State) (text : List ℕ) (next : State)
   pub kind : spelled.kind ≡ s.kind
   pub made : next ≡ fresh_state (next_generation (salvage_of state)) (fresh_map spelled.contents)
 
-unless_done : {A : Type 0} (refused : Option PerError) (row : Result A PerError) (x : A) → unless refused row ≡ Ok x
+unless_done : {A : Type 0} (refused : Option PerError) (row : Result A PerError) (x : A) → refused_by refused row ≡ Ok x
     → row ≡ Ok x
 unless_done None row x is = is
 unless_done (Some e) row x is = absurd (no_ok e x is)
 
 made_by : (s : StorageData) (state : State) (text : List ℕ) (next : State) (found : Option Export)
     → export_of text ≡ found
-    → (export_for s.kind found >>= λ x. unless (least_mismatch s x.contents) (if_contents_fit s state x.contents))
+    → (export_for s.kind found >>= λ x. refused_by (least_mismatch s x.contents) (if_contents_fit s state x.contents))
     ≡ Ok next
     → IsMade s state text next
 made_by s state text next None read is = absurd (no_ok ExportRejected next is)
 made_by s state text next (Some x) read is = by (is_kind s.kind x.kind) refl is
   where
     by : (b : Bool) → is_kind s.kind x.kind ≡ b → (cond b (Ok x) (Err ExportRejected) >>= λ y.
-        unless (least_mismatch s y.contents) (if_contents_fit s state y.contents)) ≡ Ok next → IsMade s state text next
+        refused_by (least_mismatch s y.contents) (if_contents_fit s state y.contents)) ≡ Ok next
+        → IsMade s state text next
     by false kind is = absurd (no_ok ExportRejected next is)
     by true kind is = record {
       spelled = x;
@@ -171,7 +174,7 @@ abbrev pub SpelledLaw : Type 0
 SpelledLaw = (x : Export) → IsExport x → export_of (export_text x) ≡ Some x
 
 abbrev pub TakenLaw : Type 0
-TakenLaw = (text : List ℕ) (x : Export) → IsBytes text → export_of text ≡ Some x → IsExport x × (text ≡ export_text x)
+TakenLaw = (text : List ℕ) (x : Export) → AreBytes text → export_of text ≡ Some x → IsExport x × (text ≡ export_text x)
 
 kind_from : (from : StorageData) (old : State) (x : Export) → exported_from from old ≡ Ok x → x.kind ≡ from.kind
 kind_from from (Corrupt salvage others) x is = absurd (no_ok _ x is)
@@ -199,7 +202,7 @@ contents_again s generation (f ∷ fs) each =
     ap (λ (r : Result Fresh PerError). r >>= λ g. exported_contents s
     (map (fresh_entry generation) (fresh_map fs)) >>= λ gs.
     Ok (g ∷ gs))
-    (fresh_again s generation f (sym (agrees s.kind f.bytes) ∙ each.0.content))
+    (fresh_again s generation f each.0.content)
     ∙ ap (λ (r : Result (List Fresh) PerError). r >>= λ gs. Ok (f ∷ gs)) (contents_again s generation fs each.1)
 
 text_again : (s : StorageData) (generation : ℕ) (x : Export) → IsExport x → x.kind ≡ s.kind
@@ -247,7 +250,7 @@ row_done : (a : App) (f : Found) (row : Result State PerError) (b : App) → wit
 row_done a f (Ok next) b is = (next, refl, sym (ok_same (with_storage_state a f next) b is))
 row_done a f (Err e) b is = absurd (no_ok e b is)
 
-again_found : TakenLaw → (a b : App) (name text : List ℕ) → IsBytes text → (f : Found) → storage_in a name None ≡ Ok f
+again_found : TakenLaw → (a b : App) (name text : List ℕ) → AreBytes text → (f : Found) → storage_in a name None ≡ Ok f
     → importing_into a name text ≡ Ok b → exporting b name ≡ Ok text
 again_found taken a b name text bytes f found is =
     let done = row_done a f (importing f.config f.state text) b (sym (importing_found a name text f found) ∙ is) in
@@ -260,7 +263,7 @@ again_found taken a b name text bytes f found is =
     ∙ text_again f.config (next_generation (salvage_of f.state)) made.spelled spelled.0 made.kind
     ∙ ap (λ (t : List ℕ). Ok t) (sym spelled.1)
 
-again_by : TakenLaw → (a b : App) (name text : List ℕ) → IsBytes text → (found : Result Found PerError)
+again_by : TakenLaw → (a b : App) (name text : List ℕ) → AreBytes text → (found : Result Found PerError)
     → storage_in a name None ≡ found → importing_into a name text ≡ Ok b
     → exporting b name ≡ Ok text
 again_by taken a b name text bytes (Ok f) found is = again_found taken a b name text bytes f found is

@@ -2,8 +2,9 @@
 use Rattle.std.proofs.Common.{◌≡◌, ℕ, suc, ◌+◌, List, [], ◌∷◌, drop, Option, Some, None, refl, sym, ap, ◌∙◌, arith}
 use Rattle.per_base.specs.declared.elements.Fresh.{Fresh}
 use Rattle.per_base.specs.declared.errors.PerError.{PerError}
+use Rattle.per_base.specs.Refusals.{or_next}
 use Rattle.deployment_model.specs.Data.{StorageData}
-use Rattle.per_backup.specs.Backups.{least_mismatch, mismatch_of, or_next}
+use Rattle.per_backup.specs.Backups.{least_mismatch, mismatch_of}
 
 -- from the next element on: the first refuses, or it does not
 pub least_here : (s : StorageData) (fs : List Fresh) (i : ℕ) (f : Fresh) (e : PerError)

@@ -9,26 +9,26 @@ use Rattle.per_base.specs.declared.elements.Entry.{Entry}
 use Rattle.per_base.specs.declared.elements.Fresh.{Fresh}
 use Rattle.per_base.specs.declared.elements.StoreKind.{StoreKind}
 use Rattle.per_base.specs.declared.errors.PerError.{PerError}
+use Rattle.per_base.specs.Refusals.{or_next, refused_by}
+use Rattle.value_code.specs.Reading.{is_content}
+use Rattle.value_text.specs.Texts.{mismatch}
 use Rattle.deployment_model.specs.Data.{StorageData}
 use Rattle.deployment_model.specs.Lookups.{storage_number}
 use Rattle.element_state.specs.States.{State, Opens, Corrupt, salvage_of}
 use Rattle.element_state.specs.Views.{judged_content}
 use Rattle.index_text.specs.Contents.{fresh_size}
 use Rattle.update_plan.specs.Plans.{is_kind}
-use Rattle.value_model.specs.Kinds.{Kind}
-use Rattle.value_text.specs.Limits.{same_kind}
+use Rattle.value_model.specs.Kinds.{Kind, same_kind}
 use Rattle.deploy_laws.specs.Places.{Named}
 use Rattle.deploy_laws.specs.Apps.{App, Says, absent, installed, nothing}
-use Rattle.deploy_rows.specs.Recovering.{if_contents_fit, is_content, is_worn_out, rebuilding}
+use Rattle.deploy_rows.specs.Recovering.{if_contents_fit, is_worn_out, rebuilding}
 use Rattle.deploy_rows.specs.Rows.{◌>>=◌}
 use Rattle.export_text.specs.declared.exports.Export.{Export}
 use Rattle.export_text.specs.Exports.{export_of, export_text}
-use Rattle.kvs_core.specs.Calls.{mismatch}
 use Rattle.run_model.specs.Found.{Found, found_at, found_in, found_with, of_kind, storage_in, with_storage_state}
 use Rattle.per_backup.specs.Backups.{configured_type, differing, export_for, exported_contents, exported_from}
-use Rattle.per_backup.specs.Backups.{exported_type}
-use Rattle.per_backup.specs.Backups.{exporting, fresh_by, fresh_of, importing, importing_into, least_mismatch}
-use Rattle.per_backup.specs.Backups.{mismatch_of, or_next, text_from, unless}
+use Rattle.per_backup.specs.Backups.{exported_type, exporting, fresh_by, fresh_of, importing, importing_into}
+use Rattle.per_backup.specs.Backups.{least_mismatch, mismatch_of, text_from}
 use Rattle.per_backup.specs.Laws.{ExportNumbersLaw, ImportNumbersLaw}
 
 abbrev IsNumbered : PerError → Type 0
@@ -50,7 +50,7 @@ either true one other first second = first
 either false one other first second = second
 
 unless_numbered : {A : Type 0} (o : Option PerError) (row : Result A PerError) → IfSome o IsNumbered → Numbered row
-    → Numbered (unless o row)
+    → Numbered (refused_by o row)
 unless_numbered None row first rest = rest
 unless_numbered (Some e) row first rest = first
 

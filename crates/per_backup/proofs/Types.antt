@@ -6,12 +6,11 @@ use Rattle.std.proofs.lemmas.Bool.{and_from, and_parts, cond-false, cond-true, l
 use Rattle.per_base.specs.declared.errors.PerError.{PerError}
 use Rattle.value_model.specs.Kinds.{Size, one, two, four, eight, Kind, bool_kind, unsigned_kind, signed_kind, text_kind}
 use Rattle.value_model.specs.Kinds.{bytes_kind, list_kind, fields_kind, Kinds, no_kinds, kind_then, count_kinds}
-use Rattle.value_model.specs.Kinds.{is_group, kind_fits, kinds_fit}
+use Rattle.value_model.specs.Kinds.{is_group, kind_fits, kinds_fit, same_kind, same_kinds, same_size}
 use Rattle.value_model.specs.Trees.{Tree, bool_tree, unsigned_tree, signed_tree, text_tree, bytes_tree, list_tree}
 use Rattle.value_model.specs.Trees.{fields_tree, Trees, no_trees, tree_then, count_trees, type_of, types_of}
 use Rattle.value_model.specs.Validity.{IsTyped, AllTyped}
-use Rattle.value_text.specs.Limits.{same_size, same_kind, same_kinds}
-use Rattle.kvs_core.specs.Calls.{mismatch}
+use Rattle.value_text.specs.Texts.{mismatch}
 use Rattle.per_backup.specs.Backups.{differing}
 
 -- ---- the same type

@@ -9,18 +9,18 @@ use Rattle.per_base.specs.declared.elements.StoreKind.{StoreKind}
 use Rattle.per_base.specs.declared.errors.PerError.{PerError}
 use Rattle.per_base.specs.declared.errors.PerError.TheVariants as error
 use Rattle.per_base.specs.declared.errors.Unit.TheVariants as unit
-use Rattle.value_model.specs.Kinds.{Kind}
+use Rattle.per_base.specs.Refusals.{or_next, refused_by}
+use Rattle.value_model.specs.Kinds.{Kind, same_kind}
 use Rattle.value_model.specs.Trees.{type_of}
-use Rattle.value_code.specs.Reading.{decoded}
-use Rattle.value_text.specs.Limits.{same_kind}
+use Rattle.value_code.specs.Reading.{decoded, is_content}
+use Rattle.value_text.specs.Texts.{mismatch}
 use Rattle.deployment_model.specs.Data.{ElementData, StorageData}
 use Rattle.deployment_model.specs.Lookups.{element_named}
 use Rattle.element_state.specs.States.{State, Opens, Corrupt}
 use Rattle.element_state.specs.Views.{judged_content}
 use Rattle.update_plan.specs.Plans.{is_kind}
-use Rattle.kvs_core.specs.Calls.{mismatch}
 use Rattle.deploy_laws.specs.Apps.{App}
-use Rattle.deploy_rows.specs.Recovering.{if_contents_fit, is_content}
+use Rattle.deploy_rows.specs.Recovering.{if_contents_fit}
 use Rattle.deploy_rows.specs.Rows.{◌>>=◌}
 use Rattle.run_model.specs.Found.{storage_in, with_storage_state}
 use Rattle.export_text.specs.declared.exports.Export.{Export}
@@ -79,25 +79,16 @@ differing (Some exported) (Some configured) = cond (same_kind exported configure
 abbrev pub mismatch_of : StorageData → Fresh → Option PerError
 mismatch_of s f = differing (exported_type f) (configured_type s f.name)
 
-abbrev pub or_next : Option PerError → Option PerError → Option PerError
-or_next None next = next
-or_next (Some e) next = Some e
-
 -- the refusal for the least key whose type is another than the configured one
 abbrev pub least_mismatch : StorageData → List Fresh → Option PerError
 least_mismatch s [] = None
 least_mismatch s (f ∷ fs) = or_next (mismatch_of s f) (least_mismatch s fs)
 
--- refused with this, if it is anything
-abbrev pub unless : {A : Type 0} → Option PerError → Result A PerError → Result A PerError
-unless None row = row
-unless (Some e) row = Err e
-
 -- the state of the storage that is made of a text: exactly the contents of the export, infos included, under the
 -- generation of a reset
 unfoldable pub importing : StorageData → State → (text : List ℕ) → Result State PerError
 importing s state text = export_for s.kind (export_of text) >>= λ x.
-    unless (least_mismatch s x.contents) (if_contents_fit s state x.contents)
+    refused_by (least_mismatch s x.contents) (if_contents_fit s state x.contents)
 
 -- the application with this storage so
 unfoldable pub importing_into : App → (name text : List ℕ) → Result App PerError

@@ -35,7 +35,7 @@ abbrev pub exported_as : Exported → Result (List ℕ) PerError
 exported_as (Octets bytes) = Ok bytes
 exported_as (Refused e) = Err e
 
--- what was made of the elements of a view, as a list
+-- the elements of a view as those of an export, as a list
 abbrev pub fresh_items : Result (Vec Fresh Global) PerError → Result (List Fresh) PerError
 fresh_items (Ok contents) = Ok contents.items
 fresh_items (Err e) = Err e

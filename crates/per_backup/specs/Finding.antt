@@ -40,7 +40,7 @@ IsIn app name bad l = ⊥
 IsIn app name (no_version lacking sole) l = ⊥
 IsIn app name (versions active previous lacking sole) l = IsStorageOf app name active l
 
--- the first that stands in the way: the root is bad, nothing is installed, there is no such storage
+-- the first obstacle: the root is bad, nothing is installed, there is no such storage
 abbrev pub IsOut : (name : List ℕ) → RootSeen → PerError → Type 0
 IsOut name bad e = e ≡ error.IntegrityCorrupted unit.Root
 IsOut name (no_version lacking sole) e = e ≡ error.NotInstalled

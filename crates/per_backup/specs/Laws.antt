@@ -1,7 +1,8 @@
 -- What an import makes of an export: the statements of the laws.
 use Rattle.std.specs.Prelude.{◌≡◌, ℕ, List, true, Some, Ok, IfErr, IsSome}
 use Rattle.per_base.specs.Errors.{error_number}
-use Rattle.per_base.specs.FieldLaws.{IsBytes}
+use Rattle.per_base.specs.Refusals.{refused_by}
+use Rattle.per_base.specs.Fields.{AreBytes}
 use Rattle.deployment_model.specs.Data.{StorageData}
 use Rattle.element_state.specs.States.{State, fresh_map, fresh_state, next_generation, salvage_of}
 use Rattle.update_plan.specs.Plans.{is_kind}
@@ -9,7 +10,7 @@ use Rattle.deploy_laws.specs.Apps.{App}
 use Rattle.deploy_rows.specs.Recovering.{if_contents_fit}
 use Rattle.export_text.specs.declared.exports.Export.{Export}
 use Rattle.export_text.specs.Exports.{IsExport, export_of, export_text}
-use Rattle.per_backup.specs.Backups.{exported_from, exporting, importing, importing_into, least_mismatch, unless}
+use Rattle.per_backup.specs.Backups.{exported_from, exporting, importing, importing_into, least_mismatch}
 
 -- what is imported is what the text spells, names, contents and infos, under the generation of a reset, and nothing of
 -- what was there
@@ -22,12 +23,12 @@ ImportsLaw = (s : StorageData) (state : State) (text : List ℕ) (x : Export) (n
 abbrev pub ExportedLaw : Type 0
 ExportedLaw = (from into : StorageData) (old state : State) (x : Export) → exported_from from old ≡ Ok x → IsExport x
     → is_kind into.kind from.kind ≡ true
-    → importing into state (export_text x) ≡ unless (least_mismatch into x.contents)
+    → importing into state (export_text x) ≡ refused_by (least_mismatch into x.contents)
     (if_contents_fit into state x.contents)
 
 -- what was imported is exported again as the same text, byte for byte
 abbrev pub AgainLaw : Type 0
-AgainLaw = (a b : App) (name text : List ℕ) → IsBytes text → importing_into a name text ≡ Ok b
+AgainLaw = (a b : App) (name text : List ℕ) → AreBytes text → importing_into a name text ≡ Ok b
     → exporting b name ≡ Ok text
 
 -- every refusal has a number, and so a line that says it

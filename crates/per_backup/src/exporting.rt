@@ -3,13 +3,13 @@
 ghost use Rattle.std.specs.Prelude.{◌≡◌, ◌<◌, IfOk, IfSome, IsErrOf, IsTrue, OnOk};
 ghost use Rattle.per_base.specs.Causes.{Rose};
 ghost use Rattle.disk_model.specs.Medium.{Elapses, IsIdle, Quiet};
+ghost use Rattle.value_code.specs.Reading.{is_content};
 ghost use Rattle.deployment_model.specs.Data.{storage_data};
 ghost use Rattle.element_state.specs.Chosen.{opened_of};
 ghost use Rattle.element_state.specs.Conditions.{IsShape};
 ghost use Rattle.element_state.specs.Read.{IsView};
 ghost use Rattle.element_state.specs.States.{State, store_at};
 ghost use Rattle.deploy_laws.specs.Apps.{App};
-ghost use Rattle.deploy_rows.specs.Recovering.{is_content};
 ghost use Rattle.run_model.specs.Lives.{LooksOnly};
 ghost use Rattle.per_backup.specs.Backups.{exported_contents, exporting, fresh_of, text_from};
 ghost use Rattle.per_backup.specs.Clauses.{IsAppSeen, IsViewFor, exported_as, fresh_items};

@@ -1,11 +1,11 @@
 //! The types of keys that are imported.
 
 ghost use Rattle.std.specs.Prelude.{◌≡◌, IfOk, IfSome, IsTrue, Some, option_map};
+ghost use Rattle.value_text.specs.Texts as texts;
 ghost use Rattle.deployment_model.specs.Conditions.{IsStorage};
 ghost use Rattle.deployment_model.specs.Data.{storage_data};
 ghost use Rattle.value_model.specs.Kinds.{kind_fits};
 ghost use Rattle.value_model.specs.Views.{kind_of};
-ghost use Rattle.kvs_core.specs.Calls as calls;
 ghost use Rattle.per_backup.specs.Backups.{configured_type, differing, exported_type, least_mismatch, mismatch_of};
 
 use deployment_model::{StorageConfig, found_is_kept};
@@ -101,7 +101,7 @@ fn mismatch(
 ) -> Result<PerError, AllocError>
     requires exported { IsTrue (kind_fits (kind_of exported.now)) }
     requires configured { IsTrue (kind_fits (kind_of configured.now)) }
-    ensures { IfOk result (λ error. error ≡ calls.mismatch (kind_of exported.now) (kind_of configured.now)) }
+    ensures { IfOk result (λ error. error ≡ texts.mismatch (kind_of exported.now) (kind_of configured.now)) }
 {
     let stored = print_type(alloc, exported)?;
     let asked = print_type(alloc, configured)?;

@@ -1,8 +1,9 @@
 -- The changes of a commit, by the names of their elements.
-use Rattle.std.specs.Prelude.{ℕ, List, Option, find}
+use Rattle.std.specs.Prelude.{ℕ, List, Option, Some, None, find}
 use Rattle.std.specs.Str.{bytes_eq}
 use Rattle.per_base.specs.declared.elements.Change.{Change}
 use Rattle.per_base.specs.declared.elements.Change.TheVariants.{Put, Remove, Touch}
+use Rattle.per_base.specs.declared.elements.Element.{Element}
 
 -- the element that a change is of
 abbrev pub changed_name : Change → List ℕ
@@ -13,3 +14,8 @@ changed_name (Touch name info) = name
 -- the change of this name
 abbrev pub change_at : List ℕ → List Change → Option Change
 change_at name changes = find (λ change. bytes_eq (changed_name change) name) changes
+
+-- an element that is there goes
+abbrev pub removal : List ℕ → Option Element → Option Change
+removal name None = None
+removal name (Some old) = Some (Remove name)

@@ -1,6 +1,6 @@
 -- What a reader takes from the start is what was written there, and what was written is read again.
 use Rattle.std.proofs.Common.{◌≡◌, ℕ, zero, suc, ◌+◌, ◌^◌, ◌<◌, ◌≤◌, Bool, true, false, cond, eqb, ltb, ◌⊎◌, List, []}
-use Rattle.std.proofs.Common.{◌∷◌, ◌++◌, length, get_or, take, drop, Option, Some, None, refl, sym, ap, subst, ◌∙◌}
+use Rattle.std.proofs.Common.{◌∷◌, ◌++◌, length, take, drop, Option, Some, None, refl, sym, ap, subst, ◌∙◌}
 use Rattle.std.proofs.Common.{append_assoc, arith, inl, inr}
 use Rattle.std.specs.Int.{Width, w16, w32, w64, byte_len, from_le_bytes, to_le_bytes}
 use Rattle.std.specs.List.{flat_map, AllByRecursion}
@@ -10,16 +10,13 @@ use Rattle.std.proofs.lemmas.List.{get_or-take, get_or_past}
 use Rattle.std.proofs.lemmas.List.Concat.{flat_map-cons}
 use Rattle.std.proofs.lemmas.Nat.{le_bytes_2, le_bytes_4, le_bytes_8, from_le_bytes-to_le_bytes_2}
 use Rattle.std.proofs.lemmas.Nat.{from_le_bytes-to_le_bytes_4, from_le_bytes-to_le_bytes_8}
-use Rattle.per_base.specs.Fields.{◌>>=◌, byte_at, bytes_at, number_at, only_if, many}
+use Rattle.per_base.specs.Fields.{◌>>=◌, byte_at, bytes_at, number_at, only_if, many, AreBytes}
 
-abbrev pub IsBytes : List ℕ → Type 0
-IsBytes bytes = (i : ℕ) → get_or bytes i 0 < 256
+pub AreBytes-drop : (n : ℕ) (bytes : List ℕ) → AreBytes bytes → AreBytes (drop n bytes)
+AreBytes-drop n bytes fits i = rw get_or-drop (fits (n + i))
 
-pub IsBytes-drop : (n : ℕ) (bytes : List ℕ) → IsBytes bytes → IsBytes (drop n bytes)
-IsBytes-drop n bytes fits i = rw get_or-drop (fits (n + i))
-
-pub IsBytes-take : (n : ℕ) (bytes : List ℕ) → IsBytes bytes → IsBytes (take n bytes)
-IsBytes-take n bytes fits i =
+pub AreBytes-take : (n : ℕ) (bytes : List ℕ) → AreBytes bytes → AreBytes (take n bytes)
+AreBytes-take n bytes fits i =
     elim (cases_lt i n) [
       | inl lt ↦ rw (get_or-take n bytes i 0 lt) (fits i)
       | inr le ↦ rw (get_or_past (take n bytes) i 0 (omega (arith, length-take n bytes))) (omega arith)
@@ -28,7 +25,7 @@ IsBytes-take n bytes fits i =
 -- the bytes are a text and the bytes after it
 pub record Takes (bytes text rest : List ℕ) : Type 0 where
   pub parts : bytes ≡ text ++ rest
-  pub rest_fits : IsBytes rest
+  pub rest_fits : AreBytes rest
 
 pub Takes-then : {a x b y c : List ℕ} → Takes a x b → Takes b y c → Takes a (x ++ y) c
 Takes-then {x = x} {y = y} {c = c} p q = record {
@@ -40,7 +37,7 @@ Takes-then {x = x} {y = y} {c = c} p q = record {
 -- the reader takes exactly the texts of what fits
 pub record IsReader {A : Type 0} (read : List ℕ → Option (A × List ℕ)) (text : A → List ℕ) (Fits : A → Type 0) : Type 0
   where
-    pub takes : (bytes : List ℕ) (x : A) (rest : List ℕ) → IsBytes bytes → read bytes ≡ Some (x, rest)
+    pub takes : (bytes : List ℕ) (x : A) (rest : List ℕ) → AreBytes bytes → read bytes ≡ Some (x, rest)
         → Takes bytes (text x) rest × Fits x
     pub again : (x : A) (rest : List ℕ) → Fits x → read (text x ++ rest) ≡ Some (x, rest)
 
@@ -75,7 +72,7 @@ unless_none false x y e = (refl, cc)
 
 -- ---- bytes
 
-byte_takes : (bytes : List ℕ) (b : ℕ) (rest : List ℕ) → IsBytes bytes → byte_at bytes ≡ Some (b, rest)
+byte_takes : (bytes : List ℕ) (b : ℕ) (rest : List ℕ) → AreBytes bytes → byte_at bytes ≡ Some (b, rest)
     → Takes bytes (b ∷ []) rest × (b < 256)
 byte_takes [] b rest fits e = absurd cc
 byte_takes (c ∷ bytes) b rest fits e =
@@ -86,14 +83,14 @@ byte_takes (c ∷ bytes) b rest fits e =
 pub byte_reader : IsReader byte_at (λ b. b ∷ []) (λ b. b < 256)
 byte_reader = record { takes = byte_takes; again = λ b rest fits. refl }
 
-bytes_take : (n : ℕ) (bytes x rest : List ℕ) → IsBytes bytes → bytes_at n bytes ≡ Some (x, rest)
+bytes_take : (n : ℕ) (bytes x rest : List ℕ) → AreBytes bytes → bytes_at n bytes ≡ Some (x, rest)
     → Takes bytes x rest × (length x ≡ n)
 unfolding bytes_at
 bytes_take n bytes x rest fits e =
     let g = unless_none (ltb (length bytes) n) (take n bytes, drop n bytes) (x, rest) e in
     let long : n ≤ length bytes = ltb-false _ _ g.0 in
     subst (λ (p : List ℕ × List ℕ). Takes bytes p.0 p.1 × (length p.0 ≡ n)) {x = (take n bytes, drop n bytes)} g.1 (
-      record { parts = sym (take-append-drop n bytes); rest_fits = IsBytes-drop n bytes fits },
+      record { parts = sym (take-append-drop n bytes); rest_fits = AreBytes-drop n bytes fits },
       omega (arith, length-take n bytes),
     )
 
@@ -111,10 +108,10 @@ bytes_reader n = record { takes = bytes_take n; again = bytes_again n }
 -- numbers below the limit have as many bytes as the width, and are read back
 pub record IsWide (w : Width) (limit : ℕ) : Type 0 where
   pub len : (n : ℕ) → length (to_le_bytes w n) ≡ byte_len w
-  pub back : (bytes : List ℕ) → length bytes ≡ byte_len w → IsBytes bytes
+  pub back : (bytes : List ℕ) → length bytes ≡ byte_len w → AreBytes bytes
       → to_le_bytes w (from_le_bytes w bytes) ≡ bytes
   pub again : (n : ℕ) → n < limit → from_le_bytes w (to_le_bytes w n) ≡ n
-  pub below : (bytes : List ℕ) → IsBytes bytes → from_le_bytes w bytes < limit
+  pub below : (bytes : List ℕ) → AreBytes bytes → from_le_bytes w bytes < limit
 
 pub wide_16 : IsWide w16 (2 ^ 16)
 wide_16 = record {
@@ -140,14 +137,14 @@ wide_64 = record {
   below = λ bytes fits. omega (arith, fits 0, fits 1, fits 2, fits 3, fits 4, fits 5, fits 6, fits 7);
 }
 
-pub number_takes : (w : Width) (limit : ℕ) → IsWide w limit → (bytes : List ℕ) (n : ℕ) (rest : List ℕ) → IsBytes bytes
+pub number_takes : (w : Width) (limit : ℕ) → IsWide w limit → (bytes : List ℕ) (n : ℕ) (rest : List ℕ) → AreBytes bytes
     → number_at w bytes ≡ Some (n, rest) → Takes bytes (to_le_bytes w n) rest × (n < limit)
 unfolding number_at
 number_takes w limit wide bytes n rest fits e =
     let g = unless_none (ltb (length bytes) (byte_len w))
     (from_le_bytes w (take (byte_len w) bytes), drop (byte_len w) bytes) (n, rest) e in
     let long : byte_len w ≤ length bytes = ltb-false _ _ g.0 in
-    let front_fits = IsBytes-take (byte_len w) bytes fits in
+    let front_fits = AreBytes-take (byte_len w) bytes fits in
     let front : to_le_bytes w (from_le_bytes w (take (byte_len w) bytes)) ≡ take (byte_len w) bytes =
     wide.back (take (byte_len w) bytes) (omega (arith, length-take (byte_len w) bytes)) front_fits in
     subst (λ (p : ℕ × List ℕ). Takes bytes (to_le_bytes w p.0) p.1 × (p.0 < limit))
@@ -155,7 +152,7 @@ number_takes w limit wide bytes n rest fits e =
       record {
         parts = rw front (sym (take-append-drop (byte_len w) bytes));
         rest_fits =
-            IsBytes-drop (byte_len w) bytes fits;
+            AreBytes-drop (byte_len w) bytes fits;
       },
       wide.below (take (byte_len w) bytes) front_fits,
     )
@@ -196,7 +193,7 @@ code_step code_of code k here x others is_k e after =
 
 module _ {A : Type 0} (read : List ℕ → Option (A × List ℕ)) (text : A → List ℕ) (Fits : A → Type 0)
     (each : IsReader read text Fits) where
-  many_take : (n : ℕ) (bytes : List ℕ) (xs : List A) (rest : List ℕ) → IsBytes bytes
+  many_take : (n : ℕ) (bytes : List ℕ) (xs : List A) (rest : List ℕ) → AreBytes bytes
       → many read n bytes ≡ Some (xs, rest) → Takes bytes (flat_map text xs) rest
       × ((length xs ≡ n) × AllByRecursion Fits xs)
   unfolding many

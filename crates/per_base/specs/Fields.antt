@@ -1,8 +1,12 @@
 -- Fields of a text, read from the left: a field is a value and the bytes after it. Numbers stand with their lowest byte
 -- first.
 use Rattle.std.specs.Prelude.{◌≡◌, ℕ, zero, suc, List, [], ◌∷◌, take, drop, length, Bool, Option, Some, None, Result}
-use Rattle.std.specs.Prelude.{Ok, Err, nat_lt, if◌then◌else◌}
+use Rattle.std.specs.Prelude.{Ok, Err, nat_lt, if◌then◌else◌, get_or, ◌<◌}
 use Rattle.std.specs.Int.{Width, byte_len, from_le_bytes}
+
+-- each number of the list is a byte
+abbrev pub AreBytes : List ℕ → Type 0
+AreBytes bytes = (i : ℕ) → get_or bytes i 0 < 256
 
 infixl 10 ◌>>=◌
 abbrev pub ◌>>=◌ : {A B : Type 0} → Option A → (A → Option B) → Option B

@@ -1,11 +1,14 @@
 pub mod Causes
 pub mod Changes
+pub mod Contents
 pub mod Errors
 pub mod Faults
 pub mod FieldLaws
 pub mod FieldLoops
 pub mod Fields
+pub mod Lists
 pub mod Maps
 pub mod Modes
 pub mod Names
+pub mod Refusals
 pub mod Streams

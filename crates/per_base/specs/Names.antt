@@ -1,6 +1,7 @@
 -- The grammar of names, and their order.
-use Rattle.std.specs.Prelude.{ℕ, List, length, Bool, ◌||◌, nat_eq, nat_le, ◌&&◌, IsTrue}
+use Rattle.std.specs.Prelude.{ℕ, List, length, map, Bool, ◌||◌, nat_eq, nat_le, ◌&&◌, IsTrue}
 use Rattle.std.specs.List.{list_all}
+use Rattle.std.specs.List.Sorted.{IsStrictlySortedBy}
 use Rattle.std.specs.declared.cmp.Ordering.{Ordering}
 use Rattle.std.specs.Cmp.Lexicographic.{slice_cmp}
 use Rattle.std.specs.Ordering.{nat_cmp}
@@ -19,3 +20,7 @@ IsName text = IsTrue (is_name text)
 -- names are ordered by their bytes
 abbrev pub name_cmp : List ℕ → List ℕ → Ordering
 name_cmp = slice_cmp nat_cmp
+
+-- the names ascend, each once
+abbrev pub NamesAscend : {X : Type 0} → (X → List ℕ) → List X → Type 0
+NamesAscend name_of xs = IsStrictlySortedBy name_cmp (map name_of xs)

@@ -17,7 +17,7 @@ pub enum Unit {
     Part(Name, Name),
 }
 
-/// Who is in the way.
+/// What holds up a call.
 #[derive(Debug, Drop)]
 pub enum Holder {
     /// An open storage.
@@ -62,7 +62,7 @@ pub enum PerError {
     DataTypeMismatch { stored: ValueText, asked: ValueText },
     /// 8: the deployment has no initial value for the name.
     InitValueNotAvailable,
-    /// 9: somebody is in the way.
+    /// 9: something holds up the call.
     ResourceBusy { holder: Holder },
     /// 10: the storage would need more bytes than it is allowed.
     OutOfStorageSpace { needed: u64, allowed: u64 },

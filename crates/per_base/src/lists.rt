@@ -61,20 +61,29 @@ impl Bytes {
     }
 }
 
-/// A list of numbers: copies of a storage counted from 1, or blocks of an area.
+/// A list of numbers: copies of a storage counted from 1, or blocks of an area. A copy of a single number takes no
+/// memory.
 #[derive(Debug, Drop)]
 pub struct Numbers {
-    numbers: Vec<u32>,
+    numbers: Kept,
+}
+
+// Where the numbers are.
+#[derive(Debug, Drop)]
+enum Kept {
+    One([u32; 1]),
+    Many(Vec<u32>),
 }
 
 impl Model for Numbers {
     ghost use Rattle.std.specs.Prelude.{◌<◌, ◌^◌, ℕ, List, slice_index};
+    ghost use Rattle.per_base.specs.Lists.{kept_numbers};
 
     ghost Value = { List ℕ };
 
-    ghost view = { λ n. n.numbers.items };
+    ghost view = { λ n. kept_numbers n.numbers };
 
-    ghost invariant = { λ n. (i : ℕ) → slice_index n.numbers.items i < 2 ^ 32 };
+    ghost invariant = { λ n. (i : ℕ) → slice_index (kept_numbers n.numbers) i < 2 ^ 32 };
 }
 
 impl Numbers {
@@ -82,21 +91,19 @@ impl Numbers {
     pub fn new(numbers: Vec<u32>) -> Numbers
         ensures { result ≡ numbers.items }
     {
-        Numbers { numbers }
+        Numbers {
+            numbers: Kept::Many(numbers),
+        }
     }
 
     /// The numbers as a slice.
     pub fn as_slice(&self) -> &[u32]
         ensures { result.now ≡ self.now }
     {
-        self.numbers.as_slice()
-    }
-
-    /// The vector itself, handed back. Does not allocate.
-    pub fn into_vec(self) -> Vec<u32>
-        ensures { result.items ≡ self }
-    {
-        self.numbers
+        match &self.numbers {
+            Kept::One(numbers) => numbers,
+            Kept::Many(numbers) => numbers.as_slice(),
+        }
     }
 
     /// A copy with the same numbers.
@@ -104,8 +111,24 @@ impl Numbers {
         ensures { IfOk result (λ copy. copy ≡ self.now) }
     {
         Ok(Numbers {
-            numbers: self.numbers.clone()?,
+            numbers: self.numbers.copy()?,
         })
+    }
+}
+
+impl Kept {
+    ghost use Rattle.per_base.specs.Lists.{kept_numbers};
+
+    fn copy(&self) -> Result<Kept, AllocError>
+        ensures { IfOk result (λ copy. kept_numbers copy ≡ kept_numbers self.now) }
+    {
+        match self {
+            Kept::One(numbers) => Ok(Kept::One(*numbers)),
+            Kept::Many(numbers) => match numbers.as_slice() {
+                [number] => Ok(Kept::One([*number])),
+                _ => Ok(Kept::Many(numbers.clone()?)),
+            },
+        }
     }
 }
 

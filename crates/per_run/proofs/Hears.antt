@@ -29,9 +29,8 @@ use Rattle.run_model.specs.Worlds.{World, after_start, world_at}
 use Rattle.per_run.specs.declared.endings.Ending.{Ending}
 use Rattle.per_run.specs.declared.endings.Ending.TheVariants.{AllRead, EndLine, BadLine, OutOfMemory, Source, Sink}
 use Rattle.per_run.specs.declared.endings.Ending.TheVariants.{TooLong}
-use Rattle.per_run.specs.Serves.{Heard, IsCutBehind, IsHeard, ServesBy, answered, heard_line, lines_in, number_behind}
-use Rattle.per_run.specs.Serves.{passed, refused}
-use Rattle.per_run.specs.Serves.{heard_text, heard_texts, texts_behind, turn_in, turns_in}
+use Rattle.per_run.specs.Serves.{Heard, IsCutAfter, IsHeard, ServesBy, answered, heard_line, lines_in, next_line_number}
+use Rattle.per_run.specs.Serves.{passed, refused, heard_text, heard_texts, texts_after, turn_in, turns_in}
 use Rattle.per_run.specs.Serving.{Hearing, HearsOne, Service}
 use Rattle.per_run.specs.Steps.{Goes, IsGoing, IsLineAnswered, IsStopped, PutsOutput, ending_of}
 use Rattle.per_run.proofs.Courses as courses
@@ -52,17 +51,18 @@ turns_same : (heard : List Heard) (h : Heard) → turn_in h ≡ [] → turns_in 
 turns_same heard h none = turns_on heard h ∙ ap (λ (ts : List Turn). turns_in heard ++ ts) none
     ∙ append-nil (turns_in heard)
 
-texts_from : (count : ℕ) (heard : List Heard) (h : Heard) (number : ℕ) → number ≡ number_behind (count + length heard)
-    → texts_behind count (heard ++ h ∷ []) ≡ texts_behind count heard ++ heard_text number h
+texts_from : (count : ℕ) (heard : List Heard) (h : Heard) (number : ℕ) → number
+    ≡ next_line_number (count + length heard)
+    → texts_after count (heard ++ h ∷ []) ≡ texts_after count heard ++ heard_text number h
 texts_from count [] h number is =
-    let same : number_behind count ≡ number = omega (arith, is) in
-    append-nil (heard_text (number_behind count) h) ∙ ap (λ (n : ℕ). heard_text n h) same
+    let same : next_line_number count ≡ number = omega (arith, is) in
+    append-nil (heard_text (next_line_number count) h) ∙ ap (λ (n : ℕ). heard_text n h) same
 texts_from count (x ∷ heard) h number is =
-    ap (λ (l : List ℕ). heard_text (number_behind count) x ++ l)
+    ap (λ (l : List ℕ). heard_text (next_line_number count) x ++ l)
     (texts_from (count + 1) heard h number (omega (arith, is)))
-    ∙ sym (append_assoc (heard_text (number_behind count) x) (texts_behind (count + 1) heard) (heard_text number h))
+    ∙ sym (append_assoc (heard_text (next_line_number count) x) (texts_after (count + 1) heard) (heard_text number h))
 
-pub texts_on : (heard : List Heard) (h : Heard) (number : ℕ) → number ≡ number_behind (length heard)
+pub texts_on : (heard : List Heard) (h : Heard) (number : ℕ) → number ≡ next_line_number (length heard)
     → heard_texts (heard ++ h ∷ []) ≡ heard_texts heard ++ heard_text number h
 texts_on heard h number is = texts_from 0 heard h number (omega (arith, is))
 
@@ -86,7 +86,7 @@ module _ (told : Bool) (rules : List Rule) (answers : Answers) (start : Medium) 
 
   -- whatever was said of it, its text was written
   hears : (heard : List Heard) (h : Heard) (number : ℕ) (now later : Option (List ℕ)) (memory after : Memory)
-      (old new : Medium) → number ≡ number_behind (length heard)
+      (old new : Medium) → number ≡ next_line_number (length heard)
       → Hearing told rules answers start before heard now memory old → IsHeard h
       → Appends now later (heard_text number h)
       → Goes told rules answers start (turns_in heard ++ turn_in h) after new
@@ -99,7 +99,7 @@ module _ (told : Bool) (rules : List Rule) (answers : Answers) (start : Medium) 
   }
 
   pub hears_nothing : {D : Type 0} (medium : D → Medium) (heard : List Heard) (number : ℕ) (now : Option (List ℕ))
-      (memory later : Memory) (old new : D) (text : List ℕ) → number ≡ number_behind (length heard)
+      (memory later : Memory) (old new : D) (text : List ℕ) → number ≡ next_line_number (length heard)
       → Hearing told rules answers start before heard now memory (medium old) → IsLine text line.Nothing
       → later ≡ memory → new ≡ old
       → HearsOne told rules answers start before heard text now later (medium new)
@@ -115,7 +115,7 @@ module _ (told : Bool) (rules : List Rule) (answers : Answers) (start : Medium) 
       ))
 
   pub hears_refused : {D : Type 0} (medium : D → Medium) (heard : List Heard) (number : ℕ) (now later : Option (List ℕ))
-      (memory after : Memory) (old new : D) (text : List ℕ) → number ≡ number_behind (length heard)
+      (memory after : Memory) (old new : D) (text : List ℕ) → number ≡ next_line_number (length heard)
       → Hearing told rules answers start before heard now memory (medium old) → IsBad text
       → Appends now later (bad_line_text number) → after ≡ memory → new ≡ old
       → HearsOne told rules answers start before heard text later after (medium new)
@@ -141,7 +141,7 @@ module _ (told : Bool) (rules : List Rule) (answers : Answers) (start : Medium) 
       a.blamed a.stepped
 
   pub hears_reply : (heard : List Heard) (number : ℕ) (now later : Option (List ℕ)) (memory after : Memory)
-      (old new : Medium) (text : List ℕ) (reply : Reply) → number ≡ number_behind (length heard)
+      (old new : Medium) (text : List ℕ) (reply : Reply) → number ≡ next_line_number (length heard)
       → IsLawful told new → Elapses old new
       → Hearing told rules answers start before heard now memory old
       → IsLineAnswered told rules answers text memory after reply old new → Appends now later (reply_text reply)
@@ -249,7 +249,8 @@ module _ (told : Bool) (rules : List Rule) (answers : Answers) (start : Medium) 
 
   -- in the text of a line, of which the sink took a prefix, or for which there was no memory
   service_cut : AppLaws → (ending : Ending) (heard : List Heard) (h : Heard) (number : ℕ) (others : List (List ℕ))
-      (now later : Option (List ℕ)) (memory after : Memory) (old new : Medium) → number ≡ number_behind (length heard)
+      (now later : Option (List ℕ)) (memory after : Memory) (old new : Medium) → number
+      ≡ next_line_number (length heard)
       → 0 < length (heard_text number h)
       → Hearing told rules answers start before heard now memory old → IsHeard h
       → PutsOutput {T = Unit {0}} (heard_text number h) now later (Err ending)
@@ -266,7 +267,7 @@ module _ (told : Bool) (rules : List Rule) (answers : Answers) (start : Medium) 
       there = goes_as _ _ after new (turns_on heard h) goes
 
       cut : (count : ℕ) → count < length (heard_text number h) → Appends now later (take count (heard_text number h))
-          → IsCutBehind count (heard ++ h ∷ []) (lines_in heard ++ heard_line h ∷ others) before later
+          → IsCutAfter count (heard ++ h ∷ []) (lines_in heard ++ heard_line h ∷ others) before later
       cut count short wrote = record {
         others = others;
         next = next;
@@ -295,7 +296,7 @@ module _ (told : Bool) (rules : List Rule) (answers : Answers) (start : Medium) 
 
   pub service_in_reply : AppLaws → (ending : Ending) (heard : List Heard) (number : ℕ) (others : List (List ℕ))
       (now later : Option (List ℕ)) (memory after : Memory) (old new : Medium) (text : List ℕ) (reply : Reply)
-      → number ≡ number_behind (length heard) → IsLawful told new → Elapses old new
+      → number ≡ next_line_number (length heard) → IsLawful told new → Elapses old new
       → Hearing told rules answers start before heard now memory old
       → IsLineAnswered told rules answers text memory after reply old new
       → PutsOutput {T = Unit {0}} (reply_text reply) now later (Err ending)
@@ -308,7 +309,7 @@ module _ (told : Bool) (rules : List Rule) (answers : Answers) (start : Medium) 
 
   pub service_in_refusal : {D : Type 0} (medium : D → Medium) → AppLaws → (ending : Ending) (heard : List Heard)
       (number : ℕ) (others : List (List ℕ)) (now later : Option (List ℕ)) (memory : Memory) (old new : D)
-      (text : List ℕ) → number ≡ number_behind (length heard)
+      (text : List ℕ) → number ≡ next_line_number (length heard)
       → Hearing told rules answers start before heard now memory (medium old) → IsBad text
       → PutsOutput {T = Unit {0}} (bad_line_text number) now later (Err ending) → new ≡ old
       → Service told rules answers (ending_of ending) start before (lines_in heard ++ text ∷ others) later (medium new)

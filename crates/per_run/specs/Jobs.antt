@@ -71,7 +71,7 @@ pub record Formats (told : Bool) (status : ℕ) (before now : Option (List ℕ))
   pub quiet : CameToOutput status → Quiet new
   pub failed : FailsAtThree status old.faults new.faults
 
--- ---- an input that is made of a number
+-- ---- a synthetic workload, generated from a number
 
 abbrev pub done_in : Answer → Bool
 done_in answer.Done = true

@@ -53,8 +53,8 @@ turns_in heard = flat_map turn_in heard
 -- ---- what is written of them
 
 -- the number of a line after that many others, counted from 1: all after the last number of 64 bits have that one
-abbrev pub number_behind : ℕ → ℕ
-number_behind count = min (count + 1) (2 ^ 64 - 1)
+abbrev pub next_line_number : ℕ → ℕ
+next_line_number count = min (count + 1) (2 ^ 64 - 1)
 
 -- of a line of this number: nothing, the reply of its command, or its number
 abbrev pub heard_text : (number : ℕ) → Heard → List ℕ
@@ -63,12 +63,12 @@ heard_text number (answered text t) = reply_text t.reply
 heard_text number (refused text) = bad_line_text number
 
 -- of lines after that many others
-abbrev pub texts_behind : (count : ℕ) → List Heard → List ℕ
-texts_behind count [] = []
-texts_behind count (h ∷ hs) = heard_text (number_behind count) h ++ texts_behind (count + 1) hs
+abbrev pub texts_after : (count : ℕ) → List Heard → List ℕ
+texts_after count [] = []
+texts_after count (h ∷ hs) = heard_text (next_line_number count) h ++ texts_after (count + 1) hs
 
 abbrev pub heard_texts : List Heard → List ℕ
-heard_texts heard = texts_behind 0 heard
+heard_texts heard = texts_after 0 heard
 
 -- ---- how it ends: `heard` were handled, of the lines `all`
 
@@ -95,16 +95,16 @@ pub record HasServedSome (heard : List Heard) (all : List (List ℕ)) (before no
   pub wrote : Appends before now (heard_texts heard)
 
 -- of the last line's text that many bytes were written, and fewer than all
-pub record IsCutBehind (count : ℕ) (heard : List Heard) (all : List (List ℕ)) (before now : Option (List ℕ)) : Type 0
+pub record IsCutAfter (count : ℕ) (heard : List Heard) (all : List (List ℕ)) (before now : Option (List ℕ)) : Type 0
   where
     pub others : List (List ℕ)
     pub next : all ≡ lines_in heard ++ others
     pub earlier : List Heard
     pub last : Heard
     pub heard_are : heard ≡ earlier ++ last ∷ []
-    pub short : count < length (heard_text (number_behind (length earlier)) last)
+    pub short : count < length (heard_text (next_line_number (length earlier)) last)
     pub wrote : Appends before now (heard_texts earlier
-        ++ take count (heard_text (number_behind (length earlier)) last))
+        ++ take count (heard_text (next_line_number (length earlier)) last))
 
 -- `Rests` is what holds where no command is in progress: memory ran out at the next line, after the texts of all lines
 -- before it; or for the text of the last one, whose command has ended
@@ -116,9 +116,9 @@ ServesBy Rests endings.bad_line heard all before now = ⊥
 ServesBy Rests endings.device heard all before now = HasServedNone heard before now
 ServesBy Rests endings.start_memory heard all before now = HasServedNone heard before now
 ServesBy Rests endings.memory heard all before now = HasServedSome heard all before now
-    ⊎ (Rests × IsCutBehind 0 heard all before now)
+    ⊎ (Rests × IsCutAfter 0 heard all before now)
 ServesBy Rests endings.source heard all before now = HasServedAll heard all before now
-ServesBy Rests endings.sink heard all before now = (count : ℕ) × IsCutBehind count heard all before now
+ServesBy Rests endings.sink heard all before now = (count : ℕ) × IsCutAfter count heard all before now
 ServesBy Rests endings.too_long heard all before now = HasServedAll heard all before now
 
 -- whether the end of the input was seen, and how many bytes were taken: it is too long where nobody can count them

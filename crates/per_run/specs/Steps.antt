@@ -1,7 +1,7 @@
 -- What the parts of a run keep, from line to line and from byte to byte.
 use Rattle.std.specs.Prelude.{◌≡◌, ◌⊎◌, ◌≤◌, ◌<◌, ℕ, List, [], ◌∷◌, ◌++◌, length, take, Option, Bool, false, IsTrue}
-use Rattle.std.specs.Prelude.{Result, Ok, Err, IsErrOf, IfErr, nat_eq, count_by, ⊤}
-use Rattle.std.specs.List.{AllByRecursion, flat_map, list_any}
+use Rattle.std.specs.Prelude.{Result, Ok, Err, IsErrOf, IfErr, count_by, ⊤}
+use Rattle.std.specs.List.{AllByRecursion, flat_map}
 use Rattle.std.specs.Io.KnownBytes.{Appends, Consumes, IsAtEnd}
 use Rattle.per_base.specs.Causes.{Rose}
 use Rattle.disk_model.specs.Medium.{Medium, Quiet, Elapses}
@@ -10,7 +10,7 @@ use Rattle.deploy_laws.specs.Apps.{IsCleanApp}
 use Rattle.command_text.specs.declared.calls.Event.{Event}
 use Rattle.command_text.specs.declared.lines.Line.TheVariants as line
 use Rattle.command_text.specs.declared.replies.Reply.{Reply}
-use Rattle.command_text.specs.Grammar.{IsLine}
+use Rattle.command_text.specs.Grammar.{IsLine, has_feed}
 use Rattle.command_text.specs.Replies.{HasText}
 use Rattle.run_model.specs.Endings as endings
 use Rattle.run_model.specs.Endings.{EndsBy, IsInput}
@@ -143,9 +143,6 @@ pub record Course (told : Bool) (rules : List Rule) (answers : Answers) (ending 
 
 -- ---- bytes
 
-abbrev pub has_feed : List ℕ → Bool
-has_feed text = list_any (λ byte. nat_eq byte 10) text
-
 -- a line with its line feed
 abbrev pub with_feed : List ℕ → List ℕ
 with_feed line = line ++ 10 ∷ []
@@ -193,7 +190,7 @@ pub record Breaks (left_before left_now : Option (List ℕ)) (ending : Ending) :
   pub taken : IsInputTaken left_before left_now given false
   pub cut : IsCut ending (length given)
 
--- ---- an input that is made of a number
+-- ---- a synthetic workload, generated from a number
 
 -- the replies of each sort are counted, and the first number that one gave is kept
 pub record Tallies (replies : List Reply) (tally : Tally) : Type 0 where

@@ -1,4 +1,4 @@
-//! The job that handles an input which is made of a number.
+//! The job that handles a synthetic workload, generated from a number.
 
 ghost use Rattle.std.specs.Prelude.{◌≡◌, ◌⊎◌, ◌≤◌, ◌<◌, ◌+◌, ◌++◌, ◌^◌, ℕ, List, [], ◌∷◌, IfOk, OnOk, IsErrOf, length};
 ghost use Rattle.std.specs.Prelude.{map};

@@ -8,7 +8,7 @@ ghost use Rattle.per_base.specs.Causes.{Rose};
 ghost use Rattle.run_model.specs.AppLaws.{AppLaws};
 ghost use Rattle.run_model.specs.Lines.{lines_of};
 ghost use Rattle.per_runtime.specs.Memories.{IsRuntime, memory_of};
-ghost use Rattle.per_run.specs.Serves.{Heard, Serves, lines_in, number_behind};
+ghost use Rattle.per_run.specs.Serves.{Heard, Serves, lines_in, next_line_number};
 ghost use Rattle.per_run.specs.Serving.{Hearing, HearsOne, Listened, Served, Service};
 ghost use Rattle.per_run.specs.Steps.{Blamed, Blames, Goes, HasNoFeed, ending_of};
 
@@ -252,14 +252,14 @@ fn serve_text<D: Disk, K: Sink>(
 ) -> Result<(), Ending>
     requires { IsRuntime D.told (D.medium disk.old) runtime.old }
     ensures goes_on { OnOk result ((start : D) (before : Option (List ℕ)) (heard : List Heard) (whole : List ℕ)
-        → text.now ≡ take 262145 whole → number ≡ number_behind (length heard)
+        → text.now ≡ take 262145 whole → number ≡ next_line_number (length heard)
         → Hearing D.told (rules_of migrations.now) (answers_of migrations.now) (D.medium start) before heard
         (K.written sink.old) (memory_of runtime.old) (D.medium disk.old)
         → HearsOne D.told (rules_of migrations.now) (answers_of migrations.now) (D.medium start) before heard whole
         (K.written sink.new) (memory_of runtime.new) (D.medium disk.new)) }
     ensures ends { IfErr result (λ ending. AppLaws → (start : D) (before : Option (List ℕ))
         (heard : List Heard) (others : List (List ℕ)) (whole : List ℕ)
-        → text.now ≡ take 262145 whole → number ≡ number_behind (length heard)
+        → text.now ≡ take 262145 whole → number ≡ next_line_number (length heard)
         → Hearing D.told (rules_of migrations.now) (answers_of migrations.now) (D.medium start) before heard
         (K.written sink.old) (memory_of runtime.old) (D.medium disk.old)
         → Service D.told (rules_of migrations.now) (answers_of migrations.now) (ending_of ending) (D.medium start)

@@ -34,7 +34,7 @@ pub enum JobKind {
     Serve,
     /// The disk is formatted for all applications.
     Format,
-    /// The disk is formatted, and a large input that is made of this number, 1 to 100,000, is handled.
+    /// The disk is formatted, and a synthetic workload, generated from this number, 1 to 100,000, is handled.
     Generate(u32),
     /// What all storages hold is listed, and what is damaged or lost, and nothing is mended.
     Audit,

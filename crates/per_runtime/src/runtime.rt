@@ -64,7 +64,7 @@ impl Runtime {
         ensures idle { IsTrue D.told → calls_none (world_of (D.medium disk.old).image (memory_of self.old) None)
             event.now ≡ true → disk.new ≡ disk.old }
 
-        // The device's failure is a reply, and has its cause in this command, whatever the disk tells.
+        // The device's failure is a reply, and has its cause in this command, whether or not the disk is modelled.
         ensures never { ¬ (IsErrOf result Stop.Device) }
         ensures blamed { IfOk result (IsBlamed (D.medium disk.old).faults (D.medium disk.new).faults) }
         ensures time { Elapses (D.medium disk.old) (D.medium disk.new) }

@@ -20,7 +20,7 @@ pub struct HostFile {
 impl<'a, R: Files<File = File>> System for HostSystem<'a, R> {
     ghost use Rattle.std.specs.Prelude.{false};
     ghost use Rattle.disk_model.specs.Silence.{silent_is_lawful};
-    ghost use Rattle.per_system.specs.Untold.{untold};
+    ghost use Rattle.system_model.specs.Untold.{untold};
 
     type File = HostFile;
 

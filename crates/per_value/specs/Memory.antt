@@ -1,9 +1,9 @@
--- Where making a thing a value takes memory.
+-- Where making a thing a value allocates.
 use Rattle.value_model.specs.Kinds.{Kind, bool_kind, unsigned_kind, signed_kind}
 
 -- what is no truth value and no number: its text, bytes, items or fields are copied
-abbrev pub TakesMemory : Kind → Type 0
-TakesMemory bool_kind = ⊥
-TakesMemory (unsigned_kind size) = ⊥
-TakesMemory (signed_kind size) = ⊥
-TakesMemory other = Unit {0}
+abbrev pub Allocates : Kind → Type 0
+Allocates bool_kind = ⊥
+Allocates (unsigned_kind size) = ⊥
+Allocates (signed_kind size) = ⊥
+Allocates other = Unit {0}

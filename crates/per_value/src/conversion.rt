@@ -6,7 +6,7 @@ ghost use Rattle.value_model.specs.Kinds.{Kind, kind_depth, kind_fits};
 ghost use Rattle.value_model.specs.Trees.{Tree, type_of};
 ghost use Rattle.value_model.specs.Validity.{IsTyped, IsValue, max_depth, max_length};
 ghost use Rattle.value_model.specs.Views.{kind_of, tree_of};
-ghost use Rattle.per_value.specs.Memory.{TakesMemory};
+ghost use Rattle.per_value.specs.Memory.{Allocates};
 
 use std::alloc::{AllocError, Global};
 use value_model::{Node, Value, ValueError, ValueType};
@@ -28,12 +28,12 @@ pub trait PerValue: Sized {
     /// The value type of all things of this type. Does not allocate for a truth value or a number.
     fn type_of(alloc: Global) -> Result<ValueType, AllocError>
         ensures of_kind { IfOk result (λ t. kind_of t ≡ kind) }
-        ensures memory { OnErr result (TakesMemory kind) };
+        ensures memory { OnErr result (Allocates kind) };
 
     /// The node that this thing is. Does not allocate for a truth value or a number.
     fn to_node(&self, alloc: Global) -> Result<Node, AllocError>
         ensures node { IfOk result (λ node. tree_of node ≡ tree self.now) }
-        ensures memory { OnErr result (TakesMemory kind) };
+        ensures memory { OnErr result (Allocates kind) };
 
     /// The thing that this node is, which must be well typed and have this type. Does not allocate for a truth value or
     /// a number.
@@ -41,7 +41,7 @@ pub trait PerValue: Sized {
         requires of_type { type_of (tree_of node.now) ≡ kind }
         requires typed { IsTyped (tree_of node.now) }
         ensures thing { IfOk result (λ thing. tree thing ≡ tree_of node.now) }
-        ensures memory { OnErr result (TakesMemory kind) };
+        ensures memory { OnErr result (Allocates kind) };
 
     /// The value that this thing is.
     ///
@@ -57,7 +57,7 @@ pub trait PerValue: Sized {
         ensures too_long { IsErrOf result ValueError.TooLong
             → (kind_depth (type_of (tree self.now)) ≤ max_depth) × (max_length < length (encoding (tree self.now))) }
         ensures well_typed { result ≢ Err ValueError.IllTyped }
-        ensures memory { IsErrOf result ValueError.OutOfMemory → TakesMemory kind }
+        ensures memory { IsErrOf result ValueError.OutOfMemory → Allocates kind }
     {
         Value::new(self.to_node(alloc)?)
     }
@@ -70,7 +70,7 @@ pub trait PerValue: Sized {
 
         // whichever thing the value was made from, this is the same one
         ensures back { IfOk result (λ thing. (origin : Self) → tree origin ≡ value.now → same origin thing) }
-        ensures memory { OnErr result (TakesMemory kind) }
+        ensures memory { OnErr result (Allocates kind) }
     {
         Self::from_node(alloc, value.node())
     }

@@ -6,8 +6,8 @@ use Rattle.std.specs.Prelude.{option_map, ⊤}
 use Rattle.std.specs.Int.{w32, to_le_bytes}
 use Rattle.std.proofs.lemmas.Bool.{eqb-true, le-leb, leb-true}
 use Rattle.std.proofs.lemmas.List.{append-nil, length-append, nil_from_length}
-use Rattle.per_base.specs.Fields.{byte_at, number_at, only_if}
-use Rattle.per_base.specs.FieldLaws.{IsBytes, IsReader, Takes, Takes-then, bind_some, byte_reader, bytes_reader}
+use Rattle.per_base.specs.Fields.{AreBytes, byte_at, number_at, only_if}
+use Rattle.per_base.specs.FieldLaws.{IsReader, Takes, Takes-then, bind_some, byte_reader, bytes_reader}
 use Rattle.per_base.specs.FieldLaws.{number_reader, only_some, moved, wide_32}
 use Rattle.deployment_model.specs.Data.{DeploymentData}
 use Rattle.manifest.specs.Reading.{deployment_in}
@@ -25,7 +25,7 @@ IsLong text = length text < 2 ^ 32
 len_reader : IsReader (number_at w32) (to_le_bytes w32) (λ n. n < 2 ^ 32)
 len_reader = number_reader w32 (2 ^ 32) wide_32
 
-text_takes : (bytes text rest : List ℕ) → IsBytes bytes → text_at bytes ≡ Some (text, rest)
+text_takes : (bytes text rest : List ℕ) → AreBytes bytes → text_at bytes ≡ Some (text, rest)
     → Takes bytes (long_text text) rest × IsLong text
 unfolding text_at
 text_takes bytes text rest fits e =
@@ -61,7 +61,7 @@ record TakesPrevious (flag : ℕ) (bytes : List ℕ) (previous : Option (List �
   pub takes : Takes bytes (previous_text previous) rest
   pub flag_is : flag ≡ flag_of previous
 
-previous_takes : (flag : ℕ) (bytes : List ℕ) (previous : Option (List ℕ)) (rest : List ℕ) → IsBytes bytes
+previous_takes : (flag : ℕ) (bytes : List ℕ) (previous : Option (List ℕ)) (rest : List ℕ) → AreBytes bytes
     → previous_at flag bytes ≡ Some (previous, rest)
     → TakesPrevious flag bytes previous rest
 unfolding previous_at some_text_at
@@ -85,7 +85,7 @@ unfolding previous_at some_text_at
 previous_again None rest fits = refl
 previous_again (Some text) rest fits = rw (text_again text rest fits) refl
 
-parts_take : (bytes : List ℕ) (p : Parts) (rest : List ℕ) → IsBytes bytes → parts_at bytes ≡ Some (p, rest)
+parts_take : (bytes : List ℕ) (p : Parts) (rest : List ℕ) → AreBytes bytes → parts_at bytes ≡ Some (p, rest)
     → Takes bytes (parts_text p) rest × (p.bank ≤ 1)
 unfolding parts_at
 parts_take bytes p rest fits e =
@@ -119,7 +119,7 @@ parts_again p is =
     ap (previous_at (flag_of p.previous)) end ∙ previous_again p.previous [] is.of_previous in
     rw (text_again p.active (previous_text p.previous) is.of_active, read, le-leb p.bank 1 is.in_bank) refl
 
-parts_taken : (bytes : List ℕ) (p : Parts) → IsBytes bytes → parts_in bytes ≡ Some p → bytes ≡ parts_text p
+parts_taken : (bytes : List ℕ) (p : Parts) → AreBytes bytes → parts_in bytes ≡ Some p → bytes ≡ parts_text p
 unfolding parts_in
 parts_taken bytes p fits e =
     let parts = bind_some (parts_at bytes) _ p e in
@@ -214,7 +214,7 @@ installed_is p r e =
 -- ---- whole texts
 
 record IsTaken (kind : ℕ) (bytes : List ℕ) (r : Root) : Type 0 where
-  pub text_is : IsBytes bytes → 1 ∷ kind ∷ bytes ≡ root_text r
+  pub text_is : AreBytes bytes → 1 ∷ kind ∷ bytes ≡ root_text r
   pub is_root : IsRoot r
 
 absent_is : (kind : ℕ) (bytes : List ℕ) (r : Root) → kind ≡ 0 → only_if (eqb (length bytes) 0) absent ≡ Some r
@@ -251,7 +251,7 @@ root_in_is kind bytes r e = ⊎_elim
     e)
 
 record IsRead (text : List ℕ) (r : Root) : Type 0 where
-  pub text_is : IsBytes text → text ≡ root_text r
+  pub text_is : AreBytes text → text ≡ root_text r
   pub is_root : IsRoot r
 
 root_of_is : (text : List ℕ) (r : Root) → root_of text ≡ Some r → IsRead text r
@@ -274,7 +274,7 @@ root_of_is text r e =
 -- ---- the laws
 
 -- bytes that say a root are its text
-pub root_taken : (text : List ℕ) (r : Root) → IsBytes text → root_of text ≡ Some r → text ≡ root_text r
+pub root_taken : (text : List ℕ) (r : Root) → AreBytes text → root_of text ≡ Some r → text ≡ root_text r
 root_taken text r fits e = (root_of_is text r e).text_is fits
 
 -- what is said is a root

@@ -104,6 +104,16 @@ parts_in bytes = do
   parts ← parts_at bytes
   only_if (length parts.1 == 0) parts.0
 
+unfoldable pub parts_by : (kind : ℕ) → List ℕ → Option Parts
+parts_by kind bytes = if kind == 1 then parts_in bytes else None
+
+-- the parts of a text that begins with the format and says that something is installed
+unfoldable pub parts_of_text : List ℕ → Option Parts
+parts_of_text text = do
+  format ← byte_at text
+  kind ← byte_at format.1
+  if format.0 == 1 then parts_by kind.0 kind.1 else None
+
 -- ---- the root that a text says
 
 -- the text of a manifest

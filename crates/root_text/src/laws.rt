@@ -1,7 +1,7 @@
 //! What holds of all texts of roots. The function does nothing: its contract is the law.
 
 ghost use Rattle.std.specs.Prelude.{◌≡◌, ◌≤◌, ℕ, List, Some, length};
-ghost use Rattle.per_base.specs.FieldLaws.{IsBytes};
+ghost use Rattle.per_base.specs.Fields.{AreBytes};
 ghost use Rattle.root_text.specs.RootText.{IsRoot, Root, root_of, root_text};
 
 use manifest::said_is_kept;
@@ -9,7 +9,7 @@ use manifest::said_is_kept;
 /// A text says one root, and a root has one text.
 pub fn one_root()
     // bytes that say a root are its text, and a root is said by its text
-    ensures taken { (text : List ℕ) (r : Root) → IsBytes text → root_of text ≡ Some r → text ≡ root_text r }
+    ensures taken { (text : List ℕ) (r : Root) → AreBytes text → root_of text ≡ Some r → text ≡ root_text r }
     ensures again { (r : Root) → IsRoot r → root_of (root_text r) ≡ Some r }
 
     // what is said is in bank 0 or 1, and its texts are manifests

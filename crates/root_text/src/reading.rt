@@ -1,10 +1,10 @@
 //! Reading a root from its text.
 
-ghost use Rattle.std.specs.Prelude.{◌≡◌, ◌≢◌, ◌==◌, IfOk, length, option_map, IsErrOf};
+ghost use Rattle.std.specs.Prelude.{◌≡◌, ◌≢◌, ◌==◌, IfOk, None, length, option_map, IsErrOf};
 ghost use Rattle.per_base.specs.Fields.{only_if};
-ghost use Rattle.root_text.specs.RootText.{IsRoot, Root, absent, installed_in, parts_at, parts_in, previous_at};
-ghost use Rattle.root_text.specs.RootText.{previous_in, root_in, root_of, root_text, some_root_in, some_text_at};
-ghost use Rattle.root_text.specs.RootText.{text_at, version_in};
+ghost use Rattle.root_text.specs.RootText.{IsRoot, Root, absent, installed_in, parts_at, parts_by, parts_in};
+ghost use Rattle.root_text.specs.RootText.{parts_of_text, previous_at, previous_in, root_in, root_of, root_text};
+ghost use Rattle.root_text.specs.RootText.{some_root_in, some_text_at, text_at, version_in};
 ghost use Rattle.root_text.specs.Views.{Gives, borrowed_bytes, parts_seen, root_said, version_said};
 
 use crate::errors::RootError;
@@ -29,14 +29,18 @@ pub fn read_root(alloc: Global, text: &[u8]) -> Result<RootSays, RootError>
 
     // Which root it is, as a function of the bytes.
     ensures read { Gives root_said result (root_of text.now) }
+
+    // Only where a text has all its parts do their manifests take memory.
+    ensures memory { IsErrOf result RootError.OutOfMemory → parts_of_text text.now ≢ None }
 {
     one_root();
     read_whole(alloc, text)
 }
 
-#[tactic(auto, unfolding(crate::specs::RootText::root_of))]
+#[tactic(auto, unfolding(crate::specs::RootText::root_of, crate::specs::RootText::parts_of_text))]
 fn read_whole(alloc: Global, text: &[u8]) -> Result<RootSays, RootError>
-    ensures { Gives root_said result (root_of text.now) }
+    ensures read { Gives root_said result (root_of text.now) }
+    ensures memory { IsErrOf result RootError.OutOfMemory → parts_of_text text.now ≢ None }
 {
     let (format, rest) = byte_of(text)?;
     let (kind, rest) = byte_of(rest)?;
@@ -46,9 +50,10 @@ fn read_whole(alloc: Global, text: &[u8]) -> Result<RootSays, RootError>
     root_from(alloc, kind, rest)
 }
 
-#[tactic(auto, unfolding(crate::specs::RootText::root_in))]
+#[tactic(auto, unfolding(crate::specs::RootText::root_in, crate::specs::RootText::parts_by))]
 fn root_from(alloc: Global, kind: u8, bytes: &[u8]) -> Result<RootSays, RootError>
-    ensures { Gives root_said result (root_in kind bytes.now) }
+    ensures read { Gives root_said result (root_in kind bytes.now) }
+    ensures memory { IsErrOf result RootError.OutOfMemory → parts_by kind bytes.now ≢ None }
 {
     match kind {
         0 => absent_from(bytes),
@@ -58,7 +63,8 @@ fn root_from(alloc: Global, kind: u8, bytes: &[u8]) -> Result<RootSays, RootErro
 }
 
 fn absent_from(bytes: &[u8]) -> Result<RootSays, RootError>
-    ensures { Gives root_said result (only_if (length bytes.now == 0) absent) }
+    ensures read { Gives root_said result (only_if (length bytes.now == 0) absent) }
+    ensures memory { ¬ (IsErrOf result RootError.OutOfMemory) }
 {
     if !bytes.is_empty() {
         return Err(RootError::NotARoot);
@@ -68,7 +74,8 @@ fn absent_from(bytes: &[u8]) -> Result<RootSays, RootError>
 
 #[tactic(auto, unfolding(crate::specs::RootText::some_root_in))]
 fn installed_from(alloc: Global, bytes: &[u8]) -> Result<RootSays, RootError>
-    ensures { Gives root_said result (some_root_in bytes.now) }
+    ensures read { Gives root_said result (some_root_in bytes.now) }
+    ensures memory { IsErrOf result RootError.OutOfMemory → parts_in bytes.now ≢ None }
 {
     let fields = fields_of(bytes)?;
     root_by(alloc, fields)
@@ -121,7 +128,8 @@ pub(crate) struct Fields<'a> {
 
 #[tactic(auto, unfolding(crate::specs::RootText::parts_in))]
 fn fields_of(bytes: &[u8]) -> Result<Fields, RootError>
-    ensures { Gives parts_seen result (parts_in bytes.now) }
+    ensures read { Gives parts_seen result (parts_in bytes.now) }
+    ensures memory { ¬ (IsErrOf result RootError.OutOfMemory) }
 {
     let (fields, rest) = fields_at(bytes)?;
     if !rest.is_empty() {
@@ -132,7 +140,8 @@ fn fields_of(bytes: &[u8]) -> Result<Fields, RootError>
 
 #[tactic(auto, unfolding(crate::specs::RootText::parts_at))]
 fn fields_at(bytes: &[u8]) -> Result<(Fields, &[u8]), RootError>
-    ensures { Gives (λ x. (parts_seen x.0, x.1.now)) result (parts_at bytes.now) }
+    ensures read { Gives (λ x. (parts_seen x.0, x.1.now)) result (parts_at bytes.now) }
+    ensures memory { ¬ (IsErrOf result RootError.OutOfMemory) }
 {
     let (bank, rest) = byte_of(bytes)?;
     let (flag, rest) = byte_of(rest)?;
@@ -152,7 +161,8 @@ fn fields_at(bytes: &[u8]) -> Result<(Fields, &[u8]), RootError>
 /// A length and that many bytes.
 #[tactic(auto, unfolding(crate::specs::RootText::text_at))]
 fn text_of(bytes: &[u8]) -> Result<(&[u8], &[u8]), RootError>
-    ensures { Gives (λ x. (x.0.now, x.1.now)) result (text_at bytes.now) }
+    ensures read { Gives (λ x. (x.0.now, x.1.now)) result (text_at bytes.now) }
+    ensures memory { ¬ (IsErrOf result RootError.OutOfMemory) }
 {
     let (len, rest) = u32_of(bytes)?;
     let (text, rest) = bytes_of(len as usize, rest)?;
@@ -161,7 +171,8 @@ fn text_of(bytes: &[u8]) -> Result<(&[u8], &[u8]), RootError>
 
 #[tactic(auto, unfolding(crate::specs::RootText::previous_at, crate::specs::RootText::some_text_at))]
 fn previous_text_of(flag: u8, bytes: &[u8]) -> Result<(Option<&[u8]>, &[u8]), RootError>
-    ensures { Gives (λ x. (option_map borrowed_bytes x.0, x.1.now)) result (previous_at flag bytes.now) }
+    ensures read { Gives (λ x. (option_map borrowed_bytes x.0, x.1.now)) result (previous_at flag bytes.now) }
+    ensures memory { ¬ (IsErrOf result RootError.OutOfMemory) }
 {
     match flag {
         0 => Ok((None, bytes)),

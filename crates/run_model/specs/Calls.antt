@@ -1,6 +1,6 @@
 -- What a call makes of its application where no device fails: the reply, and the application afterwards.
 use Rattle.std.specs.Prelude.{◌≡◌, ℕ, List, [], ◌∷◌, length, Bool, true, false, cond, not, ◌&&◌, Option, Some, None}
-use Rattle.std.specs.Prelude.{Result, Ok, Err, option_map, is_some, ⊤, nat_lt, suc, ◌-◌, slice_get, slice_set}
+use Rattle.std.specs.Prelude.{Result, Ok, Err, option_map, is_some, ⊤, ◌-◌, slice_get, slice_set}
 use Rattle.per_base.specs.declared.elements.StoreKind.{StoreKind}
 use Rattle.per_base.specs.declared.elements.StoreKind.TheVariants as kinds
 use Rattle.per_base.specs.declared.errors.Holder.TheVariants as holder
@@ -8,12 +8,13 @@ use Rattle.per_base.specs.declared.errors.Limit.TheVariants as limit
 use Rattle.per_base.specs.declared.errors.PerError.{PerError}
 use Rattle.per_base.specs.declared.errors.PerError.TheVariants as error
 use Rattle.per_base.specs.declared.errors.Unit.TheVariants as unit
+use Rattle.per_base.specs.Refusals.{refuse}
+use Rattle.value_code.specs.Reading.{is_content}
 use Rattle.deployment_model.specs.Data.{StorageData}
 use Rattle.element_state.specs.States.{State, Opens, Corrupt, mended_view, is_worn}
 use Rattle.element_state.specs.Reports.{reports, failed_report}
 use Rattle.element_maps.specs.Sessions.{same_map, view_once_synced}
 use Rattle.file_core.specs.Places.{writes}
-use Rattle.file_core.specs.Refusals.{refuse}
 use Rattle.file_handles.specs.Sessions.{lowest}
 use Rattle.file_handles.specs.Handling.{at_handle}
 use Rattle.migrate_fns.specs.Rules.{Rule, Answers}
@@ -26,8 +27,8 @@ use Rattle.command_text.specs.declared.replies.Reply.{Reply}
 use Rattle.deploy_laws.specs.Places.{Named}
 use Rattle.deploy_laws.specs.Apps.{Says, nothing, absent, installed, App}
 use Rattle.deploy_rows.specs.Rows.{◌>>=◌, InProgress, BeginsUpdate, installing, finishing, rolling_back, wiping}
-use Rattle.deploy_rows.specs.Rows.{updated_app}
-use Rattle.deploy_rows.specs.Recovering.{is_content, recovering, resetting}
+use Rattle.deploy_rows.specs.Rows.{updated_app, one_more}
+use Rattle.deploy_rows.specs.Recovering.{recovering, resetting}
 use Rattle.run_model.specs.Found.{Found, storage_in, shape_in, with_storage_state}
 use Rattle.run_model.specs.Sessions.{Session, keys, files, in_session, session_of, synced_in_session, seen_of}
 use Rattle.run_model.specs.Sessions.{made_durable}
@@ -233,10 +234,6 @@ progress_in (installed g active previous) p = found_or p error.NoUpdateInProgres
 
 abbrev pub progress_of : Application → Result InProgress PerError
 progress_of r = progress_in r.disk.says (update_in r.stage)
-
--- one more storage is built, where one remains
-abbrev pub one_more : InProgress → InProgress
-one_more p = record p { built = cond (nat_lt p.built (length p.contents)) (suc p.built) p.built }
 
 abbrev pub remaining : InProgress → ℕ
 remaining p = length p.contents - p.built

@@ -12,6 +12,7 @@ use Rattle.per_base.specs.declared.errors.Holder.TheVariants as holder
 use Rattle.per_base.specs.declared.errors.PerError.{PerError}
 use Rattle.per_base.specs.declared.errors.PerError.TheVariants as error
 use Rattle.per_base.specs.Maps.{Map}
+use Rattle.per_base.specs.Refusals.{refuse}
 use Rattle.value_model.specs.Trees.{Tree}
 use Rattle.value_code.specs.Reading.{is_encoding}
 use Rattle.deployment_model.specs.Data.{StorageData}
@@ -20,7 +21,6 @@ use Rattle.element_state.specs.declared.shapes.Shape.{Shape}
 use Rattle.element_state.specs.declared.shapes.View.{View}
 use Rattle.element_state.specs.States.{State, Opens, Corrupt, mended_view, mended_entry, mended_by}
 use Rattle.element_state.specs.Views.{element_of, judged_entry}
-use Rattle.file_core.specs.Refusals.{refuse}
 use Rattle.kvs_core.specs.Calls as kvs
 use Rattle.migrate_fns.specs.Rules.{Rule, Answers}
 use Rattle.command_text.specs.declared.calls.Call.{Call}

@@ -68,11 +68,11 @@ abbrev pub last_pairs : ℕ → World → (next : Disks) → List Pair
 last_pairs app w next = fresh_pair (disk_at (disks w) app) (disk_at next app) ∷ doubt_pairs app w.doubt
 
 -- after a run; one that did not start may have left those of before it
-abbrev pub pairs_behind : ℕ → (entry : World) → (reached : List World) → (next : Disks) → (earlier : List Pair)
+abbrev pub pairs_after : ℕ → (entry : World) → (reached : List World) → (next : Disks) → (earlier : List Pair)
     → List Pair
-pairs_behind app entry [] next earlier = fresh_pair (disk_at (disks entry) app) (disk_at next app)
+pairs_after app entry [] next earlier = fresh_pair (disk_at (disks entry) app) (disk_at next app)
     ∷ (doubt_pairs app entry.doubt ++ earlier)
-pairs_behind app entry (w ∷ ws) next earlier = last_pairs app (last_of w ws) next
+pairs_after app entry (w ∷ ws) next earlier = last_pairs app (last_of w ws) next
 
 -- more files are damaged
 abbrev pub aged : (damaged : List ℕ) → Pair → Pair
@@ -140,7 +140,7 @@ ran_of told tells rules answers status left_before left_now before now source_be
 
 abbrev pub pairs_of_run : {rules : List Rule} → {answers : Answers} → (app : ℕ) → (old new : Medium)
     → Ran rules answers app old new → (earlier : List Pair) → List Pair
-pairs_of_run app old new run earlier = pairs_behind app (world_at old.image) run.disk.reached run.disk.next earlier
+pairs_of_run app old new run earlier = pairs_after app (world_at old.image) run.disk.reached run.disk.next earlier
 
 -- A job as one application sees it: a run; one that looks and writes nothing, as an audit, an export and a refused
 -- import; an import into a storage of it, by which it becomes `next`; and one into a storage of another application.
@@ -341,14 +341,14 @@ entry_imaged app lt image = ((image, at_entry image app lt), tt)
 
 behind_imaged : (app : ℕ) (entry : World) (reached : List World) (next : Disks) (earlier : List Pair)
     → IsWorldImaged app entry → AreImaged app reached → BeginImaged app earlier
-    → BeginImaged app (pairs_behind app entry reached next earlier)
+    → BeginImaged app (pairs_after app entry reached next earlier)
 behind_imaged app entry [] next earlier is are more =
     (is.0, imaged_both app (doubt_pairs app entry.doubt) earlier (side_pairs app entry.doubt is.1) more)
 behind_imaged app entry (w ∷ ws) next earlier is are more =
     last_imaged app (last_of w ws) next (imaged_last app w ws are.0 are.1)
 
 behind_rooted : (app : ℕ) (entry : World) (reached : List World) (next : Disks) (earlier : List Pair)
-    → AreRooted app earlier → AreRooted app (pairs_behind app entry reached next earlier)
+    → AreRooted app earlier → AreRooted app (pairs_after app entry reached next earlier)
 behind_rooted app entry [] next earlier more =
     (inl refl, rooted_both app (doubt_pairs app entry.doubt) earlier (side_rooted app entry.doubt) more)
 behind_rooted app entry (w ∷ ws) next earlier more = (inl refl, side_rooted app (last_of w ws).doubt)
@@ -372,7 +372,7 @@ last_moment app w next c (inr doubt) = let (q, at, stands) = doubt_moment app w.
 
 moment_behind : (app : ℕ) (entry : World) (reached : List World) (next : Disks) (earlier : List Pair) (c : Case)
     → ((reached ≡ []) × StandsAmong app earlier c) ⊎ IsMomentOf app (last_of entry reached) [] next c
-    → StandsAmong app (pairs_behind app entry reached next earlier) c
+    → StandsAmong app (pairs_after app entry reached next earlier) c
 moment_behind app entry [] next earlier c (inl was) =
     let (q, at, stands) = among_rest app (doubt_pairs app entry.doubt) earlier c was.1 in (q, inr at, stands)
 moment_behind app entry [] next earlier c (inr moment) = among_front app (last_pairs app entry next) earlier c

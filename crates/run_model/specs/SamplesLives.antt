@@ -4,7 +4,7 @@ use Rattle.std.specs.Prelude.{◌≡◌, ℕ, List, [], ◌∷◌, map, None, re
 use Rattle.per_base.specs.declared.elements.Content.TheVariants.{Good}
 use Rattle.element_state.specs.States.{State, Opens}
 use Rattle.command_text.specs.declared.calls.Call.TheVariants as call
-use Rattle.run_model.specs.Lives.{Pair, all_aged, last_pairs, pairs_behind}
+use Rattle.run_model.specs.Lives.{Pair, all_aged, last_pairs, pairs_after}
 use Rattle.run_model.specs.Samples.{computed, fav, home, on, replies, set_home, with_installed, world_after}
 use Rattle.run_model.specs.SamplesDamage.{found_so, in_three}
 use Rattle.run_model.specs.Worlds.{World, after_run, after_start, disks, formatted}
@@ -61,7 +61,7 @@ damaged_meanwhile = refl
 -- ---- the second run: reads give the new value, and it is killed before its start has synchronised the disk
 
 abbrev pub behind_second : List Pair
-behind_second = pairs_behind 0 (after_run synced) [] (disks (after_start (after_run synced)))
+behind_second = pairs_after 0 (after_run synced) [] (disks (after_start (after_run synced)))
     (all_aged (1026 ∷ []) behind_first)
 
 -- so what the first one left may be there still, with its damage

@@ -15,9 +15,9 @@ use Rattle.per_base.specs.declared.errors.Unit.TheVariants.{Part}
 use Rattle.per_base.specs.Maps.{element_at, has}
 use Rattle.file_core.specs.Places.{is_bad_mode, writes}
 use Rattle.per_base.specs.declared.opening.OpenKind.TheVariants as kind
-use Rattle.file_core.specs.Refusals.{refused_by}
+use Rattle.per_base.specs.Refusals.{refused_by, or_next}
 use Rattle.file_handles.specs.declared.handle.Handle.{Handle}
-use Rattle.file_handles.specs.Opening.{busy, can_open, first, is_unreadable, too_many, when}
+use Rattle.file_handles.specs.Opening.{busy, can_open, is_unreadable, too_many, when}
 use Rattle.file_handles.specs.Sessions.{Handles, blocking, blocks, handle_at}
 use Rattle.store_outcome_laws.specs.Files.{HandleLeft, WriterBesideReader}
 
@@ -51,7 +51,7 @@ module _ (name : List ℕ) where
       let later = rest (sym (ap (λ (b : Bool). cond b (Some e.1) (handle_at es number)) key) ∙ is) in
       (later.0, ap (λ (b : Bool). cond b (Some e) (find stands es)) at ∙ later.1)
 
-  -- a handle that stands in the way is found, or another one is
+  -- a conflicting handle is found, or another one is
   found_by : (handles : Handles) (number : ℕ) (h : Handle) → handle_at handles number ≡ Some h
       → blocks kind.Write name h ≡ true → (e : ℕ × Handle) × (find stands handles ≡ Some e)
   found_by [] number h is blocked = absurd (no_handle h is)
@@ -61,16 +61,16 @@ module _ (name : List ℕ) where
 abbrev Refuses : Option PerError → Type 0
 Refuses o = (e : PerError) × (o ≡ Some e)
 
-then_refuses : (o p : Option PerError) → Refuses p → Refuses (first o p)
+then_refuses : (o p : Option PerError) → Refuses p → Refuses (or_next o p)
 then_refuses None p refusal = refusal
 then_refuses (Some e) p refusal = (e, refl)
 
-first_refuses : (o p : Option PerError) → Refuses o → Refuses (first o p)
-first_refuses o p refusal = (refusal.0, ap (λ (q : Option PerError). first q p) refusal.1)
+first_refuses : (o p : Option PerError) → Refuses o → Refuses (or_next o p)
+first_refuses o p refusal = (refusal.0, ap (λ (q : Option PerError). or_next q p) refusal.1)
 
 -- the fifth of some refusals
 fifth_refuses : (a b c d o p : Option PerError) → Refuses o
-    → Refuses (first a (first b (first c (first d (first o p)))))
+    → Refuses (or_next a (or_next b (or_next c (or_next d (or_next o p)))))
 fifth_refuses a b c d o p refusal =
     then_refuses a _ (then_refuses b _ (then_refuses c _ (then_refuses d _ (first_refuses o p refusal))))
 
@@ -94,7 +94,7 @@ writer_beside_reader storage before after name mode now number opened reader the
     (when (not (writes kind.Write) && not (has before.files name)) FileNotFound)
     (when (is_unreadable (element_at before.files name)) (IntegrityCorrupted (Part storage.name name)))
     (busy (blocking kind.Write name before.handles))
-    (first (when (nat_le 64 (length before.handles)) (LimitReached limit.Handles)) (too_many before.files name))
+    (or_next (when (nat_le 64 (length before.handles)) (LimitReached limit.Handles)) (too_many before.files name))
     refuses) is
 
 -- ---- a handle that is dropped

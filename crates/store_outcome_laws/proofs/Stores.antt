@@ -6,9 +6,10 @@ use Rattle.std.proofs.Math.Nat.{mul-le-mul_left}
 use Rattle.per_base.specs.declared.elements.Content.{Content}
 use Rattle.per_base.specs.declared.elements.Entry.{Entry}
 use Rattle.per_base.specs.declared.elements.StoreKind.TheVariants.{Files}
+use Rattle.per_base.specs.Contents.{blocks_for}
 use Rattle.disk_model.specs.Image.{Image}
 use Rattle.disk_model.specs.Medium.{Medium}
-use Rattle.block_files.specs.Parts.{blocks_for, changed_blocks}
+use Rattle.block_files.specs.Parts.{changed_blocks}
 use Rattle.element_state.specs.declared.shapes.Shape.{Shape}
 use Rattle.element_state.specs.declared.shapes.View.{View}
 use Rattle.element_state.specs.Conditions.{IsMended}
@@ -18,7 +19,7 @@ use Rattle.element_state.specs.Written.{commit_cost, cost_beside}
 use Rattle.element_laws.specs.Refused.{IndexFirst, OldOverwritten, SalvageLost}
 use Rattle.element_store.specs.Stores.{view_in}
 use Rattle.store_outcome_laws.specs.Stores.{BlankedFirst, ContentsNotDurable, CopyLacks, EqualBlocksWritten}
-use Rattle.store_outcome_laws.specs.Stores.{FailureAsWant}
+use Rattle.store_outcome_laws.specs.Stores.{FailureAsNoMemory}
 use Rattle.store_outcome_laws.specs.Stores.{FewCopies, IsMomentOfCall, StandingOverwritten, TextsNotGivenUp}
 use Rattle.store_outcome_laws.specs.Stores.{UnchangedWritten}
 
@@ -44,7 +45,7 @@ pub unchanged_written : UnchangedWritten
 unfolding commit_cost
 unchanged_written copies index old new kind entries within more = omega (arith, within, more)
 
-pub failure_as_want : FailureAsWant
+pub failure_as_want : FailureAsNoMemory
 failure_as_want result before after fed rose below want = let same = fed want in omega (arith, same, rose, below)
 
 -- ---- what is in the copies

@@ -10,6 +10,7 @@ use Rattle.per_base.specs.declared.elements.Fresh.{Fresh}
 use Rattle.per_base.specs.declared.elements.StoreKind.{StoreKind}
 use Rattle.per_base.specs.declared.elements.StoreKind.TheVariants.{Files}
 use Rattle.per_base.specs.Causes.{Rose}
+use Rattle.per_base.specs.Contents.{blocks_for}
 use Rattle.disk_model.specs.Case.{Case}
 use Rattle.disk_model.specs.Damage.{DecaysFor}
 use Rattle.disk_model.specs.declared.place.Place.{Place}
@@ -19,7 +20,7 @@ use Rattle.disk_model.specs.Medium.{Medium, Quiet}
 use Rattle.disk_model.specs.Place.{IsNoSlot}
 use Rattle.guarded_cell.specs.Register.{Holds}
 use Rattle.block_files.specs.Aside.{Where}
-use Rattle.block_files.specs.Parts.{blocks_for, changed_blocks}
+use Rattle.block_files.specs.Parts.{changed_blocks}
 use Rattle.index_text.specs.Spelling.{index_text}
 use Rattle.element_state.specs.declared.errors.StoreError.{StoreError}
 use Rattle.element_state.specs.declared.errors.StoreError.TheVariants as store
@@ -51,8 +52,8 @@ UnchangedWritten = (copies index old new : ℕ) (kind : StoreKind) (entries : Li
     → IsWithin copies (commit_cost kind entries []) index old new → ¬ (old + copies * (index + 88) < new)
 
 -- a failed write, which counts, is answered as one for which there was no memory
-abbrev pub FailureAsWant : Type 0
-FailureAsWant = (result : Result Store StoreError) (before after : ℕ)
+abbrev pub FailureAsNoMemory : Type 0
+FailureAsNoMemory = (result : Result Store StoreError) (before after : ℕ)
     → (IsErrOf result store.OutOfMemory → after ≡ before) → Rose before after → before < 2 ^ 64 - 1
     → ¬ (IsErrOf result store.OutOfMemory)
 

@@ -2,7 +2,7 @@
 
 ghost use Rattle.store_outcome_laws.specs.Files.{HandleLeft, WriterBesideReader};
 ghost use Rattle.store_outcome_laws.specs.Stores.{BlankedFirst, ContentsNotDurable, CopyLacks, EqualBlocksWritten};
-ghost use Rattle.store_outcome_laws.specs.Stores.{FailureAsWant, FewCopies, StandingOverwritten, TextsNotGivenUp};
+ghost use Rattle.store_outcome_laws.specs.Stores.{FailureAsNoMemory, FewCopies, StandingOverwritten, TextsNotGivenUp};
 ghost use Rattle.store_outcome_laws.specs.Stores.{UnchangedWritten};
 
 use disk_model::Disk;
@@ -12,7 +12,7 @@ use element_laws::outcomes_are_refused as stops_are_refused;
 pub fn outcomes_are_refused<D: Disk>()
     ensures equal_blocks_written { EqualBlocksWritten }
     ensures unchanged_content_written { UnchangedWritten }
-    ensures failed_write_as_want_of_memory { FailureAsWant }
+    ensures failed_write_as_want_of_memory { FailureAsNoMemory }
 
     // A commit that writes enough copies only, and an opening that mends none.
     ensures copy_without_the_index { FewCopies }

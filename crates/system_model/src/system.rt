@@ -15,7 +15,7 @@ use std::io;
 
 /// The files of one folder, named by numbers, as the operating system has them.
 ///
-/// What is said of bytes and of power losses holds where the system tells them. A call that fails may be interrupted,
+/// What is said of bytes and of power losses holds where the system models them. A call that fails may be interrupted,
 /// or find no descriptor left: then it did nothing, as any other that fails, but for syncs.
 pub trait System {
     /// A file that is open.

@@ -10,20 +10,19 @@ use Rattle.per_base.specs.declared.elements.Fresh.{Fresh}
 use Rattle.per_base.specs.declared.elements.StoreKind.{StoreKind}
 use Rattle.per_base.specs.declared.elements.StoreKind.TheVariants.{Keys, Files}
 use Rattle.per_base.specs.declared.errors.PerError.{PerError}
-use Rattle.per_base.specs.declared.errors.PerError.TheVariants.{IntegrityCorrupted, DataTypeMismatch, OutOfMemory}
+use Rattle.per_base.specs.declared.errors.PerError.TheVariants.{IntegrityCorrupted, OutOfMemory}
 use Rattle.per_base.specs.declared.errors.Unit.TheVariants.{Part}
 use Rattle.file_core.specs.Infos.{made, info_changed}
-use Rattle.value_model.specs.Kinds.{Kind, kind_fits}
+use Rattle.value_model.specs.Kinds.{Kind, kind_fits, same_kind}
 use Rattle.value_model.specs.Trees.{Tree, type_of}
 use Rattle.value_model.specs.Encoding.{encoding}
 use Rattle.value_code.specs.Reading.{decoded}
-use Rattle.value_text.specs.Texts.{type_text}
+use Rattle.value_text.specs.Texts.{mismatch}
 use Rattle.deployment_model.specs.Data.{ElementData, StorageData}
 use Rattle.deployment_model.specs.declared.configs.ElementStrategy.{ElementStrategy}
 use Rattle.deployment_model.specs.declared.configs.ElementStrategy.TheVariants as own
 use Rattle.migrate_fns.specs.Chains.{chain_of}
 use Rattle.migrate_fns.specs.Rules.{Rule, Answers, ConvertsTo}
-use Rattle.migrate_fns.specs.SameKind.{same_kind}
 use Rattle.update_plan.specs.Rows.{Row, nothing, initial, kept, row_by}
 
 -- it goes, gets this element, gets what the converters at these places make of this value, or is refused
@@ -36,11 +35,11 @@ pub data Fate : Type 0 where
 abbrev pub strategy_of : Option ElementData → Option ElementStrategy
 strategy_of configured = option_and_then (λ (e : ElementData). e.strategy) configured
 
-abbrev pub initial_in : Option ElementData → Option (List ℕ)
-initial_in configured = option_and_then (λ (e : ElementData). e.initial) configured
+abbrev pub initial_configured : Option ElementData → Option (List ℕ)
+initial_configured configured = option_and_then (λ (e : ElementData). e.initial) configured
 
-abbrev pub type_in : Option ElementData → Option Kind
-type_in configured = option_and_then (λ (e : ElementData). e.value_type) configured
+abbrev pub type_configured : Option ElementData → Option Kind
+type_configured configured = option_and_then (λ (e : ElementData). e.value_type) configured
 
 -- a stored file that is overwritten changes now, and any other file that gets its initial content is made now
 abbrev pub initial_info : StoreKind → Option ElementStrategy → Option Entry → ℕ → Option FileInfo
@@ -53,9 +52,6 @@ initial_info Files None stored now = Some (made now Update)
 
 abbrev pub unreadable : List ℕ → List ℕ → Fate
 unreadable storage name = refused (IntegrityCorrupted (Part storage name))
-
-abbrev pub mismatch : Kind → Kind → PerError
-mismatch stored asked = DataTypeMismatch (type_text stored) (type_text asked)
 
 abbrev pub by_chain : Tree → Kind → Option (List ℕ) → Fate
 by_chain v to None = refused (mismatch (type_of v) to)
@@ -85,13 +81,14 @@ abbrev pub by_row : List Rule → ℕ → StorageData → List ℕ → Option El
 by_row rules now s name configured stored nothing = goes
 by_row rules now s name configured stored (initial bytes) =
     gets (record { name = name; info = initial_info s.kind (strategy_of configured) stored now; bytes = bytes })
-by_row rules now s name configured stored (kept e) = of_content rules s.kind s.name name e.info (type_in configured)
+by_row rules now s name configured stored (kept e) = of_content rules s.kind s.name name e.info
+    (type_configured configured)
     e.content
 
 -- of a name in a storage, by what the storage configures and what is stored
 abbrev pub fate : List Rule → ℕ → StorageData → List ℕ → Option ElementData → Option Entry → Fate
 fate rules now s name configured stored = by_row rules now s name configured stored
-    (row_by (strategy_of configured) s.strategy (initial_in configured) stored)
+    (row_by (strategy_of configured) s.strategy (initial_configured configured) stored)
 
 abbrev pub refusal : Fate → Option PerError
 refusal goes = None

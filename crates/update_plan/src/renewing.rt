@@ -2,19 +2,19 @@
 
 ghost use Rattle.std.specs.Prelude.{◌≡◌, ◌≢◌, IfOk, IfSome, IsTrue, option_map, None};
 ghost use Rattle.per_base.specs.declared.errors.PerError.{PerError};
+ghost use Rattle.value_text.specs.Texts as texts;
 ghost use Rattle.deployment_model.specs.Conditions.{IsElement};
 ghost use Rattle.deployment_model.specs.Data.{element_data, storage_data};
 ghost use Rattle.migrate_fns.specs.Chains.{chain_of};
-ghost use Rattle.migrate_fns.specs.SameKind.{same_kind};
 ghost use Rattle.migrate_fns.specs.Stored.{answers_of, rules_of};
 ghost use Rattle.value_code.specs.Reading.{decoded};
 ghost use Rattle.value_model.specs.Encoding.{encoding};
-ghost use Rattle.value_model.specs.Kinds.{kind_fits};
+ghost use Rattle.value_model.specs.Kinds.{kind_fits, same_kind};
 ghost use Rattle.value_model.specs.Trees.{type_of};
 ghost use Rattle.value_model.specs.Views.{kind_of};
-ghost use Rattle.update_plan.specs.Fates.{FitsType, Retains, RefusesAs, Renews, GivesOnly, by_chain, fate, initial_in};
-ghost use Rattle.update_plan.specs.Fates.{of_bytes, of_content, of_type, of_value, strategy_of, type_in, unreadable};
-ghost use Rattle.update_plan.specs.Fates as fates;
+ghost use Rattle.update_plan.specs.Fates.{FitsType, Retains, RefusesAs, Renews, GivesOnly, by_chain, fate};
+ghost use Rattle.update_plan.specs.Fates.{initial_configured, of_bytes, of_content, of_type, of_value, strategy_of};
+ghost use Rattle.update_plan.specs.Fates.{type_configured, unreadable};
 ghost use Rattle.update_plan.specs.Items.{item_of};
 ghost use Rattle.index_text.specs.Contents.{SuitsKind};
 ghost use Rattle.update_plan.specs.Limits.{IfMade, IsInitialElement};
@@ -199,7 +199,7 @@ fn own_strategy(item: Item) -> Option<ElementStrategy>
 }
 
 fn initial_content<'a>(item: Item<'a>) -> Option<&'a Bytes>
-    ensures { option_map (λ b. b.now) result ≡ initial_in (item_of item.entry).configured }
+    ensures { option_map (λ b. b.now) result ≡ initial_configured (item_of item.entry).configured }
 {
     match item.configured {
         Some(element) => element.initial.as_ref(),
@@ -208,7 +208,7 @@ fn initial_content<'a>(item: Item<'a>) -> Option<&'a Bytes>
 }
 
 fn value_type<'a>(item: Item<'a>) -> Option<&'a ValueType>
-    ensures { option_map (λ t. kind_of t.now) result ≡ type_in (item_of item.entry).configured }
+    ensures { option_map (λ t. kind_of t.now) result ≡ type_configured (item_of item.entry).configured }
 {
     match item.configured {
         Some(element) => element.value_type.as_ref(),
@@ -240,7 +240,7 @@ fn fresh(name: &Name, info: Option<FileInfo>, bytes: &Bytes) -> Result<Fresh, Pe
 fn mismatch(alloc: Global, stored: &ValueType, asked: &ValueType) -> PerError
     requires stored { IsTrue (kind_fits (kind_of stored.now)) }
     requires asked { IsTrue (kind_fits (kind_of asked.now)) }
-    ensures { result ≢ PerError.OutOfMemory → result ≡ fates.mismatch (kind_of stored.now) (kind_of asked.now) }
+    ensures { result ≢ PerError.OutOfMemory → result ≡ texts.mismatch (kind_of stored.now) (kind_of asked.now) }
 {
     let Ok(stored) = print_type(alloc, stored) else {
         return PerError::OutOfMemory;

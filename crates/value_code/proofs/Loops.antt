@@ -1,12 +1,14 @@
 -- Reading as many kinds as a count says, one after the other, as a loop does.
 use Rattle.std.proofs.Common.{◌≡◌, ℕ, suc, ◌-◌, ◌+◌, ◌≤◌, ◌<◌, List, [], ◌∷◌, ◌++◌, Option, Some, None, refl, sym, ap}
 use Rattle.std.proofs.Common.{◌∙◌, arith}
+use Rattle.per_base.specs.Fields.{◌>>=◌}
 use Rattle.value_model.specs.declared.errors.DecodeError.{DecodeError}
 use Rattle.value_model.specs.declared.errors.DecodeError.TheVariants.{NotAValue, OutOfMemory}
 use Rattle.value_model.specs.Kinds.{Kind, Kinds, no_kinds, kind_then}
 use Rattle.value_model.specs.declared.types.ValueType.{ValueType}
 use Rattle.value_model.specs.Views.{kind_of, kinds_view}
-use Rattle.value_code.specs.Reading.{◌>>=◌, FailsToRead, kinds_by}
+use Rattle.value_model.specs.Decoding.{FailsToRead}
+use Rattle.value_code.specs.Reading.{kinds_by}
 
 -- kinds before others
 abbrev pub join_kinds : Kinds → Kinds → Kinds

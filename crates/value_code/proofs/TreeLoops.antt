@@ -1,6 +1,7 @@
 -- Reading as many trees as a count says, one after the other, as a loop does: what `Loops` says of kinds.
 use Rattle.std.proofs.Common.{◌≡◌, ℕ, suc, ◌-◌, ◌+◌, ◌≤◌, ◌<◌, List, [], ◌∷◌, ◌++◌, Option, Some, None, refl, sym, ap}
 use Rattle.std.proofs.Common.{◌∙◌, arith, length, drop}
+use Rattle.per_base.specs.Fields.{◌>>=◌}
 use Rattle.value_model.specs.declared.errors.DecodeError.{DecodeError}
 use Rattle.value_model.specs.declared.errors.DecodeError.TheVariants.{NotAValue, OutOfMemory}
 use Rattle.value_model.specs.Trees.{Tree, Trees, no_trees, tree_then}
@@ -8,7 +9,8 @@ use Rattle.value_model.specs.declared.nodes.Node.{Node}
 use Rattle.std.proofs.lemmas.List.{drop_all}
 use Rattle.value_model.specs.declared.types.ValueType.{ValueType}
 use Rattle.value_model.specs.Views.{kind_of, kinds_view, tree_of, trees_view}
-use Rattle.value_code.specs.Reading.{◌>>=◌, FailsToRead, tree_at, trees_at, trees_by}
+use Rattle.value_model.specs.Decoding.{FailsToRead}
+use Rattle.value_code.specs.Reading.{tree_at, trees_at, trees_by}
 
 abbrev pub join_trees : Trees → Trees → Trees
 join_trees no_trees others = others

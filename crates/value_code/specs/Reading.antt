@@ -1,37 +1,19 @@
 -- What bytes say, read from left to right: a kind, a tree of a kind that is known, and the value that all of them
 -- encode.
-use Rattle.std.specs.Prelude.{◌≡◌, ℕ, zero, suc, List, [], ◌∷◌, length, take, drop, Bool, true, false, nat_eq, nat_lt}
-use Rattle.std.specs.Prelude.{Option, Some, None, is_some, Result, Ok, Err, if◌then◌else◌}
+use Rattle.std.specs.Prelude.{ℕ, zero, suc, List, [], ◌∷◌, length, take, drop, Bool, true, false, nat_eq, nat_lt}
+use Rattle.std.specs.Prelude.{Option, Some, None, is_some, if◌then◌else◌}
 use Rattle.std.specs.Int.{Width, w32, byte_len, from_le_bytes, cast_signed}
 use Rattle.std.specs.Str.{is_utf8}
-use Rattle.value_model.specs.declared.errors.DecodeError.{DecodeError}
-use Rattle.value_model.specs.declared.errors.DecodeError.TheVariants.{NotAValue, OutOfMemory}
+use Rattle.per_base.specs.declared.elements.StoreKind.{StoreKind}
+use Rattle.per_base.specs.declared.elements.StoreKind.TheVariants.{Keys, Files}
+use Rattle.per_base.specs.Fields.{◌>>=◌, byte_at}
 use Rattle.value_model.specs.Kinds.{one, two, four, eight, width, is_group, Kind, bool_kind, unsigned_kind, signed_kind}
 use Rattle.value_model.specs.Kinds.{text_kind, bytes_kind, list_kind, fields_kind, Kinds, no_kinds, kind_then}
 use Rattle.value_model.specs.Trees.{Tree, bool_tree, unsigned_tree, signed_tree, text_tree, bytes_tree, list_tree}
 use Rattle.value_model.specs.Trees.{fields_tree, Trees, no_trees, tree_then}
 use Rattle.value_model.specs.Validity.{max_depth, max_length}
 
-infixl 10 ◌>>=◌
-abbrev pub ◌>>=◌ : {A B : Type 0} → Option A → (A → Option B) → Option B
-None >>= f = None
-(Some x) >>= f = f x
-
--- what an error says of a reading: memory that ran out says nothing
-abbrev pub FailsToRead : {Y : Type 0} → DecodeError → Option Y → Type 0
-FailsToRead NotAValue read = read ≡ None
-FailsToRead OutOfMemory read = Unit {0}
-
--- what a function returned, seen by view, is what the bytes say, unless memory ran out
-abbrev pub Gives : {X Y : Type 0} → (X → Y) → Result X DecodeError → Option Y → Type 0
-Gives view (Ok x) read = read ≡ Some (view x)
-Gives view (Err e) read = FailsToRead e read
-
 -- ---- what stands at the start, and the bytes after it
-
-abbrev pub byte_at : List ℕ → Option (ℕ × List ℕ)
-byte_at [] = None
-byte_at (b ∷ rest) = Some (b, rest)
 
 abbrev pub number_at : Width → List ℕ → Option (ℕ × List ℕ)
 number_at w bytes = if nat_lt (length bytes) (byte_len w) then None else Some
@@ -137,3 +119,8 @@ decoded bytes = if nat_lt max_length (length bytes) then None else
 -- whether some value encodes to the bytes
 abbrev pub is_encoding : List ℕ → Bool
 is_encoding bytes = is_some (decoded bytes)
+
+-- the bytes are a content of this kind: for a key they encode a value
+abbrev pub is_content : StoreKind → List ℕ → Bool
+is_content Keys bytes = is_some (decoded bytes)
+is_content Files bytes = true

@@ -1,11 +1,12 @@
 //! Reading values.
 
 ghost use Rattle.std.specs.Prelude.{◌≡◌, ◌≢◌, IfOk, IsErrOf};
-ghost use Rattle.value_code.specs.Reading.{Gives, decoded, is_encoding};
+ghost use Rattle.value_code.specs.Reading.{decoded, is_encoding};
 ghost use Rattle.value_model.specs.Encoding.{encoding};
 ghost use Rattle.value_model.specs.Trees.{Tree};
 ghost use Rattle.value_model.specs.Validity.{IsValue};
 ghost use Rattle.value_model.specs.Views.{tree_of};
+ghost use Rattle.value_model.specs.Decoding.{Gives};
 
 use crate::trees::node_at;
 use crate::types::type_at;

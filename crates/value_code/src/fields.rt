@@ -2,7 +2,9 @@
 
 ghost use Rattle.std.specs.Int.{w16, w32, w64, w8};
 ghost use Rattle.std.specs.Prelude.{◌≡◌};
-ghost use Rattle.value_code.specs.Reading.{Gives, byte_at, counted_at, number_at, text_of};
+ghost use Rattle.per_base.specs.Fields.{byte_at};
+ghost use Rattle.value_model.specs.Decoding.{Gives};
+ghost use Rattle.value_code.specs.Reading.{counted_at, number_at, text_of};
 
 use value_model::DecodeError;
 

@@ -1,10 +1,11 @@
 //! Reading the payloads of nodes.
 
 ghost use Rattle.std.specs.Prelude.{◌≡◌};
-ghost use Rattle.value_code.specs.Reading.{Gives, tree_at, trees_at, trees_by};
+ghost use Rattle.value_code.specs.Reading.{tree_at, trees_at, trees_by};
 ghost use Rattle.value_model.specs.Kinds.{one, two, four, eight, bool_kind, bytes_kind, signed_kind, text_kind};
 ghost use Rattle.value_model.specs.Kinds.{unsigned_kind};
 ghost use Rattle.value_model.specs.Views.{kind_of, kinds_view, tree_of, trees_view};
+ghost use Rattle.value_model.specs.Decoding.{Gives};
 
 use crate::fields::{byte_at, counted_at, text_of, u8_at, u16_at, u32_at, u64_at};
 use per_base::{Bytes, ValueText};

@@ -1,9 +1,10 @@
 //! Reading and writing the codes of types.
 
 ghost use Rattle.std.specs.Prelude.{◌≡◌, ◌++◌, IsTrue, OnOk};
-ghost use Rattle.value_code.specs.Reading.{Gives, group_kind_by, kind_at, kinds_by, list_kind_by, scalar_of};
+ghost use Rattle.value_code.specs.Reading.{group_kind_by, kind_at, kinds_by, list_kind_by, scalar_of};
 ghost use Rattle.value_model.specs.Kinds.{kind_fits, kinds_fit, type_code, type_codes};
 ghost use Rattle.value_model.specs.Views.{kind_of, kinds_view};
+ghost use Rattle.value_model.specs.Decoding.{Gives};
 
 use crate::codes;
 use crate::fields::byte_at;

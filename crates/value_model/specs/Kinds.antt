@@ -1,6 +1,6 @@
 -- A kind is the type of a value, as plain data: how deep it nests, whether its groups have members, and its code in
 -- bytes.
-use Rattle.std.specs.Prelude.{ℕ, suc, max, List, [], ◌∷◌, ◌++◌, Bool, true, ◌&&◌, nat_le}
+use Rattle.std.specs.Prelude.{ℕ, suc, max, List, [], ◌∷◌, ◌++◌, Bool, true, false, ◌&&◌, nat_le}
 use Rattle.std.specs.Int.{w8, w16, w32, w64}
 use mir.Syntax.{Width}
 
@@ -95,3 +95,28 @@ abbrev mutual
   pub type_codes : Kinds → List ℕ
   type_codes no_kinds = []
   type_codes (kind_then k ks) = type_code k ++ type_codes ks
+
+-- ---- whether two types are the same, as a test
+
+abbrev pub same_size : Size → Size → Bool
+same_size one one = true
+same_size two two = true
+same_size four four = true
+same_size eight eight = true
+same_size _ _ = false
+
+abbrev mutual
+  pub same_kind : Kind → Kind → Bool
+  same_kind bool_kind bool_kind = true
+  same_kind (unsigned_kind s) (unsigned_kind r) = same_size s r
+  same_kind (signed_kind s) (signed_kind r) = same_size s r
+  same_kind text_kind text_kind = true
+  same_kind bytes_kind bytes_kind = true
+  same_kind (list_kind j) (list_kind k) = same_kind j k
+  same_kind (fields_kind js) (fields_kind ks) = same_kinds js ks
+  same_kind _ _ = false
+
+  pub same_kinds : Kinds → Kinds → Bool
+  same_kinds no_kinds no_kinds = true
+  same_kinds (kind_then j js) (kind_then k ks) = same_kind j k && same_kinds js ks
+  same_kinds _ _ = false

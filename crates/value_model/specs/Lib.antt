@@ -1,4 +1,5 @@
 pub mod Codes
+pub mod Decoding
 pub mod Encoding
 pub mod Kinds
 pub mod Samples

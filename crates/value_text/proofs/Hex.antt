@@ -3,7 +3,8 @@ use Rattle.std.proofs.Common.{◌≡◌, ℕ, zero, suc, ◌<◌, ◌≤◌, ◌
 use Rattle.std.proofs.Common.{refl, sym, ap, ◌∙◌, arith}
 use Rattle.std.specs.Prelude.{option_map}
 use Rattle.std.proofs.lemmas.List.{append-nil}
-use Rattle.value_text.specs.Readers.{with_front, hex_byte_at, hex_bytes_at}
+use Rattle.per_base.specs.FieldLoops.{with_front}
+use Rattle.value_text.specs.Readers.{hex_byte_at, hex_bytes_at}
 use Rattle.value_text.specs.lemmas.Loop.{with_front-with_front}
 
 abbrev Read : Type 0

@@ -6,9 +6,12 @@ use Rattle.std.specs.Str.{IsUtf8, is_utf8}
 use Rattle.std.proofs.lemmas.Bool.{ne_eqb, false_from_ne_true}
 use Rattle.std.proofs.lemmas.Str.{is_utf8-from_IsUtf8, IsUtf8-from_is_utf8}
 use Rattle.std.proofs.lemmas.List.{append-nil, drop_more}
+use Rattle.per_base.specs.Fields.{◌>>=◌}
+use Rattle.per_base.specs.FieldLoops.{with_front}
 use Rattle.value_model.specs.declared.errors.DecodeError.{DecodeError}
 use Rattle.value_model.specs.declared.errors.DecodeError.TheVariants as errors
-use Rattle.value_text.specs.Readers.{◌>>=◌, FailsToRead, with_front, literal_at, meant_by, quoted_at}
+use Rattle.value_model.specs.Decoding.{FailsToRead}
+use Rattle.value_text.specs.Readers.{literal_at, meant_by, quoted_at}
 use Rattle.value_text.specs.Parsing.{text_at}
 use Rattle.value_text.specs.lemmas.Loop.{with_front-with_front}
 

@@ -1,35 +1,10 @@
 -- Whether a tree that was read is a value, as a test that computes.
-use Rattle.std.specs.Prelude.{Bool, true, false, ◌&&◌, length, nat_le, if◌then◌else◌, Option, Some, None}
-use Rattle.value_model.specs.Kinds.{Size, one, two, four, eight, Kind, bool_kind, unsigned_kind, signed_kind, text_kind}
-use Rattle.value_model.specs.Kinds.{bytes_kind, list_kind, fields_kind, Kinds, no_kinds, kind_then, kind_depth}
-use Rattle.value_model.specs.Kinds.{kind_fits}
+use Rattle.std.specs.Prelude.{Bool, true, ◌&&◌, length, nat_le, if◌then◌else◌, Option, Some, None}
+use Rattle.value_model.specs.Kinds.{Kind, kind_depth, kind_fits, same_kind}
 use Rattle.value_model.specs.Trees.{Tree, bool_tree, unsigned_tree, signed_tree, text_tree, bytes_tree, list_tree}
 use Rattle.value_model.specs.Trees.{fields_tree, Trees, no_trees, tree_then, count_trees, type_of}
 use Rattle.value_model.specs.Encoding.{encoding}
 use Rattle.value_model.specs.Validity.{max_depth, max_length}
-
-abbrev pub same_size : Size → Size → Bool
-same_size one one = true
-same_size two two = true
-same_size four four = true
-same_size eight eight = true
-same_size _ _ = false
-
-abbrev mutual
-  pub same_kind : Kind → Kind → Bool
-  same_kind bool_kind bool_kind = true
-  same_kind (unsigned_kind s) (unsigned_kind r) = same_size s r
-  same_kind (signed_kind s) (signed_kind r) = same_size s r
-  same_kind text_kind text_kind = true
-  same_kind bytes_kind bytes_kind = true
-  same_kind (list_kind j) (list_kind k) = same_kind j k
-  same_kind (fields_kind js) (fields_kind ks) = same_kinds js ks
-  same_kind _ _ = false
-
-  pub same_kinds : Kinds → Kinds → Bool
-  same_kinds no_kinds no_kinds = true
-  same_kinds (kind_then j js) (kind_then k ks) = same_kind j k && same_kinds js ks
-  same_kinds _ _ = false
 
 -- each of these trees has this kind
 abbrev pub have_kind : Kind → Trees → Bool

@@ -2,6 +2,7 @@
 use Rattle.std.specs.Prelude.{ℕ, zero, suc, ◌^◌, List, [], ◌∷◌, length, true, false, nat_eq, if◌then◌else◌, Option}
 use Rattle.std.specs.Prelude.{Some, None, codes}
 use Rattle.std.specs.Str.{is_utf8}
+use Rattle.per_base.specs.Fields.{◌>>=◌}
 use Rattle.value_model.specs.Kinds.{Size, one, two, four, eight, Kind, bool_kind, unsigned_kind, signed_kind, text_kind}
 use Rattle.value_model.specs.Kinds.{bytes_kind, list_kind, fields_kind}
 use Rattle.value_model.specs.Trees.{Tree, bool_tree, unsigned_tree, signed_tree, text_tree, bytes_tree, list_tree}
@@ -9,8 +10,7 @@ use Rattle.value_model.specs.Trees.{fields_tree}
 use Rattle.value_model.specs.Validity.{unsigned_limit, max_depth}
 use Rattle.value_model.specs.Views.{kinds_of, trees_of}
 use Rattle.value_text.specs.Limits.{kept}
-use Rattle.value_text.specs.Readers.{◌>>=◌, branch, literal_at, unsigned_at, signed_at, hex_bytes_at, quoted_at}
-use Rattle.value_text.specs.Readers.{separated}
+use Rattle.value_text.specs.Readers.{branch, literal_at, unsigned_at, signed_at, hex_bytes_at, quoted_at, separated}
 
 -- the words of the scalar types; none begins another
 abbrev pub words : List (List ℕ × Kind)

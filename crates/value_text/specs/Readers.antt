@@ -1,31 +1,17 @@
 -- Readers of words, numbers and lists: each takes what it reads from the start of the bytes, and leaves the rest.
-use Rattle.std.specs.Prelude.{◌≡◌, ℕ, zero, suc, ◌+◌, ◌-◌, ◌*◌, ◌^◌, ℤ, pos, negsuc, List, [], ◌∷◌, ◌++◌, length, take}
+use Rattle.std.specs.Prelude.{◌≡◌, ℕ, zero, suc, ◌+◌, ◌-◌, ◌*◌, ◌^◌, ℤ, pos, negsuc, List, [], ◌∷◌, length, take}
 use Rattle.std.specs.Prelude.{drop, Bool, true, false, not, ◌&&◌, ◌||◌, nat_lt, nat_le, nat_eq, ◌==◌, if◌then◌else◌}
-use Rattle.std.specs.Prelude.{Option, Some, None, option_and_then, Result, Ok, Err, codes}
+use Rattle.std.specs.Prelude.{Option, Some, None, codes}
 use Rattle.std.specs.List.{prefix_len}
 use Rattle.std.specs.Char.{is_ascii_digit}
 use Rattle.std.specs.Str.Parse.{digits_value}
-use Rattle.value_model.specs.declared.errors.DecodeError.{DecodeError}
-use Rattle.value_model.specs.declared.errors.DecodeError.TheVariants as errors
-
-infixl 10 ◌>>=◌
-abbrev pub ◌>>=◌ : {A B : Type 0} → Option A → (A → Option B) → Option B
-o >>= f = option_and_then f o
+use Rattle.per_base.specs.Fields.{◌>>=◌}
+use Rattle.per_base.specs.FieldLoops.{with_front}
 
 -- goes on where something was read, and else tries another way
 abbrev pub branch : {A B : Type 0} → Option A → (A → Option B) → Option B → Option B
 branch None f other = other
 branch (Some x) f other = f x
-
--- an error says that nothing can be read, unless memory ran out
-abbrev pub FailsToRead : {Y : Type 0} → DecodeError → Option Y → Type 0
-FailsToRead errors.NotAValue read = read ≡ None
-FailsToRead errors.OutOfMemory read = Unit {0}
-
--- what a function returned, seen by view, is what reading gives
-abbrev pub Gives : {X Y : Type 0} → (X → Y) → Result X DecodeError → Option Y → Type 0
-Gives view (Ok x) read = read ≡ Some (view x)
-Gives view (Err error) read = FailsToRead error read
 
 -- what a function found, seen by view, is what reading gives
 abbrev pub Finds : {X Y : Type 0} → (X → Y) → Option X → Option Y → Type 0
@@ -81,10 +67,6 @@ abbrev pub hex_byte_at : List ℕ → Option (ℕ × List ℕ)
 hex_byte_at [] = None
 hex_byte_at (a ∷ []) = None
 hex_byte_at (a ∷ b ∷ rest) = hex_value a >>= λ high. hex_value b >>= λ low. Some (16 * high + low, rest)
-
--- what was read before, and what is read after it
-abbrev pub with_front : {A : Type 0} → List A → Option (List A × List ℕ) → Option (List A × List ℕ)
-with_front front read = read >>= λ x. Some (front ++ x.0, x.1)
 
 -- as many bytes as stand there, at most n
 unfoldable pub hex_bytes_at : ℕ → List ℕ → Option (List ℕ × List ℕ)

@@ -2,6 +2,8 @@
 use Rattle.std.specs.Prelude.{ℕ, ◌/◌, ◌%◌, ◌+◌, List, [], ◌∷◌, ◌++◌, codes, nat_lt, ◌==◌, if◌then◌else◌}
 use Rattle.std.specs.List.{flat_map}
 use Rattle.std.specs.Fmt.{decimal, signed_decimal}
+use Rattle.per_base.specs.declared.errors.PerError.{PerError}
+use Rattle.per_base.specs.declared.errors.PerError.TheVariants.{DataTypeMismatch}
 use Rattle.value_model.specs.Kinds.{Size, one, two, four, eight, Kind, bool_kind, unsigned_kind, signed_kind, text_kind}
 use Rattle.value_model.specs.Kinds.{bytes_kind, list_kind, fields_kind, Kinds, no_kinds, kind_then}
 use Rattle.value_model.specs.Trees.{Tree, bool_tree, unsigned_tree, signed_tree, text_tree, bytes_tree, list_tree}
@@ -32,6 +34,10 @@ abbrev mutual
   pub further_types_text : Kinds → List ℕ
   further_types_text no_kinds = []
   further_types_text (kind_then k ks) = codes "," ++ type_text k ++ further_types_text ks
+
+-- the error of a value that has another type than was asked for
+abbrev pub mismatch : Kind → Kind → PerError
+mismatch stored asked = DataTypeMismatch (type_text stored) (type_text asked)
 
 -- a quote, a backslash and a line feed follow a backslash; no other byte does
 abbrev pub escaped_byte : ℕ → List ℕ

@@ -1,6 +1,7 @@
 -- Reading a number and bytes from the whole of a text.
 use Rattle.std.specs.Prelude.{ℕ, ℤ, List, length, nat_eq, if◌then◌else◌, Option, Some, None}
-use Rattle.value_text.specs.Readers.{◌>>=◌, unsigned_at, signed_at, hex_bytes_at}
+use Rattle.per_base.specs.Fields.{◌>>=◌}
+use Rattle.value_text.specs.Readers.{unsigned_at, signed_at, hex_bytes_at}
 
 -- the number below the limit that the whole text writes
 unfoldable pub unsigned_in : ℕ → List ℕ → Option ℕ

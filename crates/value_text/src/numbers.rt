@@ -6,7 +6,8 @@ ghost use Rattle.std.specs.List.{prefix_len};
 ghost use Rattle.std.specs.Char.{is_ascii_digit};
 ghost use Rattle.std.specs.Str.{all_ascii_digits};
 ghost use lib.Signed.{mag};
-ghost use Rattle.value_text.specs.Readers.{Gives, is_canonical, number_of, number_at, unsigned_at, negative, signed_at};
+ghost use Rattle.value_text.specs.Readers.{is_canonical, number_of, number_at, unsigned_at, negative, signed_at};
+ghost use Rattle.value_model.specs.Decoding.{Gives};
 
 use crate::readers::after;
 use value_model::DecodeError;

@@ -1,7 +1,8 @@
 //! Words and numbers at the start of a text.
 
 ghost use Rattle.std.specs.Prelude.{◌≡◌};
-ghost use Rattle.value_text.specs.Readers.{Finds, Gives, literal_at, punctuation_at};
+ghost use Rattle.value_model.specs.Decoding.{Gives};
+ghost use Rattle.value_text.specs.Readers.{Finds, literal_at, punctuation_at};
 
 use value_model::DecodeError;
 

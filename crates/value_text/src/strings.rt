@@ -1,7 +1,8 @@
 //! Texts in quotes, and bytes in hexadecimal digits.
 
 ghost use Rattle.std.specs.Prelude.{◌≡◌, false, IfSome, Some, length, option_map, ◌<◌};
-ghost use Rattle.value_text.specs.Readers.{Finds, Gives, hex_value, hex_byte_at, hex_bytes_at, meant_by, quoted_at};
+ghost use Rattle.value_model.specs.Decoding.{Gives};
+ghost use Rattle.value_text.specs.Readers.{Finds, hex_value, hex_byte_at, hex_bytes_at, meant_by, quoted_at};
 ghost use Rattle.value_text.specs.Parsing.{text_at};
 
 use crate::readers::after;

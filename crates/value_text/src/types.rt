@@ -3,7 +3,8 @@
 ghost use Rattle.std.specs.Prelude.{◌≡◌, ◌≢◌, map, IfOk, IsErrOf};
 ghost use Rattle.value_model.specs.Kinds.{Kind};
 ghost use Rattle.value_model.specs.Views.{kind_of};
-ghost use Rattle.value_text.specs.Readers.{Finds, Gives, separated};
+ghost use Rattle.value_model.specs.Decoding.{Gives};
+ghost use Rattle.value_text.specs.Readers.{Finds, separated};
 ghost use Rattle.value_text.specs.Parsing.{scalar_at, kind_here, kind_at, list_kind_at, fields_kind_at, kind_in};
 ghost use Rattle.value_text.specs.Texts.{type_text};
 ghost use Rattle.value_text.specs.Types.{IsType};

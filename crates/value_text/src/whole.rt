@@ -3,9 +3,9 @@
 ghost use Rattle.std.specs.Prelude.{◌≡◌, ◌≢◌, ◌+◌, ◌<◌, ◌≤◌, ◌^◌, ℕ, ℤ, List, IfOk, slice_index, IsErrOf};
 ghost use Rattle.std.specs.Fmt.{decimal, signed_decimal};
 ghost use lib.Signed.{mag};
-ghost use Rattle.value_text.specs.Readers.{Gives};
 ghost use Rattle.value_text.specs.Texts.{hex_text};
 ghost use Rattle.value_text.specs.Whole.{bytes_in, signed_in, unsigned_in};
+ghost use Rattle.value_model.specs.Decoding.{Gives};
 
 use crate::numbers::{signed, unsigned};
 use crate::strings::bytes_at;

@@ -5,7 +5,7 @@ use Rattle.std.specs.Prelude.{flat_map}
 use Rattle.std.specs.Str.{bytes_eq}
 use Rattle.std.proofs.lemmas.List.{ext_get_or, length-take-le}
 use Rattle.sha2.specs.Sha256.{sha256}
-use Rattle.block_files.specs.Areas.{block, joined, within}
+use Rattle.block_files.specs.Areas.{block, has_all_bytes, joined}
 use Rattle.block_files.specs.Contents.{counting}
 use Rattle.block_files.specs.Aside.{AsideLaw}
 use Rattle.block_files.specs.lemmas.Joined.{length-block, read_block, length-blocks, read_joined, within_from}
@@ -18,8 +18,8 @@ unfolding counting
 counting_same old new blocks len hash same = ap (λ xs. cond (bytes_eq (sha256 xs) hash) (Some xs) None) same
 
 -- an area that got longer has what it had
-pub within_grown : (old new blocks : List ℕ) (len : ℕ) → length old ≤ length new → within old blocks len ≡ true
-    → within new blocks len ≡ true
+pub within_grown : (old new blocks : List ℕ) (len : ℕ) → length old ≤ length new → has_all_bytes old blocks len ≡ true
+    → has_all_bytes new blocks len ≡ true
 within_grown old new blocks len longer is =
     within_from (length new) blocks len (λ m j lt small inside. let below =
     reaches_from (length old) blocks len is m j lt small inside in omega arith)
@@ -43,7 +43,7 @@ joined_kept old new blocks len same = ap (take len) (go blocks same)
         ∙ ap (λ xs. block old k ++ xs) (go ks (λ m j lt small. same (suc m) j (omega arith) small))
 
 -- after writes elsewhere that a crash cut short, where the area had all of the bytes
-pub joined_torn : (old new blocks : List ℕ) (len : ℕ) → len ≤ 256 * length blocks → within old blocks len ≡ true
+pub joined_torn : (old new blocks : List ℕ) (len : ℕ) → len ≤ 256 * length blocks → has_all_bytes old blocks len ≡ true
     → ((m j : ℕ) → m < length blocks → j < 256 → 256 * get_or blocks m 0 + j < length old
     → get_or new (256 * get_or blocks m 0 + j) 0 ≡ get_or old (256 * get_or blocks m 0 + j) 0)
     → joined new blocks len ≡ joined old blocks len
@@ -72,9 +72,9 @@ aside place taken start old new settled keeps at apart room f = record {
       keeps.left.bytes f (get_or at.blocks m 0) j small (apart m lt) in
       let was : old.left f ≡ start f = ap (λ im. im f) settled.left in
       let P : List ℕ → Type 0 = λ xs. (counting (new.left f) at.blocks at.len at.hash
-      ≡ counting xs at.blocks at.len at.hash) × (within (new.left f) at.blocks at.len ≡ true) in
-      let Q : List ℕ → Type 0 = λ xs. within xs at.blocks at.len ≡ true in
-      let is_old : within (old.left f) at.blocks at.len ≡ true = subst Q (sym was) is in
+      ≡ counting xs at.blocks at.len at.hash) × (has_all_bytes (new.left f) at.blocks at.len ≡ true) in
+      let Q : List ℕ → Type 0 = λ xs. has_all_bytes xs at.blocks at.len ≡ true in
+      let is_old : has_all_bytes (old.left f) at.blocks at.len ≡ true = subst Q (sym was) is in
       subst P was (
         counting_same (old.left f) (new.left f) at.blocks at.len at.hash
             (joined_torn (old.left f) (new.left f) at.blocks at.len room is_old left),

@@ -5,11 +5,12 @@ use Rattle.std.proofs.Math.Nat.{mul-le-mul_left}
 use Rattle.std.specs.List.{range_with_len}
 use Rattle.std.proofs.lemmas.List.{get_or-take, length-take-le}
 use Rattle.std.proofs.lemmas.List.FromFn.{get_or-range_with_len}
+use Rattle.per_base.specs.Contents.{blocks_for}
 use Rattle.disk_model.specs.Image.{Image}
 use Rattle.disk_model.specs.Place.{area, IsNoArea}
 use Rattle.disk_model.specs.declared.place.Place.{Place}
 use Rattle.block_files.specs.BlockSets.{IsNotAmong}
-use Rattle.block_files.specs.Parts.{blocks_for, changed_blocks}
+use Rattle.block_files.specs.Parts.{changed_blocks}
 use Rattle.block_files.specs.Areas.{area_of, IsFull, AllFull, NamedFull, HoldsShared}
 use Rattle.block_files.specs.Writes.{IsNoneOf, IsApartFromChanged}
 use Rattle.block_files.specs.lemmas.PartLemmas.{same_part, changed_to-le}

@@ -5,21 +5,22 @@ use Rattle.std.specs.Str.{bytes_eq}
 use Rattle.std.proofs.lemmas.List.{take_min, drop_min}
 use Rattle.std.proofs.lemmas.Bool.{not-false, cases_Bool}
 use Rattle.std.proofs.lemmas.Slice.Eq.{bytes_eq-Decides}
-use Rattle.block_files.specs.Parts.{part, is_changed, changed_below}
+use Rattle.changed_runs.specs.Changed.{run_of}
+use Rattle.block_files.specs.Parts.{is_changed, changed_below}
 
 -- a part cut within the bounds
 pub part_cut : (bytes rest : List ℕ) (i a b : ℕ) → rest ≡ drop a bytes → a ≡ min (256 * i) (length bytes)
-    → b ≡ min 256 (length rest) → take b rest ≡ part bytes i
+    → b ≡ min 256 (length rest) → take b rest ≡ run_of bytes i
 part_cut bytes rest i a b cut at size =
     ap (λ n. take n rest) size
     ∙ take_min 256 rest
     ∙ ap (take 256) (cut ∙ ap (λ n. drop n bytes) at ∙ drop_min (256 * i) bytes)
 
 -- parts that do not differ are equal
-pub same_part : (bytes was : List ℕ) (i : ℕ) → is_changed bytes was i ≡ false → part bytes i ≡ part was i
+pub same_part : (bytes was : List ℕ) (i : ℕ) → is_changed bytes was i ≡ false → run_of bytes i ≡ run_of was i
 unfolding is_changed
-same_part bytes was i same = (bytes_eq-Decides (part bytes i) (part was i)).0
-    (not-false (bytes_eq (part bytes i) (part was i)) same)
+same_part bytes was i same = (bytes_eq-Decides (run_of bytes i) (run_of was i)).0
+    (not-false (bytes_eq (run_of bytes i) (run_of was i)) same)
 
 -- that many parts differ at most
 pub changed_to-le : (bytes was : List ℕ) (n : ℕ) → changed_below bytes was n ≤ n

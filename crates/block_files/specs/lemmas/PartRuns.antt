@@ -3,10 +3,11 @@ use Rattle.std.proofs.Common.{◌≡◌, ◌≢◌, ◌⊎◌, ℕ, ◌+◌, ◌
 use Rattle.std.proofs.Common.{sym, ap, ◌∙◌, subst, arith, ⊎_elim, inl, inr}
 use Rattle.std.proofs.lemmas.List.{length-take, length-drop, get_or-take, get_or-drop}
 use Rattle.std.proofs.lemmas.Bool.{cases_lt}
+use Rattle.per_base.specs.Contents.{blocks_for}
 use Rattle.disk_model.specs.Image.{put_bytes}
 use Rattle.disk_model.specs.Written.{put_inside, length-put_some}
 use Rattle.block_files.specs.BlockSets.{AreDistinct}
-use Rattle.block_files.specs.Parts.{blocks_for, is_changed, changed_blocks, changed_below}
+use Rattle.block_files.specs.Parts.{is_changed, changed_blocks, changed_below}
 use Rattle.block_files.specs.Areas.{HoldsPart}
 use Rattle.block_files.specs.Writes.{IsApartFromChanged, IsRun}
 use Rattle.block_files.specs.lemmas.PartLemmas.{changed_run, changed_to-mono}

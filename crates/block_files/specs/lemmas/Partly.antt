@@ -4,12 +4,14 @@ use Rattle.std.proofs.Common.{false, IsTrue, sym, ap, ◌∙◌, subst, arith, �
 use Rattle.std.proofs.lemmas.List.{length-take, length-drop, get_or-take, get_or-drop}
 use Rattle.std.proofs.lemmas.Bool.{cases_eq, cases_lt}
 use Rattle.per_base.specs.Causes.{Rose}
+use Rattle.per_base.specs.Contents.{blocks_for}
 use Rattle.disk_model.specs.Image.{put_image, put_bytes, TornImage}
 use Rattle.disk_model.specs.Case.{WriteCase, WriteOrNot, Follows}
 use Rattle.disk_model.specs.Medium.{Medium, IsLawful, Elapses}
 use Rattle.disk_model.specs.Written.{put_image_here}
 use Rattle.block_files.specs.BlockSets.{AreDistinct}
-use Rattle.block_files.specs.Parts.{part, blocks_for, is_changed, changed_blocks, changed_below}
+use Rattle.changed_runs.specs.Changed.{run_of}
+use Rattle.block_files.specs.Parts.{is_changed, changed_blocks, changed_below}
 use Rattle.block_files.specs.Areas.{HoldsPart, HoldsBytes, HoldsShared}
 use Rattle.block_files.specs.Writes.{Wrote, Tore, IsApartFromChanged, IsRun}
 use Rattle.block_files.specs.lemmas.PartLemmas.{changed_same}
@@ -18,10 +20,10 @@ use Rattle.block_files.specs.lemmas.Stretches.{wrote_none, wrote_on, wrote_tore,
 use Rattle.block_files.specs.lemmas.Stretches.{tore_one}
 
 -- the bytes of a part
-pub length-part : (bytes : List ℕ) (i : ℕ) → length (part bytes i) ≡ min 256 (length bytes - 256 * i)
+pub length-part : (bytes : List ℕ) (i : ℕ) → length (run_of bytes i) ≡ min 256 (length bytes - 256 * i)
 length-part bytes i = length-take 256 (drop (256 * i) bytes) ∙ ap (min 256) (length-drop (256 * i) bytes)
 
-pub read_part : (bytes : List ℕ) (i j : ℕ) → j < 256 → get_or (part bytes i) j 0 ≡ get_or bytes (256 * i + j) 0
+pub read_part : (bytes : List ℕ) (i j : ℕ) → j < 256 → get_or (run_of bytes i) j 0 ≡ get_or bytes (256 * i + j) 0
 read_part bytes i j lt = get_or-take 256 (drop (256 * i) bytes) j 0 lt ∙ get_or-drop (256 * i) bytes j 0
 
 -- the parts below i, and those that do not differ, are in their blocks

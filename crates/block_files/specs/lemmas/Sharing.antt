@@ -5,8 +5,9 @@ use Rattle.std.proofs.Common.{true, false, cond, refl, sym, ap, ◌∙◌, arith
 use Rattle.std.specs.Prelude.{slice_index}
 use Rattle.std.proofs.lemmas.List.{length-append, get_or_append_left, get_or_push}
 use Rattle.std.proofs.lemmas.Bool.{cases_lt, cases_Bool, cond-true, cond-false, both_ways}
+use Rattle.per_base.specs.Contents.{blocks_for}
 use Rattle.block_files.specs.BlockSets.{contains, AreDistinct, IsNotAmong, AreFree, IsAdded, SharesBlocks}
-use Rattle.block_files.specs.Parts.{blocks_for, is_changed, changed_blocks, changed_below, IsMerged}
+use Rattle.block_files.specs.Parts.{is_changed, changed_blocks, changed_below, IsMerged}
 use Rattle.block_files.specs.Areas.{HoldsShared, IsFull}
 use Rattle.block_files.specs.Writes.{IsTaken, IsApartFromChanged}
 use Rattle.block_files.specs.lemmas.PartLemmas.{same_part, changed_to-le, changed_more, changed_same, changed_at}

@@ -14,7 +14,7 @@ use Rattle.guarded_cell.specs.Register.{Holds, IsKeptAlone, own, other}
 use Rattle.guarded_cell.specs.Stops.{KeepsText, IsOldOrNew}
 use Rattle.guarded_cell.specs.lemmas.StopLaws.{alone_only}
 use Rattle.block_files.specs.Aside.{Where, AsideLaw}
-use Rattle.block_files.specs.Areas.{within}
+use Rattle.block_files.specs.Areas.{has_all_bytes}
 use Rattle.block_files.specs.Contents.{counting}
 use Rattle.index_text.specs.declared.entries.Index.{Index}
 use Rattle.index_text.specs.declared.entries.IndexEntry.{IndexEntry}
@@ -23,8 +23,8 @@ use Rattle.element_state.specs.declared.shapes.Shape.{Shape}
 use Rattle.element_state.specs.Fit.{FitText, fit_index}
 use Rattle.element_state.specs.Clean.{where_of, counting_at, IsNamed, IsPiece, in_blocks, SomeCopyCounts}
 use Rattle.element_laws.specs.Phases.{IsSalvageAt, IsGivenUp, GivenUpLaw, IsContentWritten, TakesNamed, TakenBlocksLaw}
-use Rattle.element_laws.specs.Phases.{AnewContentsLaw, AnewDoneLaw, AnewIndexLaw, AreAgreed, CleanLaw, AdoptedLaw}
-use Rattle.element_laws.specs.Phases.{SoundLaw, SettledLaw}
+use Rattle.element_laws.specs.Phases.{RebuiltContentsLaw, RebuiltDoneLaw, RebuiltIndexLaw, AreAgreed, CleanLaw}
+use Rattle.element_laws.specs.Phases.{AdoptedLaw, SoundLaw, SettledLaw}
 use Rattle.element_laws.specs.lemmas.Lists.{In, In-Contains, nothing_listed, all_by, all_in, Contains-In, In-map}
 use Rattle.element_laws.specs.lemmas.Lists.{map-In}
 use Rattle.element_laws.specs.lemmas.Lists.{some_is, zip_with, zip_find}
@@ -152,13 +152,13 @@ anew_keeps aside shape start now taken damaged old c given_up takes settled keep
           } in
           let took = takes at named in
           let stand = aside place taken now old c settled keeps at took.0 took.1 (area place copy) in
-          let now_is = subst (λ (file : List ℕ). (within file at.blocks at.len ≡ true)
+          let now_is = subst (λ (file : List ℕ). (has_all_bytes file at.blocks at.len ≡ true)
           × (counting file at.blocks at.len at.hash ≡ Some v)) (sym (area_was copy)) (was, gave) in
           let then = stand.whole now_is.0 in
           (then.1, then.0 ∙ now_is.1);
     }
 
-pub anew_contents : AsideLaw → AnewContentsLaw
+pub anew_contents : AsideLaw → RebuiltContentsLaw
 anew_contents aside shape start now taken after old c positive given_up takes settled keeps sound damaged image d =
     fewer_kept shape start image damaged after positive given_up.clean given_up.corrupt
     (fewer_decays shape damaged c.left image d start (anew_fewer aside shape start now taken old c given_up takes
@@ -200,7 +200,7 @@ keeps_then aside shape start now then taken damaged given_up takes keeps =
     (record { base = now; full = then; left = then }) given_up takes
     (record { base = refl; full = refl; left = refl }) (whole_case shape now then taken keeps)
 
-pub anew_done : AsideLaw → AnewDoneLaw
+pub anew_done : AsideLaw → RebuiltDoneLaw
 anew_done aside shape start now then taken after c positive given_up takes keeps settled sound damaged image d =
     fewer_kept shape start image damaged after positive given_up.clean given_up.corrupt
     (fewer_decays shape damaged c.left image d start (subst (λ (im : Image). IsFewer shape start im) (sym settled.left)
@@ -236,7 +236,7 @@ as_given : (shape : Shape) (start : Image) (at : Where) (copy : ℕ) (w : List �
     → CopyGives (gift_of start shape at) copy w ⊎ (value_at start shape at ≡ Some w)
 as_given shape start at copy w gives = inl gives
 
-pub anew_index : AsideLaw → AnewIndexLaw
+pub anew_index : AsideLaw → RebuiltIndexLaw
 anew_index aside shape start now then taken g next new_index view others c positive given_up takes below next_is keeps
     fit generation_is entries stops sound damaged image d =
     let place = shape.place in

@@ -9,7 +9,7 @@ use Rattle.guarded_cell.specs.Register.{Holds, own}
 use Rattle.guarded_cell.specs.Stops.{SlotText, IsSlotPiece}
 use Rattle.block_files.specs.Aside.{Where}
 use Rattle.block_files.specs.Contents.{counting}
-use Rattle.block_files.specs.Areas.{within}
+use Rattle.block_files.specs.Areas.{has_all_bytes}
 use Rattle.element_state.specs.declared.shapes.Shape.{Shape}
 use Rattle.element_state.specs.Clean.{where_of, IsNamed, IsPiece, in_slot, in_blocks, BlockText, IsBlockPiece}
 use Rattle.element_laws.specs.lemmas.Copies.{CopyGives}
@@ -87,7 +87,7 @@ module _ (shape : Shape) (damaged : List ℕ) (left new : Image) (d : DecaysFor 
     pub whole_on : (copy : ℕ) (at : Where) (v : List ℕ) → IsUndamaged damaged shape.place copy
         → (is_whole_at left shape copy at ≡ true) × CopyGives (gift_of left shape at) copy v
         → (is_whole_at new shape copy at ≡ true) × CopyGives (gift_of new shape at) copy v
-    whole_on copy at v spared is = subst (λ (file : List ℕ). (within file at.blocks at.len ≡ true)
+    whole_on copy at v spared is = subst (λ (file : List ℕ). (has_all_bytes file at.blocks at.len ≡ true)
         × (counting file at.blocks at.len at.hash ≡ Some v)) (sym (area_on copy spared)) is
 
     -- what damage leaves of what is less

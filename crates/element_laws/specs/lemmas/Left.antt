@@ -21,7 +21,7 @@ use Rattle.guarded_cell.specs.lemmas.HeldLaws.{holds_is, is_holds}
 use Rattle.guarded_cell.specs.lemmas.CopyLaws.{enough_pass, passing_enough, passing_is, is_passing}
 use Rattle.guarded_cell.specs.lemmas.StopLaws.{at_least_map, at_least_one}
 use Rattle.block_files.specs.Aside.{Where}
-use Rattle.block_files.specs.Areas.{within}
+use Rattle.block_files.specs.Areas.{has_all_bytes}
 use Rattle.block_files.specs.Contents.{first_content, lacks, lacking}
 use Rattle.index_text.specs.declared.entries.Index.{Index}
 use Rattle.index_text.specs.declared.entries.IndexEntry.{IndexEntry}
@@ -43,7 +43,7 @@ use Rattle.element_laws.specs.lemmas.Standing.{HasEach}
 
 -- the copy has all bytes of a content within its area
 abbrev pub is_whole_at : Image → Shape → ℕ → Where → Bool
-is_whole_at image shape copy at = within (image (area shape.place copy)) at.blocks at.len
+is_whole_at image shape copy at = has_all_bytes (image (area shape.place copy)) at.blocks at.len
 
 -- the value on which the copies agree
 abbrev pub value_at : Image → Shape → Where → Option (List ℕ)

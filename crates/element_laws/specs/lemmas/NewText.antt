@@ -18,8 +18,7 @@ use Rattle.element_state.specs.declared.shapes.Shape.{Shape}
 use Rattle.element_state.specs.declared.shapes.View.{View}
 use Rattle.element_state.specs.Views.{holds_text, counts, holds_all, supporters, qualifies, entry_view, view_of}
 use Rattle.element_state.specs.Clean.{where_of}
-use Rattle.element_state.specs.Kept.{heading, IsSpared, CostsNoCopy}
-use Rattle.element_laws.specs.Phases.{IsHeaded}
+use Rattle.element_state.specs.Kept.{heading, IsSpared, CostsNoCopy, IsHeaded}
 use Rattle.element_laws.specs.lemmas.Lists.{true_both, In-list_all, zip_left, zip_with, zip_find}
 use Rattle.element_laws.specs.lemmas.Copies.{CopyGives, Backed}
 use Rattle.element_laws.specs.lemmas.Fits.{fit_at}

@@ -13,7 +13,7 @@ use Rattle.guarded_cell.specs.Stops.{IsSlotPiece, IsOldOrNew, HoldsLess}
 use Rattle.guarded_cell.specs.lemmas.StopLaws.{alone_only}
 use Rattle.block_files.specs.Aside.{Where, StandsAside, AsideLaw}
 use Rattle.block_files.specs.Contents.{counting}
-use Rattle.block_files.specs.Areas.{within}
+use Rattle.block_files.specs.Areas.{has_all_bytes}
 use Rattle.index_text.specs.declared.entries.Index.{Index}
 use Rattle.index_text.specs.declared.entries.IndexEntry.{IndexEntry}
 use Rattle.index_text.specs.Reading.{index_of}
@@ -172,7 +172,7 @@ module _ (shape : Shape) (start mid new : Image) (damaged : List ℕ) (after : S
       text = λ copy lt spared v. subst (λ (bytes : List ℕ). VerifiesAs bytes g t) (sym (slot_same copy g lt)) v;
       whole = λ i spells e k copy v lt spared was gave.
           let at = where_of e in
-          subst (λ (file : List ℕ). (within file at.blocks at.len ≡ true)
+          subst (λ (file : List ℕ). (has_all_bytes file at.blocks at.len ≡ true)
           × (counting file at.blocks at.len at.hash ≡ Some v)) (sym (area_same copy lt)) (was, gave);
     }
 
@@ -288,7 +288,7 @@ module _ (shape : Shape) (start left new : Image) (damaged : List ℕ)
       → CopyGives (gift_of start shape at) copy v → (is_whole_at new shape copy at ≡ true)
       × CopyGives (gift_of new shape at) copy v
   whole_then at copy v spared was gave = whole_on shape damaged left new d copy at v spared
-      (subst (λ (file : List ℕ). (within file at.blocks at.len ≡ true)
+      (subst (λ (file : List ℕ). (has_all_bytes file at.blocks at.len ≡ true)
       × (counting file at.blocks at.len at.hash ≡ Some v)) (sym (same copy)) (was, gave))
 
 pub adopt : AdoptLaw
@@ -391,7 +391,7 @@ contents_less aside shape start now g t i taken damaged old c adopted is_index t
       whole = λ j spelled e k copy v lt spared was gave.
           let one : j ≡ i = some_is j i (sym spelled ∙ spells) in
           let at = where_of e in
-          let now_is = subst (λ (file : List ℕ). (within file at.blocks at.len ≡ true)
+          let now_is = subst (λ (file : List ℕ). (has_all_bytes file at.blocks at.len ≡ true)
           × (counting file at.blocks at.len at.hash ≡ Some v)) (sym (area_was copy)) (was, gave) in
           let stand = (stands e (subst (λ (j : Index). In e j.entries) one k) (area place copy)).whole now_is.0 in
           (stand.1, stand.0 ∙ now_is.1);

@@ -22,8 +22,8 @@ use Rattle.element_state.specs.Clean.{where_of}
 use Rattle.element_state.specs.Conditions.{IsMended, IsInUse}
 use Rattle.element_state.specs.Kept.{HasEnough, IsSpared, KeepsGood}
 use Rattle.element_laws.specs.Phases.{InUseLaw, CarriedLaw, WholeLaw, OpenedLaw}
-use Rattle.element_laws.specs.Refused.{one, IndexFirst, IndexFirstAnew, OldOverwritten, OtherValue, Planted, CopyEaten}
-use Rattle.element_laws.specs.Refused.{OtherRaised, SalvageRaised, SalvageLost}
+use Rattle.element_laws.specs.Refused.{one, IndexFirst, IndexFirstRebuilt, OldOverwritten, OtherValue, Planted}
+use Rattle.element_laws.specs.Refused.{CopyEaten, OtherRaised, SalvageRaised, SalvageLost}
 use Rattle.element_laws.specs.lemmas.Lists.{In, Contains-In, In-Contains, map-In, Contains-head, all_in, nothing_listed}
 use Rattle.element_laws.specs.lemmas.Lists.{not_none, some_is}
 use Rattle.element_laws.specs.lemmas.Copies.{good_same, bad_good, gifts}
@@ -64,7 +64,7 @@ index_first shape g was is le k =
           bad_good None is (both.0 is refl (inr (all_left shape le)))
     ]
 
-pub index_first_anew : IndexFirstAnew
+pub index_first_anew : IndexFirstRebuilt
 index_first_anew shape g salvage is le k =
     let becomes = k.stays (one g (Bad None)) [] refl in
     bad_good None is (becomes.1.0 is refl (inr (all_left shape le)))

@@ -12,14 +12,11 @@ use Rattle.std.specs.Str.{bytes_eq}
 use Rattle.std.proofs.lemmas.Bool.{cases_Bool}
 use Rattle.std.proofs.lemmas.List.Sums.{sum_by-cons}
 use Rattle.std.proofs.lemmas.Map.Keys.{IsDistinct-cons}
-use Rattle.per_base.specs.Names.{name_cmp}
+use Rattle.per_base.specs.Names.{name_cmp, NamesAscend}
 use Rattle.element_state.specs.Changes.{item_at, insert_item, without_item}
 use Rattle.element_maps.specs.lemmas.Names.{same_names, eq_names, eq_itself, eq_back, false_true, tied_names}
 use Rattle.element_maps.specs.lemmas.Names.{less_apart}
 use Rattle.element_maps.specs.lemmas.Names.{greater_less, less_less, less_from, above_from}
-
-abbrev pub NamesAscend : {X : Type 0} → (X → List ℕ) → List X → Type 0
-NamesAscend name_of xs = IsStrictlySortedBy name_cmp (map name_of xs)
 
 -- each of these names comes after this one
 abbrev pub ComesBeforeAll : List ℕ → List (List ℕ) → Type 0

@@ -11,9 +11,10 @@ use Rattle.per_base.specs.declared.elements.Element.{Element}
 use Rattle.per_base.specs.declared.elements.FileInfo.{FileInfo}
 use Rattle.index_text.specs.Spelling.{cause_code}
 use Rattle.per_base.specs.Maps.{Map}
+use Rattle.per_base.specs.Contents.{same_content}
 use Rattle.element_state.specs.declared.shapes.Shape.{Shape}
 use Rattle.element_state.specs.declared.shapes.View.{View}
-use Rattle.element_state.specs.Changes.{committed, same_info, same_content, same_element, is_same}
+use Rattle.element_state.specs.Changes.{committed, same_info, same_element, is_same}
 use Rattle.element_maps.specs.Sessions.{same_map, view_once_synced}
 use Rattle.element_maps.specs.lemmas.Names.{eq_itself, same_names}
 

@@ -12,6 +12,7 @@ use Rattle.per_base.specs.declared.elements.StoreKind.TheVariants.{Keys, Files}
 use Rattle.per_base.specs.declared.elements.Entry.{Entry}
 use Rattle.per_base.specs.declared.elements.FileInfo.{FileInfo}
 use Rattle.per_base.specs.Names.{IsName, name_cmp}
+use Rattle.per_base.specs.Contents.{HasLength}
 use Rattle.guarded_cell.specs.Held.{copies_that}
 use Rattle.block_files.specs.BlockSets.{Ascend}
 use Rattle.block_files.specs.Contents.{AreCopies}
@@ -23,7 +24,7 @@ use Rattle.index_text.specs.Spelling.{store_kind_code}
 use Rattle.element_state.specs.declared.shapes.Shape.{Shape}
 use Rattle.element_state.specs.declared.shapes.View.{View}
 use Rattle.element_state.specs.Views.{store_lacking, lacks_number}
-use Rattle.element_state.specs.Chosen.{HasLength, IsReadBy}
+use Rattle.element_state.specs.Chosen.{IsReadBy}
 use Rattle.element_state.specs.Conditions as conditions
 use Rattle.element_state.specs.Read.{IsEntryOf, IsView}
 use Rattle.element_state.specs.lemmas.Entrywise.{length_zip}
@@ -123,7 +124,7 @@ module _ (shape : Shape) where
     name = subst IsName (sym read.name) is.name;
     info = subst (λ (i : Option FileInfo). IsTrue (has_info shape.kind i)) (sym read.info) is.info;
     len = (let same = read.len in let small = is.len in omega (arith, same, small));
-    content = subst (λ (n : ℕ). HasLength n f.content) (sym read.len) read.value;
+    content = subst (λ (n : ℕ). HasLength f.content n) (sym read.len) read.value;
     lacking = read.lacking;
     ascend = read.ascend;
   }

@@ -16,11 +16,13 @@ use Rattle.per_base.specs.declared.opening.OpenKind.TheVariants.{Read, Write}
 use Rattle.per_base.specs.declared.opening.OpenMode.{OpenMode}
 use Rattle.per_base.specs.Maps.{Map, element_at, has, size_of, with_element}
 use Rattle.per_base.specs.Names.{name_cmp}
+use Rattle.per_base.specs.Contents.{readable_bytes}
+use Rattle.per_base.specs.Refusals.{IsDue, refused_by}
+use Rattle.per_base.specs.Modes.{plain, truncating}
 use Rattle.file_core.specs.declared.cursor.Cursor.{Cursor}
 use Rattle.file_core.specs.declared.room.Room.{Room}
-use Rattle.file_core.specs.Files.{bytes_of, file_of, too_long, written}
+use Rattle.file_core.specs.Files.{file_of, too_long, written}
 use Rattle.file_core.specs.Places.{is_bad_mode, opening_place, overwritten, write_place, writes}
-use Rattle.file_core.specs.Refusals.{IsDue, refused_by}
 use Rattle.file_handles.specs.declared.handle.Handle.{Handle}
 use Rattle.file_handles.specs.declared.storage.Storage.{Storage}
 use Rattle.file_handles.specs.Handling.{changing, write}
@@ -28,8 +30,7 @@ use Rattle.file_handles.specs.Opening.{can_open, file_opened, no_room_to_create,
 use Rattle.file_handles.specs.Opening.{would_fit}
 use Rattle.file_handles.specs.Sessions.{Handles, Session, free_number, handle_at, open_at, others, room_for}
 use Rattle.file_handles.specs.Sessions.{with_changed, with_handle}
-use Rattle.file_handles.specs.Whole.{SameContentLaw, and_then, bytes_of_file, cat, plain, put_whole, released}
-use Rattle.file_handles.specs.Whole.{truncating}
+use Rattle.file_handles.specs.Whole.{SameContentLaw, and_then, bytes_of_file, cat, put_whole, released}
 use Rattle.file_handles.specs.lemmas.Entries.{size_insert, size_set}
 use Rattle.file_handles.specs.lemmas.Lookups.{handle_put}
 use Rattle.file_handles.specs.lemmas.Named.{fits_room}
@@ -85,7 +86,7 @@ refused_ok None rest answer is = is
 refused_ok (Some error) rest answer is = absurd (cc)
 
 bytes_opened : (read_only : Bool) (now : ℕ) (found : Option Element)
-    → bytes_of (file_opened read_only plain now found).content ≡ bytes_of_file found
+    → readable_bytes (file_opened read_only plain now found).content ≡ bytes_of_file found
 bytes_opened read_only now None = refl
 bytes_opened true now (Some file) = refl
 bytes_opened false now (Some file) = refl

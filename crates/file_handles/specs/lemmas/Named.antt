@@ -20,8 +20,9 @@ use Rattle.per_base.specs.declared.errors.PerError.TheVariants.{LimitReached, Ou
 use Rattle.per_base.specs.declared.opening.OpenKind.TheVariants.{Write}
 use Rattle.per_base.specs.Maps.{Map, element_at, has, with_element, without, size_of}
 use Rattle.per_base.specs.Names.{name_cmp}
+use Rattle.per_base.specs.Contents.{HasLength, is_readable}
 use Rattle.file_core.specs.declared.room.Room.{Room}
-use Rattle.file_core.specs.Files.{HasLength, IsFile, NoSalvage, changed_to, is_good, too_long}
+use Rattle.file_core.specs.Files.{IsFile, NoSalvage, changed_to, too_long}
 use Rattle.file_handles.specs.ByName.{HasSalvage, recovered, salvaged, saved_bytes, with_content}
 use Rattle.file_handles.specs.Opening.{busy, too_many}
 use Rattle.file_handles.specs.declared.storage.Storage.{Storage}
@@ -187,7 +188,7 @@ salvage_len file salvage is bad = subst (λ content. HasLength content file.len)
 
 -- the parts of a recovery
 pub recovers_good : (storage : Storage) (s : Session) (name : List ℕ) (now : ℕ) (initial : Option (List ℕ))
-    (file : Element) (content : Content) → is_good content ≡ true
+    (file : Element) (content : Content) → is_readable content ≡ true
     → recovered storage s name now initial file content ≡ Ok s
 recovers_good storage s name now initial file (Good bytes) good = refl
 recovers_good storage s name now initial file (Bad salvage) good = absurd (cc)
@@ -205,7 +206,7 @@ pub recovers_salvage : (storage : Storage) (s : Session) (name : List ℕ) (now 
 recovers_salvage storage s name now initial file some = recovers_by storage s name now initial file file.content some
 
 pub recovers_initial : (storage : Storage) (s : Session) (name : List ℕ) (now : ℕ) (bytes : List ℕ) (file : Element)
-    (content : Content) → is_good content ≡ false → NoSalvage content
+    (content : Content) → is_readable content ≡ false → NoSalvage content
     → recovered storage s name now (Some bytes) file content
     ≡ with_content storage s name (changed_to bytes now Recovery file)
 recovers_initial storage s name now bytes file (Good b) bad none = absurd (cc)
@@ -213,7 +214,7 @@ recovers_initial storage s name now bytes file (Bad None) bad none = refl
 recovers_initial storage s name now bytes file (Bad (Some salvage)) bad none = absurd none
 
 pub recovers_none : (storage : Storage) (s : Session) (name : List ℕ) (now : ℕ) (file : Element) (content : Content)
-    → is_good content ≡ false → NoSalvage content → recovered storage s name now None file content
+    → is_readable content ≡ false → NoSalvage content → recovered storage s name now None file content
     ≡ Ok (record s { files = without s.files name })
 recovers_none storage s name now file (Good b) bad none = absurd (cc)
 recovers_none storage s name now file (Bad None) bad none = refl

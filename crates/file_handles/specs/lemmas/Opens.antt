@@ -11,7 +11,7 @@ use Rattle.std.proofs.lemmas.Bool.Decides.{nat_tests}
 use Rattle.std.proofs.lemmas.Cmp.{eq_by_cmp_equiv, nat_list_cmp_total}
 use Rattle.std.proofs.lemmas.Map.Entries.{length-keys_of}
 use Rattle.file_core.specs.declared.cursor.Cursor.{Cursor}
-use Rattle.file_core.specs.Files.{is_good, changed_to, file_of, opened_at}
+use Rattle.file_core.specs.Files.{changed_to, file_of, opened_at}
 use Rattle.file_core.specs.Infos.{made}
 use Rattle.per_base.specs.declared.elements.Cause.TheVariants.{Application}
 use Rattle.per_base.specs.declared.opening.OpenMode.{OpenMode}
@@ -33,9 +33,11 @@ use Rattle.per_base.specs.declared.errors.PerError.TheVariants.{LimitReached, Ou
 use Rattle.per_base.specs.declared.opening.OpenKind.{OpenKind}
 use Rattle.per_base.specs.Maps.{Map, element_at, has, with_element, without, size_of}
 use Rattle.per_base.specs.Names.{name_cmp}
+use Rattle.per_base.specs.Contents.{is_readable}
+use Rattle.per_base.specs.Refusals.{or_next}
 use Rattle.file_core.specs.Places.{writes, is_bad_mode, opening_place}
 use Rattle.file_handles.specs.declared.handle.Handle.{Handle}
-use Rattle.file_handles.specs.Opening.{first, when, busy, can_open, file_opened, is_unreadable, no_room_to_create}
+use Rattle.file_handles.specs.Opening.{when, busy, can_open, file_opened, is_unreadable, no_room_to_create}
 use Rattle.file_handles.specs.Opening.{open_file, too_many, with_opened}
 use Rattle.file_handles.specs.Sessions.{Session, Handles, IsHeldAt, blocks, blocking, free_number, handle_at}
 use Rattle.file_handles.specs.Sessions.{with_handle}
@@ -44,7 +46,7 @@ use Rattle.file_handles.specs.lemmas.Numbers.{free_from_few, one_or_more}
 use Rattle.file_handles.specs.lemmas.Lookups.{file_put}
 use Rattle.file_handles.specs.lemmas.Whole.{file_there, made_is_file, opened_is_file, whole_put}
 
-pub first_none : (a b : Option PerError) → first a b ≡ None → (a ≡ None) × (b ≡ None)
+pub first_none : (a b : Option PerError) → or_next a b ≡ None → (a ≡ None) × (b ≡ None)
 first_none None b e = (refl, e)
 first_none (Some x) b e = absurd (cc)
 
@@ -74,7 +76,7 @@ both_false true true c p e = absurd (cc)
 both_false true false true p e = absurd (cc)
 both_false false b c p e = absurd (cc)
 
--- where no handle stands in the way, those on the file only read, and so will the new one
+-- where no handle conflicts, those on the file only read, and so will the new one
 pub not_blocked : (kind : OpenKind) (name : List ℕ) (handles : Handles) → blocking kind name handles ≡ None
     → (number : ℕ) (handle : Handle) → handle_at handles number ≡ Some handle → handle.name ≡ name
     → (writes handle.cursor.kind ≡ false) × (writes kind ≡ false)
@@ -133,8 +135,8 @@ placed_inside kind mode size = by (at_end mode)
     by false = omega arith
 
 -- what an opening leaves of a readable file
-opened_good : (b t : Bool) (now : ℕ) (old : Element) → is_good old.content ≡ true
-    → is_good (cond b old (cond t (changed_to [] now Application (opened_at now old)) (opened_at now old))).content
+opened_good : (b t : Bool) (now : ℕ) (old : Element) → is_readable old.content ≡ true
+    → is_readable (cond b old (cond t (changed_to [] now Application (opened_at now old)) (opened_at now old))).content
     ≡ true
 opened_good true t now old g = g
 opened_good false true now old g = refl
@@ -202,8 +204,8 @@ allowed storage files handles name kind mode e =
     }
 
 good_there : (files : Map) (name : List ℕ) (old : Element) → element_at files name ≡ Some old
-    → is_unreadable (element_at files name) ≡ false → is_good old.content ≡ true
-good_there files name old is e = by (is_good old.content) (rw is at e)
+    → is_unreadable (element_at files name) ≡ false → is_readable old.content ≡ true
+good_there files name old is e = by (is_readable old.content) (rw is at e)
   where
     by : (b : Bool) → not b ≡ false → b ≡ true
     by true p = refl

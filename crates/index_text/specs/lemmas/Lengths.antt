@@ -12,10 +12,11 @@ use Rattle.per_base.specs.declared.elements.StoreKind.{StoreKind}
 use Rattle.per_base.specs.declared.elements.StoreKind.TheVariants.{Keys, Files}
 use Rattle.per_base.specs.declared.elements.FileInfo.{FileInfo}
 use Rattle.per_base.specs.Names.{IsName, in_name}
+use Rattle.per_base.specs.Contents.{blocks_for}
 use Rattle.std.specs.List.{list_all}
 use Rattle.index_text.specs.declared.entries.IndexEntry.{IndexEntry}
 use Rattle.index_text.specs.declared.entries.Index.{Index}
-use Rattle.index_text.specs.Rules.{IsEntry, IsIndex, block_count, blocks_of, has_info}
+use Rattle.index_text.specs.Rules.{IsEntry, IsIndex, blocks_of, has_info}
 use Rattle.index_text.specs.Spelling.{changed_text, entry_text, index_text, info_text, store_kind_code}
 use Rattle.index_text.specs.Sizes.{Fits, area_blocks, changed_length, entry_length, info_length, size_of, text_length}
 
@@ -69,7 +70,7 @@ length-index_text i rules = omega (arith, length-entries i.format i.kind i.entri
 -- ---- bounds
 
 -- blocks of 256 bytes: the content and less than one block more
-blocks_above : (len n : ℕ) → n ≡ block_count len → 256 * n ≤ len + 255
+blocks_above : (len n : ℕ) → n ≡ blocks_for len → 256 * n ≤ len + 255
 blocks_above len n e = omega arith
 
 blocks_bound : (format : ℕ) (kind : StoreKind) (es : List IndexEntry) → AllByRecursion (IsEntry format kind) es

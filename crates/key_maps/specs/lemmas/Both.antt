@@ -11,6 +11,7 @@ use Rattle.per_base.specs.declared.elements.Change.{Change}
 use Rattle.per_base.specs.declared.elements.Element.{Element}
 use Rattle.per_base.specs.Maps.{Map, element_at, names_of, size_of, with_element, without}
 use Rattle.per_base.specs.Names.{name_cmp}
+use Rattle.per_base.specs.Contents.{is_readable}
 use Rattle.key_maps.specs.declared.key_states.KeyState.{KeyState}
 use Rattle.key_maps.specs.declared.key_states.Pending.{Pending}
 use Rattle.key_maps.specs.declared.key_states.Pending.TheVariants.{Same, Removed, Now}
@@ -19,7 +20,7 @@ use Rattle.key_maps.specs.KeyStates.{AreKeyStates, AreMeasured, KeyStates, IsKey
 use Rattle.key_maps.specs.KeyStates.{IsStep, Measures, state_at, once_changed, synced_map, synced_of, visible_map}
 use Rattle.key_maps.specs.KeyStates.{visible_of}
 use Rattle.key_maps.specs.Changes.{AreChanges, changes_of, has_any}
-use Rattle.key_maps.specs.KeyElements.{IsKey, is_readable}
+use Rattle.key_maps.specs.KeyElements.{IsKey}
 use Rattle.key_maps.specs.TwoMaps.{AreTwoMaps}
 use Rattle.key_maps.specs.lemmas.Differing.{no_changes, same_changes}
 use Rattle.key_maps.specs.lemmas.Ordered.{AllValues, all_lookup, remove_none}

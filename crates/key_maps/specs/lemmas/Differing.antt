@@ -15,7 +15,8 @@ use Rattle.per_base.specs.declared.elements.Content.TheVariants.{Good, Bad}
 use Rattle.per_base.specs.declared.elements.Element.{Element}
 use Rattle.per_base.specs.Maps.{Map, element_at, names_of}
 use Rattle.per_base.specs.Names.{name_cmp}
-use Rattle.key_maps.specs.Changes.{AreChanges, difference, is_same_key, put, same_content, same_key, same_salvage}
+use Rattle.per_base.specs.Contents.{same_content, same_salvage}
+use Rattle.key_maps.specs.Changes.{AreChanges, difference, is_same_key, put, same_key}
 use Rattle.key_maps.specs.KeyElements.{IsKey}
 use Rattle.key_maps.specs.lemmas.Ordered.{same_lists}
 

@@ -14,22 +14,23 @@ use Rattle.per_base.specs.declared.elements.Element.{Element}
 use Rattle.per_base.specs.declared.elements.Entry.{Entry}
 use Rattle.per_base.specs.Maps.{Map, size_of}
 use Rattle.per_base.specs.Names.{name_cmp}
+use Rattle.per_base.specs.Contents.{HasLength}
 use Rattle.key_maps.specs.declared.extents.Extent.{Extent}
 use Rattle.key_maps.specs.KeyStates.{AreKeyStates, AreMeasured, KeyStates, IsKeyState, Measures, opened_states}
 use Rattle.key_maps.specs.KeyStates.{opened_state}
 use Rattle.key_maps.specs.KeyStates.{synced_map, visible_map, with_state}
-use Rattle.key_maps.specs.KeyElements.{Encodes, HasLength, IsKey, IsKeyEntry, entry_element, entry_names, judged}
+use Rattle.key_maps.specs.KeyElements.{Encodes, IsKey, IsKeyEntry, entry_element, entry_names, key_judged}
 use Rattle.key_maps.specs.KeyElements.{judged_key_content, judged_map}
 use Rattle.value_code.specs.Reading.{is_encoding}
 use Rattle.key_maps.specs.lemmas.Ordered.{AllValues, insert_last, sorted_front}
 
 pub opened_synced : (entries : List Entry) → synced_map (opened_states entries) ≡ judged_map entries
 opened_synced [] = refl
-opened_synced (e ∷ es) = ap (λ (l : Map). (e.name, judged (entry_element e)) ∷ l) (opened_synced es)
+opened_synced (e ∷ es) = ap (λ (l : Map). (e.name, key_judged (entry_element e)) ∷ l) (opened_synced es)
 
 pub opened_visible : (entries : List Entry) → visible_map (opened_states entries) ≡ judged_map entries
 opened_visible [] = refl
-opened_visible (e ∷ es) = ap (λ (l : Map). (e.name, judged (entry_element e)) ∷ l) (opened_visible es)
+opened_visible (e ∷ es) = ap (λ (l : Map). (e.name, key_judged (entry_element e)) ∷ l) (opened_visible es)
 
 opened_keys : (entries : List Entry) → keys_of (opened_states entries) ≡ entry_names entries
 opened_keys [] = refl
@@ -48,7 +49,7 @@ judged_encodes (Bad (Some salvage)) len is = by (is_encoding salvage) refl
     by true p = (rw p refl, is)
     by false p = tt
 
-judged_key : (entry : Entry) → IsKeyEntry entry → IsKey (judged (entry_element entry))
+judged_key : (entry : Entry) → IsKeyEntry entry → IsKey (key_judged (entry_element entry))
 judged_key entry is = record {
   plain = is.plain;
   measured = judged_encodes entry.content entry.len is.measured;
@@ -109,7 +110,8 @@ judged_size (e ∷ es) =
     omega (
       arith,
       sum_by-cons (λ (x : Entry). length x.name + x.len) e es,
-      sum_by-cons (λ (x : List ℕ × Element). length x.0 + x.1.len) (e.name, judged (entry_element e)) (judged_map es),
+      sum_by-cons (λ (x : List ℕ × Element). length x.0 + x.1.len) (e.name, key_judged (entry_element e))
+          (judged_map es),
       judged_size es,
     )
 

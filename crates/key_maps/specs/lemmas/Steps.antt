@@ -10,6 +10,7 @@ use Rattle.std.proofs.lemmas.Map.Lookups.{exact_bytes}
 use Rattle.per_base.specs.declared.elements.Element.{Element}
 use Rattle.per_base.specs.Maps.{Map, element_at, with_element, without}
 use Rattle.per_base.specs.Names.{name_cmp}
+use Rattle.per_base.specs.Contents.{is_readable}
 use Rattle.key_maps.specs.declared.key_states.KeyState.{KeyState}
 use Rattle.key_maps.specs.declared.key_states.Pending.{Pending}
 use Rattle.key_maps.specs.declared.key_states.Pending.TheVariants.{Same, Removed, Now}
@@ -17,7 +18,7 @@ use Rattle.key_maps.specs.KeyStates.{AreKeyStates, KeyStates, IsKeyState, IsPend
 use Rattle.key_maps.specs.KeyStates.{once_changed, synced_map, synced_of, visible_map, visible_of, with_state}
 use Rattle.key_maps.specs.KeyStates.{without_state}
 use Rattle.key_maps.specs.Changes.{AreChanges, change_of, changes_of, difference}
-use Rattle.key_maps.specs.KeyElements.{IsKey, is_readable}
+use Rattle.key_maps.specs.KeyElements.{IsKey}
 use Rattle.key_maps.specs.Picked.{picked}
 use Rattle.key_maps.specs.lemmas.Changing.{changes_ascend, changes_at}
 use Rattle.key_maps.specs.lemmas.Ordered.{all_insert, all_lookup, all_remove, set_is_insert, sorted_insert}

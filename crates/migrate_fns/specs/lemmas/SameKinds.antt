@@ -2,9 +2,9 @@
 use Rattle.std.proofs.Common.{◌≡◌, ℕ, List, Bool, true, false, refl, sym, ap, subst, ◌∙◌}
 use Rattle.std.specs.Prelude.{◌&&◌, ◌↔◌, IsTrue}
 use Rattle.value_model.specs.Kinds.{Size, one, two, four, eight, Kind, bool_kind, unsigned_kind, signed_kind, text_kind}
-use Rattle.value_model.specs.Kinds.{bytes_kind, list_kind, fields_kind, Kinds, no_kinds, kind_then}
+use Rattle.value_model.specs.Kinds.{bytes_kind, list_kind, fields_kind, Kinds, no_kinds, kind_then, same_size}
+use Rattle.value_model.specs.Kinds.{same_kind, same_kinds}
 use Rattle.migrate_fns.specs.Rules.{Rule, is_for, serves}
-use Rattle.migrate_fns.specs.SameKind.{same_size, same_kind, same_kinds}
 use Rattle.migrate_fns.specs.lemmas.Facts.{not_false, is_false, both_true, true_both}
 
 size_is : (s t : Size) → same_size s t ≡ true → s ≡ t

@@ -3,13 +3,13 @@ use Rattle.std.proofs.Common.{◌≡◌, ℕ, zero, suc, ◌≤◌, max, cond, L
 use Rattle.std.proofs.Common.{subst, ◌∙◌, append_assoc, arith, inl, inr}
 use Rattle.std.specs.Prelude.{IsTrue, nat_eq}
 use Rattle.std.proofs.lemmas.Bool.{eqb-true, and_from, and_parts}
+use Rattle.per_base.specs.Fields.{◌>>=◌, byte_at, AreBytes}
 use Rattle.value_model.specs.Kinds.{one, two, four, eight, is_group, Kind, bool_kind, unsigned_kind, signed_kind}
 use Rattle.value_model.specs.Kinds.{text_kind, bytes_kind, list_kind, fields_kind, Kinds, no_kinds, kind_then}
 use Rattle.value_model.specs.Kinds.{count_kinds, kind_depth, kinds_depth, kind_fits, kinds_fit, type_code, type_codes}
-use Rattle.value_code.specs.Reading.{◌>>=◌, byte_at, scalars, find_code, scalar_of, scalar_kind, kinds_by, list_kind_by}
+use Rattle.value_code.specs.Reading.{scalars, find_code, scalar_of, scalar_kind, kinds_by, list_kind_by}
 use Rattle.value_code.specs.Reading.{group_kind_by, kind_at}
-use Rattle.value_code.specs.lemmas.Fronts.{AreBytes, bind_some, some_is, let_pass, either_way, Takes, Takes-then}
-use Rattle.value_code.specs.lemmas.Fronts.{byte_takes}
+use Rattle.value_code.specs.lemmas.Fronts.{bind_some, some_is, let_pass, either_way, Takes, Takes-then, byte_takes}
 
 -- a kind of at most depth d that was read from bytes, with the bytes after it
 pub record KindRead (d : ℕ) (bytes : List ℕ) (k : Kind) (rest : List ℕ) : Type 0 where

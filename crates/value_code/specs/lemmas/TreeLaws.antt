@@ -18,13 +18,14 @@ use Rattle.value_model.specs.Trees.{fields_tree, Trees, no_trees, tree_then, cou
 use Rattle.value_model.specs.Encoding.{payload, payloads}
 use Rattle.value_model.specs.Validity.{AllOf, AllTyped, IsTyped, AllInRange, InRange, unsigned_limit}
 use Rattle.value_model.specs.lemmas.Members.{count_types}
-use Rattle.value_code.specs.Reading.{◌>>=◌, byte_at, number_at, counted_at, text_of, truth_of, trees_by, tree_at}
+use Rattle.value_code.specs.Reading.{number_at, counted_at, text_of, truth_of, trees_by, tree_at}
 use Rattle.value_code.specs.Reading.{trees_at}
-use Rattle.value_code.specs.lemmas.Fronts.{AreBytes, bind_some, some_is, let_pass, either_way, Takes, Takes-then}
+use Rattle.value_code.specs.lemmas.Fronts.{bind_some, some_is, let_pass, either_way, Takes, Takes-then}
 use Rattle.value_code.specs.lemmas.Fronts.{byte_takes}
 use Rattle.value_code.specs.lemmas.Fronts.{number_takes, number_again, counted_takes, counted_again, text_takes}
 use Rattle.value_code.specs.lemmas.Fronts.{text_of-IsUtf8}
 use Rattle.value_code.specs.lemmas.Lengths.{list_few}
+use Rattle.per_base.specs.Fields.{◌>>=◌, byte_at, AreBytes}
 
 -- ---- signed numbers
 

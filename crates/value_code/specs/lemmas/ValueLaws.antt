@@ -4,6 +4,7 @@ use Rattle.std.proofs.Common.{Err, refl, sym, ap, subst, ◌∙◌, arith, lengt
 use Rattle.std.specs.Prelude.{IfOk, IsTrue, nat_eq, nat_le}
 use Rattle.std.proofs.lemmas.Bool.{eqb-true, ltb-false, le-ltb, le-leb, and_from}
 use Rattle.std.proofs.lemmas.List.{append-nil, nil_from_length}
+use Rattle.per_base.specs.Fields.{◌>>=◌, AreBytes}
 use Rattle.value_model.specs.declared.errors.DecodeError.{DecodeError}
 use Rattle.value_model.specs.declared.errors.DecodeError.TheVariants.{NotAValue}
 use Rattle.value_model.specs.declared.errors.ValueError.{ValueError}
@@ -14,8 +15,9 @@ use Rattle.value_model.specs.Trees.{fields_tree, Trees, no_trees, tree_then, cou
 use Rattle.value_model.specs.Encoding.{payload, encoding}
 use Rattle.value_model.specs.Validity.{IsTyped, AllTyped, IsValue}
 use Rattle.value_model.specs.lemmas.Members.{count_types}
-use Rattle.value_code.specs.Reading.{◌>>=◌, Gives, kind_at, tree_at, if_whole, decoded}
-use Rattle.value_code.specs.lemmas.Fronts.{AreBytes, bind_some, some_is, let_pass, not_stopped, Takes-then}
+use Rattle.value_model.specs.Decoding.{Gives}
+use Rattle.value_code.specs.Reading.{kind_at, tree_at, if_whole, decoded}
+use Rattle.value_code.specs.lemmas.Fronts.{bind_some, some_is, let_pass, not_stopped, Takes-then}
 use Rattle.value_code.specs.lemmas.KindLaws.{kind_takes, kind_again}
 use Rattle.value_code.specs.lemmas.TreeLaws.{tree_takes, tree_again}
 

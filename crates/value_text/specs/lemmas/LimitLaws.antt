@@ -4,12 +4,12 @@ use Rattle.std.proofs.lemmas.Bool.{and_parts, and_from, leb-true, le-leb, lt-leb
 use Rattle.std.proofs.lemmas.Bool.{false_from_ne_true}
 use Rattle.value_model.specs.Kinds.{Size, one, two, four, eight, Kind, bool_kind, unsigned_kind, signed_kind, text_kind}
 use Rattle.value_model.specs.Kinds.{bytes_kind, list_kind, fields_kind, Kinds, no_kinds, kind_then, kind_depth}
-use Rattle.value_model.specs.Kinds.{kind_fits}
+use Rattle.value_model.specs.Kinds.{kind_fits, same_kind, same_kinds, same_size}
 use Rattle.value_model.specs.Trees.{Tree, bool_tree, unsigned_tree, signed_tree, text_tree, bytes_tree, list_tree}
 use Rattle.value_model.specs.Trees.{fields_tree, Trees, no_trees, tree_then, count_trees, type_of}
 use Rattle.value_model.specs.Encoding.{encoding}
 use Rattle.value_model.specs.Validity.{AllOf, IsTyped, AllTyped, InRange, IsValue, max_depth, max_length}
-use Rattle.value_text.specs.Limits.{same_size, same_kind, same_kinds, have_kind, is_typed, are_typed, keeps_limits}
+use Rattle.value_text.specs.Limits.{have_kind, is_typed, are_typed, keeps_limits}
 
 -- ---- from the tests
 

@@ -5,7 +5,9 @@ use Rattle.std.proofs.Common.{arith}
 use Rattle.std.specs.List.{AllByRecursion}
 use Rattle.std.proofs.lemmas.Bool.{eqb-true, eq-eqb}
 use Rattle.std.proofs.lemmas.List.{append-nil}
-use Rattle.value_text.specs.Readers.{◌>>=◌, hex_value, with_front, punctuation_at, separated}
+use Rattle.per_base.specs.Fields.{◌>>=◌}
+use Rattle.per_base.specs.FieldLoops.{with_front}
+use Rattle.value_text.specs.Readers.{hex_value, punctuation_at, separated}
 use Rattle.value_text.specs.lemmas.Steps.{bind_some, if_some, chosen, some_is}
 
 -- the texts of things, separated by commas, and those of the things after another one

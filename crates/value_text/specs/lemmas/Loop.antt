@@ -1,9 +1,11 @@
 -- Reading a list as a loop does: what was read before, and what is still read, are the whole.
 use Rattle.std.proofs.Common.{◌≡◌, ℕ, suc, ◌-◌, ◌+◌, ◌≤◌, ◌<◌, true, false, List, [], ◌∷◌, ◌++◌, Option, Some, None}
 use Rattle.std.proofs.Common.{refl, sym, ap, ◌∙◌, append_assoc, arith}
+use Rattle.per_base.specs.FieldLoops.{with_front}
 use Rattle.value_model.specs.declared.errors.DecodeError.{DecodeError}
 use Rattle.value_model.specs.declared.errors.DecodeError.TheVariants as errors
-use Rattle.value_text.specs.Readers.{FailsToRead, with_front, punctuation_at, separated}
+use Rattle.value_model.specs.Decoding.{FailsToRead}
+use Rattle.value_text.specs.Readers.{punctuation_at, separated}
 
 pub with_front-with_front : {A : Type 0} (front : List A) (x : A) (read : Option (List A × List ℕ))
     → with_front front (with_front (x ∷ []) read) ≡ with_front (front ++ x ∷ []) read

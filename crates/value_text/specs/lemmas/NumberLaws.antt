@@ -14,12 +14,13 @@ use Rattle.std.proofs.lemmas.Bool.{not-true}
 use Rattle.std.proofs.lemmas.Fmt.{decimal_digit, decimal_nonempty, first_decimal, decimal-digits_value, digits_decimal}
 use Rattle.std.proofs.lemmas.Fmt.{digits_value-decimal}
 use Rattle.std.proofs.lemmas.List.{take_at, drop_at, take-append-drop}
-use Rattle.value_text.specs.Readers.{◌>>=◌, literal_at, hex_value, digit_count, is_canonical, number_of, number_at}
+use Rattle.value_text.specs.Readers.{literal_at, hex_value, digit_count, is_canonical, number_of, number_at}
 use Rattle.value_text.specs.Readers.{unsigned_at, negative, signed_at}
 use Rattle.value_text.specs.lemmas.Steps.{bind_some, if_some, branch_some, some_is}
 use Rattle.value_text.specs.lemmas.Words.{literal_takes}
 use Rattle.value_text.specs.lemmas.Lists.{Ends}
 use Rattle.value_text.specs.lemmas.Digits.{IsDigits, own, digits_in_front}
+use Rattle.per_base.specs.Fields.{◌>>=◌}
 
 -- ---- what is read is spelled so
 

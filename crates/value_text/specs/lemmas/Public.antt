@@ -12,9 +12,9 @@ use Rattle.value_model.specs.Trees.{Tree, type_of}
 use Rattle.value_model.specs.Encoding.{encoding}
 use Rattle.value_model.specs.declared.errors.ValueError.{ValueError}
 use Rattle.value_model.specs.declared.errors.ValueError.TheVariants as value_errors
+use Rattle.value_model.specs.Decoding.{Gives}
 use Rattle.value_text.specs.Types.{IsType}
 use Rattle.value_text.specs.Texts.{type_text, value_text}
-use Rattle.value_text.specs.Readers.{Gives}
 use Rattle.value_text.specs.Parsing.{kind_at, kind_in, tree_at, tree_in, value_in}
 use Rattle.value_text.specs.Limits.{keeps_limits, kept}
 use Rattle.value_text.specs.lemmas.Steps.{bind_some, if_some, some_is}

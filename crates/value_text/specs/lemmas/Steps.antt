@@ -1,6 +1,7 @@
 -- A reader that read something went one of its ways.
 use Rattle.std.proofs.Common.{◌≡◌, Bool, true, false, cond, Option, Some, None, ◌⊎◌, inl, inr, refl}
-use Rattle.value_text.specs.Readers.{◌>>=◌, branch}
+use Rattle.per_base.specs.Fields.{◌>>=◌}
+use Rattle.value_text.specs.Readers.{branch}
 
 -- the value of a first step that did not fail
 pub bind_some : {A B : Type 0} (o : Option A) (f : A → Option B) (y : B) → (o >>= f) ≡ Some y

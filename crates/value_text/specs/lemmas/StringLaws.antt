@@ -6,9 +6,10 @@ use Rattle.std.specs.Prelude.{codes}
 use Rattle.std.specs.Str.{IsUtf8, is_utf8}
 use Rattle.std.proofs.lemmas.Bool.{and_parts, cases_Bool, eqb-true, lt-ltb, le-ltb, leb-true, le-leb, lt-leb, cases_lt}
 use Rattle.std.proofs.lemmas.Str.{is_utf8-from_IsUtf8, IsUtf8-from_is_utf8}
+use Rattle.per_base.specs.Fields.{◌>>=◌, AreBytes}
+use Rattle.per_base.specs.FieldLoops.{with_front}
 use Rattle.value_text.specs.Texts.{escaped_byte, escaped, hex_digit, hex_byte_text, hex_text}
-use Rattle.value_text.specs.Readers.{◌>>=◌, literal_at, hex_value, hex_byte_at, hex_bytes_at, with_front, meant_by}
-use Rattle.value_text.specs.Readers.{quoted_at}
+use Rattle.value_text.specs.Readers.{literal_at, hex_value, hex_byte_at, hex_bytes_at, meant_by, quoted_at}
 use Rattle.value_text.specs.Parsing.{text_at}
 use Rattle.value_text.specs.lemmas.Steps.{bind_some, if_some, else_some, chosen, branch_some, some_is}
 use Rattle.value_text.specs.lemmas.Words.{literal_takes}
@@ -184,9 +185,6 @@ byte_takes (a ∷ b ∷ rest) x e =
       ap (λ (t : List ℕ). t ++ rest) (sym spelled),
       omega (arith, first.small, second.small),
     )
-
-abbrev AreBytes : List ℕ → Type 0
-AreBytes b = (i : ℕ) → slice_index b i < 256
 
 AreBytes-nil : AreBytes []
 AreBytes-nil i = omega arith

@@ -4,12 +4,13 @@ use Rattle.std.proofs.Common.{refl, sym, ap, subst, ◌∙◌, append_assoc, ari
 use Rattle.std.specs.Prelude.{codes}
 use Rattle.std.specs.List.{AllByRecursion}
 use Rattle.std.proofs.lemmas.Bool.{and_parts, and_from, leb-true, le-leb}
+use Rattle.per_base.specs.Fields.{◌>>=◌}
 use Rattle.value_model.specs.Kinds.{one, two, four, eight, Kind, bool_kind, unsigned_kind, signed_kind, text_kind}
 use Rattle.value_model.specs.Kinds.{bytes_kind, list_kind, fields_kind, Kinds, no_kinds, kind_then, count_kinds}
 use Rattle.value_model.specs.Kinds.{kind_depth, kinds_depth, kind_fits, kinds_fit}
 use Rattle.value_model.specs.Views.{kinds_of}
 use Rattle.value_text.specs.Texts.{type_text, types_text, further_types_text}
-use Rattle.value_text.specs.Readers.{◌>>=◌, branch, literal_at, separated}
+use Rattle.value_text.specs.Readers.{branch, literal_at, separated}
 use Rattle.value_text.specs.Parsing.{words, first_word, scalar_at, list_kind_at, fields_kind_at, kind_here, kind_at}
 use Rattle.value_text.specs.lemmas.Steps.{bind_some, branch_some, some_is}
 use Rattle.value_text.specs.lemmas.Words.{literal_takes}

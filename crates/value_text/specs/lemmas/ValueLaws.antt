@@ -14,7 +14,7 @@ use Rattle.value_model.specs.Trees.{fields_tree, Trees, no_trees, tree_then, cou
 use Rattle.value_model.specs.Validity.{AllOf, IsTyped, AllTyped, unsigned_limit, InRange, AllInRange}
 use Rattle.value_model.specs.Views.{trees_of}
 use Rattle.value_text.specs.Texts.{type_text, escaped, hex_text, value_text, values_text, further_values_text}
-use Rattle.value_text.specs.Readers.{◌>>=◌, branch, literal_at, unsigned_at, signed_at, hex_bytes_at, separated}
+use Rattle.value_text.specs.Readers.{branch, literal_at, unsigned_at, signed_at, hex_bytes_at, separated}
 use Rattle.value_text.specs.Parsing.{scalar_at, kind_at, signed_limit, bool_at, text_at, value_content_at}
 use Rattle.value_text.specs.Parsing.{scalar_tree_at}
 use Rattle.value_text.specs.Parsing.{items_at, list_tree_at, fields_tree_at, tree_here, tree_at}
@@ -24,6 +24,7 @@ use Rattle.value_text.specs.lemmas.Lists.{further, listed, Ends, Again, separate
 use Rattle.value_text.specs.lemmas.TypeLaws.{scalar_takes, kind_takes, kind_again, kind_depth-positive}
 use Rattle.value_text.specs.lemmas.NumberLaws.{unsigned_takes, unsigned_again, signed_takes, signed_again}
 use Rattle.value_text.specs.lemmas.StringLaws.{text_takes, text_again, bytes_takes, bytes_again}
+use Rattle.per_base.specs.Fields.{◌>>=◌}
 
 -- ---- items as a list
 

@@ -8,8 +8,9 @@ use Rattle.std.proofs.lemmas.Bool.{eqb-true}
 use Rattle.std.proofs.lemmas.List.{append-nil, nil_from_length}
 use Rattle.value_model.specs.declared.errors.DecodeError.{DecodeError}
 use Rattle.value_model.specs.declared.errors.DecodeError.TheVariants as errors
+use Rattle.value_model.specs.Decoding.{Gives}
 use Rattle.value_text.specs.Texts.{hex_text}
-use Rattle.value_text.specs.Readers.{Gives, unsigned_at, signed_at, hex_bytes_at}
+use Rattle.value_text.specs.Readers.{unsigned_at, signed_at, hex_bytes_at}
 use Rattle.value_text.specs.Whole.{unsigned_in, signed_in, bytes_in}
 use Rattle.value_text.specs.lemmas.Steps.{bind_some, if_some, some_is}
 use Rattle.value_text.specs.lemmas.NumberLaws.{unsigned_takes, unsigned_again, signed_takes, signed_again}

@@ -2,7 +2,7 @@ use Rattle.std.proofs.Common.{◌∙◌, None, refl, sym, arith}
 use Rattle.std.proofs.lemmas.List.{length-map}
 use Rattle.deployment_model.specs.Data.{deployment_data, storage_data}
 use Rattle.root_text.specs.Views.{version_said}
-use Rattle.deploy_laws.specs.Apps.{named}
+use Rattle.deploy_laws.specs.Apps.{named_in_bank}
 use Rattle.app_storages.proofs.Found.{is_asked}
 use Rattle.app_storages.proofs.SlotLaws.{config_there}
 use Rattle.app_storages.proofs.finding.find_in.Goals as goal
@@ -18,7 +18,7 @@ returns-clause-located c =
     let long = length-map i.active.deployment.storages storage_data in
     record {
       app_is = refl;
-      version = named i.bank (version_said i.active);
+      version = named_in_bank i.bank (version_said i.active);
       active = refl;
       bank = refl;
       place = there;
@@ -37,7 +37,7 @@ returns-clause-found c = λ states state at.
     let n = c.in-Some.number in
     let there = config_there i.active.deployment.storages c.as_slice.result.now n c.index-as_slice-number.result
     c.as_slice.ensures c.in-Some.ensures.bound c.index-as_slice-number.is in
-    is_asked (named i.bank (version_said i.active)) states c.args.kind _ n _ state
+    is_asked (named_in_bank i.bank (version_said i.active)) states c.args.kind _ n _ state
     (sym c.number.ensures.found ∙ c.in-Some.is) there (sym c.is_of_kind.ensures ∙ c.if-not-is_of_kind.false) at
 
 pub returns-clause-named : goal.returns-clause-named
@@ -46,7 +46,8 @@ returns-clause-named c = λ states state at.
     let n = c.in-Some.number in
     let there = config_there i.active.deployment.storages c.as_slice.result.now n c.index-as_slice-number.result
     c.as_slice.ensures c.in-Some.ensures.bound c.index-as_slice-number.is in
-    is_asked (named i.bank (version_said i.active)) states None _ n _ state (sym c.number.ensures.found ∙ c.in-Some.is)
+    is_asked (named_in_bank i.bank (version_said i.active)) states None _ n _ state (sym c.number.ensures.found
+    ∙ c.in-Some.is)
     there refl at
 
 pub returns-clause-kind : goal.returns-clause-kind

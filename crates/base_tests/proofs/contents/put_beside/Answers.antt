@@ -1,8 +1,8 @@
 use Rattle.std.proofs.Common.{ℕ, List, length, sym, subst, arith}
+use Rattle.per_base.specs.Contents.{blocks_for}
 use Rattle.disk_model.specs.History.{image_of}
 use Rattle.block_files.specs.Areas.{AllFull}
 use Rattle.block_files.specs.BlockSets.{AreDistinct}
-use Rattle.block_files.specs.Parts.{blocks_for}
 use Rattle.block_files.specs.lemmas.PartLemmas.{changed_to-le}
 use Rattle.base_tests.proofs.contents.put_beside.Goals as goal
 

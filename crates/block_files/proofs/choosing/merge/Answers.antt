@@ -1,5 +1,6 @@
 use Rattle.std.proofs.Common.{◌≡◌, ◌+◌, List, ℕ, refl, sym, ap, ◌∙◌, subst, true, false, length, arith}
-use Rattle.block_files.specs.Parts.{is_changed, blocks_for}
+use Rattle.per_base.specs.Contents.{blocks_for}
+use Rattle.block_files.specs.Parts.{is_changed}
 use Rattle.block_files.specs.lemmas.PartLemmas.{changed_at, changed_to-le}
 use Rattle.block_files.specs.lemmas.Sharing.{IsMerging, merging_fresh, merging_old, same_inside}
 use Rattle.block_files.proofs.choosing.merge.Goals as goal

@@ -1,7 +1,7 @@
 use Rattle.std.proofs.Common.{◌+◌, ◌*◌, ◌∙◌, ℕ, List, Option, Vec, Global, min, sym, ap, subst, length}
 use Rattle.std.proofs.lemmas.List.{length_push}
 use Rattle.m_of_n.specs.Vote.{texts_of}
-use Rattle.block_files.specs.Areas.{is_within, within}
+use Rattle.block_files.specs.Areas.{has_all_bytes, is_within}
 use Rattle.block_files.specs.Contents.{counting, HaveSize}
 use Rattle.block_files.proofs.BlockReads.{read_none, read_on}
 use Rattle.block_files.proofs.Counting.{texts_more, inside_more, sizes_none, sizes_more}
@@ -42,7 +42,7 @@ loop-copy-preserved g c =
       inside = λ tells. (
           let same = ap (λ im. im c.area-file.result) read.reads.image ∙ ap old.image c.area-file.ensures in
           let here = c.is_inside.ensures ∙ ap (λ s. is_within s blocks c.args.len) (size.size tells)
-          ∙ ap (λ file. within file blocks c.args.len) same in
+          ∙ ap (λ file. has_all_bytes file blocks c.args.len) same in
           c.in_ok-push-2.ensures.items
           ∙ inside_more c.args.place i blocks c.args.len old.image c.loop-copy.inside.items c.is_inside.result
           (c.loop-copy.invariant.inside tells) here);

@@ -1,9 +1,9 @@
 use Rattle.std.proofs.Common.{◌≡◌, ◌+◌, ◌-◌, ◌*◌, ◌≤◌, ◌∙◌, min, length, get_or, take, drop, ap, arith}
 use Rattle.std.proofs.lemmas.List.{length-take, length-drop}
+use Rattle.per_base.specs.Contents.{blocks_for}
 use Rattle.block_files.specs.Areas.{joined}
-use Rattle.block_files.specs.Parts.{blocks_for}
 use Rattle.block_files.proofs.BlockReads.{read_on}
-use Rattle.block_files.proofs.Runs.{run_of, gathered_more, gathered_all}
+use Rattle.block_files.proofs.Runs.{run_numbers, gathered_more, gathered_all}
 use Rattle.block_files.proofs.reading.read_runs.Goals as goal
 
 pub loop-next-preserved : goal.loop-next-preserved
@@ -31,7 +31,7 @@ loop-next-preserved g c =
       below = omega (arith, c.loop-next.invariant.below);
       bytes = λ tells.
           gathered_more (old.image c.args.file) blocks out c.read_from.new.out next (next + count) stop stops from
-          (c.read_from.auto.out ∙ room) (run_of blocks next needed count below c.count_run.ensures.follow)
+          (c.read_from.auto.out ∙ room) (run_numbers blocks next needed count below c.count_run.ensures.follow)
           (λ i lt. h.bytes tells i (omega (arith, room))
           ∙ ap (λ image. get_or (image c.args.file) (256 * get_or blocks next 0 + i) 0)
           c.loop-next.invariant.read.reads.image)

@@ -1,5 +1,6 @@
 use Rattle.std.proofs.Common.{◌≡◌, ◌∙◌, length, sym, false, arith}
-use Rattle.block_files.specs.Parts.{is_changed, blocks_for}
+use Rattle.per_base.specs.Contents.{blocks_for}
+use Rattle.block_files.specs.Parts.{is_changed}
 use Rattle.block_files.specs.lemmas.Outcomes.{on_err}
 use Rattle.block_files.specs.lemmas.Partly.{partly_none, partly_skip, partly_write, partly_tear, partly_all}
 use Rattle.block_files.specs.lemmas.Partly.{partly_holds}

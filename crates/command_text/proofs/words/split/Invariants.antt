@@ -1,5 +1,5 @@
 use Rattle.std.proofs.Common.{◌≡◌, take, drop}
-use Rattle.value_text.specs.Readers.{with_front}
+use Rattle.per_base.specs.FieldLoops.{with_front}
 use Rattle.command_text.specs.Reading.{split}
 use Rattle.command_text.proofs.words.split.Given as goal
 

@@ -3,7 +3,7 @@ use Rattle.disk_model.specs.Laws.{elapses_none}
 use Rattle.guarded_cell.specs.Cells.{generation_of}
 use Rattle.deployment_model.specs.Data.{deployment_data}
 use Rattle.root_text.specs.Views.{version_said}
-use Rattle.deploy_laws.specs.Apps.{App, installed, named}
+use Rattle.deploy_laws.specs.Apps.{App, installed, named_in_bank}
 use Rattle.deploy_laws.specs.Stands.{StandsThroughout}
 use Rattle.deploy_rows.specs.Rows.{installed_app}
 use Rattle.deploy.specs.Clauses.{IsBesideNext}
@@ -75,7 +75,7 @@ returns-clause-clean g c = λ tells. c.in_ok-cell.ensures.clean tells (inl refl)
 
 pub returns-clause-says : goal.returns-clause-says
 unfolding installed_app
-returns-clause-says g c = ap (λ (n : ℕ). installed n (named 0 (version_said c.args.version)) None)
+returns-clause-says g c = ap (λ (n : ℕ). installed n (named_in_bank 0 (version_said c.args.version)) None)
     c.in_ok-cell.ensures.next.counts
 
 pub returns-clause-root : goal.returns-clause-root

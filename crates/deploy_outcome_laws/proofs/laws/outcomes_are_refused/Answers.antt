@@ -2,12 +2,12 @@ use Rattle.deploy_outcome_laws.proofs.Calls.{due_wants_memory, look_mends, made_
 use Rattle.deploy_outcome_laws.proofs.Calls.{refused_done, root_first, root_stamped}
 use Rattle.deploy_outcome_laws.proofs.Plans.{generations_first, initial_where_converted, other_bank_read}
 use Rattle.deploy_outcome_laws.proofs.Plans.{unreadable_kept}
-use Rattle.deploy_outcome_laws.proofs.Rows.{active_bank_taken, bad_root_anew, copy_left, new_contents_kept}
+use Rattle.deploy_outcome_laws.proofs.Rows.{active_bank_taken, bad_root_formatted, copy_left, new_contents_kept}
 use Rattle.deploy_outcome_laws.proofs.Rows.{previous_kept}
 use Rattle.deploy_outcome_laws.proofs.laws.outcomes_are_refused.Goals as goal
 
-pub returns-clause-bad_root_anew : goal.returns-clause-bad_root_anew
-returns-clause-bad_root_anew g c = bad_root_anew
+pub returns-clause-bad_root_formatted : goal.returns-clause-bad_root_formatted
+returns-clause-bad_root_formatted g c = bad_root_formatted
 
 pub returns-clause-previous_version_kept_by_a_finish : goal.returns-clause-previous_version_kept_by_a_finish
 returns-clause-previous_version_kept_by_a_finish g c = previous_kept

@@ -1,4 +1,5 @@
-use Rattle.std.proofs.Common.{◌≡◌, ℕ, ◌+◌, ◌≤◌, List, [], ◌∷◌, ◌++◌, take, refl, sym, ap, subst, ◌∙◌, inl, arith}
+use Rattle.std.proofs.Common.{◌≡◌, ℕ, ◌+◌, ◌≤◌, List, [], ◌∷◌, ◌++◌, take, get_or, refl, sym, ap, subst, ◌∙◌, inl}
+use Rattle.std.proofs.Common.{arith}
 use Rattle.std.specs.Prelude.{sum_by}
 use Rattle.std.proofs.lemmas.List.{take_more}
 use Rattle.index_text.specs.declared.entries.IndexEntry.{IndexEntry}
@@ -9,13 +10,15 @@ use Rattle.element_state.specs.Written.{change_cost}
 use Rattle.element_store.specs.declared.jobs.Job.{Job}
 use Rattle.element_store.specs.Jobs.{jobs_cost}
 use Rattle.element_store.specs.Changing.{change_blocks, IsPlanned, IsTraced}
-use Rattle.element_store.proofs.Places.{sum_push, sum_take, fold_push}
+use Rattle.element_store.specs.declared.hashing.Hashed.{Hashed}
+use Rattle.element_store.specs.Hashing.{IsHashedAs}
+use Rattle.element_store.proofs.Places.{sum_push, sum_take, fold_push, zip_at, zip_length}
 use Rattle.element_store.proofs.Changed.{planned_start}
 use Rattle.element_store.proofs.Traced.{traced_more, names_apart}
 use Rattle.element_store.proofs.changing.plan_changes.Goals as goal
 
-pub loop-change-init : goal.loop-change-init
-loop-change-init c =
+pub loop-i-init : goal.loop-i-init
+loop-i-init c =
     let index = c.args.standing.index.now in
     let views = c.args.standing.entries.now in
     let start = planned_start c.args.standing.kind index views c.args.used.now c.requires.standing in
@@ -39,43 +42,44 @@ more changes i change is f = ap (sum_by f) is ∙ sum_push f (take i changes) ch
 
 pub plan_change-requires-clause-free : goal.plan_change-requires-clause-free
 plan_change-requires-clause-free c =
-    let is = take_more c.args.changes.now c.loop-change.change-index c.change-item.result (omega arith)
-    ∙ ap (λ (x : Change). take c.loop-change.change-index c.args.changes.now ++ x ∷ []) (sym c.change-item.is) in
-    let next = more c.args.changes.now c.loop-change.change-index c.change-item.result is change_blocks in
-    let all = sum_take change_blocks (c.loop-change.change-index + 1) c.args.changes.now in
+    let is = take_more c.args.changes.now c.loop-i.i c.index-changes-i.result (omega arith)
+    ∙ ap (λ (x : Change). take c.loop-i.i c.args.changes.now ++ x ∷ []) (sym c.index-changes-i.is) in
+    let next = more c.args.changes.now c.loop-i.i c.index-changes-i.result is change_blocks in
+    let all = sum_take change_blocks (c.loop-i.i + 1) c.args.changes.now in
     let free = c.requires.free in
-    let left = c.loop-change.invariant.2 in
+    let left = c.loop-i.invariant.2 in
     omega (arith, next, all, free, left)
 
-pub loop-change-preserved : goal.loop-change-preserved
-loop-change-preserved c =
+pub loop-i-preserved : goal.loop-i-preserved
+loop-i-preserved c =
     let kind = c.args.standing.kind in
     let index = c.args.standing.index.now in
     let views = c.args.standing.entries.now in
     let generation = c.args.standing.generation in
-    let before = take c.loop-change.change-index c.args.changes.now in
-    let is = take_more c.args.changes.now c.loop-change.change-index c.change-item.result (omega arith)
-    ∙ ap (λ (x : Change). take c.loop-change.change-index c.args.changes.now ++ x ∷ []) (sym c.change-item.is) in
-    let after : after_changes generation views (take (c.loop-change.change-index + 1) c.args.changes.now)
-    ≡ after_change generation (after_changes generation views before) c.change-item.result =
-    ap (after_changes generation views) is ∙ fold_push (after_change generation) views before c.change-item.result in
+    let before = take c.loop-i.i c.args.changes.now in
+    let is = take_more c.args.changes.now c.loop-i.i c.index-changes-i.result (omega arith)
+    ∙ ap (λ (x : Change). take c.loop-i.i c.args.changes.now ++ x ∷ []) (sym c.index-changes-i.is) in
+    let after : after_changes generation views (take (c.loop-i.i + 1) c.args.changes.now)
+    ≡ after_change generation (after_changes generation views before) c.index-changes-i.result =
+    ap (after_changes generation views) is
+    ∙ fold_push (after_change generation) views before c.index-changes-i.result in
     let planned = c.in_ok-plan_change.ensures.planned c.args.used.now (after_changes generation views before)
-    c.loop-change.invariant.0 in
-    let blocks = more c.args.changes.now c.loop-change.change-index c.change-item.result is change_blocks in
-    let costs = more c.args.changes.now c.loop-change.change-index c.change-item.result is (change_cost kind views) in
+    c.loop-i.invariant.0 in
+    let blocks = more c.args.changes.now c.loop-i.i c.index-changes-i.result is change_blocks in
+    let costs = more c.args.changes.now c.loop-i.i c.index-changes-i.result is (change_cost kind views) in
     let free = c.in_ok-plan_change.ensures.free in
     let cost = c.in_ok-plan_change.ensures.cost in
     let capacity = c.in_ok-plan_change.ensures.capacity in
     let one_more = c.in_ok-plan_change.ensures.one_more in
-    let left = c.loop-change.invariant.2 in
-    let spent = c.loop-change.invariant.3 in
-    let apart = names_apart c.args.changes.now c.loop-change.change-index c.change-item.result c.requires.apart
-    (omega arith) c.change-item.is in
-    let traced = traced_more index c.loop-change.plan.entries.items c.plan_change.new.plan.entries.items c.args.used.now
-    c.loop-change.used c.plan_change.new.used before c.change-item.result
-    apart c.loop-change.invariant.0.ascend c.loop-change.invariant.0.taken c.loop-change.invariant.4
+    let left = c.loop-i.invariant.2 in
+    let spent = c.loop-i.invariant.3 in
+    let apart = names_apart c.args.changes.now c.loop-i.i c.index-changes-i.result c.requires.apart
+    (omega arith) c.index-changes-i.is in
+    let traced = traced_more index c.loop-i.plan.entries.items c.plan_change.new.plan.entries.items c.args.used.now
+    c.loop-i.used c.plan_change.new.used before c.index-changes-i.result
+    apart c.loop-i.invariant.0.ascend c.loop-i.invariant.0.taken c.loop-i.invariant.4
     c.in_ok-plan_change.ensures.others c.in_ok-plan_change.ensures.grown in
-    let room = c.loop-change.invariant.5 in (
+    let room = c.loop-i.invariant.5 in (
       subst (λ (fs : List Entry). IsPlanned kind index views c.args.used.now c.plan_change.new.used
           c.plan_change.new.plan.entries.items fs c.plan_change.new.plan.jobs.items) (sym after) planned,
       c.in_ok-plan_change.ensures.standing,
@@ -85,3 +89,16 @@ loop-change-preserved c =
           c.plan_change.new.plan.entries.items) (sym is) traced,
       omega (arith, capacity, one_more, room),
     )
+
+pub bounds-hashed-i : goal.bounds-hashed-i
+bounds-hashed-i c =
+    let long = zip_length IsHashedAs c.args.changes.now c.args.hashed.now c.requires.hashed in
+    omega (arith, long)
+
+pub plan_change-requires-clause-hashed : goal.plan_change-requires-clause-hashed
+plan_change-requires-clause-hashed c =
+    let at = zip_at IsHashedAs c.args.changes.now c.args.hashed.now c.loop-i.i c.index-changes-i.result
+    c.index-hashed-i.result c.requires.hashed (omega arith) in
+    subst (λ (one : Hashed). IsHashedAs c.index-changes-i.result one) (sym c.index-hashed-i.is)
+    (subst (λ (change : Change). IsHashedAs change
+    (get_or c.args.hashed.now c.loop-i.i c.index-hashed-i.result)) (sym c.index-changes-i.is) at)

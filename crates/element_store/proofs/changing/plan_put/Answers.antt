@@ -1,6 +1,6 @@
 use Rattle.std.proofs.Common.{ℕ, ◌∷◌, ◌++◌, List, [], length, sym, ap, subst, ◌∙◌, arith}
 use Rattle.per_base.specs.declared.elements.Change.TheVariants.{Put}
-use Rattle.block_files.specs.Parts.{blocks_for}
+use Rattle.per_base.specs.Contents.{blocks_for}
 use Rattle.block_files.specs.BlockSets.{AreDistinct, IsAdded, SharesBlocks}
 use Rattle.index_text.specs.declared.entries.IndexEntry.{IndexEntry}
 use Rattle.element_state.specs.Changes.{insert_item, without_item, entry_name}
@@ -13,20 +13,20 @@ use Rattle.element_store.proofs.PlanSteps.{added_keeps}
 use Rattle.element_store.proofs.Put.{earlier_room, earlier_distinct, standing_keeps, planned_put}
 use Rattle.element_store.proofs.changing.plan_put.Goals as goal
 
-pub reserve_shared-requires-clause-room : goal.reserve_shared-requires-clause-room
-reserve_shared-requires-clause-room c = earlier_room c.args.standing.kind c.args.used.now c.args.standing.index.now
+pub reserve_hashed-requires-clause-room : goal.reserve_hashed-requires-clause-room
+reserve_hashed-requires-clause-room c = earlier_room c.args.standing.kind c.args.used.now c.args.standing.index.now
     c.args.standing.entries.now c.requires.standing
     c.args.fresh.now.name c.earlier_content-earlier.result.bytes.now c.earlier_content-earlier.result.blocks.now
     c.earlier_content-earlier.ensures
 
-pub reserve_shared-requires-clause-distinct : goal.reserve_shared-requires-clause-distinct
-reserve_shared-requires-clause-distinct c = earlier_distinct c.args.standing.kind c.args.used.now
+pub reserve_hashed-requires-clause-distinct : goal.reserve_hashed-requires-clause-distinct
+reserve_hashed-requires-clause-distinct c = earlier_distinct c.args.standing.kind c.args.used.now
     c.args.standing.index.now c.args.standing.entries.now c.requires.standing
     c.args.fresh.now.name c.earlier_content-earlier.result.bytes.now c.earlier_content-earlier.result.blocks.now
     c.earlier_content-earlier.ensures
 
-pub reserve_shared-requires-clause-free : goal.reserve_shared-requires-clause-free
-reserve_shared-requires-clause-free c =
+pub reserve_hashed-requires-clause-free : goal.reserve_hashed-requires-clause-free
+reserve_hashed-requires-clause-free c =
     let most = changed_at_most c.as_slice-bytes.result.now c.earlier_content-earlier.result.bytes.now
     (blocks_for (length c.as_slice-bytes.result.now)) in
     let l = ap length c.as_slice-bytes.ensures in
@@ -46,28 +46,28 @@ returns-clause-planned c = λ start elements p. (
     c.earlier_content-earlier.result.bytes.now c.earlier_content-earlier.result.blocks.now c.args.used.now bs)
     same c.in_ok-blob.ensures.shared in
     let distinct = subst AreDistinct same c.in_ok-blob.ensures.distinct in
-    let added = subst (λ (bs : List ℕ). IsAdded bs c.args.used.now c.reserve_shared.new.used) same
+    let added = subst (λ (bs : List ℕ). IsAdded bs c.args.used.now c.reserve_hashed.new.used) same
     c.in_ok-blob.ensures.used in
     subst (λ (js : List Job). IsPlanned c.args.standing.kind c.args.standing.index.now c.args.standing.entries.now start
-    c.reserve_shared.new.used c.put_in.new.items.items
+    c.reserve_hashed.new.used c.put_in.new.items.items
     (insert_item entry_name (fresh_entry c.args.standing.generation (fresh_element c.args.fresh.now))
     (without_item entry_name c.args.fresh.now.name elements)) js) (sym c.in_ok-push.ensures.items)
     (subst (λ (es : List IndexEntry). IsPlanned c.args.standing.kind c.args.standing.index.now
-    c.args.standing.entries.now start c.reserve_shared.new.used es
+    c.args.standing.entries.now start c.reserve_hashed.new.used es
     (insert_item entry_name (fresh_entry c.args.standing.generation (fresh_element c.args.fresh.now))
     (without_item entry_name c.args.fresh.now.name elements)) (c.args.plan.now.jobs.items ++ job ∷ []))
     (sym c.put_in.ensures.items)
     (planned_put c.args.standing.kind c.args.standing.index.now c.args.standing.entries.now start c.args.used.now
-    c.reserve_shared.new.used c.args.plan.now.entries.items elements c.args.plan.now.jobs.items
+    c.reserve_hashed.new.used c.args.plan.now.entries.items elements c.args.plan.now.jobs.items
     c.args.standing.generation c.args.fresh.now c.in_ok-entry.entry job c.earlier_content-earlier.result.blocks.now
     c.requires.standing c.requires.fresh c.in_ok-entry.ensures.made c.earlier_content-earlier.ensures shared distinct
     added
     (c.in_ok-entry.ensures.in_place ∙ same) c.as_slice-bytes.ensures p)))
 
 pub returns-clause-standing : goal.returns-clause-standing
-returns-clause-standing c = standing_keeps c.args.standing.kind c.args.used.now c.reserve_shared.new.used
+returns-clause-standing c = standing_keeps c.args.standing.kind c.args.used.now c.reserve_hashed.new.used
     c.args.standing.index.now c.args.standing.entries.now
-    (added_keeps c.in_ok-blob.blob.blocks c.args.used.now c.reserve_shared.new.used c.in_ok-blob.ensures.used)
+    (added_keeps c.in_ok-blob.blob.blocks c.args.used.now c.reserve_hashed.new.used c.in_ok-blob.ensures.used)
     c.requires.standing
 
 pub returns-clause-others : goal.returns-clause-others
@@ -77,8 +77,8 @@ returns-clause-others c = subst (λ (es : List IndexEntry).
     c.in_ok-entry.ensures.made.name)
 
 pub returns-clause-grown : goal.returns-clause-grown
-returns-clause-grown c = subst (λ (es : List IndexEntry). IsGrownBy es c.args.used.now c.reserve_shared.new.used)
+returns-clause-grown c = subst (λ (es : List IndexEntry). IsGrownBy es c.args.used.now c.reserve_hashed.new.used)
     (sym c.put_in.ensures.items)
     (put_grown c.in_ok-entry.entry (without_item named_by c.in_ok-entry.entry.name c.args.plan.now.entries.items)
-    c.in_ok-blob.blob.blocks c.args.used.now c.reserve_shared.new.used
+    c.in_ok-blob.blob.blocks c.args.used.now c.reserve_hashed.new.used
     c.in_ok-entry.ensures.in_place c.in_ok-blob.ensures.used)

@@ -3,8 +3,8 @@ use Rattle.std.specs.Vec.{vec_len, vec_capacity}
 use Rattle.std.specs.List.{AllByRecursion}
 use Rattle.per_base.specs.declared.elements.Entry.{Entry}
 use Rattle.per_base.specs.declared.elements.Change.{Change}
+use Rattle.per_base.specs.Names.{NamesAscend}
 use Rattle.element_state.specs.Changes.{after_changes, entry_name}
-use Rattle.element_store.specs.Named.{NamesAscend}
 use Rattle.element_store.specs.Changing.{IsSmallChange}
 use Rattle.element_store.proofs.committing.changed.Given as goal
 

@@ -70,10 +70,10 @@ returns-clause-used g c =
     (taken_area c.args.shape c.in_ok-spelled.spelled.index c.as_slice.result.now c.blocks_in_area-2.result
     c.in_ok-taken.taken c.as_slice.ensures c.blocks_in_area-2.ensures c.in_ok-taken.ensures)
     (subst P c.deref.ensures.value c.in_ok-spelled.ensures.made) c.in_ok-entries.ensures (omega arith)
-    c.new-2.result c.new-2.ensures
+    c.new-2.result c.new-2.ensures.items c.new-3.result c.new-3.ensures
 
 pub returns-clause-format : goal.returns-clause-format
-returns-clause-format g c = ap (λ (s : Store). s.index.format) c.new-2.ensures ∙ c.in_ok-spelled.ensures.format
+returns-clause-format g c = ap (λ (s : Store). s.index.format) c.new-3.ensures ∙ c.in_ok-spelled.ensures.format
 
 pub returns-clause-view : goal.returns-clause-view
 returns-clause-view g c =
@@ -93,7 +93,7 @@ returns-clause-view g c =
     (taken_area c.args.shape c.in_ok-spelled.spelled.index c.as_slice.result.now c.blocks_in_area-2.result
     c.in_ok-taken.taken c.as_slice.ensures c.blocks_in_area-2.ensures c.in_ok-taken.ensures)
     (subst P c.deref.ensures.value c.in_ok-spelled.ensures.made) c.in_ok-entries.ensures (omega arith)
-    c.new-2.result c.new-2.ensures
+    c.new-2.result c.new-2.ensures.items c.new-3.result c.new-3.ensures
 
 pub returns-in_err-keep_only-clause-elsewhere : goal.returns-in_err-keep_only-clause-elsewhere
 returns-in_err-keep_only-clause-elsewhere g c = λ tells f out.
@@ -367,10 +367,15 @@ returns-clause-written g c =
     c.in_ok-cell.ensures.formats.written in
     subst (λ (s : Store). (g.D.Disk.medium c.format_cell.new.disk).written
     ≤ (g.D.Disk.medium c.args.disk.now).written + c.args.shape.place.copies
-    * (256 * (blocks_of_all c.args.contents.items) + length (index_text s.index) + 5 * 44)) (sym c.new-2.ensures)
+    * (256 * (blocks_of_all c.args.contents.items) + length (index_text s.index) + 5 * 44)) (sym c.new-3.ensures)
     (subst (λ (t : List ℕ). (g.D.Disk.medium c.format_cell.new.disk).written
     ≤ (g.D.Disk.medium c.args.disk.now).written + c.args.shape.place.copies
     * (256 * (blocks_of_all c.args.contents.items) + length t + 5 * 44)) text_is written)
+
+pub returns-in_err-cell-clause-time : goal.returns-in_err-cell-clause-time
+returns-in_err-cell-clause-time g c =
+    elapses_on (elapses_on c.in_ok-keep_only.ensures.clears.time c.in_ok-spelled.ensures.time)
+    c.in_err-cell.ensures.formats.time
 
 pub returns-clause-time : goal.returns-clause-time
 returns-clause-time g c = elapses_on (elapses_on c.in_ok-keep_only.ensures.clears.time c.in_ok-spelled.ensures.time)

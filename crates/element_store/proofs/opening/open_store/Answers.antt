@@ -36,6 +36,9 @@ returns-in_err-cell-clause-elsewhere g c = λ tells. slots_outside c.args.shape.
     (g.D.Disk.medium c.args.disk.now) (g.D.Disk.medium c.prepare.new.disk) (g.D.Disk.medium c.adopt_seen.new.disk)
     c.in_ok-seen.ensures.image (c.in_err-cell.ensures.brings.puts.elsewhere tells)
 
+pub returns-in_err-cell-clause-time : goal.returns-in_err-cell-clause-time
+returns-in_err-cell-clause-time g c = elapses_on c.in_ok-seen.ensures.time c.in_err-cell.ensures.brings.puts.time
+
 pub returns-in_err-cell-clause-outside : goal.returns-in_err-cell-clause-outside
 returns-in_err-cell-clause-outside g c = λ tells quiet.
     second_outside c.args.shape.place c.in_ok-seen.field-0.seen.generation
@@ -137,7 +140,7 @@ returns-clause-view g c = opening_view g.D.Disk.told (g.D.Disk.medium c.args.dis
     c.in_ok-mend_durably.ensures.spared)
     (opening_whole g.D.Disk.told c.args.shape c.in_ok-seen.field-0 c.as_slice.result.now
     (g.D.Disk.medium c.mend_durably.new.disk).image c.as_slice.ensures c.in_ok-mend_durably.ensures.whole)
-    c.args.alloc c.new.result c.new.ensures
+    c.args.alloc c.new.result c.new-2.result c.new-2.ensures
 
 pub returns-clause-used : goal.returns-clause-used
 returns-clause-used g c = opening_used g.D.Disk.told (g.D.Disk.medium c.args.disk.now).image
@@ -152,18 +155,18 @@ returns-clause-used g c = opening_used g.D.Disk.told (g.D.Disk.medium c.args.dis
     c.in_ok-mend_durably.ensures.spared)
     (opening_whole g.D.Disk.told c.args.shape c.in_ok-seen.field-0 c.as_slice.result.now
     (g.D.Disk.medium c.mend_durably.new.disk).image c.as_slice.ensures c.in_ok-mend_durably.ensures.whole)
-    c.args.alloc c.new.result c.new.ensures
+    c.args.alloc c.new.result c.new.ensures.items c.new-2.result c.new-2.ensures
 
 pub returns-clause-read : goal.returns-clause-read
 returns-clause-read g c = c.in_ok-seen.ensures.ready.view
 
 pub returns-clause-shown : goal.returns-clause-shown
-returns-clause-shown g c = store_view_as c.new.result c.args.shape (ap (λ (s : Store). s.shape) c.new.ensures)
+returns-clause-shown g c = store_view_as c.new-2.result c.args.shape (ap (λ (s : Store). s.shape) c.new-2.ensures)
     (returns-clause-used g c).memory
 
 pub returns-clause-adopted : goal.returns-clause-adopted
 returns-clause-adopted g c = λ tells. opening_by (g.D.Disk.medium c.args.disk.now).image c.args.shape
-    c.in_ok-seen.field-0 (index_in c.new.result) (ap index_in c.new.ensures) (c.in_ok-seen.ensures.found tells)
+    c.in_ok-seen.field-0 (index_in c.new-2.result) (ap index_in c.new-2.ensures) (c.in_ok-seen.ensures.found tells)
 
 pub returns-clause-clean : goal.returns-clause-clean
 returns-clause-clean g c = λ tells clean. opening_clean g.D.Disk.told (g.D.Disk.medium c.args.disk.now).image

@@ -1,4 +1,4 @@
-use Rattle.export_text.proofs.FieldReaders.{no_text_no_name}
+use Rattle.index_text.specs.lemmas.FieldReaders.{no_text_no_name}
 use Rattle.export_text.proofs.fields.name_from.Goals as goal
 
 pub returns-in_default : goal.returns-in_default

@@ -1,5 +1,6 @@
 use Rattle.flash_disk.specs.Newest.{places}
-use Rattle.flash_disk.proofs.Fresh.{blank_is_usable, blank_is_agreed, blank_is_apart, agreed_has_no_rivals}
+use Rattle.flash_disk.proofs.Fresh.{blank_is_usable, blank_is_agreed, blank_stands_apart, agreed_has_no_rivals}
+use Rattle.flash_disk.proofs.Holding.{stand_apart}
 use Rattle.flash_disk.proofs.laws.fresh_flashes_open.Goals as goal
 
 pub returns-clause-usable : goal.returns-clause-usable
@@ -9,7 +10,10 @@ pub returns-clause-agreed : goal.returns-clause-agreed
 returns-clause-agreed c pages blocks blank = blank_is_agreed pages blocks blank
 
 pub returns-clause-apart : goal.returns-clause-apart
-returns-clause-apart c pages blocks blank = blank_is_apart pages blocks blank
+returns-clause-apart c pages blocks blank = stand_apart pages blocks (blank_stands_apart pages blocks blank)
+
+pub returns-clause-stand : goal.returns-clause-stand
+returns-clause-stand c pages blocks blank = blank_stands_apart pages blocks blank
 
 pub returns-clause-no_rivals : goal.returns-clause-no_rivals
 returns-clause-no_rivals c pages blocks = agreed_has_no_rivals pages (places blocks)

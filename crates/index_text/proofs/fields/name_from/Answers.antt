@@ -1,5 +1,5 @@
-use Rattle.index_text.proofs.FieldReaders.{no_text_no_name}
 use Rattle.index_text.proofs.fields.name_from.Goals as goal
+use Rattle.index_text.specs.lemmas.FieldReaders.{no_text_no_name}
 
 pub returns-in_default : goal.returns-in_default
 returns-in_default c = no_text_no_name c.args.bytes.now c.in_default.ensures.cases.0

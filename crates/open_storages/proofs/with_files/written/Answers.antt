@@ -1,6 +1,6 @@
 use Rattle.std.proofs.Common.{ℕ, List, subst}
 use Rattle.std.specs.Prelude.{IfErr}
-use Rattle.file_core.specs.Refusals.{IsRefusal}
+use Rattle.per_base.specs.Refusals.{IsRefusal}
 use Rattle.file_handles.specs.Handling as handling
 use Rattle.file_storage.specs.FileSessions.{FilesInUse}
 use Rattle.run_model.specs.Sessions.{storage_of}

@@ -1,8 +1,8 @@
 use Rattle.std.proofs.Common.{subst}
 use Rattle.std.specs.Prelude.{IfErr}
+use Rattle.per_base.specs.Refusals.{IsRefusal}
 use Rattle.value_model.specs.Trees.{Tree}
 use Rattle.kvs_core.specs.Calls as calls
-use Rattle.kvs_core.specs.Refusals.{IsRefusal}
 use Rattle.open_storages.proofs.with_keys.set.Goals as goal
 
 pub returns-clause-refused : goal.returns-clause-refused

@@ -5,7 +5,7 @@ use Rattle.deployment_model.specs.Data.{storage_data}
 use Rattle.deployment_model.specs.declared.configs.Deployment.{Deployment}
 use Rattle.deployment_model.specs.declared.configs.StorageConfig.{StorageConfig}
 use Rattle.per_audit.specs.Audits.{listed_of, of_storage}
-use Rattle.per_audit.specs.Noted.{AddsNotes, of_previous, version_in_bank, within}
+use Rattle.per_audit.specs.Noted.{AddsNotes, of_previous, over_storages, version_in_bank}
 use Rattle.per_audit.proofs.Applications.{adds_nothing, kept_some}
 use Rattle.per_audit.proofs.Remaining.{few_storages}
 use Rattle.per_audit.proofs.auditing.audit_previous.Goals as goal
@@ -38,6 +38,6 @@ returns-clause-adds g c = λ tells.
     (version_in_bank c.args.bank o))
     (of_previous (of_storage c.args.app) old c.args.app (version_in_bank c.args.bank o))
     c.args.notes.now c.audit_storages.new.notes) (sym c.in-Some.is)
-    (subst (λ (ds : List StorageConfig). AddsNotes (within (listed_of c.args.app) old c.args.app c.args.bank 0
-    (map storage_data ds)) (within (of_storage c.args.app) old c.args.app c.args.bank 0 (map storage_data ds))
+    (subst (λ (ds : List StorageConfig). AddsNotes (over_storages (listed_of c.args.app) old c.args.app c.args.bank 0
+    (map storage_data ds)) (over_storages (of_storage c.args.app) old c.args.app c.args.bank 0 (map storage_data ds))
     c.args.notes.now c.audit_storages.new.notes) c.as_slice.ensures (c.in_ok-audit_storages.ensures.adds tells))

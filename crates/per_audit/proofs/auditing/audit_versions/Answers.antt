@@ -7,7 +7,7 @@ use Rattle.deployment_model.specs.Conditions.{IsStorage}
 use Rattle.deployment_model.specs.Data.{deployment_data, storage_data}
 use Rattle.deployment_model.specs.declared.configs.StorageConfig.{StorageConfig}
 use Rattle.per_audit.specs.Audits.{damaged_by, listed_of, of_storage, unless_sole}
-use Rattle.per_audit.specs.Noted.{AddsNotes, of_previous, version_in_bank, within}
+use Rattle.per_audit.specs.Noted.{AddsNotes, of_previous, over_storages, version_in_bank}
 use Rattle.per_audit.proofs.Applications.{adds_on, shown_active, shown_previous}
 use Rattle.per_audit.proofs.Remaining.{few_storages}
 use Rattle.per_audit.proofs.auditing.audit_versions.Goals as goal
@@ -48,20 +48,20 @@ returns-clause-adds g c = λ tells.
     let old = (g.D.Disk.medium c.args.disk.now).image in
     let of_root = damaged_by app None Root s.lacking ++ unless_sole s.sole app None Root in
     let active = subst (λ (ds : List StorageConfig). AddsNotes
-    (within (listed_of app) old app s.bank 0 (map storage_data ds))
-    (within (of_storage app) old app s.bank 0 (map storage_data ds))
+    (over_storages (listed_of app) old app s.bank 0 (map storage_data ds))
+    (over_storages (of_storage app) old app s.bank 0 (map storage_data ds))
     c.note_root.new.notes c.audit_storages.new.notes) c.as_slice.ensures (c.in_ok-audit_storages.ensures.adds tells) in
     let previous = subst (λ (im : Image). AddsNotes (of_previous (listed_of app) im app
     (version_in_bank (1 - s.bank) s.previous))
     (of_previous (of_storage app) im app (version_in_bank (1 - s.bank) s.previous))
     c.audit_storages.new.notes c.audit_previous.new.notes) c.in_ok-audit_storages.ensures.image
     (c.in_ok-audit_previous.ensures.adds tells) in
-    adds_on (within (listed_of app) old app s.bank 0 (map storage_data s.active.storages))
+    adds_on (over_storages (listed_of app) old app s.bank 0 (map storage_data s.active.storages))
     (of_previous (listed_of app) old app (version_in_bank (1 - s.bank) s.previous))
-    (of_root ++ within (of_storage app) old app s.bank 0 (map storage_data s.active.storages))
+    (of_root ++ over_storages (of_storage app) old app s.bank 0 (map storage_data s.active.storages))
     (of_previous (of_storage app) old app (version_in_bank (1 - s.bank) s.previous))
     c.args.notes.now c.audit_storages.new.notes c.audit_previous.new.notes
-    (adds_on [] (within (listed_of app) old app s.bank 0 (map storage_data s.active.storages)) of_root
-    (within (of_storage app) old app s.bank 0 (map storage_data s.active.storages))
+    (adds_on [] (over_storages (listed_of app) old app s.bank 0 (map storage_data s.active.storages)) of_root
+    (over_storages (of_storage app) old app s.bank 0 (map storage_data s.active.storages))
     c.args.notes.now c.note_root.new.notes c.audit_storages.new.notes c.in_ok-note_root.ensures active)
     previous

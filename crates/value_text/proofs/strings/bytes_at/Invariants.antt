@@ -1,5 +1,6 @@
 use Rattle.std.proofs.Common.{◌≡◌, length, ◌-◌}
-use Rattle.value_text.specs.Readers.{with_front, hex_bytes_at}
+use Rattle.per_base.specs.FieldLoops.{with_front}
+use Rattle.value_text.specs.Readers.{hex_bytes_at}
 use Rattle.value_text.proofs.strings.bytes_at.Given as goal
 
 -- the bytes so far, and those of what is left

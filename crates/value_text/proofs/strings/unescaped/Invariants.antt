@@ -1,5 +1,6 @@
 use Rattle.std.proofs.Common.{◌≡◌, false, drop}
-use Rattle.value_text.specs.Readers.{with_front, quoted_at}
+use Rattle.per_base.specs.FieldLoops.{with_front}
+use Rattle.value_text.specs.Readers.{quoted_at}
 use Rattle.value_text.proofs.strings.unescaped.Given as goal
 
 -- the text so far, and what is left of it

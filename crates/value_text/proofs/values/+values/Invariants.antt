@@ -1,6 +1,7 @@
 use Rattle.std.proofs.Common.{◌≡◌, map, ◌+◌, ◌-◌, ◌*◌}
+use Rattle.per_base.specs.FieldLoops.{with_front}
 use Rattle.value_model.specs.Views.{tree_of}
-use Rattle.value_text.specs.Readers.{with_front, separated}
+use Rattle.value_text.specs.Readers.{separated}
 use Rattle.value_text.specs.Parsing.{tree_at}
 use Rattle.value_text.proofs.values.+values.Given as goal
 

@@ -2,12 +2,9 @@ use Rattle.std.proofs.Common.{◌-◌, ◌%◌, arith}
 use Rattle.changed_runs.proofs.Looking.{freshly_seen}
 use Rattle.changed_runs.proofs.held.Held.look.Goals as goal
 
-pub invariant_of-self : goal.invariant_of-self
-invariant_of-self g c = record { within = omega (arith, c.in_ok-read.ensures.count, c.min-end.ensures) }
-
 pub returns-clause-seen : goal.returns-clause-seen
 returns-clause-seen g c = λ tells old keeps was.
-    freshly_seen ((g.D.Disk.medium c.args.disk.now).image c.args.file) c.in_ok-read.read.0 c.args.bytes.now c.args.at
-    (c.args.j - c.args.j % 16) c.args.j c.in_ok-read.read.1 c.requires.inside
-    (omega (arith, (c.in_ok-read.ensures.bytes tells).0, c.min-end.ensures)) (c.in_ok-read.ensures.bytes tells).1
+    freshly_seen ((g.D.Disk.medium c.args.disk.now).image c.args.file) c.read_into.new.held c.args.bytes.now c.args.at
+    (c.args.j - c.args.j % 16) c.args.j c.in_ok-self.field-0 c.requires.inside
+    (omega (arith, (c.in_ok-self.ensures.bytes tells).0, c.min-end.ensures)) (c.in_ok-self.ensures.bytes tells).1
     old keeps

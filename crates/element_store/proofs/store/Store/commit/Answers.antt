@@ -25,6 +25,8 @@ use Rattle.guarded_cell.specs.Differing.{texts_cost}
 use Rattle.guarded_cell.specs.Register.{own}
 use Rattle.hash_guard.specs.SealedText.{sealed}
 use Rattle.element_store.specs.Stores.{store_generation}
+use Rattle.std.specs.List.{All, AllZip}
+use Rattle.element_store.specs.Hashing.{IsHashedAs, AreOfElement}
 use Rattle.element_store.proofs.Finished.{alone_still, small_changes, store_ascends, finished_view, finished_used}
 use Rattle.element_store.proofs.Finished.{of_either, contents_within}
 use Rattle.element_store.proofs.InOrder.{ascends_as}
@@ -54,6 +56,10 @@ write_in-requires-clause-room g c =
 
 pub write_in-requires-clause-generation : goal.write_in-requires-clause-generation
 write_in-requires-clause-generation g c = let less = c.requires.changes.not_worn in omega (arith, less)
+
+pub kept_after-kept-requires : goal.kept_after-kept-requires
+kept_after-kept-requires g c = subst (λ (cs : List Change). AllZip IsHashedAs cs c.in-Ok.ready.hashed.items)
+    (c.deref.ensures.value ∙ sym c.deref-2.ensures.value) c.in-Ok.ensures.hashed
 
 pub write_in-requires-clause-held : goal.write_in-requires-clause-held
 write_in-requires-clause-held g c = λ tells. (
@@ -221,7 +227,8 @@ returns-clause-used g c = (
     c.deref.ensures.value c.in-Ok.ensures.ready in
     let prep = ready.prepared in
     finished_used g.D.Disk.told c.args.self c.new.result c.args.changes.items _ c.in-Ok-write_in.cell
-    c.in-Ok.ready.index c.changed-entries.result c.release_replaced.new.taken c.new.ensures c.requires.used.memory
+    c.in-Ok.ready.index c.changed-entries.result c.release_replaced.new.taken c.kept_after-kept.result
+    c.new.ensures c.requires.used.memory
     c.in-Ok-write_in.ensures.next (c.changed-entries.ensures
     ∙ ap (λ (n : ℕ). after_changes n c.moved.result.items c.args.changes.items) c.generation.ensures
     ∙ ap (λ (es : List Entry). after_changes c.in-Ok-write_in.cell.generation es c.args.changes.items)
@@ -230,6 +237,10 @@ returns-clause-used g c = (
     (g.D.Disk.medium c.args.disk.now) c.requires.used prep.plan)
     (taken_area c.args.self.shape c.in-Ok.ready.index c.as_slice-3.result.now (length c.in-Ok.ready.used)
     c.release_replaced.new.taken c.as_slice-3.ensures prep.capacity c.release_replaced.ensures)
+    (subst (λ (cs : List Change). All (AreOfElement (after_changes (store_generation c.args.self + 1)
+    c.args.self.entries.items cs)) c.kept_after-kept.result.items) c.deref-2.ensures.value
+    (c.kept_after-kept.ensures (store_generation c.args.self + 1) c.args.self.entries.items
+    c.requires.used.memory.kept))
     (λ tells. commit_in_use g.D.Disk.told c.args.self c.args.changes.items c.in-Ok.ready.used c.in-Ok.ready.index
     ready.jobs (g.D.Disk.medium c.args.disk.now) c.requires.used prep.plan tells
     (g.D.Disk.medium c.write_contents.new.disk) (g.D.Disk.medium c.write_in.new.disk) c.as_slice.result.now
@@ -242,7 +253,8 @@ returns-clause-shape g c = ap (λ (st : Store). st.shape) c.new.ensures
 
 pub returns-clause-view : goal.returns-clause-view
 returns-clause-view g c = finished_view g.D.Disk.told c.args.self c.new.result c.args.changes.items _
-    c.in-Ok-write_in.cell c.in-Ok.ready.index c.changed-entries.result c.release_replaced.new.taken c.new.ensures
+    c.in-Ok-write_in.cell c.in-Ok.ready.index c.changed-entries.result c.release_replaced.new.taken
+    c.kept_after-kept.result c.new.ensures
     c.requires.used.memory c.in-Ok-write_in.ensures.next
     (c.changed-entries.ensures ∙ ap (λ (n : ℕ). after_changes n c.moved.result.items c.args.changes.items)
     c.generation.ensures ∙ ap (λ (es : List Entry). after_changes c.in-Ok-write_in.cell.generation es
@@ -391,7 +403,8 @@ returns-clause-text g c = (
     let prep = ready.prepared in
     let view : view_in c.new.result ≡ committed_by c.args.self.shape (view_in c.args.self) c.args.changes.items =
     finished_view g.D.Disk.told c.args.self c.new.result c.args.changes.items _ c.in-Ok-write_in.cell
-    c.in-Ok.ready.index c.changed-entries.result c.release_replaced.new.taken c.new.ensures c.requires.used.memory
+    c.in-Ok.ready.index c.changed-entries.result c.release_replaced.new.taken c.kept_after-kept.result
+    c.new.ensures c.requires.used.memory
     c.in-Ok-write_in.ensures.next (c.changed-entries.ensures
     ∙ ap (λ (n : ℕ). after_changes n c.moved.result.items c.args.changes.items) c.generation.ensures
     ∙ ap (λ (es : List Entry). after_changes c.in-Ok-write_in.cell.generation es c.args.changes.items)

@@ -1,7 +1,7 @@
 use Rattle.std.proofs.Common.{◌∙◌, List, Ok, Err, get_or, refl, sym, ap, subst}
 use Rattle.per_base.specs.declared.elements.Entry.{Entry}
+use Rattle.per_base.specs.Names.{NamesAscend}
 use Rattle.element_state.specs.Changes.{entry_name}
-use Rattle.element_store.specs.Named.{NamesAscend}
 use Rattle.element_store.proofs.Finished.{store_ascends}
 use Rattle.element_store.proofs.InOrder.{place_moved, found_here, found_none, parted_apart}
 use Rattle.element_store.proofs.store.Store.entry.Goals as goal

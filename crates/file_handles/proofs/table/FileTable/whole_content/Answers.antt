@@ -2,9 +2,9 @@ use Rattle.std.proofs.Common.{◌≡◌, sym, ◌∙◌, ap, subst}
 use Rattle.std.specs.Prelude.{Ok}
 use Rattle.per_base.specs.declared.opening.OpenKind.TheVariants.{Read}
 use Rattle.per_base.specs.declared.opening.OpenMode.{OpenMode}
+use Rattle.per_base.specs.Modes.{plain}
 use Rattle.file_handles.specs.Opening.{open_file}
 use Rattle.file_handles.specs.Tables.{Table}
-use Rattle.file_handles.specs.Whole.{plain}
 use Rattle.file_handles.specs.lemmas.Asked.{cat_given}
 use Rattle.file_handles.proofs.table.FileTable.whole_content.Goals as goal
 

@@ -1,7 +1,7 @@
 use Rattle.std.proofs.Common.{◌≡◌, subst}
 use Rattle.std.specs.Prelude.{IfErr, IfOk, Ok}
 use Rattle.per_base.specs.declared.errors.PerError.TheVariants.{OutOfMemory}
-use Rattle.file_core.specs.Refusals.{NeedsMemory}
+use Rattle.per_base.specs.Refusals.{NeedsMemory}
 use Rattle.file_handles.specs.Opening as opening
 use Rattle.deployment_model.specs.Data.{storage_data}
 use Rattle.file_storage.specs.FileSessions.{FilesInUse, storage_of}

@@ -1,7 +1,7 @@
 use Rattle.std.proofs.Common.{◌≡◌, subst}
 use Rattle.std.specs.Prelude.{IfErr}
 use Rattle.per_base.specs.declared.errors.PerError.TheVariants.{OutOfMemory}
-use Rattle.file_core.specs.Refusals.{IsDue}
+use Rattle.per_base.specs.Refusals.{IsDue}
 use Rattle.file_handles.specs.Handling as calls
 use Rattle.file_storage.specs.FileSessions.{FilesInUse}
 use Rattle.file_storage.proofs.files.Files.read.Goals as goal

@@ -1,9 +1,9 @@
 use Rattle.std.proofs.Common.{◌≡◌, subst}
 use Rattle.std.specs.Prelude.{IfErr}
 use Rattle.per_base.specs.declared.errors.PerError.TheVariants.{OutOfMemory}
-use Rattle.file_core.specs.Files.{bytes_of}
+use Rattle.per_base.specs.Contents.{readable_bytes}
+use Rattle.per_base.specs.Refusals.{IsDue}
 use Rattle.file_core.specs.Places as places
-use Rattle.file_core.specs.Refusals.{IsDue}
 use Rattle.file_handles.specs.Handling as calls
 use Rattle.deployment_model.specs.Data.{storage_data}
 use Rattle.file_storage.specs.FileSessions.{FilesInUse}
@@ -15,7 +15,7 @@ invariant_of-self c = stays_open c.self.inside.table c.read_all.new.self c.read_
     (storage_data c.self.inside.config) c.self.inside.store c.self.invariant c.read_all.ensures.storage
     c.read_all.ensures.unchanged
     (λ a e. keeps_same _ _ (moving_moves c.self.inside.table.session c.read_all.new.self.session c.args.handle
-    (λ handle file. places.read_all handle.cursor (bytes_of file.content)) a.items
+    (λ handle file. places.read_all handle.cursor (readable_bytes file.content)) a.items
     (rw e at c.read_all.ensures.ok)).files)
 
 pub returns-clause-memory : goal.returns-clause-memory

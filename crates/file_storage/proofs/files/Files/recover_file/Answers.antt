@@ -3,7 +3,7 @@ use Rattle.std.specs.Prelude.{IfErr, Some, option_copied}
 use Rattle.per_base.specs.declared.elements.Element.{Element}
 use Rattle.per_base.specs.declared.errors.PerError.TheVariants.{OutOfMemory}
 use Rattle.per_base.specs.Maps.{element_at}
-use Rattle.file_core.specs.Refusals.{IsDue, IsRefusal}
+use Rattle.per_base.specs.Refusals.{IsDue, IsRefusal}
 use Rattle.file_handles.specs.ByName as calls
 use Rattle.deployment_model.specs.Lookups.{initial_of}
 use Rattle.deployment_model.specs.Data.{storage_data}

@@ -1,7 +1,7 @@
 use Rattle.std.proofs.Common.{◌≡◌, subst}
 use Rattle.std.specs.Prelude.{IfErr, option_copied}
 use Rattle.per_base.specs.declared.errors.PerError.TheVariants.{OutOfMemory}
-use Rattle.file_core.specs.Refusals.{IsDue}
+use Rattle.per_base.specs.Refusals.{IsDue}
 use Rattle.file_handles.specs.ByName as calls
 use Rattle.deployment_model.specs.Lookups.{initial_of}
 use Rattle.deployment_model.specs.Data.{storage_data}

@@ -1,7 +1,7 @@
 use Rattle.std.proofs.Common.{◌≡◌, subst}
 use Rattle.std.specs.Prelude.{IfErr}
 use Rattle.per_base.specs.declared.errors.PerError.TheVariants.{OutOfMemory}
-use Rattle.file_core.specs.Refusals.{IsDue, IsRefusal}
+use Rattle.per_base.specs.Refusals.{IsDue, IsRefusal}
 use Rattle.file_handles.specs.Handling as calls
 use Rattle.deployment_model.specs.Data.{storage_data}
 use Rattle.file_storage.specs.FileSessions.{FilesInUse, storage_of}

@@ -1,11 +1,11 @@
-use Rattle.std.proofs.Common.{◌≡◌, ◌+◌, ◌*◌, refl, sym, ap, inl, inr, subst, ◌∙◌, arith}
+use Rattle.std.proofs.Common.{◌≡◌, ◌*◌, refl, sym, ap, inl, inr, subst, ◌∙◌, arith}
 use Rattle.flash_record.specs.PageRecord.{PageRecord}
-use Rattle.flash_disk.specs.declared.table.Place.{Place}
+use Rattle.flash_disk.specs.declared.table.FlashPage.{FlashPage}
 use Rattle.flash_disk.specs.declared.layer.LayerState.{LayerState}
 use Rattle.flash_disk.specs.Does.{Does}
 use Rattle.flash_disk.specs.PutPart.{PutPart}
-use Rattle.flash_disk.specs.Sound.{files_on, IsSoundLayer, FitsIn, LeavesPut, ShowsPage}
-use Rattle.flash_disk.proofs.Adding.{puts_nothing, added_sound, added_entries, added_put, added_shown, failed_holds}
+use Rattle.flash_disk.specs.Sound.{files_on, IsSoundLayer, FitsIn, LeavesAdded, ShowsPage}
+use Rattle.flash_disk.proofs.Adding.{adds_nothing, added_sound, added_entries, added_put, added_shown, failed_holds}
 use Rattle.flash_disk.proofs.Adding.{add_does}
 use Rattle.flash_disk.proofs.Accounting.{accounts_here, accounts_on}
 use Rattle.flash_disk.proofs.layer.Layer.add.Goals as goal
@@ -13,10 +13,11 @@ use Rattle.flash_disk.proofs.layer.Layer.add.Goals as goal
 pub returns-in_err-sequence-clause-does : goal.returns-in_err-sequence-clause-does
 returns-in_err-sequence-clause-does g c told =
     let f = c.args.self.now.flash in
-    subst (λ now. Does (LeavesPut c.args.file (256 * c.args.page) c.args.bytes.now c.args.len (g.F.Flash.medium f))
-    (g.F.Flash.medium f) (g.F.Flash.medium now)) (sym c.next_sequence.ensures.flash)
-    (puts_nothing g.F.Flash.told (g.F.Flash.medium f) (g.met.F.Flash.lawful f) c.args.self.now.state
-    (c.requires.ready.sound told) c.args.file (256 * c.args.page) c.args.len c.args.bytes.now)
+    subst (λ now. Does (LeavesAdded c.args.self.now.state.current c.args.file (256 * c.args.page) c.args.bytes.now
+    c.args.len (g.F.Flash.medium f)) (g.F.Flash.medium f) (g.F.Flash.medium now)) (sym c.next_sequence.ensures.flash)
+    (adds_nothing g.F.Flash.told (g.F.Flash.medium f) (g.met.F.Flash.lawful f) c.args.self.now.state
+    (c.requires.ready.sound told) c.args.self.now.state.current c.args.file (256 * c.args.page) c.args.len
+    c.args.bytes.now)
 
 pub returns-in-Ok-clause-stays : goal.returns-in-Ok-clause-stays
 returns-in-Ok-clause-stays g c = record {
@@ -36,7 +37,7 @@ returns-in-Ok-clause-stays g c = record {
       let m = g.F.Flash.medium c.next_sequence.new.self.flash in
       let now = g.F.Flash.medium c.program_page.new.self.flash in
       let u = c.program_page.new.self.state in
-      let place : Place = record { block = t.current; page = t.fill } in
+      let place : FlashPage = record { block = t.current; page = t.fill } in
       let sound : IsSoundLayer m s = subst (λ f. IsSoundLayer (g.F.Flash.medium f) s)
       (sym c.next_sequence.ensures.flash)
       (c.requires.ready.sound told) in
@@ -49,7 +50,7 @@ returns-in-Ok-clause-stays g c = record {
       c.program_page.ensures.state ∙ ap (λ (q : LayerState). let z : LayerState = record q { fill = 64 } in
       z)
       state in
-      let at = ap (λ (q : LayerState). let p : Place = record { block = q.current; page = q.fill } in p) state in
+      let at = ap (λ (q : LayerState). let p : FlashPage = record { block = q.current; page = q.fill } in p) state in
       subst (λ f. IsSoundLayer (g.F.Flash.medium f) c.enter.new.self.state) (sym c.enter.ensures.flash)
       (added_sound m now s u place r c.page_with.result sound c.requires.room fits c.requires.bytes at next.0 on
       c.page_with.ensures
@@ -73,7 +74,7 @@ returns-in-Ok-clause-put g c told =
     let m = g.F.Flash.medium c.next_sequence.new.self.flash in
     let now = g.F.Flash.medium c.program_page.new.self.flash in
     let u = c.program_page.new.self.state in
-    let place : Place = record { block = t.current; page = t.fill } in
+    let place : FlashPage = record { block = t.current; page = t.fill } in
     let sound : IsSoundLayer m s = subst (λ f. IsSoundLayer (g.F.Flash.medium f) s) (sym c.next_sequence.ensures.flash)
     (c.requires.ready.sound told) in
     let fits : FitsIn m s c.args.file c.args.page c.args.len c.args.bytes.now =
@@ -84,7 +85,7 @@ returns-in-Ok-clause-put g c told =
     let on : u ≡ record s { sequence = c.in_ok-sequence.sequence; fill = 64 } =
     c.program_page.ensures.state ∙ ap (λ (q : LayerState). let z : LayerState = record q { fill = 64 } in z)
     state in
-    let at = ap (λ (q : LayerState). let p : Place = record { block = q.current; page = q.fill } in p) state in
+    let at = ap (λ (q : LayerState). let p : FlashPage = record { block = q.current; page = q.fill } in p) state in
     subst (λ f. PutPart c.args.file (256 * c.args.page) c.args.bytes.now c.args.len (files_on (g.F.Flash.medium f))
     (files_on (g.F.Flash.medium c.enter.new.self.flash)))
     c.next_sequence.ensures.flash
@@ -109,7 +110,7 @@ returns-in-Ok-clause-shown g c told =
     let m = g.F.Flash.medium c.next_sequence.new.self.flash in
     let now = g.F.Flash.medium c.program_page.new.self.flash in
     let u = c.program_page.new.self.state in
-    let place : Place = record { block = t.current; page = t.fill } in
+    let place : FlashPage = record { block = t.current; page = t.fill } in
     let sound : IsSoundLayer m s = subst (λ f. IsSoundLayer (g.F.Flash.medium f) s) (sym c.next_sequence.ensures.flash)
     (c.requires.ready.sound told) in
     let fits : FitsIn m s c.args.file c.args.page c.args.len c.args.bytes.now =
@@ -120,7 +121,7 @@ returns-in-Ok-clause-shown g c told =
     let on : u ≡ record s { sequence = c.in_ok-sequence.sequence; fill = 64 } =
     c.program_page.ensures.state ∙ ap (λ (q : LayerState). let z : LayerState = record q { fill = 64 } in z)
     state in
-    let at = ap (λ (q : LayerState). let p : Place = record { block = q.current; page = q.fill } in p) state in
+    let at = ap (λ (q : LayerState). let p : FlashPage = record { block = q.current; page = q.fill } in p) state in
     subst (λ f. ShowsPage (g.F.Flash.medium f) (g.F.Flash.medium c.enter.new.self.flash) c.args.file c.args.page
     c.args.bytes.now) c.next_sequence.ensures.flash
     (subst (λ f. ShowsPage m (g.F.Flash.medium f) c.args.file c.args.page c.args.bytes.now) (sym c.enter.ensures.flash)
@@ -143,7 +144,7 @@ returns-in-Ok-clause-does g c told =
     let m = g.F.Flash.medium c.next_sequence.new.self.flash in
     let now = g.F.Flash.medium c.program_page.new.self.flash in
     let u = c.program_page.new.self.state in
-    let place : Place = record { block = t.current; page = t.fill } in
+    let place : FlashPage = record { block = t.current; page = t.fill } in
     let sound : IsSoundLayer m s = subst (λ f. IsSoundLayer (g.F.Flash.medium f) s) (sym c.next_sequence.ensures.flash)
     (c.requires.ready.sound told) in
     let fits : FitsIn m s c.args.file c.args.page c.args.len c.args.bytes.now =
@@ -154,11 +155,12 @@ returns-in-Ok-clause-does g c told =
     let on : u ≡ record s { sequence = c.in_ok-sequence.sequence; fill = 64 } =
     c.program_page.ensures.state ∙ ap (λ (q : LayerState). let z : LayerState = record q { fill = 64 } in z)
     state in
-    let at = ap (λ (q : LayerState). let p : Place = record { block = q.current; page = q.fill } in p) state in
-    subst (λ f. Does (LeavesPut c.args.file (256 * c.args.page) c.args.bytes.now c.args.len (g.F.Flash.medium f))
-    (g.F.Flash.medium f) (g.F.Flash.medium c.enter.new.self.flash)) c.next_sequence.ensures.flash
-    (subst (λ f. Does (LeavesPut c.args.file (256 * c.args.page) c.args.bytes.now c.args.len m) m (g.F.Flash.medium f))
-    (sym c.enter.ensures.flash)
+    let at = ap (λ (q : LayerState). let p : FlashPage = record { block = q.current; page = q.fill } in p) state in
+    subst (λ f. Does (LeavesAdded c.args.self.now.state.current c.args.file (256 * c.args.page) c.args.bytes.now
+    c.args.len (g.F.Flash.medium f)) (g.F.Flash.medium f) (g.F.Flash.medium c.enter.new.self.flash))
+    c.next_sequence.ensures.flash
+    (subst (λ f. Does (LeavesAdded c.args.self.now.state.current c.args.file (256 * c.args.page) c.args.bytes.now
+    c.args.len m) m (g.F.Flash.medium f)) (sym c.enter.ensures.flash)
     (add_does m now s u place r c.page_with.result sound c.requires.room fits c.requires.bytes at next.0 on
     c.page_with.ensures
     c.program_page.result (c.program_page.ensures.done told) (c.program_page.ensures.failed told)
@@ -182,7 +184,7 @@ returns-in-Err-clause-stays g c = record {
       let m = g.F.Flash.medium c.next_sequence.new.self.flash in
       let now = g.F.Flash.medium c.program_page.new.self.flash in
       let u = c.program_page.new.self.state in
-      let place : Place = record { block = t.current; page = t.fill } in
+      let place : FlashPage = record { block = t.current; page = t.fill } in
       let sound : IsSoundLayer m s = subst (λ f. IsSoundLayer (g.F.Flash.medium f) s)
       (sym c.next_sequence.ensures.flash)
       (c.requires.ready.sound told) in
@@ -195,7 +197,7 @@ returns-in-Err-clause-stays g c = record {
       c.program_page.ensures.state ∙ ap (λ (q : LayerState). let z : LayerState = record q { fill = 64 } in
       z)
       state in
-      let at = ap (λ (q : LayerState). let p : Place = record { block = q.current; page = q.fill } in p) state in
+      let at = ap (λ (q : LayerState). let p : FlashPage = record { block = q.current; page = q.fill } in p) state in
       failed_holds m now s u place r c.page_with.result sound c.requires.room fits c.requires.bytes at next.0 on
       c.page_with.ensures
       (c.in-Err.ensures.failed told) (c.program_page.ensures.accounts.time told).blocks;
@@ -216,7 +218,7 @@ returns-in-Err-clause-does g c told =
     let m = g.F.Flash.medium c.next_sequence.new.self.flash in
     let now = g.F.Flash.medium c.program_page.new.self.flash in
     let u = c.program_page.new.self.state in
-    let place : Place = record { block = t.current; page = t.fill } in
+    let place : FlashPage = record { block = t.current; page = t.fill } in
     let sound : IsSoundLayer m s = subst (λ f. IsSoundLayer (g.F.Flash.medium f) s) (sym c.next_sequence.ensures.flash)
     (c.requires.ready.sound told) in
     let fits : FitsIn m s c.args.file c.args.page c.args.len c.args.bytes.now =
@@ -227,9 +229,9 @@ returns-in-Err-clause-does g c told =
     let on : u ≡ record s { sequence = c.in_ok-sequence.sequence; fill = 64 } =
     c.program_page.ensures.state ∙ ap (λ (q : LayerState). let z : LayerState = record q { fill = 64 } in z)
     state in
-    let at = ap (λ (q : LayerState). let p : Place = record { block = q.current; page = q.fill } in p) state in
-    subst (λ f. Does (LeavesPut c.args.file (256 * c.args.page) c.args.bytes.now c.args.len (g.F.Flash.medium f))
-    (g.F.Flash.medium f) now) c.next_sequence.ensures.flash
+    let at = ap (λ (q : LayerState). let p : FlashPage = record { block = q.current; page = q.fill } in p) state in
+    subst (λ f. Does (LeavesAdded c.args.self.now.state.current c.args.file (256 * c.args.page) c.args.bytes.now
+    c.args.len (g.F.Flash.medium f)) (g.F.Flash.medium f) now) c.next_sequence.ensures.flash
     (add_does m now s u place r c.page_with.result sound c.requires.room fits c.requires.bytes at next.0 on
     c.page_with.ensures
     c.program_page.result (c.program_page.ensures.done told) (c.program_page.ensures.failed told)
@@ -262,7 +264,7 @@ returns-in-Ok-clause-entries g c told =
     let m = g.F.Flash.medium c.next_sequence.new.self.flash in
     let now = g.F.Flash.medium c.program_page.new.self.flash in
     let u = c.program_page.new.self.state in
-    let place : Place = record { block = t.current; page = t.fill } in
+    let place : FlashPage = record { block = t.current; page = t.fill } in
     let sound : IsSoundLayer m s = subst (λ f. IsSoundLayer (g.F.Flash.medium f) s) (sym c.next_sequence.ensures.flash)
     (c.requires.ready.sound told) in
     let fits : FitsIn m s c.args.file c.args.page c.args.len c.args.bytes.now =
@@ -273,7 +275,7 @@ returns-in-Ok-clause-entries g c told =
     let on : u ≡ record s { sequence = c.in_ok-sequence.sequence; fill = 64 } =
     c.program_page.ensures.state ∙ ap (λ (q : LayerState). let z : LayerState = record q { fill = 64 } in z)
     state in
-    let at = ap (λ (q : LayerState). let p : Place = record { block = q.current; page = q.fill } in p) state in
+    let at = ap (λ (q : LayerState). let p : FlashPage = record { block = q.current; page = q.fill } in p) state in
     added_entries m now s u place r c.page_with.result sound c.requires.room fits c.requires.bytes at next.0 on
     c.page_with.ensures
     c.enter.new.self.state c.enter.ensures.entries
@@ -281,7 +283,7 @@ returns-in-Ok-clause-entries g c told =
 pub returns-in-Ok-clause-accounts : goal.returns-in-Ok-clause-accounts
 returns-in-Ok-clause-accounts g c =
     let e = c.enter.ensures in
-    accounts_here e.flash e.own e.sequence e.disputed (accounts_on 1 0 1 (omega arith)
+    accounts_here e.flash e.own e.sequence e.has_rivals (accounts_on 1 0 1 (omega arith)
     (accounts_here refl refl refl refl c.in_ok-sequence.ensures.accounts) c.in-Ok.ensures.accounts)
 
 pub returns-in-Err-clause-accounts : goal.returns-in-Err-clause-accounts

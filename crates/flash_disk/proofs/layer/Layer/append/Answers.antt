@@ -3,7 +3,10 @@ use Rattle.std.proofs.lemmas.Bool.{cases_Bool}
 use Rattle.std.proofs.lemmas.Result.{on_ok_weaker}
 use Rattle.flash_disk.specs.declared.table.FilePage.{FilePage}
 use Rattle.flash_disk.proofs.Entries.{occupies_after}
-use Rattle.flash_disk.proofs.Adding.{puts_then, puts_not, shown_after}
+use Rattle.flash_disk.specs.Newest.{places}
+use Rattle.flash_disk.specs.Apart.{copy_of, HoldsOnly}
+use Rattle.flash_disk.proofs.Adding.{puts_then, puts_not, shown_after, added_puts, added_held}
+use Rattle.flash_disk.proofs.Holding.{apart_if, does_apart}
 use Rattle.flash_disk.proofs.Accounting.{accounts_fails, accounts_more, accounts_on}
 use Rattle.flash_disk.proofs.Steps.{sure_fails}
 use Rattle.flash_disk.proofs.layer.Layer.append.Goals as goal
@@ -24,7 +27,25 @@ returns-clause-does g c told =
     puts_then m mid now (c.make_room.ensures.accounts.time told) (c.make_room.ensures.does told) c.args.file
     (256 * c.args.page)
     c.args.len c.args.bytes.now
-    (c.add.ensures.accounts.time told) (c.add.ensures.does told)
+    (c.add.ensures.accounts.time told)
+    (added_puts c.make_room.new.self.state.current c.args.file (256 * c.args.page) c.args.bytes.now c.args.len mid now
+    (c.add.ensures.does told))
+
+pub returns-clause-apart : goal.returns-clause-apart
+returns-clause-apart g c told =
+    let m = g.F.Flash.medium c.args.self.now.flash in
+    let mid = g.F.Flash.medium c.make_room.new.self.flash in
+    let now = g.F.Flash.medium c.add.new.self.flash in
+    let block = c.make_room.new.self.state.current in
+    let copy = copy_of c.args.file in
+    apart_if copy m mid now (c.make_room.ensures.accounts.time told) (c.add.ensures.accounts.time told)
+    (c.make_room.ensures.apart told) (HoldsOnly mid.state.pages (places mid.blocks) block copy)
+    (c.in_ok-make_room.ensures.home told)
+    (does_apart copy mid now block (added_held block c.args.file (256 * c.args.page) c.args.bytes.now c.args.len mid
+    now (c.add.ensures.does told)))
+
+pub returns-in_err-make_room-clause-apart : goal.returns-in_err-make_room-clause-apart
+returns-in_err-make_room-clause-apart g c told = c.make_room.ensures.apart told
 
 pub returns-clause-shown : goal.returns-clause-shown
 returns-clause-shown g c told =
@@ -53,9 +74,9 @@ returns-in_err-make_room-clause-adds g c =
       stays = sure_fails r _ fails c.make_room.ensures.ready;
       accounts = accounts_more 1 (omega arith) (accounts_fails r _ fails c.in_err-make_room.ensures.accounts);
       own = λ told. ⊎_elim
-          (λ disputed. inr (inr (c.make_room.ensures.accounts.disputed ∙ disputed)))
-          (λ calm. inl (c.make_room.ensures.own told calm))
-          (cases_Bool c.args.self.now.state.disputed);
+          (λ has_rivals. inr (inr (c.make_room.ensures.accounts.has_rivals ∙ has_rivals)))
+          (λ no_rivals. inl (c.make_room.ensures.own told no_rivals))
+          (cases_Bool c.args.self.now.state.has_rivals);
     }
 
 pub returns-clause-adds : goal.returns-clause-adds
@@ -64,10 +85,10 @@ returns-clause-adds g c = record {
   accounts = accounts_on 0 1 1 (omega arith) c.in_ok-make_room.ensures.accounts
       c.add.ensures.accounts;
   own = λ told. ⊎_elim
-      (λ disputed. inr (inr (c.add.ensures.accounts.disputed ∙ (c.make_room.ensures.accounts.disputed ∙ disputed))))
-      (λ calm. ⊎_elim
-      (λ same. inl (same ∙ c.make_room.ensures.own told calm))
+      (λ has_rivals. inr (inr (c.add.ensures.accounts.has_rivals ∙ (c.make_room.ensures.accounts.has_rivals ∙ has_rivals))))
+      (λ no_rivals. ⊎_elim
+      (λ same. inl (same ∙ c.make_room.ensures.own told no_rivals))
       (λ last. inr (inl last))
       (c.add.ensures.own told))
-      (cases_Bool c.args.self.now.state.disputed);
+      (cases_Bool c.args.self.now.state.has_rivals);
 }

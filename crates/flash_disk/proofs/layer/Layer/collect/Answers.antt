@@ -15,7 +15,14 @@ use Rattle.flash_disk.proofs.Stretches.{does_nothing}
 use Rattle.flash_disk.specs.Entries.{SameEntries}
 use Rattle.flash_disk.proofs.Moved.{all_known, finished, places_stay, entries_stay}
 use Rattle.flash_disk.proofs.Moving.{erase_stands, erase_failed, erase_failed_keeps, erase_keeps_all, moving_none}
-use Rattle.flash_disk.proofs.Moving.{stands_then, keeps_on, fits_kept, shows_same, stands_now}
+use Rattle.flash_disk.specs.KeepsApart.{KeepsApart}
+use Rattle.flash_disk.specs.Apart.{copy_of}
+use Rattle.flash_disk.specs.Moving.{StandsMoved}
+use Rattle.flash_disk.proofs.Moving.{stands_then, keeps_on, fits_kept, shows_same, stands_now, moved_stands}
+use Rattle.flash_disk.proofs.Moving.{erase_held, erased_holds}
+use Rattle.flash_disk.proofs.Holding.{none_apart, loses_apart}
+use Rattle.flash_disk.proofs.Gathering.{gathered_apart, gathered_home}
+use Rattle.flash_disk.proofs.Stretches.{elapses_then}
 use Rattle.flash_disk.proofs.Accounting.{accounts_fails, accounts_here, accounts_on}
 use Rattle.flash_disk.proofs.layer.Layer.collect.Goals as goal
 
@@ -36,7 +43,7 @@ returns-in_err-erase_block-clause-ready g c = record {
       let look = g.F.Flash.medium c.erase_block.new.self.flash in
       let e = c.erase_block.ensures in
       let sound : IsSoundLayer m s = c.requires.ready.sound told in
-      let agreed : IsFalse s.disputed = c.if-self.false in
+      let agreed : IsFalse s.has_rivals = c.if-self.false in
       subst (IsSoundLayer look) (sym e.state) (erase_failed m look s sound agreed c.requires.full
       (c.in_err-erase_block.ensures.failed told) (e.accounts.time told).blocks);
 }
@@ -48,7 +55,7 @@ returns-in_err-erase_block-clause-fits g c told =
     let look = g.F.Flash.medium c.erase_block.new.self.flash in
     let e = c.erase_block.ensures in
     let sound : IsSoundLayer m s = c.requires.ready.sound told in
-    let agreed : IsFalse s.disputed = c.if-self.false in
+    let agreed : IsFalse s.has_rivals = c.if-self.false in
     fits_kept m look s c.erase_block.new.self.state sound agreed
     (erase_failed_keeps m look s sound agreed c.requires.full (c.in_err-erase_block.ensures.failed told))
     (e.accounts.time told).blocks
@@ -61,7 +68,7 @@ returns-in_err-erase_block-clause-does g c told =
     let look = g.F.Flash.medium c.erase_block.new.self.flash in
     let e = c.erase_block.ensures in
     let sound : IsSoundLayer m s = c.requires.ready.sound told in
-    let agreed : IsFalse s.disputed = c.if-self.false in
+    let agreed : IsFalse s.has_rivals = c.if-self.false in
     erase_stands m look s sound agreed c.requires.full c.erase_block.result (e.done told) (e.failed told)
     (e.during told)
 
@@ -72,7 +79,7 @@ copy_needed-requires-clause-moving g c told =
     let look = g.F.Flash.medium c.erase_block.new.self.flash in
     let e = c.erase_block.ensures in
     let sound : IsSoundLayer m s = c.requires.ready.sound told in
-    let agreed : IsFalse s.disputed = c.if-self.false in
+    let agreed : IsFalse s.has_rivals = c.if-self.false in
     let t : LayerState = record c.erase_block.new.self.state { moved = c.clear.new.self } in
     let state : t ≡ record s { moved = c.clear.new.self } =
     ap (λ (q : LayerState). let z : LayerState = record q { moved = c.clear.new.self } in z) e.state in
@@ -94,7 +101,7 @@ returns-in_err-copy_needed-clause-fits g c told =
     let look = g.F.Flash.medium c.erase_block.new.self.flash in
     let e = c.erase_block.ensures in
     let sound : IsSoundLayer m s = c.requires.ready.sound told in
-    let agreed : IsFalse s.disputed = c.if-self.false in
+    let agreed : IsFalse s.has_rivals = c.if-self.false in
     let now = g.F.Flash.medium c.copy_needed.new.self.flash in
     let t = c.copy_needed.new.self.state in
     let n = c.copy_needed.ensures in
@@ -113,7 +120,7 @@ returns-in_err-copy_needed-clause-does g c told =
     let look = g.F.Flash.medium c.erase_block.new.self.flash in
     let e = c.erase_block.ensures in
     let sound : IsSoundLayer m s = c.requires.ready.sound told in
-    let agreed : IsFalse s.disputed = c.if-self.false in
+    let agreed : IsFalse s.has_rivals = c.if-self.false in
     let now = g.F.Flash.medium c.copy_needed.new.self.flash in
     let t = c.copy_needed.new.self.state in
     let n = c.copy_needed.ensures in
@@ -125,7 +132,8 @@ returns-in_err-copy_needed-clause-does g c told =
     ∙ ap (λ (q : LayerState). q.table) e.state in
     stands_then m look now (e.accounts.time told) (n.accounts.time told)
     (erase_stands m look s sound agreed c.requires.full
-    c.erase_block.result (e.done told) (e.failed told) (e.during told)) (n.does told)
+    c.erase_block.result (e.done told) (e.failed told) (e.during told))
+    (moved_stands c.erase_block.new.self.state.table c.given_up-victim.result s.spare look now (n.does told))
 
 pub returns-clause-ready : goal.returns-clause-ready
 returns-clause-ready g c = record {
@@ -137,7 +145,7 @@ returns-clause-ready g c = record {
       let look = g.F.Flash.medium c.erase_block.new.self.flash in
       let e = c.erase_block.ensures in
       let sound : IsSoundLayer m s = c.requires.ready.sound told in
-      let agreed : IsFalse s.disputed = c.if-self.false in
+      let agreed : IsFalse s.has_rivals = c.if-self.false in
       let now = g.F.Flash.medium c.copy_needed.new.self.flash in
       let t = c.copy_needed.new.self.state in
       let n = c.copy_needed.ensures in
@@ -172,7 +180,7 @@ returns-clause-fits g c told =
     let look = g.F.Flash.medium c.erase_block.new.self.flash in
     let e = c.erase_block.ensures in
     let sound : IsSoundLayer m s = c.requires.ready.sound told in
-    let agreed : IsFalse s.disputed = c.if-self.false in
+    let agreed : IsFalse s.has_rivals = c.if-self.false in
     let now = g.F.Flash.medium c.copy_needed.new.self.flash in
     let t = c.copy_needed.new.self.state in
     let n = c.copy_needed.ensures in
@@ -203,7 +211,7 @@ returns-clause-shown g c told =
     let look = g.F.Flash.medium c.erase_block.new.self.flash in
     let e = c.erase_block.ensures in
     let sound : IsSoundLayer m s = c.requires.ready.sound told in
-    let agreed : IsFalse s.disputed = c.if-self.false in
+    let agreed : IsFalse s.has_rivals = c.if-self.false in
     let now = g.F.Flash.medium c.copy_needed.new.self.flash in
     let t = c.copy_needed.new.self.state in
     let n = c.copy_needed.ensures in
@@ -220,7 +228,7 @@ returns-clause-does g c told =
     let look = g.F.Flash.medium c.erase_block.new.self.flash in
     let e = c.erase_block.ensures in
     let sound : IsSoundLayer m s = c.requires.ready.sound told in
-    let agreed : IsFalse s.disputed = c.if-self.false in
+    let agreed : IsFalse s.has_rivals = c.if-self.false in
     let now = g.F.Flash.medium c.copy_needed.new.self.flash in
     let t = c.copy_needed.new.self.state in
     let n = c.copy_needed.ensures in
@@ -232,28 +240,29 @@ returns-clause-does g c told =
     ∙ ap (λ (q : LayerState). q.table) e.state in
     stands_then m look now (e.accounts.time told) (n.accounts.time told)
     (erase_stands m look s sound agreed c.requires.full
-    c.erase_block.result (e.done told) (e.failed told) (e.during told)) (n.does told)
+    c.erase_block.result (e.done told) (e.failed told) (e.during told))
+    (moved_stands c.erase_block.new.self.state.table c.given_up-victim.result s.spare look now (n.does told))
 
 pub returns-then-self-clause-own : goal.returns-then-self-clause-own
-returns-then-self-clause-own g c told calm =
+returns-then-self-clause-own g c told no_rivals =
     let s = c.args.self.now.state in
     let sound : IsSoundLayer (g.F.Flash.medium c.args.self.now.flash) s = c.requires.ready.sound told in
     let light = light_enough (g.F.Flash.medium c.args.self.now.flash).blocks s.table s.spare
     c.given_up-victim.result sound.counted
     c.given_up-victim.ensures.within c.given_up-victim.ensures.light in
     ⊎_elim
-    (λ disputed. absurd (true≢false (sym disputed ∙ calm)))
+    (λ has_rivals. absurd (true≢false (sym has_rivals ∙ no_rivals)))
     (λ none. absurd (light.0 none.1))
     c.then-self.either
 
 pub returns-in_err-erase_block-clause-own : goal.returns-in_err-erase_block-clause-own
-returns-in_err-erase_block-clause-own g c told calm = c.erase_block.ensures.own told
+returns-in_err-erase_block-clause-own g c told no_rivals = c.erase_block.ensures.own told
 
 pub returns-in_err-copy_needed-clause-own : goal.returns-in_err-copy_needed-clause-own
-returns-in_err-copy_needed-clause-own g c told calm = c.copy_needed.ensures.own told ∙ c.erase_block.ensures.own told
+returns-in_err-copy_needed-clause-own g c told no_rivals = c.copy_needed.ensures.own told ∙ c.erase_block.ensures.own told
 
 pub returns-clause-own : goal.returns-clause-own
-returns-clause-own g c told calm = c.copy_needed.ensures.own told ∙ c.erase_block.ensures.own told
+returns-clause-own g c told no_rivals = c.copy_needed.ensures.own told ∙ c.erase_block.ensures.own told
 
 pub returns-clause-light : goal.returns-clause-light
 returns-clause-light g c told =
@@ -301,3 +310,89 @@ pub returns-clause-accounts : goal.returns-clause-accounts
 returns-clause-accounts g c = accounts_here refl refl refl refl
     (accounts_on 0 0 0 (omega arith) (accounts_here refl refl refl refl c.in_ok-erase_block.ensures.accounts)
     c.in_ok-copy_needed.ensures.accounts)
+
+pub returns-then-self-clause-apart : goal.returns-then-self-clause-apart
+returns-then-self-clause-apart g c told =
+    let m = g.F.Flash.medium c.args.self.now.flash in
+    let copy = copy_of c.args.file in
+    subst (λ f. KeepsApart copy m (g.F.Flash.medium f)) (sym c.fault.ensures.flash)
+    (none_apart copy g.F.Flash.told m (g.met.F.Flash.lawful c.args.self.now.flash))
+
+pub returns-in_err-erase_block-clause-apart : goal.returns-in_err-erase_block-clause-apart
+returns-in_err-erase_block-clause-apart g c told =
+    let s = c.args.self.now.state in
+    let m = g.F.Flash.medium c.args.self.now.flash in
+    let look = g.F.Flash.medium c.erase_block.new.self.flash in
+    let e = c.erase_block.ensures in
+    let copy = copy_of c.args.file in
+    loses_apart copy m look (erase_held m look s (c.requires.ready.sound told) c.if-self.false c.requires.full copy
+    c.erase_block.result (e.done told) (e.failed told) (e.during told))
+
+pub returns-in_err-copy_needed-clause-apart : goal.returns-in_err-copy_needed-clause-apart
+returns-in_err-copy_needed-clause-apart g c told =
+    let s = c.args.self.now.state in
+    let m = g.F.Flash.medium c.args.self.now.flash in
+    let look = g.F.Flash.medium c.erase_block.new.self.flash in
+    let now = g.F.Flash.medium c.copy_needed.new.self.flash in
+    let e = c.erase_block.ensures in
+    let n = c.copy_needed.ensures in
+    let sound : IsSoundLayer m s = c.requires.ready.sound told in
+    let agreed : IsFalse s.has_rivals = c.if-self.false in
+    let copy = copy_of c.args.file in
+    let victim = c.given_up-victim.result in
+    let l = c.lightest-own.ensures in
+    let first = e.accounts.time told in
+    let second = n.accounts.time told in
+    gathered_apart g.F.Flash.told m look now (g.met.F.Flash.lawful c.args.self.now.flash) told s sound first second
+    (elapses_then m look now first second) copy c.lightest-own.result victim l.own
+    (λ many few nothing. (l.unique many, l.none many few nothing)) c.given_up-victim.ensures.own
+    (loses_apart copy m look (erase_held m look s sound agreed c.requires.full copy c.erase_block.result
+    (e.done told) (e.failed told) (e.during told)))
+    (erased_holds m look s sound agreed c.requires.full copy (c.in_ok-erase_block.ensures.done told) first.blocks)
+    (subst (λ (q : LayerState). Does (StandsMoved q.table victim s.spare look) look now) e.state (n.does told))
+
+pub returns-clause-apart : goal.returns-clause-apart
+returns-clause-apart g c told =
+    let s = c.args.self.now.state in
+    let m = g.F.Flash.medium c.args.self.now.flash in
+    let look = g.F.Flash.medium c.erase_block.new.self.flash in
+    let now = g.F.Flash.medium c.copy_needed.new.self.flash in
+    let e = c.erase_block.ensures in
+    let n = c.copy_needed.ensures in
+    let sound : IsSoundLayer m s = c.requires.ready.sound told in
+    let agreed : IsFalse s.has_rivals = c.if-self.false in
+    let copy = copy_of c.args.file in
+    let victim = c.given_up-victim.result in
+    let l = c.lightest-own.ensures in
+    let first = e.accounts.time told in
+    let second = n.accounts.time told in
+    gathered_apart g.F.Flash.told m look now (g.met.F.Flash.lawful c.args.self.now.flash) told s sound first second
+    (elapses_then m look now first second) copy c.lightest-own.result victim l.own
+    (λ many few nothing. (l.unique many, l.none many few nothing)) c.given_up-victim.ensures.own
+    (loses_apart copy m look (erase_held m look s sound agreed c.requires.full copy c.erase_block.result
+    (e.done told) (e.failed told) (e.during told)))
+    (erased_holds m look s sound agreed c.requires.full copy (c.in_ok-erase_block.ensures.done told) first.blocks)
+    (subst (λ (q : LayerState). Does (StandsMoved q.table victim s.spare look) look now) e.state (n.does told))
+
+pub returns-clause-home : goal.returns-clause-home
+returns-clause-home g c told =
+    let s = c.args.self.now.state in
+    let m = g.F.Flash.medium c.args.self.now.flash in
+    let look = g.F.Flash.medium c.erase_block.new.self.flash in
+    let now = g.F.Flash.medium c.copy_needed.new.self.flash in
+    let e = c.erase_block.ensures in
+    let n = c.copy_needed.ensures in
+    let sound : IsSoundLayer m s = c.requires.ready.sound told in
+    let agreed : IsFalse s.has_rivals = c.if-self.false in
+    let copy = copy_of c.args.file in
+    let victim = c.given_up-victim.result in
+    let l = c.lightest-own.ensures in
+    let first = e.accounts.time told in
+    let second = n.accounts.time told in
+    gathered_home g.F.Flash.told m look now (g.met.F.Flash.lawful c.args.self.now.flash) told s sound first second
+    (elapses_then m look now first second) copy c.lightest-own.result victim l.own
+    (λ many few nothing. (l.unique many, l.none many few nothing)) c.given_up-victim.ensures.own
+    (loses_apart copy m look (erase_held m look s sound agreed c.requires.full copy c.erase_block.result
+    (e.done told) (e.failed told) (e.during told)))
+    (erased_holds m look s sound agreed c.requires.full copy (c.in_ok-erase_block.ensures.done told) first.blocks)
+    (subst (λ (q : LayerState). Does (StandsMoved q.table victim s.spare look) look now) e.state (n.does told))

@@ -1,11 +1,12 @@
-use Rattle.std.proofs.Common.{◌+◌, refl, ap, ◌∙◌, arith}
+use Rattle.std.proofs.Common.{◌+◌, refl, ap, subst, ◌∙◌, arith}
 use Rattle.flash_disk.specs.declared.layer.LayerState.{LayerState}
 use Rattle.flash_disk.specs.Newest.{places}
-use Rattle.flash_disk.specs.Standing.{DenotesFiles}
+use Rattle.flash_disk.specs.Does.{Does}
+use Rattle.flash_disk.specs.Moving.{StandsMoved}
 use Rattle.flash_disk.proofs.Standing.{keeps_refl}
 use Rattle.flash_disk.proofs.Stretches.{does_nothing}
 use Rattle.flash_disk.proofs.Spreading.{copied_in, fewer_copied}
-use Rattle.flash_disk.proofs.Moving.{stands_now, stands_then, keeps_on}
+use Rattle.flash_disk.proofs.Moving.{moved_now, moved_then, keeps_on}
 use Rattle.flash_disk.proofs.Accounting.{accounts_fails, accounts_on, counted_none, counted_on}
 use Rattle.flash_disk.proofs.layer.Layer.copy_needed.Goals as goal
 
@@ -19,8 +20,10 @@ loop-page-init g c =
       state = refl;
       moving = c.requires.moving;
       keeps = λ told. keeps_refl m.state.pages (places m.blocks);
-      does = λ told. does_nothing m m (DenotesFiles m) refl (λ x past. lawful.only_now x past)
-          (stands_now m c.args.self.now.state (c.requires.moving told).sound);
+      does = λ told. does_nothing m m (StandsMoved c.args.self.now.state.table c.args.from c.args.to m) refl
+          (λ x past. lawful.only_now x past)
+          (moved_now c.args.self.now.state.table c.args.from c.args.to m c.args.self.now.state
+          (c.requires.moving told).sound);
     }
 
 pub returns-in_err-copy_one-clause-keeps : goal.returns-in_err-copy_one-clause-keeps
@@ -40,8 +43,10 @@ returns-in_err-copy_one-clause-does g c told =
     let mid = g.F.Flash.medium c.loop-page.self.flash in
     let now = g.F.Flash.medium c.copy_one.new.self.flash in
     let i = c.loop-page.invariant in
-    stands_then m mid now (i.counts.time told) (c.copy_one.ensures.accounts.time told) (i.does told)
-    (c.copy_one.ensures.does told)
+    moved_then c.args.self.now.state.table c.args.from c.args.to m mid now (i.counts.time told)
+    (c.copy_one.ensures.accounts.time told) (i.does told)
+    (subst (λ (q : LayerState). Does (StandsMoved q.table c.args.from c.args.to mid) mid now) i.state
+    (c.copy_one.ensures.does told))
 
 pub loop-page-preserved : goal.loop-page-preserved
 loop-page-preserved g c =
@@ -60,7 +65,10 @@ loop-page-preserved g c =
       keeps = λ told. let start = c.requires.moving told in
           keeps_on m mid c.args.self.now.state start.sound start.agreed (i.counts.time told).blocks (i.keeps told)
           now.state.pages (e.keeps told);
-      does = λ told. stands_then m mid now (i.counts.time told) (e.accounts.time told) (i.does told) (e.does told);
+      does = λ told. moved_then c.args.self.now.state.table c.args.from c.args.to m mid now (i.counts.time told)
+          (e.accounts.time told) (i.does told)
+          (subst (λ (q : LayerState). Does (StandsMoved q.table c.args.from c.args.to mid) mid now) i.state
+          (e.does told));
     }
 
 pub returns-clause-few : goal.returns-clause-few

@@ -1,9 +1,9 @@
 use Rattle.std.proofs.Common.{◌≡◌, ◌≤◌, vec_len, true}
 use Rattle.flash_disk.specs.Newest.{places}
 use Rattle.flash_disk.specs.Does.{Does}
-use Rattle.flash_disk.specs.Standing.{DenotesFiles, KeepsRecords}
+use Rattle.flash_disk.specs.Standing.{KeepsRecords}
 use Rattle.flash_disk.specs.Counted.{copied_below}
-use Rattle.flash_disk.specs.Moving.{IsMoving}
+use Rattle.flash_disk.specs.Moving.{IsMoving, StandsMoved}
 use Rattle.flash_disk.proofs.Accounting.{Counted}
 use Rattle.flash_disk.proofs.layer.Layer.copy_needed.Given as goal
 
@@ -18,5 +18,5 @@ invariant-loop-page g l =
       state : l.self.state ≡ record l.initial.self.state { moved = l.self.state.moved };
       moving : g.F.Flash.told ≡ true → IsMoving now.state.pages now.blocks l.self.state l.from l.to l.page;
       keeps : g.F.Flash.told ≡ true → KeepsRecords m.state.pages now.state.pages (places m.blocks);
-      does : g.F.Flash.told ≡ true → Does (DenotesFiles m) m now;
+      does : g.F.Flash.told ≡ true → Does (StandsMoved l.initial.self.state.table l.from l.to m) m now;
     }

@@ -1,20 +1,20 @@
 use Rattle.std.proofs.Common.{arith, ◌≡◌, ◌++◌, ◌∷◌, [], length, cond, true, Some, sym, ap, subst, refl, ◌∙◌}
 use Rattle.std.specs.Prelude.{is_ok, not, vec_len, vec_capacity}
 use Rattle.flash_disk.proofs.Spreading.{few_same, few_more, of_err}
-use Rattle.flash_disk.specs.declared.table.Place.{Place}
+use Rattle.flash_disk.specs.declared.table.FlashPage.{FlashPage}
 use Rattle.flash_disk.specs.declared.table.FilePage.{FilePage}
 use Rattle.flash_disk.specs.declared.table.Newest.{Newest}
 use Rattle.flash_disk.specs.declared.layer.LayerState.{LayerState}
 use Rattle.flash_disk.specs.Known.{known}
 use Rattle.flash_disk.specs.Newest.{places}
 use Rattle.flash_disk.specs.Does.{Does}
-use Rattle.flash_disk.specs.Standing.{DenotesFiles, KeepsRecords}
+use Rattle.flash_disk.specs.Standing.{KeepsRecords}
 use Rattle.flash_disk.specs.Sound.{IsSoundLayer}
 use Rattle.flash_disk.proofs.Entering.{as_said}
-use Rattle.flash_disk.specs.Moving.{IsMoving}
-use Rattle.flash_disk.proofs.Moving.{differ, same_places, found_same, on_err, stands_then, looked_up, passed_over}
+use Rattle.flash_disk.specs.Moving.{IsMoving, StandsMoved}
+use Rattle.flash_disk.proofs.Moving.{differ, same_places, found_same, on_err, moved_then, looked_up, passed_over}
 use Rattle.flash_disk.proofs.Moving.{copy_failed_keeps, copy_failed_sound, copy_keeps_all, copy_sound, copy_does}
-use Rattle.flash_disk.proofs.Moving.{copied, looked, look_keeps, keeps_since, look_stands}
+use Rattle.flash_disk.proofs.Moving.{copied, looked, look_keeps, keeps_since, look_moved}
 use Rattle.flash_disk.proofs.Accounting.{accounts_fails, accounts_here, accounts_on}
 use Rattle.flash_disk.proofs.layer.Layer.copy_one.Goals as goal
 
@@ -30,7 +30,8 @@ returns-in_err-read_page-clause-does g c told =
     let m = g.F.Flash.medium c.args.self.now.flash in
     let look = g.F.Flash.medium c.read_page.new.self.flash in
     let e = c.read_page.ensures.reads.only in
-    look_stands m look (e.looks.state told) e.blocks c.read_page.ensures.during c.args.self.now.state
+    look_moved m look (e.looks.state told) e.blocks c.args.self.now.state.table c.args.from.block c.args.to
+    c.read_page.ensures.during c.args.self.now.state
     (c.requires.moving told).sound
 
 pub returns-in_default-clause-keeps : goal.returns-in_default-clause-keeps
@@ -45,7 +46,8 @@ returns-in_default-clause-does g c told =
     let m = g.F.Flash.medium c.args.self.now.flash in
     let look = g.F.Flash.medium c.read_page.new.self.flash in
     let e = c.read_page.ensures.reads.only in
-    look_stands m look (e.looks.state told) e.blocks c.read_page.ensures.during c.args.self.now.state
+    look_moved m look (e.looks.state told) e.blocks c.args.self.now.state.table c.args.from.block c.args.to
+    c.read_page.ensures.during c.args.self.now.state
     (c.requires.moving told).sound
 
 pub returns-then-ne-clause-keeps : goal.returns-then-ne-clause-keeps
@@ -60,7 +62,8 @@ returns-then-ne-clause-does g c told =
     let m = g.F.Flash.medium c.args.self.now.flash in
     let look = g.F.Flash.medium c.read_page.new.self.flash in
     let e = c.read_page.ensures.reads.only in
-    look_stands m look (e.looks.state told) e.blocks c.read_page.ensures.during c.args.self.now.state
+    look_moved m look (e.looks.state told) e.blocks c.args.self.now.state.table c.args.from.block c.args.to
+    c.read_page.ensures.during c.args.self.now.state
     (c.requires.moving told).sound
 
 pub returns-in_default-clause-moving : goal.returns-in_default-clause-moving
@@ -172,11 +175,15 @@ returns-in_err-program_page-clause-does g c told =
     let now = g.F.Flash.medium c.program_page.new.self.flash in
     let long : c.len.result ≡ length s.moved.items = c.len.ensures ∙ s.moved.ok.0 in
     let p = c.program_page.ensures in
-    stands_then m look now (e.looks.time told) (p.accounts.time told)
-    (look_stands m look (e.looks.state told) e.blocks c.read_page.ensures.during c.args.self.now.state
+    moved_then c.args.self.now.state.table c.args.from.block c.args.to m look now (e.looks.time told)
+    (p.accounts.time told)
+    (look_moved m look (e.looks.state told) e.blocks c.args.self.now.state.table c.args.from.block c.args.to
+    c.read_page.ensures.during c.args.self.now.state
     (c.requires.moving told).sound)
+    (subst (λ (q : LayerState). Does (StandsMoved q.table c.args.from.block c.args.to look) look now)
+    c.read_page.ensures.reads.state
     (copy_does look s c.args.from.block c.args.to c.args.from.page moving c.requires.page c.read_page.new.out read key
-    old is at.0 at.1 c.len.result long now c.program_page.result (p.done told) (p.failed told) (p.during told))
+    old is at.0 at.1 c.len.result long now c.program_page.result (p.done told) (p.failed told) (p.during told)))
 
 pub returns-then-is_err-clause-does : goal.returns-then-is_err-clause-does
 returns-then-is_err-clause-does g c told =
@@ -198,12 +205,17 @@ returns-then-is_err-clause-does g c told =
     let now = g.F.Flash.medium c.program_page.new.self.flash in
     let long : c.len.result ≡ length s.moved.items = c.len.ensures ∙ s.moved.ok.0 in
     let p = c.program_page.ensures in
-    subst (λ f. Does (DenotesFiles m) m (g.F.Flash.medium f)) (sym c.fault.ensures.flash) (
-    stands_then m look now (e.looks.time told) (p.accounts.time told)
-    (look_stands m look (e.looks.state told) e.blocks c.read_page.ensures.during c.args.self.now.state
+    subst (λ f. Does (StandsMoved c.args.self.now.state.table c.args.from.block c.args.to m) m
+    (g.F.Flash.medium f)) (sym c.fault.ensures.flash) (
+    moved_then c.args.self.now.state.table c.args.from.block c.args.to m look now (e.looks.time told)
+    (p.accounts.time told)
+    (look_moved m look (e.looks.state told) e.blocks c.args.self.now.state.table c.args.from.block c.args.to
+    c.read_page.ensures.during c.args.self.now.state
     (c.requires.moving told).sound)
+    (subst (λ (q : LayerState). Does (StandsMoved q.table c.args.from.block c.args.to look) look now)
+    c.read_page.ensures.reads.state
     (copy_does look s c.args.from.block c.args.to c.args.from.page moving c.requires.page c.read_page.new.out read key
-    old is at.0 at.1 c.len.result long now c.program_page.result (p.done told) (p.failed told) (p.during told)))
+    old is at.0 at.1 c.len.result long now c.program_page.result (p.done told) (p.failed told) (p.during told))))
 
 pub returns-clause-does : goal.returns-clause-does
 returns-clause-does g c told =
@@ -225,11 +237,15 @@ returns-clause-does g c told =
     let now = g.F.Flash.medium c.program_page.new.self.flash in
     let long : c.len.result ≡ length s.moved.items = c.len.ensures ∙ s.moved.ok.0 in
     let p = c.program_page.ensures in
-    stands_then m look now (e.looks.time told) (p.accounts.time told)
-    (look_stands m look (e.looks.state told) e.blocks c.read_page.ensures.during c.args.self.now.state
+    moved_then c.args.self.now.state.table c.args.from.block c.args.to m look now (e.looks.time told)
+    (p.accounts.time told)
+    (look_moved m look (e.looks.state told) e.blocks c.args.self.now.state.table c.args.from.block c.args.to
+    c.read_page.ensures.during c.args.self.now.state
     (c.requires.moving told).sound)
+    (subst (λ (q : LayerState). Does (StandsMoved q.table c.args.from.block c.args.to look) look now)
+    c.read_page.ensures.reads.state
     (copy_does look s c.args.from.block c.args.to c.args.from.page moving c.requires.page c.read_page.new.out read key
-    old is at.0 at.1 c.len.result long now c.program_page.result (p.done told) (p.failed told) (p.during told))
+    old is at.0 at.1 c.len.result long now c.program_page.result (p.done told) (p.failed told) (p.during told)))
 
 pub returns-clause-keeps : goal.returns-clause-keeps
 returns-clause-keeps g c told =
@@ -347,7 +363,7 @@ returns-clause-moving g c told =
     c.push.ensures.capacity in omega (arith, same, more))
     (
     let u = c.program_page.new.self.state in
-    let place : Place = record { block = c.args.to; page = c.len.result } in
+    let place : FlashPage = record { block = c.args.to; page = c.len.result } in
     let new : Newest = record old { place = place } in
     let v : FilePage × Newest = (key, new) in
     let ok : is_ok c.push.result ≡ true = c.is_err.ensures.negation ∙ ap not c.if-is_err.false in

@@ -6,6 +6,8 @@ use Rattle.flash_disk.proofs.Writing.{on_ok_both, stands, does_none, files_seen,
 use Rattle.flash_disk.proofs.Writing.{wiped_none, wiped_within, stray_fits, stands_still, wiped_by}
 use Rattle.flash_disk.proofs.Stretches.{does_nothing}
 use Rattle.flash_disk.proofs.Steps.{adds_then}
+use Rattle.flash_disk.specs.Apart.{copy_of}
+use Rattle.flash_disk.proofs.Holding.{none_apart, look_apart, apart_then}
 use Rattle.flash_disk.proofs.layer.Layer.wipe_stray.Goals as goal
 
 pub returns-in_default-clause-wiped : goal.returns-in_default-clause-wiped
@@ -95,3 +97,29 @@ returns-clause-does g c told =
 
 pub returns-clause-adds : goal.returns-clause-adds
 returns-clause-adds g c = adds_then 0 1 1 (omega arith) c.in_ok-content.ensures.reads.accounts c.append.ensures.adds
+
+pub returns-in_default-clause-apart : goal.returns-in_default-clause-apart
+returns-in_default-clause-apart g c told =
+    none_apart (copy_of c.args.file) g.F.Flash.told (g.F.Flash.medium c.args.self.now.flash)
+    (g.met.F.Flash.lawful c.args.self.now.flash)
+
+pub returns-then-end_of_bytes-len-clause-apart : goal.returns-then-end_of_bytes-len-clause-apart
+returns-then-end_of_bytes-len-clause-apart g c told =
+    none_apart (copy_of c.args.file) g.F.Flash.told (g.F.Flash.medium c.args.self.now.flash)
+    (g.met.F.Flash.lawful c.args.self.now.flash)
+
+pub returns-in_err-content-clause-apart : goal.returns-in_err-content-clause-apart
+returns-in_err-content-clause-apart g c told =
+    let e = c.in_err-content.ensures.reads.only in
+    look_apart (copy_of c.args.file) (g.F.Flash.medium c.args.self.now.flash)
+    (g.F.Flash.medium c.content.new.self.flash) (e.looks.state told) (e.looks.during told)
+
+pub returns-clause-apart : goal.returns-clause-apart
+returns-clause-apart g c told =
+    let a = g.F.Flash.medium c.args.self.now.flash in
+    let b = g.F.Flash.medium c.content.new.self.flash in
+    let d = g.F.Flash.medium c.append.new.self.flash in
+    let e = c.in_ok-content.ensures.reads.only in
+    let copy = copy_of c.args.file in
+    apart_then copy a b d (e.looks.time told) (c.append.ensures.adds.accounts.time told)
+    (look_apart copy a b (e.looks.state told) (e.looks.during told)) (c.append.ensures.apart told)

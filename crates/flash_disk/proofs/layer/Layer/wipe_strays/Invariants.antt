@@ -1,4 +1,6 @@
 use Rattle.std.proofs.Common.{◌≡◌, true}
+use Rattle.flash_disk.specs.Apart.{copy_of}
+use Rattle.flash_disk.specs.KeepsApart.{KeepsApart}
 use Rattle.flash_disk.specs.Does.{Does}
 use Rattle.flash_disk.specs.Standing.{DenotesFiles}
 use Rattle.flash_disk.specs.Steps.{IsSure}
@@ -14,6 +16,8 @@ invariant-loop-page g l = record {
       l.page l.initial.self.state.stray_end;
   does : g.F.Flash.told ≡ true → Does (DenotesFiles (g.F.Flash.medium l.initial.self.flash))
       (g.F.Flash.medium l.initial.self.flash) (g.F.Flash.medium l.self.flash);
+  apart : g.F.Flash.told ≡ true → KeepsApart (copy_of l.file) (g.F.Flash.medium l.initial.self.flash)
+      (g.F.Flash.medium l.self.flash);
   counts : Counted g.F.Flash.told g.F.Flash.medium l.page l.initial.self l.self;
   entries : g.F.Flash.told ≡ true → SameEntries l.initial.self.state.table l.self.state.table;
 }

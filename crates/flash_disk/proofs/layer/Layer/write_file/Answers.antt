@@ -1,5 +1,7 @@
 use Rattle.std.proofs.Common.{length, sym, inl, inr, ◌∙◌, ⊎_elim, arith, true≢false}
 use Rattle.flash_disk.proofs.Failing.{wants_too_many, not_begun}
+use Rattle.flash_disk.specs.Apart.{copy_of}
+use Rattle.flash_disk.proofs.Holding.{fault_apart}
 use Rattle.flash_disk.proofs.layer.Layer.write_file.Goals as goal
 
 pub returns-then-not-has_room-clause-own : goal.returns-then-not-has_room-clause-own
@@ -18,3 +20,14 @@ returns-clause-refused g c told why =
 
 pub returns-clause-own : goal.returns-clause-own
 returns-clause-own g c told = ⊎_elim inl (λ stops. inr (inr (inr stops))) (c.write_within.ensures.own told)
+
+pub returns-in_default-clause-apart : goal.returns-in_default-clause-apart
+returns-in_default-clause-apart g c told =
+    fault_apart (copy_of c.args.file) g.F.Flash.told g.F.Flash.medium c.args.self.now.flash c.fault.new.self.flash
+    c.fault.ensures.flash (g.met.F.Flash.lawful c.args.self.now.flash)
+
+pub returns-then-not-has_room-clause-apart : goal.returns-then-not-has_room-clause-apart
+returns-then-not-has_room-clause-apart g c told =
+    fault_apart (copy_of c.args.file) g.F.Flash.told g.F.Flash.medium c.args.self.now.flash
+    c.fault-then-not-has_room.new.self.flash c.fault-then-not-has_room.ensures.flash
+    (g.met.F.Flash.lawful c.args.self.now.flash)

@@ -9,6 +9,8 @@ use Rattle.flash_disk.proofs.Writing.{wrote_all}
 use Rattle.flash_disk.proofs.Affording.{affords_place, affords_more, as_many}
 use Rattle.flash_disk.proofs.Accounting.{counted_none, counted_on}
 use Rattle.flash_disk.proofs.Steps.{adds_fail, adds_then}
+use Rattle.flash_disk.specs.Apart.{copy_of}
+use Rattle.flash_disk.proofs.Holding.{none_apart, apart_then}
 use Rattle.flash_disk.proofs.layer.Layer.write_pages.Goals as goal
 
 pub loop-done-init : goal.loop-done-init
@@ -23,9 +25,10 @@ loop-done-init g c =
           (let len = r.len told in omega (arith, len)) (r.grows told);
       does = λ told. does_none g.F.Flash.told a lawful (LeavesTorn c.args.file c.args.at (length c.args.bytes.now) a)
           (torn_nothing a s (r.ready.sound told) c.args.file c.args.at (length c.args.bytes.now));
+      apart = λ told. none_apart (copy_of c.args.file) g.F.Flash.told a lawful;
       numbered = omega arith;
       counts = counted_none 0 c.args.self.now lawful;
-      calm = λ told some. absurd (omega (arith, some));
+      no_rivals = λ told some. absurd (omega (arith, some));
       affords = r.affords;
       as_many = λ told. refl;
     }
@@ -67,6 +70,8 @@ loop-done-preserved g c =
           (i.counts.time told) (e.adds.accounts.time told) (i.does told)
           (moved_there (λ p k. Does (LeavesPut c.args.file p (take k (drop done c.args.bytes.now)) c.args.len b) b d)
           start done count (e.does told));
+      apart = λ told. apart_then (copy_of c.args.file) a b d (i.counts.time told) (e.adds.accounts.time told)
+          (i.apart told) (e.apart told);
       numbered = (let before = i.numbered in let on = e.rises in let few =
           c.min-count.ensures in omega (arith, before, on, few));
       counts = counted_on done 1 (done + count) (let few = c.min-count.ensures in omega (arith, few))
@@ -76,7 +81,7 @@ loop-done-preserved g c =
           (div_ceil (c.args.at + length c.args.bytes.now) 256 - c.args.at / 256) (start / 256 - c.args.at / 256)
           (start / 256) (omega arith) (omega arith)
           (e.entries told) (i.affords told);
-      calm = λ told some. sym i.counts.disputed ∙ e.calm told;
+      no_rivals = λ told some. sym i.counts.has_rivals ∙ e.no_rivals told;
       as_many = λ told. as_many c.args.file (c.args.at / 256) c.loop-done.self.state.table
           c.write_page.new.self.state.table
           (div_ceil (c.args.at + length c.args.bytes.now) 256 - c.args.at / 256) (start / 256 - c.args.at / 256)
@@ -105,3 +110,13 @@ pub returns-in_err-write_page-clause-adds : goal.returns-in_err-write_page-claus
 returns-in_err-write_page-clause-adds g c = adds_fail c.from_residual.result _ c.from_residual.ensures.1
     (adds_then c.loop-done.done 1 (length c.args.bytes.now) (omega arith) c.loop-done.invariant.counts
     c.in_err-write_page.ensures.adds)
+
+pub returns-in_err-write_page-clause-apart : goal.returns-in_err-write_page-clause-apart
+returns-in_err-write_page-clause-apart g c told =
+    let a = g.F.Flash.medium c.args.self.now.flash in
+    let b = g.F.Flash.medium c.loop-done.self.flash in
+    let d = g.F.Flash.medium c.write_page.new.self.flash in
+    let i = c.loop-done.invariant in
+    let e = c.write_page.ensures in
+    apart_then (copy_of c.args.file) a b d (i.counts.time told) (e.adds.accounts.time told) (i.apart told)
+    (e.apart told)

@@ -1,6 +1,8 @@
 use Rattle.std.proofs.Common.{◌≡◌, ◌<◌, ◌≤◌, ◌+◌, ◌*◌, ◌-◌, ◌/◌, length, true}
 use Rattle.std.specs.Prelude.{IsFalse}
 use Rattle.std.specs.Int.{div_ceil}
+use Rattle.flash_disk.specs.Apart.{copy_of}
+use Rattle.flash_disk.specs.KeepsApart.{KeepsApart}
 use Rattle.flash_disk.specs.Does.{Does}
 use Rattle.flash_disk.specs.Steps.{IsSure}
 use Rattle.flash_disk.specs.Writes.{LeavesTorn}
@@ -22,9 +24,11 @@ invariant-loop-done g l = record {
       l.file l.at l.bytes l.len l.done;
   does : g.F.Flash.told ≡ true → Does (LeavesTorn l.file l.at (length l.bytes) (g.F.Flash.medium l.initial.self.flash))
       (g.F.Flash.medium l.initial.self.flash) (g.F.Flash.medium l.self.flash);
+  apart : g.F.Flash.told ≡ true → KeepsApart (copy_of l.file) (g.F.Flash.medium l.initial.self.flash)
+      (g.F.Flash.medium l.self.flash);
   numbered : l.done + 256 * l.initial.self.state.sequence ≤ 256 * l.self.state.sequence;
   counts : Counted g.F.Flash.told g.F.Flash.medium l.done l.initial.self l.self;
-  calm : g.F.Flash.told ≡ true → 0 < l.done → IsFalse l.initial.self.state.disputed;
+  no_rivals : g.F.Flash.told ≡ true → 0 < l.done → IsFalse l.initial.self.state.has_rivals;
   affords : g.F.Flash.told ≡ true → Affords l.self.state.table l.file (l.at / 256)
       (div_ceil (l.at + length l.bytes) 256 - l.at / 256);
   as_many : g.F.Flash.told ≡ true

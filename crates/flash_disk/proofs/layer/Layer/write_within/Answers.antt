@@ -1,9 +1,11 @@
-use Rattle.std.proofs.Common.{length, sym, ◌∙◌, arith}
+use Rattle.std.proofs.Common.{length, refl, sym, ◌∙◌, arith}
 use Rattle.std.proofs.lemmas.Result.{on_ok_weaker}
 use Rattle.flash_disk.proofs.Writing.{on_ok_both, no_error, wipes_torn, wipes_then, len_wiped, grows_wiped}
 use Rattle.flash_disk.proofs.Writing.{sound_announced, writes_into}
 use Rattle.flash_disk.proofs.Stretches.{elapses_then}
 use Rattle.flash_disk.proofs.Failing.{allowed, takes_pages}
+use Rattle.flash_disk.specs.Apart.{copy_of}
+use Rattle.flash_disk.proofs.Holding.{failed_apart, apart_then}
 use Rattle.flash_disk.proofs.layer.Layer.write_within.Goals as goal
 
 pub returns-in_err-wipe_strays-clause-writes : goal.returns-in_err-wipe_strays-clause-writes
@@ -78,10 +80,10 @@ returns-clause-allowed g c told =
     let a = g.F.Flash.medium c.args.self.now.flash in
     let s = c.args.self.now.state in
     on_ok_weaker c.write_pages.result
-    (λ calm. allowed a s c.args.file c.args.at (length c.args.bytes.now) c.args.end (c.requires.ready.sound told)
+    (λ no_rivals. allowed a s c.args.file c.args.at (length c.args.bytes.now) c.args.end (c.requires.ready.sound told)
     c.requires.end c.requires.least
-    c.requires.room (sym c.in_ok-wipe_strays.ensures.adds.accounts.disputed ∙ calm c.requires.some))
-    (c.write_pages.ensures.calm told)
+    c.requires.room (sym c.in_ok-wipe_strays.ensures.adds.accounts.has_rivals ∙ no_rivals c.requires.some))
+    (c.write_pages.ensures.no_rivals told)
 
 pub returns-clause-takes : goal.returns-clause-takes
 returns-clause-takes g c told =
@@ -93,3 +95,35 @@ returns-clause-takes g c told =
     c.args.file c.args.at (length c.args.bytes.now)
     (c.requires.ready.sound told) sound (c.in_ok-wipe_strays.ensures.entries told) takes)
     (f.adds.stays.sound told) (f.takes told)
+
+pub returns-then-is_err-clause-apart : goal.returns-then-is_err-clause-apart
+returns-then-is_err-clause-apart g c told =
+    failed_apart (copy_of c.args.file) (g.F.Flash.medium c.args.self.now.flash) (g.F.Flash.medium c.announce.new.self)
+    c.announce.result _ (c.announce.ensures.state told) (c.announce.ensures.failed told) c.announce.ensures.during
+    refl
+
+pub returns-in_err-wipe_strays-clause-apart : goal.returns-in_err-wipe_strays-clause-apart
+returns-in_err-wipe_strays-clause-apart g c told =
+    let a = g.F.Flash.medium c.args.self.now.flash in
+    let b = g.F.Flash.medium c.announce.new.self in
+    let w = g.F.Flash.medium c.wipe_strays.new.self.flash in
+    let e = c.wipe_strays.ensures in
+    let copy = copy_of c.args.file in
+    apart_then copy a b w c.announce.ensures.time (e.adds.accounts.time told)
+    (failed_apart copy a b c.announce.result _ (c.announce.ensures.state told) (c.announce.ensures.failed told)
+    c.announce.ensures.during refl) (e.apart told)
+
+pub returns-clause-apart : goal.returns-clause-apart
+returns-clause-apart g c told =
+    let a = g.F.Flash.medium c.args.self.now.flash in
+    let b = g.F.Flash.medium c.announce.new.self in
+    let w = g.F.Flash.medium c.wipe_strays.new.self.flash in
+    let d = g.F.Flash.medium c.write_pages.new.self.flash in
+    let e = c.wipe_strays.ensures in
+    let f = c.write_pages.ensures in
+    let copy = copy_of c.args.file in
+    apart_then copy a b d c.announce.ensures.time (elapses_then b w d (e.adds.accounts.time told)
+    (f.adds.accounts.time told))
+    (failed_apart copy a b c.announce.result _ (c.announce.ensures.state told) (c.announce.ensures.failed told)
+    c.announce.ensures.during refl)
+    (apart_then copy b w d (e.adds.accounts.time told) (f.adds.accounts.time told) (e.apart told) (f.apart told))

@@ -1,7 +1,7 @@
 use Rattle.std.proofs.Common.{subst}
 use Rattle.std.specs.Prelude.{IfErr}
+use Rattle.per_base.specs.Refusals.{IsRefusal}
 use Rattle.kvs_core.specs.Calls as calls
-use Rattle.kvs_core.specs.Refusals.{IsRefusal}
 use Rattle.kvs_store.specs.Storages.{KvsSession}
 use Rattle.kvs_store.proofs.storages.Kvs.set_any.Goals as goal
 

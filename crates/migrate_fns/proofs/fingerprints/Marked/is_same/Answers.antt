@@ -1,9 +1,8 @@
 use Rattle.std.proofs.Common.{◌≡◌, ℕ, ap, sym, ◌∙◌, nat_eq}
 use Rattle.std.proofs.lemmas.Bool.{eqb-true}
-use Rattle.value_model.specs.Kinds.{Kind}
+use Rattle.value_model.specs.Kinds.{Kind, same_kind}
 use Rattle.value_model.specs.Views.{kind_of}
 use Rattle.migrate_fns.specs.Fingerprints.{fingerprint}
-use Rattle.migrate_fns.specs.SameKind.{same_kind}
 use Rattle.migrate_fns.specs.lemmas.Facts.{is_false}
 use Rattle.migrate_fns.specs.lemmas.SameKinds.{kind_is}
 use Rattle.migrate_fns.proofs.fingerprints.Marked.is_same.Goals as goal
