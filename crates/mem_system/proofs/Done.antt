@@ -14,9 +14,9 @@ use Rattle.system_model.specs.SystemMedium.{AnnounceCase, ShowsBytes, IsAbsent, 
 use Rattle.mem_system.specs.declared.record.Call.{Call}
 use Rattle.mem_system.specs.declared.record.Call.TheVariants.{Announce, Write, Make, Sync, FailSync, SyncFolder, Settle}
 use Rattle.mem_system.specs.declared.memory.MemSystem.{MemSystem}
-use Rattle.mem_system.specs.History.{State, IsCaseOf, written, after_call, state_after, folder_after}
-use Rattle.mem_system.specs.History.{after_calls, settled, IsNoWrite, DropsNothing, DropNothing}
-use Rattle.mem_system.specs.HistoryLaws.{is_sound, folder_is_lawful}
+use Rattle.mem_system.specs.History.{FolderState, IsLeft, bytes_written, after_call, state_after, folder_after}
+use Rattle.mem_system.specs.History.{after_calls, all_durable, IsNoWrite, DropsNothing, DropNothing}
+use Rattle.mem_system.specs.HistoryLaws.{is_bounded, folder_is_lawful}
 use Rattle.mem_system.specs.Memory.{mem_medium, HasRecord, SameRecord, Noted}
 use Rattle.mem_system.proofs.Moments.{time_goes_on, after, at_end, during, only_reads, looks}
 use Rattle.mem_system.proofs.Told.{write_tears, torn_more, torn_none, same_image, again_fewer, sync_fewer, sync_saves}
@@ -71,7 +71,7 @@ is_absent m f none =
               ext_get_or 0 (c.left f) ((mem_medium m).disk.image f) (omega (arith, high, long))
               (λ i lt. absurd (omega (arith, lt, high, long))))
           (now.left f);
-      still = λ i free. let h = (is_sound (image_of m.start) m.history.items).free f i free in omega (arith, h, long);
+      still = λ i free. let h = (is_bounded (image_of m.start) m.history.items).free f i free in omega (arith, h, long);
     }
 
 -- ---- a write
@@ -91,7 +91,7 @@ pub record Wrote (file at n : ℕ) (all : List ℕ) (old new : SystemMedium) : T
 
 module _ (start : Image) (calls : List Call) (file at n : ℕ) (all : List ℕ) (copy : Vec ℕ Global)
     (copied : copy.items ≡ take n all) (fits : n ≤ length all) where
-  abbrev old : State
+  abbrev old : FolderState
   old = state_after start calls
 
   abbrev call : Call
@@ -100,8 +100,8 @@ module _ (start : Image) (calls : List Call) (file at n : ℕ) (all : List ℕ) 
   len : length copy.items ≡ n
   len = ap length copied ∙ length-take-le n all fits
 
-  tears : Follows (TearCase file at (length copy.items)) (IsCaseOf old) (IsCaseOf (written old file at copy.items))
-  tears = write_tears old file at copy.items (is_sound start calls)
+  tears : Follows (TearCase file at (length copy.items)) (IsLeft old) (IsLeft (bytes_written old file at copy.items))
+  tears = write_tears old file at copy.items (is_bounded start calls)
 
   shows : ShowsBytes (old.image file) at all → ShowsBytes (old.image file) at copy.items
   shows is = record {
@@ -114,8 +114,8 @@ module _ (start : Image) (calls : List Call) (file at n : ℕ) (all : List ℕ) 
   wrote_after = record {
     image = after start calls call (λ t. t.image ≡ put_image old.image file at (take n all))
         (ap (put_image old.image file at) copied);
-    now = subst (λ k. Follows (TearCase file at k) (IsCaseOf old) (IsCaseOf (state_after start (calls ++ call ∷ [])))) len
-        (λ c now. tears c (at_end start calls call (λ t. IsCaseOf t c) now));
+    now = subst (λ k. Follows (TearCase file at k) (IsLeft old) (IsLeft (state_after start (calls ++ call ∷ [])))) len
+        (λ c now. tears c (at_end start calls call (λ t. IsLeft t c) now));
     during = λ c past. ⊎_elim
         (λ was. (c, was, torn_none file at (length all) c))
         (λ new.
@@ -125,7 +125,7 @@ module _ (start : Image) (calls : List Call) (file at n : ℕ) (all : List ℕ) 
     time = time_goes_on start calls call;
     named = after start calls call (λ t. (f : ℕ) → old.named f → t.named f) (λ f was. was);
     frees = after start calls call (λ t. (f i : ℕ) → t.free f i ↔ (old.free f i ⊎ ((f ≡ file) × InRange at n i)))
-        (subst (λ k. (f i : ℕ) → (written old file at copy.items).free f i
+        (subst (λ k. (f i : ℕ) → (bytes_written old file at copy.items).free f i
         ↔ (old.free f i ⊎ ((f ≡ file) × InRange at k i))) len (λ f i. (λ h. h, λ h. h)));
     lost = after start calls call (λ t. (f i : ℕ) → t.lost f i → old.lost f i) (λ f i lost. lost.0);
     found = after start calls call (λ t. (i : ℕ) → InRange at n i → ¬ (t.lost file i))
@@ -161,7 +161,7 @@ synced_after start calls file =
     let call = Sync file in
     record {
       safe = λ whole named c now.
-          sync_saves old file whole named c (at_end start calls call (λ t. IsCaseOf t c) now)
+          sync_saves old file whole named c (at_end start calls call (λ t. IsLeft t c) now)
           ∙ sym (ap (λ (i : Image). i file) (after start calls call (λ t. t.image ≡ old.image) refl));
       still = λ whole. after start calls call (λ t. (i : ℕ) → ¬ (t.free file i)) (λ i free. free.1 (refl, whole));
       kept = after start calls call (λ t. (f i : ℕ) → t.lost f i → old.lost f i) (λ f i h. h);
@@ -229,7 +229,7 @@ made_after start calls file absent =
     let old = state_after start calls in
     let call = Make file in
     record {
-      reads = only_reads start calls call (make_fewer old file (is_sound start calls) absent) refl;
+      reads = only_reads start calls call (make_fewer old file (is_bounded start calls) absent) refl;
       time = time_goes_on start calls call;
       free = after start calls call (λ t. (f i : ℕ) → t.free f i ↔ old.free f i) (λ f i. (λ h. h, λ h. h));
       lost = after start calls call (λ t. (f i : ℕ) → t.lost f i → old.lost f i) (λ f i h. h);
@@ -278,8 +278,8 @@ announced_after start calls file at copy =
     let call = Announce file at copy in
     record {
       image = after start calls call (λ t. t.image ≡ old.image) refl;
-      now = λ c now. announce_follows old file at copy.items c (at_end start calls call (λ t. IsCaseOf t c) now);
-      during = λ c past. ⊎_elim (λ was. inl was) (λ new. inr (after start calls call (λ t. IsCaseOf t c) new))
+      now = λ c now. announce_follows old file at copy.items c (at_end start calls call (λ t. IsLeft t c) now);
+      during = λ c past. ⊎_elim (λ was. inl was) (λ new. inr (after start calls call (λ t. IsLeft t c) new))
           (during start calls call c past);
       time = time_goes_on start calls call;
       named = after start calls call (λ t. (f : ℕ) → old.named f → t.named f) (λ f was. was);
@@ -308,11 +308,11 @@ settled_after : (start : Image) (calls : List Call) → ((f : ℕ) → IsSafe (f
 settled_after start calls safe =
     let old = state_after start calls in
     record {
-      quiet = after start calls Settle (λ t. (c : Case) → IsCaseOf t c → IsSettledAt t.image c)
+      quiet = after start calls Settle (λ t. (c : Case) → IsLeft t c → IsSettledAt t.image c)
           (settle_quiets old safe);
       writes_nothing = record {
         image = after start calls Settle (λ t. t.image ≡ old.image) refl;
-        during = λ c past. ⊎_elim (λ was. inl was) (λ new. inr (after start calls Settle (λ t. IsCaseOf t c) new))
+        during = λ c past. ⊎_elim (λ was. inl was) (λ new. inr (after start calls Settle (λ t. IsLeft t c) new))
             (during start calls Settle c past);
         written = refl;
       };
@@ -330,7 +330,7 @@ settled_all a b safe noted =
 
 -- ---- what a record says of the files
 
-image_stays : (call : Call) → IsNoWrite call → (s : State) → (after_call call s).image ≡ s.image
+image_stays : (call : Call) → IsNoWrite call → (s : FolderState) → (after_call call s).image ≡ s.image
 image_stays (Announce file at bytes) free s = refl
 image_stays (Write file at bytes) free s = absurd free
 image_stays (Make file) free s = refl
@@ -361,7 +361,7 @@ write_tied start calls calls' image image' file at copy bytes copied is tied put
 
 -- ---- nothing is dropped where no sync of a file failed
 
-none_more : (call : Call) → DropsNothing call → (s : State) → ((f i : ℕ) → ¬ (s.lost f i))
+none_more : (call : Call) → DropsNothing call → (s : FolderState) → ((f i : ℕ) → ¬ (s.lost f i))
     → (f i : ℕ) → ¬ ((after_call call s).lost f i)
 none_more (Announce file at bytes) drops s none f i lost = none f i lost
 none_more (Write file at bytes) drops s none f i lost = none f i lost.0
@@ -371,7 +371,7 @@ none_more (FailSync file) drops s none f i lost = drops
 none_more SyncFolder drops s none f i lost = none f i lost
 none_more Settle drops s none f i lost = none f i lost
 
-none_dropped : (calls : List Call) → DropNothing calls → (s : State) → ((f i : ℕ) → ¬ (s.lost f i))
+none_dropped : (calls : List Call) → DropNothing calls → (s : FolderState) → ((f i : ℕ) → ¬ (s.lost f i))
     → (f i : ℕ) → ¬ ((after_calls calls s).lost f i)
 none_dropped [] drops s none f i lost = none f i lost
 none_dropped (call ∷ calls) drops s none f i lost =
@@ -379,4 +379,4 @@ none_dropped (call ∷ calls) drops s none f i lost =
 
 pub all_whole : (m : MemSystem) → DropNothing m.history.items → (f : ℕ) → IsWhole (mem_medium m) f
 all_whole m drops f i lost =
-    none_dropped m.history.items drops (settled (image_of m.start)) (λ g j gone. absurd gone) f i lost
+    none_dropped m.history.items drops (all_durable (image_of m.start)) (λ g j gone. absurd gone) f i lost

@@ -10,8 +10,8 @@ use Rattle.disk_model.specs.Written.{put_outside, put_inside, put_none, length-p
 use Rattle.disk_model.specs.Written.{put_image_here, put_image_elsewhere}
 use Rattle.system_model.specs.SystemMedium.{InRange, TearCase, AnnounceCase, ShowsBytes}
 use Rattle.mem_system.specs.declared.record.Call.TheVariants.{Make, FailSync, SyncFolder, Settle}
-use Rattle.mem_system.specs.History.{State, LeavesFile, MayLeave, IsCaseOf, NoneLost, written, synced, after_call}
-use Rattle.mem_system.specs.HistoryLaws.{IsSound}
+use Rattle.mem_system.specs.History.{FolderState, LeavesFile, MayLeave, IsLeft, NoneLost, bytes_written, file_synced, after_call}
+use Rattle.mem_system.specs.HistoryLaws.{IsBounded}
 
 -- ---- a write
 
@@ -83,8 +83,8 @@ module _ (image xs bytes : List ℕ) (free sure : ℕ → Type 0) (at : ℕ) (so
   }
 
 -- what a file held before
-back : (s : State) (file at : ℕ) (bytes : List ℕ) → IsSound s → (xs : List ℕ)
-    → MayLeave (written s file at bytes) file xs
+back : (s : FolderState) (file at : ℕ) (bytes : List ℕ) → IsBounded s → (xs : List ℕ)
+    → MayLeave (bytes_written s file at bytes) file xs
     → (ys : List ℕ) × MayLeave s file ys × Torn at (length bytes) ys xs
 back s file at bytes sound xs may = ⊎_elim
     (λ none. (xs, inl none, record { kept = λ i lt out. refl; no_shorter = le_refl _; no_longer = omega arith }))
@@ -112,8 +112,8 @@ choose_here f file ys xs same = subst (λ b. cond b ys xs ≡ ys) (sym (eq-eqb f
 choose_other : (f file : ℕ) (ys xs : List ℕ) → f ≢ file → choose f file ys xs ≡ xs
 choose_other f file ys xs ne = subst (λ b. cond b ys xs ≡ xs) (sym (ne_eqb f file ne)) refl
 
-elsewhere : (s : State) (file at : ℕ) (bytes : List ℕ) (f : ℕ) → f ≢ file → (xs : List ℕ)
-    → MayLeave (written s file at bytes) f xs → MayLeave s f xs
+elsewhere : (s : FolderState) (file at : ℕ) (bytes : List ℕ) (f : ℕ) → f ≢ file → (xs : List ℕ)
+    → MayLeave (bytes_written s file at bytes) f xs → MayLeave s f xs
 elsewhere s file at bytes f ne xs may = ⊎_elim
     (λ none. inl none)
     (λ leaves. inr (record {
@@ -124,8 +124,8 @@ elsewhere s file at bytes f ne xs may = ⊎_elim
     }))
     may
 
-pub write_tears : (s : State) (file at : ℕ) (bytes : List ℕ) → IsSound s
-    → Follows (TearCase file at (length bytes)) (IsCaseOf s) (IsCaseOf (written s file at bytes))
+pub write_tears : (s : FolderState) (file at : ℕ) (bytes : List ℕ) → IsBounded s
+    → Follows (TearCase file at (length bytes)) (IsLeft s) (IsLeft (bytes_written s file at bytes))
 write_tears s file at bytes sound c now =
     let (ys, may, torn) = back s file at bytes sound (c.left file) (now.left file) in
     let d : Case = record { base = c.base; full = c.full; left = λ f. choose f file ys (c.left f) } in
@@ -208,7 +208,7 @@ put_same old at bytes shows = ⊎_elim
         (cases_lt i at)))
     (cases_eq (length bytes) 0)
 
-pub same_image : (s : State) (file at : ℕ) (bytes : List ℕ) → ShowsBytes (s.image file) at bytes → (f : ℕ)
+pub same_image : (s : FolderState) (file at : ℕ) (bytes : List ℕ) → ShowsBytes (s.image file) at bytes → (f : ℕ)
     → put_image s.image file at bytes f ≡ s.image f
 same_image s file at bytes shows f = ⊎_elim
     (λ e. subst (λ k. put_image s.image file at bytes k ≡ s.image k) (sym e)
@@ -217,9 +217,9 @@ same_image s file at bytes shows f = ⊎_elim
     (cases_eq f file)
 
 -- it makes no case where the range is free anyway
-pub again_fewer : (s : State) (file at : ℕ) (bytes : List ℕ)
+pub again_fewer : (s : FolderState) (file at : ℕ) (bytes : List ℕ)
     → ((i : ℕ) → InRange at (length bytes) i → s.free file i) → ShowsBytes (s.image file) at bytes
-    → (c : Case) → IsCaseOf (written s file at bytes) c → IsCaseOf s c
+    → (c : Case) → IsLeft (bytes_written s file at bytes) c → IsLeft s c
 again_fewer s file at bytes free shows c now = record {
   base = now.base;
   full = now.full;
@@ -239,7 +239,7 @@ again_fewer s file at bytes free shows c now = record {
 
 -- ---- a sync of a file
 
-pub sync_fewer : (s : State) (file : ℕ) (c : Case) → IsCaseOf (synced s file) c → IsCaseOf s c
+pub sync_fewer : (s : FolderState) (file : ℕ) (c : Case) → IsLeft (file_synced s file) c → IsLeft s c
 sync_fewer s file c now = record {
   base = now.base;
   full = now.full;
@@ -253,8 +253,8 @@ sync_fewer s file c now = record {
       (now.left f);
 }
 
-pub sync_saves : (s : State) (file : ℕ) → NoneLost s file → s.named file
-    → (c : Case) → IsCaseOf (synced s file) c → c.left file ≡ s.image file
+pub sync_saves : (s : FolderState) (file : ℕ) → NoneLost s file → s.named file
+    → (c : Case) → IsLeft (file_synced s file) c → c.left file ≡ s.image file
 sync_saves s file whole named c now = ⊎_elim
     (λ none. absurd (none.0 named))
     (λ leaves.
@@ -264,13 +264,13 @@ sync_saves s file whole named c now = ⊎_elim
         (λ i lt. leaves.kept i (inr (refl, whole, omega (arith, lt, high))) (λ free. free.1 (refl, whole))))
     (now.left file)
 
-pub fail_fewer : (s : State) (file : ℕ) (c : Case) → IsCaseOf (after_call (FailSync file) s) c → IsCaseOf s c
+pub fail_fewer : (s : FolderState) (file : ℕ) (c : Case) → IsLeft (after_call (FailSync file) s) c → IsLeft s c
 fail_fewer s file c now = record { base = now.base; full = now.full; left = now.left }
 
 -- ---- names
 
 -- a file that is not there has one way to be left
-absent_leaves : (s : State) (f : ℕ) → IsSound s → s.image f ≡ [] → (left : List ℕ) → left ≡ []
+absent_leaves : (s : FolderState) (f : ℕ) → IsBounded s → s.image f ≡ [] → (left : List ℕ) → left ≡ []
     → LeavesFile (s.image f) (s.free f) (s.sure f) left
 absent_leaves s f sound absent left none =
     let empty : length (s.image f) ≡ 0 = ap length absent in
@@ -281,8 +281,8 @@ absent_leaves s f sound absent left none =
       kept = λ i is out. let h = sound.sure f (suc i) is in absurd (omega (arith, h, empty));
     }
 
-pub make_fewer : (s : State) (file : ℕ) → IsSound s → s.image file ≡ []
-    → (c : Case) → IsCaseOf (after_call (Make file) s) c → IsCaseOf s c
+pub make_fewer : (s : FolderState) (file : ℕ) → IsBounded s → s.image file ≡ []
+    → (c : Case) → IsLeft (after_call (Make file) s) c → IsLeft s c
 make_fewer s file sound absent c now = record {
   base = now.base;
   full = now.full;
@@ -295,7 +295,7 @@ make_fewer s file sound absent c now = record {
       (now.left f);
 }
 
-pub names_fewer : (s : State) (c : Case) → IsCaseOf (after_call SyncFolder s) c → IsCaseOf s c
+pub names_fewer : (s : FolderState) (c : Case) → IsLeft (after_call SyncFolder s) c → IsLeft s c
 names_fewer s c now = record {
   base = now.base;
   full = now.full;
@@ -304,17 +304,17 @@ names_fewer s c now = record {
 
 -- ---- notes
 
-pub announce_follows : (s : State) (file at : ℕ) (bytes : List ℕ)
-    → Follows (AnnounceCase file at bytes) (IsCaseOf s)
-    (IsCaseOf (record s { full = put_image s.full file at bytes }))
+pub announce_follows : (s : FolderState) (file at : ℕ) (bytes : List ℕ)
+    → Follows (AnnounceCase file at bytes) (IsLeft s)
+    (IsLeft (record s { full = put_image s.full file at bytes }))
 announce_follows s file at bytes c now = (
   record { base = c.base; full = s.full; left = c.left },
   record { base = now.base; full = refl; left = now.left },
   record { base = refl; full = now.full; left = refl },
 )
 
-pub settle_quiets : (s : State) → ((f : ℕ) (c : Case) → IsCaseOf s c → c.left f ≡ s.image f)
-    → (c : Case) → IsCaseOf (after_call Settle s) c → IsSettledAt s.image c
+pub settle_quiets : (s : FolderState) → ((f : ℕ) (c : Case) → IsLeft s c → c.left f ≡ s.image f)
+    → (c : Case) → IsLeft (after_call Settle s) c → IsSettledAt s.image c
 settle_quiets s safe c now = record {
   base = now.base;
   full = now.full;

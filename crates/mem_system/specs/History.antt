@@ -7,7 +7,7 @@ use Rattle.mem_system.specs.declared.record.Call.{Call}
 use Rattle.mem_system.specs.declared.record.Call.TheVariants.{Announce, Write, Make, Sync, FailSync, SyncFolder, Settle}
 
 -- a folder at one moment, all told
-pub record State : Type 1 where
+pub record FolderState : Type 1 where
   -- what all was when it was last settled, and that with all that was announced since
   pub base : Image
   pub full : Image
@@ -28,21 +28,21 @@ pub record LeavesFile (image : List ℕ) (free sure : ℕ → Type 0) (left : Li
   pub kept : (i : ℕ) → sure (suc i) → ¬ (free i) → slice_index left i ≡ slice_index image i
 
 -- what it may leave of any file
-abbrev pub MayLeave : State → ℕ → List ℕ → Type 0
+abbrev pub MayLeave : FolderState → ℕ → List ℕ → Type 0
 MayLeave s f left = (¬ (s.named f) × (left ≡ [])) ⊎ LeavesFile (s.image f) (s.free f) (s.sure f) left
 
-pub record IsCaseOf (s : State) (c : Case) : Type 0 where
+pub record IsLeft (s : FolderState) (c : Case) : Type 0 where
   pub base : c.base ≡ s.base
   pub full : c.full ≡ s.full
   pub left : (f : ℕ) → MayLeave s f (c.left f)
 
 -- nothing of the file was dropped
-abbrev pub NoneLost : State → ℕ → Type 0
+abbrev pub NoneLost : FolderState → ℕ → Type 0
 NoneLost s f = (i : ℕ) → ¬ (s.lost f i)
 
 -- all is durable
-abbrev pub settled : Image → State
-settled image = record {
+abbrev pub all_durable : Image → FolderState
+all_durable image = record {
   base = image;
   full = image;
   image = image;
@@ -52,50 +52,50 @@ settled image = record {
   sure = λ f n. n ≤ length (image f);
 }
 
-abbrev pub written : State → (file at : ℕ) → List ℕ → State
-written s file at bytes = record s {
+abbrev pub bytes_written : FolderState → (file at : ℕ) → List ℕ → FolderState
+bytes_written s file at bytes = record s {
   image = put_image s.image file at bytes;
   free = λ f i. s.free f i ⊎ ((f ≡ file) × InRange at (length bytes) i);
   lost = λ f i. s.lost f i × ¬ ((f ≡ file) × InRange at (length bytes) i);
 }
 
 -- a good sync covers a file of which nothing was dropped
-abbrev pub synced : State → ℕ → State
-synced s file = record s {
+abbrev pub file_synced : FolderState → ℕ → FolderState
+file_synced s file = record s {
   free = λ f i. s.free f i × ¬ ((f ≡ file) × NoneLost s file);
   sure = λ f n. s.sure f n ⊎ ((f ≡ file) × NoneLost s file × (n ≤ length (s.image f)));
 }
 
-abbrev pub after_call : Call → State → State
+abbrev pub after_call : Call → FolderState → FolderState
 after_call (Announce file at bytes) s = record s { full = put_image s.full file at bytes.items }
-after_call (Write file at bytes) s = written s file at bytes.items
+after_call (Write file at bytes) s = bytes_written s file at bytes.items
 after_call (Make file) s = record s { named = λ f. s.named f × ¬ (f ≡ file) }
-after_call (Sync file) s = synced s file
+after_call (Sync file) s = file_synced s file
 after_call (FailSync file) s = record s { lost = λ f i. s.lost f i ⊎ ((f ≡ file) × s.free f i) }
 after_call SyncFolder s = record s { named = λ f. Unit {0} }
 after_call Settle s = record s { base = s.image; full = s.image }
 
-abbrev pub after_calls : List Call → State → State
+abbrev pub after_calls : List Call → FolderState → FolderState
 after_calls [] s = s
 after_calls (call ∷ calls) s = after_calls calls (after_call call s)
 
 -- the folder after these calls, all of which was durable before them
-abbrev pub state_after : Image → List Call → State
-state_after start calls = after_calls calls (settled start)
+abbrev pub state_after : Image → List Call → FolderState
+state_after start calls = after_calls calls (all_durable start)
 
 -- what a power loss after at least t of the calls might have left
 pub record CaseSince (start : Image) (calls : List Call) (t : ℕ) (c : Case) : Type 0 where
   pub k : ℕ
   pub from : t ≤ k
   pub to : k ≤ length calls
-  pub case : IsCaseOf (state_after start (take k calls)) c
+  pub case : IsLeft (state_after start (take k calls)) c
 
 -- the case that leaves what reads gave after at least t of the calls
 pub record GaveSince (start : Image) (calls : List Call) (t : ℕ) (c : Case) : Type 0 where
   pub k : ℕ
   pub from : t ≤ k
   pub to : k ≤ length calls
-  pub case : IsCaseOf (state_after start (take k calls)) c
+  pub case : IsLeft (state_after start (take k calls)) c
   pub image : c.left ≡ (state_after start (take k calls)).image
 
 -- all that is said of a folder with this record
@@ -103,7 +103,7 @@ abbrev pub folder_after : Image → List Call → SystemMedium
 folder_after start calls = record {
   disk = record {
     image = (state_after start calls).image;
-    now = IsCaseOf (state_after start calls);
+    now = IsLeft (state_after start calls);
     moment = length calls;
     since = CaseSince start calls;
     gave = GaveSince start calls;

@@ -9,11 +9,11 @@ use Rattle.disk_model.specs.Written.{length-put_bytes, length-put_some, put_imag
 use Rattle.system_model.specs.SystemMedium.{InRange}
 use Rattle.mem_system.specs.declared.record.Call.{Call}
 use Rattle.mem_system.specs.declared.record.Call.TheVariants.{Announce, Write, Make, Sync, FailSync, SyncFolder, Settle}
-use Rattle.mem_system.specs.History.{State, IsCaseOf, settled, written, after_call, after_calls}
+use Rattle.mem_system.specs.History.{FolderState, IsLeft, all_durable, bytes_written, after_call, after_calls}
 use Rattle.mem_system.specs.History.{state_after, folder_after}
 
 -- no file has fewer bytes than are sure, and what is free of it are bytes that it has
-pub record IsSound (s : State) : Type 0 where
+pub record IsBounded (s : FolderState) : Type 0 where
   pub sure : (f n : ℕ) → s.sure f n → n ≤ length (s.image f)
   pub free : (f i : ℕ) → s.free f i → i < length (s.image f)
 
@@ -33,7 +33,7 @@ reaches image file at bytes i range =
     let h = length-put_some (image file) at bytes some in
     let e = ap length (put_image_here image file at bytes) in omega (arith, h, e, range.1)
 
-sound_written : (s : State) (file at : ℕ) (bytes : List ℕ) → IsSound s → IsSound (written s file at bytes)
+sound_written : (s : FolderState) (file at : ℕ) (bytes : List ℕ) → IsBounded s → IsBounded (bytes_written s file at bytes)
 sound_written s file at bytes sound = record {
   sure = λ f n is. le_trans (sound.sure f n is) (no_shorter s.image file at bytes f);
   free = λ f i free. ⊎_elim
@@ -43,7 +43,7 @@ sound_written s file at bytes sound = record {
       free;
 }
 
-sound_after : (call : Call) (s : State) → IsSound s → IsSound (after_call call s)
+sound_after : (call : Call) (s : FolderState) → IsBounded s → IsBounded (after_call call s)
 sound_after (Announce file at bytes) s sound = record { sure = sound.sure; free = sound.free }
 sound_after (Write file at bytes) s sound = sound_written s file at bytes.items sound
 sound_after (Make file) s sound = record { sure = sound.sure; free = sound.free }
@@ -55,16 +55,16 @@ sound_after (FailSync file) s sound = record { sure = sound.sure; free = sound.f
 sound_after SyncFolder s sound = record { sure = sound.sure; free = sound.free }
 sound_after Settle s sound = record { sure = sound.sure; free = sound.free }
 
-sound_after_calls : (calls : List Call) (s : State) → IsSound s → IsSound (after_calls calls s)
+sound_after_calls : (calls : List Call) (s : FolderState) → IsBounded s → IsBounded (after_calls calls s)
 sound_after_calls [] s sound = sound
 sound_after_calls (call ∷ calls) s sound = sound_after_calls calls (after_call call s) (sound_after call s sound)
 
-pub is_sound : (start : Image) (calls : List Call) → IsSound (state_after start calls)
-is_sound start calls = sound_after_calls calls (settled start)
+pub is_bounded : (start : Image) (calls : List Call) → IsBounded (state_after start calls)
+is_bounded start calls = sound_after_calls calls (all_durable start)
     (record { sure = λ f n is. is; free = λ f i free. absurd free })
 
 -- what reads give is what some power loss leaves
-pub gives_one : (s : State) → IsSound s → (c : Case) × IsCaseOf s c × (c.left ≡ s.image)
+pub gives_one : (s : FolderState) → IsBounded s → (c : Case) × IsLeft s c × (c.left ≡ s.image)
 gives_one s sound = (
   record { base = s.base; full = s.full; left = s.image },
   record {
@@ -87,15 +87,15 @@ folder_is_lawful start calls =
         k = length calls;
         from = le;
         to = le_refl _;
-        case = subst (λ xs. IsCaseOf (state_after start xs) c) (sym all) now;
+        case = subst (λ xs. IsLeft (state_after start xs) c) (sym all) now;
       };
-      only_now = λ c past. subst (λ xs. IsCaseOf (state_after start xs) c) (take_all past.k calls past.from) past.case;
-      reads_one = λ told. gives_one (state_after start calls) (is_sound start calls);
+      only_now = λ c past. subst (λ xs. IsLeft (state_after start xs) c) (take_all past.k calls past.from) past.case;
+      reads_one = λ told. gives_one (state_after start calls) (is_bounded start calls);
       gives = λ told c now left. record {
         k = length calls;
         from = le_refl _;
         to = le_refl _;
-        case = subst (λ xs. IsCaseOf (state_after start xs) c) (sym all) now;
+        case = subst (λ xs. IsLeft (state_after start xs) c) (sym all) now;
         image = left ∙ ap (λ xs. (state_after start xs).image) (sym all);
       };
       gave_counts = λ t c le gave. record {
@@ -106,7 +106,7 @@ folder_is_lawful start calls =
         image = gave.image;
       };
       gives_only = λ c gave. (
-        subst (λ xs. IsCaseOf (state_after start xs) c) (take_all gave.k calls gave.from) gave.case,
+        subst (λ xs. IsLeft (state_after start xs) c) (take_all gave.k calls gave.from) gave.case,
         gave.image ∙ ap (λ xs. (state_after start xs).image) (take_all gave.k calls gave.from),
       );
       gave_left = λ t c gave. record { k = gave.k; from = gave.from; to = gave.to; case = gave.case };

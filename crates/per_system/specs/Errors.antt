@@ -5,7 +5,7 @@ use Rattle.std.specs.declared.io.ErrorKind.TheVariants.{Interrupted, OutOfMemory
 use Rattle.std.specs.IoError.{error_kind, raw_os_error}
 
 -- The call was interrupted, or not allowed, or the system lacks memory or descriptors: nothing is said of the file.
-abbrev pub IsOutside : Error → Type 0
-IsOutside error = (error_kind error ≡ Interrupted) ⊎ ((error_kind error ≡ OutOfMemory)
+abbrev pub SaysNothing : Error → Type 0
+SaysNothing error = (error_kind error ≡ Interrupted) ⊎ ((error_kind error ≡ OutOfMemory)
     ⊎ ((error_kind error ≡ PermissionDenied) ⊎ ((error_kind error ≡ ReadOnlyFilesystem)
     ⊎ ((raw_os_error error ≡ Some (pos 23)) ⊎ (raw_os_error error ≡ Some (pos 24))))))

@@ -5,9 +5,9 @@ use Rattle.per_system.specs.declared.names.Content.{Content}
 use Rattle.per_system.specs.declared.names.Content.TheVariants.{Disk, Flash}
 
 -- the name of the file of this number: `f` and the number, or `flash`
-abbrev pub name_of : Content → ℕ → List ℕ
-name_of Disk number = 102 ∷ decimal number
-name_of Flash number = 102 ∷ 108 ∷ 97 ∷ 115 ∷ 104 ∷ []
+abbrev pub file_name : Content → ℕ → List ℕ
+file_name Disk number = 102 ∷ decimal number
+file_name Flash number = 102 ∷ 108 ∷ 97 ∷ 115 ∷ 104 ∷ []
 
 -- the numbers that it may have
 abbrev pub IsNumberOf : Content → ℕ → Type 0

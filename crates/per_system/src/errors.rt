@@ -1,15 +1,15 @@
 //! What an error of the system says of a file.
 
 ghost use Rattle.std.specs.Prelude.{◌≡◌, ◌↔◌, IsTrue, Ok, Err};
-ghost use Rattle.per_system.specs.Errors.{IsOutside};
+ghost use Rattle.per_system.specs.Errors.{SaysNothing};
 
 use std::io;
 
 /// The answer of a call that failed for a reason that is the file's own: what cannot be opened counts as not there, and
 /// what cannot be read as zeros. Where the reason is outside the file, the failure itself.
 pub(crate) fn unless_outside<T: Drop>(error: io::Error, answer: T) -> io::Result<T>
-    ensures outside { IsOutside error → result ≡ Err error }
-    ensures own { ¬ (IsOutside error) → result ≡ Ok answer }
+    ensures outside { SaysNothing error → result ≡ Err error }
+    ensures own { ¬ (SaysNothing error) → result ≡ Ok answer }
 {
     if is_outside(error) {
         Err(error)
@@ -21,7 +21,7 @@ pub(crate) fn unless_outside<T: Drop>(error: io::Error, answer: T) -> io::Result
 /// Whether a call failed for a reason outside the file: the system lacks descriptors or memory, was interrupted, or
 /// does not allow it.
 fn is_outside(error: io::Error) -> bool
-    ensures { IsTrue result ↔ IsOutside error }
+    ensures { IsTrue result ↔ SaysNothing error }
 {
     match error.kind() {
         io::ErrorKind::Interrupted

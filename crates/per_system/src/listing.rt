@@ -37,11 +37,11 @@ pub(crate) fn entries<R: Files<File = File>>(
 }
 
 impl Entries {
-    ghost use Rattle.per_system.specs.Names.{IsNumberOf, name_of};
+    ghost use Rattle.per_system.specs.Names.{IsNumberOf, file_name};
 
     /// Notes a name.
     fn note(&mut self, content: Content, name: &str) -> Result<(), AllocError>
-        ensures listed { OnOk result ((n : ℕ) → IsNumberOf content n → name.now ≡ name_of content n
+        ensures listed { OnOk result ((n : ℕ) → IsNumberOf content n → name.now ≡ file_name content n
             → self.new.numbers.items ≡ self.old.numbers.items ++ n ∷ []) }
     {
         match content.number_of(name) {

@@ -15,11 +15,11 @@ pub enum Content {
 }
 
 impl Content {
-    ghost use Rattle.per_system.specs.Names.{IsNumberOf, name_of};
+    ghost use Rattle.per_system.specs.Names.{IsNumberOf, file_name};
 
     /// The number of the file of this name, if it has one.
     pub(crate) fn number_of(self, name: &str) -> Option<u32>
-        ensures { (n : ℕ) → IsNumberOf self n → name.now ≡ name_of self n → result ≡ Some n }
+        ensures { (n : ℕ) → IsNumberOf self n → name.now ≡ file_name self n → result ≡ Some n }
     {
         match self {
             Content::Disk => number_of(name.strip_prefix("f")?),
@@ -34,7 +34,7 @@ impl Content {
         dir: &str,
         number: u32,
     ) -> Result<String, AllocError>
-        ensures { IfOk result (λ path. string_bytes path ≡ dir.now ++ (47 ∷ name_of self number)) }
+        ensures { IfOk result (λ path. string_bytes path ≡ dir.now ++ (47 ∷ file_name self number)) }
     {
         match self {
             Content::Disk => format!(in alloc; "{dir}/f{number}"),
