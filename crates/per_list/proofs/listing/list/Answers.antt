@@ -3,7 +3,7 @@ use Rattle.std.proofs.Common.{◌∙◌, inl, sym}
 use Rattle.disk_model.specs.Laws.{elapses_on, rose_before}
 use Rattle.per_list.specs.Listings.{listing_text}
 use Rattle.per_list.proofs.Looks.{each_on_image, on_err, on_ok, passes_on, seen_behind}
-use Rattle.per_list.proofs.listing.listing.Goals as goal
+use Rattle.per_list.proofs.listing.list.Goals as goal
 
 pub returns-then-is_err-clause-during : goal.returns-then-is_err-clause-during
 returns-then-is_err-clause-during g c = λ x s.
