@@ -1,4 +1,3 @@
-use Rattle.std.proofs.Common.{◌≡◌}
 use Rattle.per_embed.proofs.Unfailed.{get_open}
 use Rattle.per_embed.proofs.reading.get_in.Goals as goal
 
