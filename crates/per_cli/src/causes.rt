@@ -6,7 +6,7 @@ use system_model::{Asked, Failure};
 
 /// What is said of the words where they are refused.
 const USAGE: &str =
-    "usage: per --dir DIR [--flash N] [--serve | --format | --generate N | --audit | --export A:S | --import A:S]";
+    "usage: per --dir DIR [--flash N] [--serve | --format | --generate N | --audit | --export A:S | --import A:S | --list FORM]";
 
 /// Why calls of the disk failed.
 #[derive(Clone, Copy, Debug)]
@@ -40,6 +40,8 @@ pub(crate) struct Ended<'a> {
     pub(crate) flash: Option<u32>,
     /// Whether the lines of the input were to be handled.
     pub(crate) takes_lines: bool,
+    /// Whether what is in the folder was to be said.
+    pub(crate) lists: bool,
     /// Whether a file of the disk or of the flash is in the folder.
     pub(crate) has_files: bool,
     /// The last calls that failed.
@@ -117,7 +119,7 @@ fn say_usage<R: Eprint>(rt: &R, unknown: Option<&[u8]>) -> io::Result<()> {
 }
 
 fn say_of_answers<R: Files + Eprint>(rt: &R, ended: &Ended<'_>) -> io::Result<()> {
-    if ended.takes_lines && !ended.has_files {
+    if (ended.takes_lines || ended.lists) && !ended.has_files {
         say_of_folder(rt, ended)
     } else if ended.disk.is_some() && !ended.takes_lines {
         say_answered(rt, ended.dir, ended.disk)

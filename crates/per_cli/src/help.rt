@@ -20,6 +20,10 @@ power loss, lost copies and updates.
                                 from N, 1 to 100000
   ./per --audit --dir DIR       lists what is kept, and what is damaged or lost;
                                 mends nothing
+  ./per ls --dir DIR            lists what is there: applications, versions and
+                                storages, and in which files each copy is; with
+                                --json for a program; the same as --list lines
+                                or --list json; mends nothing
   ./per --export A:S --dir DIR  writes storage S of application A, 0 to 7, as
                                 one text; mends nothing
   ./per --import A:S --dir DIR  makes that storage anew of such a text on
@@ -156,9 +160,9 @@ Status
   1 the words are refused, also a number of blocks outside 4 to 4096
   2 a line is outside the grammar; bad-line and its number are the last reply;
     not with --serve
-  3 the disk failed while the program started or formatted, in an audit, an
-    export or an import, or in a call by itself; or another run holds the
-    folder; or --serve or install found nothing but other files in it
+  3 the disk failed while the program started or formatted, in an audit, a
+    listing, an export or an import, or in a call by itself; or another run
+    holds the folder; or --serve or install found nothing but other files in it
   4 memory ran out
   5 the input failed, or the file that a call by itself takes
   6 the output failed

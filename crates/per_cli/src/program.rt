@@ -21,14 +21,16 @@ use std::io::{Read, Write};
 use std::rt::Files;
 use system_model::{Failure, System};
 
-/// The folder that the words name, for what it is held, whether it is formatted, whether lines are to be handled in it,
-/// whether it may be formatted for them, and how many blocks its flash has, where it has one.
+/// The folder that the words name, for what it is held, whether it is formatted, whether lines are to be handled in it
+/// or what is in it is to be said, whether it may be formatted for them, and how many blocks its flash has, where it
+/// has one.
 #[derive(Drop)]
 struct Target {
     dir: String,
     access: Access,
     formats: bool,
     takes_lines: bool,
+    lists: bool,
     formats_blank: bool,
     flash: Option<u32>,
 }
@@ -156,6 +158,7 @@ fn run_noting<'a, R: Files<File = File> + Eprint, I: Read + Drop, O: Write + Dro
         unknown: unknown_in(words),
         flash: target.flash,
         takes_lines: target.takes_lines,
+        lists: target.lists,
         has_files: outcome.has_files,
         disk: notes.last().map(Fault::System).or(outcome.fault),
         source: source.failure(),
@@ -288,7 +291,7 @@ fn outcome_of<Y: System + Drop>(
 /// For what a job holds the folder.
 fn access_of(kind: &JobKind) -> Access {
     match kind {
-        JobKind::Audit | JobKind::Export(_, _) => Access::Read,
+        JobKind::Audit | JobKind::Listing(_) | JobKind::Export(_, _) => Access::Read,
         JobKind::Run
         | JobKind::Serve
         | JobKind::Format
@@ -310,6 +313,7 @@ fn target_of(alloc: Global, words: &[String]) -> Result<(Target, String), AllocE
             let access = access_of(&job.kind);
             let formats = matches!(job.kind, JobKind::Format | JobKind::Generate(_));
             let takes_lines = matches!(job.kind, JobKind::Run | JobKind::Serve);
+            let lists = matches!(job.kind, JobKind::Listing(_));
             let formats_blank = matches!(job.kind, JobKind::Serve);
             let flash = job.flash;
             let dir = job.dir.into_string();
@@ -319,6 +323,7 @@ fn target_of(alloc: Global, words: &[String]) -> Result<(Target, String), AllocE
                 access,
                 formats,
                 takes_lines,
+                lists,
                 formats_blank,
                 flash,
             };
@@ -331,6 +336,7 @@ fn target_of(alloc: Global, words: &[String]) -> Result<(Target, String), AllocE
                 access: Access::Read,
                 formats: false,
                 takes_lines: false,
+                lists: false,
                 formats_blank: false,
                 flash: None,
             };

@@ -19,7 +19,7 @@ use Rattle.deployment_model.specs.Lookups.{element_named}
 use Rattle.value_code.specs.Reading.{decoded}
 use Rattle.value_text.specs.Texts.{mismatch}
 use Rattle.key_maps.specs.KeyElements.{key_of}
-use Rattle.kvs_core.specs.Calls.{kind_for, set_value, unless_typed, with_place, with_placed, with_room}
+use Rattle.kvs_core.specs.Calls.{kind_for, set_value, unless_typed, with_placed, with_room}
 use Rattle.kvs_core.specs.Calls.{as_kind, found, get_any, get_as, read_key, readable_value, set_any}
 
 abbrev IsUnfailed : {A : Type 0} → Result A PerError → Type 0

@@ -1,5 +1,5 @@
 -- What an open storage leaves of its values: it reads so on the disk, and a stop in a sync leaves one or the other.
-use Rattle.std.proofs.Common.{◌≡◌, ℕ, List, [], Bool, subst}
+use Rattle.std.proofs.Common.{ℕ, List, [], Bool, subst}
 use Rattle.std.specs.Prelude.{IfOk, IfSome, IsSomeAnd, IsTrue, Option, Some, None, Result, Ok, Err}
 use Rattle.per_base.specs.Maps.{Map}
 use Rattle.per_base.specs.declared.errors.PerError.{PerError}

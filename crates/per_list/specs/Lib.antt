@@ -1,4 +1,3 @@
 pub mod Listings
 pub mod Seen
-pub mod Clauses
 pub mod Samples

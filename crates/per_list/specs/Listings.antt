@@ -1,7 +1,7 @@
--- The text of a listing: application by application, what its root says, the files of the root's copies, and each
--- storage of the active version.
-use Rattle.std.specs.Prelude.{ℕ, zero, suc, ◌+◌, List, [], ◌∷◌, ◌++◌, codes, length, Bool, true, false, Option, Some}
-use Rattle.std.specs.Prelude.{None, option_map}
+-- The text of a listing: application by application, what its root says, the files of the root's copies, and the
+-- storages of the active version and of the previous one.
+use Rattle.std.specs.Prelude.{ℕ, zero, suc, ◌+◌, List, [], ◌∷◌, ◌++◌, codes, drop, length, Bool, true, false, Option}
+use Rattle.std.specs.Prelude.{Some, None, option_map}
 use Rattle.std.specs.List.{flat_map, range_with_len}
 use Rattle.std.specs.Fmt.{decimal}
 use Rattle.per_base.specs.declared.elements.StoreKind.{StoreKind}
@@ -40,9 +40,10 @@ abbrev pub access_word : (read_only : Bool) → List ℕ
 access_word true = codes "read-only"
 access_word false = codes "writable"
 
-abbrev pub truth_word : Bool → List ℕ
-truth_word true = codes "true"
-truth_word false = codes "false"
+-- in JSON, what ends the last list of an object, and the object
+abbrev pub list_end : Form → List ℕ
+list_end Lines = []
+list_end Json = codes "]}"
 
 -- ---- the files of a copy, which is counted from 0 here and from 1 in the text
 
@@ -58,24 +59,25 @@ abbrev pub root_copies : Form → (app : ℕ) → List ℕ
 root_copies form app = flat_map (root_copy form app) (range_with_len 0 3)
 
 -- the two slots and the area of a copy of a storage
-abbrev pub copy_line : (app : ℕ) → (name : List ℕ) → (number even odd area : ℕ) → List ℕ
-copy_line app name number even odd area = codes "copy " ++ (decimal app ++ (codes " " ++ (name ++ (codes " "
-    ++ (decimal number ++ (codes " f" ++ (decimal even ++ (codes " f" ++ (decimal odd ++ (codes " f"
-    ++ (decimal area ++ codes "\n")))))))))))
+unfoldable pub copy_name : (app bank : ℕ) → (name : List ℕ) → List ℕ
+copy_name app bank name = codes "copy " ++ decimal app ++ codes " " ++ decimal bank ++ codes " " ++ name
 
-unfoldable pub copy_text : Form → (app : ℕ) → (name : List ℕ) → Place → (copy : ℕ) → List ℕ
-copy_text Lines app name place copy =
-    copy_line app name (copy + 1) (slot place copy 0) (slot place copy 1) (area place copy)
-copy_text Json app name place copy = comma copy ++ codes "[\"f" ++ decimal (slot place copy 0) ++ codes "\",\"f"
-    ++ decimal (slot place copy 1) ++ codes "\",\"f" ++ decimal (area place copy) ++ codes "\"]"
+unfoldable pub copy_words : (number even odd area : ℕ) → List ℕ
+copy_words number even odd area = codes " " ++ (decimal number ++ (codes " f" ++ (decimal even ++ (codes " f"
+    ++ (decimal odd ++ (codes " f" ++ (decimal area ++ codes "\n")))))))
 
-abbrev pub storage_files : Form → (app : ℕ) → (name : List ℕ) → Place → List ℕ
-storage_files form app name place = flat_map (copy_text form app name place) (range_with_len 0 place.copies)
+unfoldable pub copy_members : (even odd area : ℕ) → List ℕ
+copy_members even odd area = codes "[\"f" ++ (decimal even ++ (codes "\",\"f" ++ (decimal odd ++ (codes "\",\"f"
+    ++ (decimal area ++ codes "\"]")))))
 
--- in JSON, what ends the last list of an object, and the object
-abbrev pub list_end : Form → List ℕ
-list_end Lines = []
-list_end Json = codes "]}"
+abbrev pub copy_text : Form → (app bank : ℕ) → (name : List ℕ) → Place → (copy : ℕ) → List ℕ
+copy_text Lines app bank name place copy = copy_name app bank name
+    ++ copy_words (copy + 1) (slot place copy 0) (slot place copy 1) (area place copy)
+copy_text Json app bank name place copy =
+    comma copy ++ copy_members (slot place copy 0) (slot place copy 1) (area place copy)
+
+abbrev pub storage_files : Form → (app bank : ℕ) → (name : List ℕ) → Place → List ℕ
+storage_files form app bank name place = flat_map (copy_text form app bank name place) (range_with_len 0 place.copies)
 
 -- ---- a storage
 
@@ -83,42 +85,63 @@ list_end Json = codes "]}"
 abbrev pub held_in : View → Held
 held_in v = record { elements = length v.entries; bytes = size_of v.entries }
 
-unfoldable pub storage_name : Form → (app number : ℕ) → (name : List ℕ) → List ℕ
-storage_name Lines app number name = codes "storage " ++ decimal app ++ codes " " ++ name ++ codes " "
-storage_name Json app number name = comma number ++ codes "{\"name\":\"" ++ name ++ codes "\","
+unfoldable pub storage_name : Form → (app bank number : ℕ) → (name : List ℕ) → List ℕ
+storage_name Lines app bank number name = codes "storage " ++ decimal app ++ codes " " ++ decimal bank ++ codes " "
+    ++ name ++ codes " "
+storage_name Json app bank number name = comma number ++ codes "{\"name\":\"" ++ name ++ codes "\","
 
 -- the kind, whether it is read-only, and how many of how many copies must agree
-abbrev pub config_members : (kind read_only : List ℕ) → (m n : ℕ) → List ℕ
-config_members kind read_only m n = codes "\"kind\":\"" ++ (kind ++ (codes "\",\"readOnly\":" ++ (read_only
-    ++ (codes ",\"m\":" ++ (decimal m ++ (codes ",\"n\":" ++ (decimal n ++ codes ",")))))))
+unfoldable pub config_words : StorageData → List ℕ
+config_words s = store_kind_word s.kind ++ codes " " ++ access_word s.read_only ++ codes " m " ++ decimal s.m
+    ++ codes " n " ++ decimal s.n ++ codes " "
 
-unfoldable pub config_text : Form → StorageData → List ℕ
-config_text Lines s = store_kind_word s.kind ++ codes " " ++ access_word s.read_only
-    ++ codes " m " ++ decimal s.m ++ codes " n " ++ decimal s.n ++ codes " "
-config_text Json s = config_members (store_kind_word s.kind) (truth_word s.read_only) s.m s.n
+unfoldable pub kind_member : StoreKind → List ℕ
+kind_member kind = codes "\"kind\":\"" ++ store_kind_word kind ++ codes "\","
 
-unfoldable pub room_members : (maximum : ℕ) → List ℕ
-room_members maximum = codes "\"maximumBytes\":" ++ decimal maximum ++ codes ",\"copies\":["
+abbrev pub access_member : (read_only : Bool) → List ℕ
+access_member true = codes "\"readOnly\":true"
+access_member false = codes "\"readOnly\":false"
 
--- whether it opens, and what it holds and may hold; of a storage that is corrupt nobody knows what it holds
-unfoldable pub held_text : Form → (maximum : ℕ) → Option Held → List ℕ
-held_text Lines maximum None = codes "corrupt elements - of 1024 bytes - of " ++ decimal maximum ++ codes "\n"
-held_text Lines maximum (Some held) = codes "opens elements " ++ (decimal held.elements ++ (codes " of 1024 bytes "
-    ++ (decimal held.bytes ++ (codes " of " ++ (decimal maximum ++ codes "\n")))))
-held_text Json maximum None =
-    codes "\"state\":\"corrupt\",\"elements\":null,\"maximumElements\":1024,\"bytes\":null,"
-    ++ room_members maximum
-held_text Json maximum (Some held) = (codes "\"state\":\"opens\",\"elements\":" ++ (decimal held.elements
-    ++ (codes ",\"maximumElements\":1024,\"bytes\":" ++ (decimal held.bytes ++ codes ",")))) ++ room_members maximum
+unfoldable pub copies_members : (m n : ℕ) → List ℕ
+copies_members m n = codes ",\"m\":" ++ decimal m ++ codes ",\"n\":" ++ decimal n ++ codes ","
 
-abbrev pub storage_text : Form → (app number : ℕ) → StorageData → Place → Option Held → List ℕ
-storage_text form app number s place held = storage_name form app number s.name ++ config_text form s
-    ++ held_text form s.maximum held ++ storage_files form app s.name place ++ list_end form
+abbrev pub config_text : Form → StorageData → List ℕ
+config_text Lines s = config_words s
+config_text Json s = kind_member s.kind ++ access_member s.read_only ++ copies_members s.m s.n
+
+-- what a storage that opens holds and may hold
+unfoldable pub opened_words : (maximum elements bytes : ℕ) → List ℕ
+opened_words maximum elements bytes = codes "opens elements " ++ (decimal elements ++ (codes " of 1024 bytes "
+    ++ (decimal bytes ++ (codes " of " ++ (decimal maximum ++ codes "\n")))))
+
+unfoldable pub opened_members : (maximum elements bytes : ℕ) → List ℕ
+opened_members maximum elements bytes = codes "\"state\":\"opens\",\"elements\":" ++ (decimal elements
+    ++ (codes ",\"maximumElements\":1024,\"bytes\":" ++ (decimal bytes ++ (codes ",\"maximumBytes\":"
+    ++ (decimal maximum ++ codes ",\"copies\":[")))))
+
+-- of a storage that is corrupt nobody knows what it holds
+unfoldable pub corrupt_words : (maximum : ℕ) → List ℕ
+corrupt_words maximum = codes "corrupt elements - of 1024 bytes - of " ++ (decimal maximum ++ codes "\n")
+
+unfoldable pub corrupt_members : (maximum : ℕ) → List ℕ
+corrupt_members maximum =
+    codes "\"state\":\"corrupt\",\"elements\":null,\"maximumElements\":1024,\"bytes\":null,\"maximumBytes\":"
+    ++ (decimal maximum ++ codes ",\"copies\":[")
+
+abbrev pub held_text : Form → (maximum : ℕ) → Option Held → List ℕ
+held_text Lines maximum (Some held) = opened_words maximum held.elements held.bytes
+held_text Lines maximum None = corrupt_words maximum
+held_text Json maximum (Some held) = opened_members maximum held.elements held.bytes
+held_text Json maximum None = corrupt_members maximum
+
+abbrev pub storage_text : Form → (app bank number : ℕ) → StorageData → Place → Option Held → List ℕ
+storage_text form app bank number s place held = storage_name form app bank number s.name ++ config_text form s
+    ++ held_text form s.maximum held ++ storage_files form app bank s.name place ++ list_end form
 
 -- the storage of this number of a bank, by its state
 abbrev pub storage_by : Form → (app bank number : ℕ) → StorageData → State → List ℕ
-storage_by form app bank number s state =
-    storage_text form app number s (storage_shape app bank number s).place (option_map held_in (opened_of state))
+storage_by form app bank number s state = storage_text form app bank number s
+    (storage_shape app bank number s).place (option_map held_in (opened_of state))
 
 -- storage by storage from this number on, each with its state
 abbrev pub storages_by : Form → (app bank number : ℕ) → List StorageData → List State → List ℕ
@@ -142,33 +165,54 @@ abbrev pub absent_text : Form → (app : ℕ) → List ℕ
 absent_text Lines app = []
 absent_text Json app = comma app ++ codes "{\"application\":" ++ decimal app ++ codes ",\"state\":\"absent\"}"
 
--- its version, and the version before, where that is kept
-unfoldable pub version_facts : Form → (app version : ℕ) → (previous : Option ℕ) → List ℕ
-version_facts Lines app version previous = codes "application " ++ (decimal app ++ (codes " version "
-    ++ (decimal version ++ (codes " previous " ++ (number_text Lines previous ++ codes "\n")))))
-version_facts Json app version previous = comma app ++ (codes "{\"application\":" ++ (decimal app
-    ++ (codes ",\"state\":\"installed\",\"version\":" ++ (decimal version ++ (codes ",\"previous\":"
-    ++ (number_text Json previous ++ codes ",\"root\":["))))))
+-- its version and the bank of that, and the version before, where that is kept
+unfoldable pub version_words : (app bank version : ℕ) → List ℕ
+version_words app bank version = codes "application " ++ (decimal app ++ (codes " version " ++ (decimal version
+    ++ (codes " bank " ++ (decimal bank ++ codes " previous ")))))
+
+unfoldable pub version_members : (app bank version : ℕ) → List ℕ
+version_members app bank version = codes "{\"application\":" ++ (decimal app
+    ++ (codes ",\"state\":\"installed\",\"version\":" ++ (decimal version ++ (codes ",\"bank\":" ++ (decimal bank
+    ++ codes ",\"previous\":")))))
+
+abbrev pub version_facts : Form → (app bank version : ℕ) → (previous : Option ℕ) → List ℕ
+version_facts Lines app bank version previous =
+    version_words app bank version ++ number_text Lines previous ++ codes "\n"
+version_facts Json app bank version previous =
+    comma app ++ version_members app bank version ++ number_text Json previous ++ codes ",\"root\":["
 
 abbrev pub between : Form → List ℕ
 between Lines = []
 between Json = codes "],\"storages\":["
 
-abbrev pub version_head : Form → (app version : ℕ) → (previous : Option ℕ) → List ℕ
-version_head form app version previous =
-    version_facts form app version previous ++ root_copies form app ++ between form
+abbrev pub next_list : Form → List ℕ
+next_list Lines = []
+next_list Json = codes "],\"previousStorages\":["
+
+abbrev pub version_head : Form → (app bank version : ℕ) → (previous : Option ℕ) → List ℕ
+version_head form app bank version previous =
+    version_facts form app bank version previous ++ root_copies form app ++ between form
 
 abbrev pub version_number : Named → ℕ
 version_number v = v.deployment.version
 
--- by what its root says, and the states of the storages that the root names, of which those of the active version are
--- the first
+-- the storages of a version, each with its state
+abbrev pub version_by : Form → (app : ℕ) → Named → List State → List ℕ
+version_by form app v states = storages_by form app v.bank 0 v.deployment.storages states
+
+abbrev pub previous_by : Form → (app : ℕ) → Option Named → List State → List ℕ
+previous_by form app None states = []
+previous_by form app (Some v) states = version_by form app v states
+
+-- by what its root says, and the states of the storages that the root names: those of the active version, and then
+-- those of the previous one
 abbrev pub app_by : Form → (app : ℕ) → Says → List State → List ℕ
 app_by form app nothing states = bad_text form app
 app_by form app (absent g) states = absent_text form app
 app_by form app (installed g active previous) states =
-    version_head form app active.deployment.version (option_map version_number previous)
-    ++ storages_by form app active.bank 0 active.deployment.storages states ++ list_end form
+    version_head form app active.bank active.deployment.version (option_map version_number previous)
+    ++ version_by form app active states ++ next_list form
+    ++ previous_by form app previous (drop (length active.deployment.storages) states) ++ list_end form
 
 unfoldable pub app_text : Form → (app : ℕ) → App → List ℕ
 app_text form app a = app_by form app a.says a.states

@@ -17,12 +17,14 @@ use Rattle.hash_guard.specs.SealedText.{verified}
 use Rattle.deploy_laws.specs.Apps.{App, Says, nothing, absent, installed, app_at, says_at, shapes_named}
 use Rattle.deploy_laws.specs.Places.{Named, storage_shape}
 use Rattle.per_list.specs.declared.forms.Form.TheVariants.{Lines, Json}
-use Rattle.per_list.specs.Listings.{app_text, bad_head, config_text, copy_text, held_text, listing_text}
-use Rattle.per_list.specs.Listings.{room_members, storage_name, version_facts}
+use Rattle.per_list.specs.Listings.{app_text, bad_head, config_words, copies_members, copy_members}
+use Rattle.per_list.specs.Listings.{copy_name, copy_words, corrupt_members, corrupt_words, kind_member, listing_text}
+use Rattle.per_list.specs.Listings.{opened_members, opened_words, storage_name, version_members, version_words}
 
 -- all that the samples compute with
 unfoldable computed : ℕ
-unfolding listing_text app_text copy_text storage_name config_text room_members held_text bad_head version_facts
+unfolding listing_text app_text copy_name copy_words copy_members storage_name config_words kind_member
+    copies_members opened_words opened_members corrupt_words corrupt_members bad_head version_words version_members
     app_at says_at shapes_named storage_shape held_in_first standing verified digits
 computed = 0
 
@@ -96,29 +98,30 @@ favourites state = record {
 }
 
 one_key : app_text Lines 0 (favourites (opens (entry (codes "home") 3 ∷ [])))
-    ≡ codes "application 0 version 1 previous -\nroot 0 1 f0 f1\nroot 0 2 f4 f5\nroot 0 3 f8 f9\n"
-    ++ codes "storage 0 fav keys writable m 2 n 3 opens elements 1 of 1024 bytes 7 of 65536\n"
-    ++ codes "copy 0 fav 1 f1024 f1025 f1026\ncopy 0 fav 2 f1028 f1029 f1030\ncopy 0 fav 3 f1032 f1033 f1034\n"
+    ≡ codes "application 0 version 1 bank 0 previous -\nroot 0 1 f0 f1\nroot 0 2 f4 f5\nroot 0 3 f8 f9\n"
+    ++ codes "storage 0 0 fav keys writable m 2 n 3 opens elements 1 of 1024 bytes 7 of 65536\n"
+    ++ codes "copy 0 0 fav 1 f1024 f1025 f1026\ncopy 0 0 fav 2 f1028 f1029 f1030\ncopy 0 0 fav 3 f1032 f1033 f1034\n"
 unfolding computed
 one_key = refl
 
 one_key_json : app_text Json 0 (favourites (opens (entry (codes "home") 3 ∷ [])))
-    ≡ codes "{\"application\":0,\"state\":\"installed\",\"version\":1,\"previous\":null,"
+    ≡ codes "{\"application\":0,\"state\":\"installed\",\"version\":1,\"bank\":0,\"previous\":null,"
     ++ codes "\"root\":[[\"f0\",\"f1\"],[\"f4\",\"f5\"],[\"f8\",\"f9\"]],\"storages\":["
     ++ codes "{\"name\":\"fav\",\"kind\":\"keys\",\"readOnly\":false,\"m\":2,\"n\":3,\"state\":\"opens\","
     ++ codes "\"elements\":1,\"maximumElements\":1024,\"bytes\":7,\"maximumBytes\":65536,\"copies\":["
-    ++ codes "[\"f1024\",\"f1025\",\"f1026\"],[\"f1028\",\"f1029\",\"f1030\"],[\"f1032\",\"f1033\",\"f1034\"]]}]}"
+    ++ codes "[\"f1024\",\"f1025\",\"f1026\"],[\"f1028\",\"f1029\",\"f1030\"],[\"f1032\",\"f1033\",\"f1034\"]]}],"
+    ++ codes "\"previousStorages\":[]}"
 unfolding computed
 one_key_json = refl
 
 corrupt : app_text Lines 0 (favourites (Corrupt None []))
-    ≡ codes "application 0 version 1 previous -\nroot 0 1 f0 f1\nroot 0 2 f4 f5\nroot 0 3 f8 f9\n"
-    ++ codes "storage 0 fav keys writable m 2 n 3 corrupt elements - of 1024 bytes - of 65536\n"
-    ++ codes "copy 0 fav 1 f1024 f1025 f1026\ncopy 0 fav 2 f1028 f1029 f1030\ncopy 0 fav 3 f1032 f1033 f1034\n"
+    ≡ codes "application 0 version 1 bank 0 previous -\nroot 0 1 f0 f1\nroot 0 2 f4 f5\nroot 0 3 f8 f9\n"
+    ++ codes "storage 0 0 fav keys writable m 2 n 3 corrupt elements - of 1024 bytes - of 65536\n"
+    ++ codes "copy 0 0 fav 1 f1024 f1025 f1026\ncopy 0 0 fav 2 f1028 f1029 f1030\ncopy 0 0 fav 3 f1032 f1033 f1034\n"
 unfolding computed
 corrupt = refl
 
--- ---- two storages in bank 1, and the version before, of whose storages nothing is said
+-- ---- two storages in bank 1, and in bank 0 one of the version before, which is corrupt
 
 abbrev both_versions : App
 both_versions = record {
@@ -129,23 +132,29 @@ both_versions = record {
   states = opens [] ∷ opens (entry (codes "a") 10 ∷ entry (codes "b") 20 ∷ []) ∷ Corrupt None [] ∷ [];
 }
 
-two_storages : app_text Lines 5 both_versions
-    ≡ codes "application 5 version 3 previous 2\nroot 5 1 f20480 f20481\nroot 5 2 f20484 f20485\n"
-    ++ codes "root 5 3 f20488 f20489\nstorage 5 fav keys writable m 1 n 1 opens elements 0 of 1024 bytes 0 of 65536\n"
-    ++ codes "copy 5 fav 1 f22016 f22017 f22018\n"
-    ++ codes "storage 5 map files read-only m 1 n 2 opens elements 2 of 1024 bytes 32 of 65536\n"
-    ++ codes "copy 5 map 1 f22048 f22049 f22050\ncopy 5 map 2 f22052 f22053 f22054\n"
+two_versions : app_text Lines 5 both_versions
+    ≡ codes "application 5 version 3 bank 1 previous 2\nroot 5 1 f20480 f20481\nroot 5 2 f20484 f20485\n"
+    ++ codes "root 5 3 f20488 f20489\n"
+    ++ codes "storage 5 1 fav keys writable m 1 n 1 opens elements 0 of 1024 bytes 0 of 65536\n"
+    ++ codes "copy 5 1 fav 1 f22016 f22017 f22018\n"
+    ++ codes "storage 5 1 map files read-only m 1 n 2 opens elements 2 of 1024 bytes 32 of 65536\n"
+    ++ codes "copy 5 1 map 1 f22048 f22049 f22050\ncopy 5 1 map 2 f22052 f22053 f22054\n"
+    ++ codes "storage 5 0 fav keys writable m 1 n 1 corrupt elements - of 1024 bytes - of 65536\n"
+    ++ codes "copy 5 0 fav 1 f21504 f21505 f21506\n"
 unfolding computed
-two_storages = refl
+two_versions = refl
 
-two_storages_json : app_text Json 5 both_versions
-    ≡ codes ",{\"application\":5,\"state\":\"installed\",\"version\":3,\"previous\":2,"
+two_versions_json : app_text Json 5 both_versions
+    ≡ codes ",{\"application\":5,\"state\":\"installed\",\"version\":3,\"bank\":1,\"previous\":2,"
     ++ codes "\"root\":[[\"f20480\",\"f20481\"],[\"f20484\",\"f20485\"],[\"f20488\",\"f20489\"]],\"storages\":["
     ++ codes "{\"name\":\"fav\",\"kind\":\"keys\",\"readOnly\":false,\"m\":1,\"n\":1,\"state\":\"opens\","
     ++ codes "\"elements\":0,\"maximumElements\":1024,\"bytes\":0,\"maximumBytes\":65536,\"copies\":["
     ++ codes "[\"f22016\",\"f22017\",\"f22018\"]]},"
     ++ codes "{\"name\":\"map\",\"kind\":\"files\",\"readOnly\":true,\"m\":1,\"n\":2,\"state\":\"opens\","
     ++ codes "\"elements\":2,\"maximumElements\":1024,\"bytes\":32,\"maximumBytes\":65536,\"copies\":["
-    ++ codes "[\"f22048\",\"f22049\",\"f22050\"],[\"f22052\",\"f22053\",\"f22054\"]]}]}"
+    ++ codes "[\"f22048\",\"f22049\",\"f22050\"],[\"f22052\",\"f22053\",\"f22054\"]]}],"
+    ++ codes "\"previousStorages\":[{\"name\":\"fav\",\"kind\":\"keys\",\"readOnly\":false,\"m\":1,\"n\":1,"
+    ++ codes "\"state\":\"corrupt\",\"elements\":null,\"maximumElements\":1024,\"bytes\":null,"
+    ++ codes "\"maximumBytes\":65536,\"copies\":[[\"f21504\",\"f21505\",\"f21506\"]]}]}"
 unfolding computed
-two_storages_json = refl
+two_versions_json = refl

@@ -1,13 +1,13 @@
-//! The listing of a disk: each root is looked at, and each storage of the active version that it names.
+//! The listing of a disk: each root is looked at, and each storage of the versions that it names.
 
-ghost use Rattle.std.specs.Prelude.{◌≡◌, ◌⊎◌, ◌≤◌, ◌<◌, ◌++◌, IfOk, IsErrOf, IsTrue, OnOk, length, map};
+ghost use Rattle.std.specs.Prelude.{◌≡◌, ◌⊎◌, ◌≤◌, ◌<◌, ◌++◌, IfOk, IfSome, IsErrOf, IsTrue, OnOk, length, map};
 ghost use Rattle.std.specs.Prelude.{option_map, string_bytes};
 ghost use Rattle.std.specs.List.{AllByRecursion};
 ghost use Rattle.per_base.specs.Causes.{Rose};
 ghost use Rattle.disk_model.specs.Case.{IsSettledAt};
 ghost use Rattle.disk_model.specs.Medium.{EachCase, Elapses, IsIdle, Quiet};
-ghost use Rattle.deployment_model.specs.Conditions.{IsStorage};
-ghost use Rattle.deployment_model.specs.Data.{storage_data};
+ghost use Rattle.deployment_model.specs.Conditions.{IsDeployment, IsStorage};
+ghost use Rattle.deployment_model.specs.Data.{deployment_data, storage_data};
 ghost use Rattle.element_state.specs.Chosen.{opened_of};
 ghost use Rattle.element_state.specs.Conditions.{IsShape};
 ghost use Rattle.element_state.specs.States.{store_at};
@@ -15,87 +15,37 @@ ghost use Rattle.deploy.specs.Views.{ShowsVersions, root_seen};
 ghost use Rattle.deploy.specs.declared.viewing.RootView.TheVariants.{Installed};
 ghost use Rattle.deploy_laws.specs.Apps.{app_at};
 ghost use Rattle.deploy_laws.specs.Places.{storage_shape};
-ghost use Rattle.per_list.specs.Clauses.{Lists, PutsListing};
 ghost use Rattle.per_list.specs.Listings.{app_text, held_in, listing_text, storage_by};
-ghost use Rattle.per_list.specs.Seen.{app_seen, storages_seen};
+ghost use Rattle.per_list.specs.Seen.{app_seen, previous_seen, storages_seen, previous_in_bank};
 
-use crate::errors::ListError;
 use crate::forms::{Form, Held};
 use crate::printing::{
-    push_absent, push_bad, push_ending, push_heading, push_list_end, push_storage,
+    push_absent, push_bad, push_ending, push_heading, push_list_end, push_next_list, push_storage,
     push_version_head,
 };
-use crate::writing::write_all;
 use deploy::{RootState, RootView, Stop, shape_of, view_root};
 use deployment_model::{Deployment, StorageConfig};
 use disk_model::Disk;
 use element_state::{Shape, StoreError, View, inspect};
-use per_base::{Sink, storage_size};
+use per_base::storage_size;
 use std::alloc::Global;
 
 /// The applications of a disk.
 const APPS: u32 = 8;
 
-/// Looks at every application of a disk and at every storage of an active version, and hands the sink a text that says
-/// what is there. Each content is read once. It begins with a sync and writes nothing to the disk. The sink takes
-/// nothing before all was read.
+/// Looks at every application of a disk and at every storage that it has, and gives a text that says what is there.
+/// Each content is read once. It begins with a sync and writes nothing.
 ///
 /// # Errors
 ///
-/// `Device` where the disk fails, `OutOfMemory`, and `Sink` where the sink fails, which then took less than the whole.
-pub fn write_listing<D: Disk, K: Sink>(
-    alloc: Global,
-    disk: &mut D,
-    sink: &mut K,
-    form: Form,
-) -> Result<(), ListError>
-    ensures lists { Lists D.told form (D.medium disk.old).image (K.written sink.old) (K.written sink.new) result }
-
-    ensures quiet { OnOk result (Quiet (D.medium disk.new)) }
-    ensures settled { IsErrOf result ListError.Sink → Quiet (D.medium disk.new) }
-    ensures image { (D.medium disk.new).image ≡ (D.medium disk.old).image }
-    ensures written { (D.medium disk.new).written ≡ (D.medium disk.old).written }
-    // A crash meanwhile leaves what reads give, or what one before might have left.
-    ensures during { EachCase (λ c. (D.medium disk.old).now c ⊎ IsSettledAt (D.medium disk.old).image c)
-        (D.medium disk.old) (D.medium disk.new) }
-
-    ensures cause { IsErrOf result ListError.Device → Rose (D.medium disk.old).faults (D.medium disk.new).faults }
-    ensures blames { IsErrOf result ListError.Sink → Rose (K.faults sink.old) (K.faults sink.new) }
-    ensures passes { OnOk result ((D.medium disk.new).faults ≡ (D.medium disk.old).faults) }
-    ensures fed { IsErrOf result ListError.OutOfMemory → (D.medium disk.new).faults ≡ (D.medium disk.old).faults }
-    ensures unfailed { IsErrOf result ListError.Sink → (D.medium disk.new).faults ≡ (D.medium disk.old).faults }
-    ensures untouched { (IsErrOf result ListError.Device) ⊎ (IsErrOf result ListError.OutOfMemory)
-        → sink.new ≡ sink.old }
-    ensures later { K.faults sink.old ≤ K.faults sink.new }
-    ensures time { Elapses (D.medium disk.old) (D.medium disk.new) }
-{
-    match listing(alloc, disk, form) {
-        Ok(text) => write_text(sink, text.as_slice()),
-        Err(Stop::Device) => Err(ListError::Device),
-        Err(Stop::OutOfMemory) => Err(ListError::OutOfMemory),
-    }
-}
-
-// Hands the sink what was made.
-fn write_text<K: Sink>(sink: &mut K, text: &[u8]) -> Result<(), ListError>
-    ensures puts { PutsListing text.now (K.written sink.old) (K.written sink.new) result }
-    ensures never_device { ¬ (IsErrOf result ListError.Device) }
-    ensures never_memory { ¬ (IsErrOf result ListError.OutOfMemory) }
-    ensures blames { IsErrOf result ListError.Sink → Rose (K.faults sink.old) (K.faults sink.new) }
-    ensures later { K.faults sink.old ≤ K.faults sink.new }
-{
-    match write_all(sink, text) {
-        Ok(()) => Ok(()),
-        Err(_) => Err(ListError::Sink),
-    }
-}
-
-// The text of it.
-fn listing<D: Disk>(alloc: Global, disk: &mut D, form: Form) -> Result<Vec<u8>, Stop>
+/// `Device` where the disk fails, and `OutOfMemory`.
+pub fn list<D: Disk>(alloc: Global, disk: &mut D, form: Form) -> Result<Vec<u8>, Stop>
     ensures text { IsTrue D.told → IfOk result (λ text. text.items ≡ listing_text form (D.medium disk.old).image) }
     ensures quiet { OnOk result (Quiet (D.medium disk.new)) }
     ensures image { (D.medium disk.new).image ≡ (D.medium disk.old).image }
     ensures written { (D.medium disk.new).written ≡ (D.medium disk.old).written }
+
+    // A crash meanwhile leaves what reads give, or what one before might have left.
     ensures during { EachCase (λ c. (D.medium disk.old).now c ⊎ IsSettledAt (D.medium disk.old).image c)
         (D.medium disk.old) (D.medium disk.new) }
     ensures cause { IsErrOf result Stop.Device → Rose (D.medium disk.old).faults (D.medium disk.new).faults }
@@ -211,7 +161,7 @@ fn list_version<D: Disk>(
     ensures time { Elapses (D.medium disk.old) (D.medium disk.new) }
 {
     let previous = version_of(&state.previous);
-    push_version_head(out, form, app, state.active.version, previous)?;
+    push_version_head(out, form, app, state.bank, state.active.version, previous)?;
     list_storages(
         alloc,
         disk,
@@ -221,18 +171,58 @@ fn list_version<D: Disk>(
         form,
         out,
     )?;
+    push_next_list(out, form)?;
+    list_previous(alloc, disk, app, 1 - state.bank, &state.previous, form, out)?;
     push_list_end(out, form)?;
     Ok(())
 }
 
 // The number of a version, where there is one.
-fn version_of(deployment: &Option<Deployment>) -> Option<u64>
+fn version_of(deployment: &Option<Deployment>) -> Option<u32>
     ensures { result ≡ option_map (λ d. d.version) deployment.now }
 {
     match deployment {
-        Some(deployment) => Some(deployment.version as u64),
+        Some(deployment) => Some(deployment.version),
         None => None,
     }
+}
+
+// Adds what the storages of the previous version have, where there is one, in its bank.
+fn list_previous<D: Disk>(
+    alloc: Global,
+    disk: &mut D,
+    app: u32,
+    bank: u32,
+    previous: &Option<Deployment>,
+    form: Form,
+    out: &mut String,
+) -> Result<(), Stop>
+    requires app { app < 8 }
+    requires bank { bank ≤ 1 }
+    requires deployment { IfSome previous.now (λ d. IsDeployment (deployment_data d)) }
+    ensures adds { IsTrue D.told → OnOk result (string_bytes out.new ≡ string_bytes out.old
+        ++ previous_seen form (D.medium disk.old).image app (previous_in_bank bank previous.now)) }
+    ensures image { (D.medium disk.new).image ≡ (D.medium disk.old).image }
+    ensures idle { Quiet (D.medium disk.old) → IsIdle (D.medium disk.old) (D.medium disk.new) }
+    ensures written { (D.medium disk.new).written ≡ (D.medium disk.old).written }
+    ensures cause { IsErrOf result Stop.Device → Rose (D.medium disk.old).faults (D.medium disk.new).faults }
+    ensures passes { OnOk result ((D.medium disk.new).faults ≡ (D.medium disk.old).faults) }
+    ensures fed { IsErrOf result Stop.OutOfMemory → (D.medium disk.new).faults ≡ (D.medium disk.old).faults }
+    ensures time { Elapses (D.medium disk.old) (D.medium disk.new) }
+{
+    let Some(deployment) = previous else {
+        return Ok(());
+    };
+    list_storages(
+        alloc,
+        disk,
+        app,
+        bank,
+        deployment.storages.as_slice(),
+        form,
+        out,
+    )?;
+    Ok(())
 }
 
 // Adds what the storages of a version have, in its bank.
@@ -293,7 +283,7 @@ fn list_storage<D: Disk>(
 {
     let shape = shape_of(app, bank, number, config)?;
     let held = find_held(alloc, disk, &shape)?;
-    push_storage(out, form, app, number, config, shape.place, held)?;
+    push_storage(out, form, app, bank, number, config, shape.place, held)?;
     Ok(())
 }
 

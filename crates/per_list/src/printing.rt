@@ -1,13 +1,15 @@
 //! The text of a listing, piece by piece. Nothing here touches a disk.
 
-ghost use Rattle.std.specs.Prelude.{◌≡◌, ◌<◌, ◌++◌, None, OnOk, Some, string_bytes};
+ghost use Rattle.std.specs.Prelude.{◌≡◌, ◌<◌, ◌++◌, OnOk, string_bytes};
 ghost use Rattle.deployment_model.specs.Data.{storage_data};
 ghost use Rattle.deploy_laws.specs.Places.{root_place};
-ghost use Rattle.per_list.specs.declared.forms.Form.TheVariants.{Lines, Json};
-ghost use Rattle.per_list.specs.Listings.{absent_text, access_word, bad_head, bad_text, between, comma, config_text};
-ghost use Rattle.per_list.specs.Listings.{copy_text, held_text, list_end, listing_end, listing_head, room_members};
-ghost use Rattle.per_list.specs.Listings.{root_copies, root_copy, storage_files, storage_name, storage_text};
-ghost use Rattle.per_list.specs.Listings.{store_kind_word, truth_word, version_facts, version_head};
+ghost use Rattle.per_list.specs.Listings.{absent_text, access_member, access_word, bad_head, bad_text, between, comma};
+ghost use Rattle.per_list.specs.Listings.{config_text, config_words, copies_members, copy_members, copy_name};
+ghost use Rattle.per_list.specs.Listings.{copy_text, copy_words, corrupt_members, corrupt_words, held_text};
+ghost use Rattle.per_list.specs.Listings.{kind_member, list_end, listing_end, listing_head, next_list};
+ghost use Rattle.per_list.specs.Listings.{number_text, opened_members, opened_words, root_copies, root_copy};
+ghost use Rattle.per_list.specs.Listings.{storage_files, storage_name, storage_text, store_kind_word};
+ghost use Rattle.per_list.specs.Listings.{version_facts, version_head, version_members, version_words};
 
 use crate::forms::{Form, Held};
 use deployment_model::StorageConfig;
@@ -79,18 +81,20 @@ pub(crate) fn push_absent(out: &mut String, form: Form, app: u32) -> Result<(), 
     }
 }
 
-/// What comes before the storages of an application with a version.
+/// What comes before the storages of an application with a version, which is in this bank.
 pub(crate) fn push_version_head(
     out: &mut String,
     form: Form,
     app: u32,
+    bank: u32,
     version: u32,
-    previous: Option<u64>,
+    previous: Option<u32>,
 ) -> Result<(), AllocError>
     requires { app < 8 }
-    ensures { OnOk result (string_bytes out.new ≡ string_bytes out.old ++ version_head form app version previous) }
+    ensures { OnOk result (string_bytes out.new
+        ≡ string_bytes out.old ++ version_head form app bank version previous) }
 {
-    push_version_facts(out, form, app, version, previous)?;
+    push_version_facts(out, form, app, bank, version, previous)?;
     push_root_copies(out, form, app)?;
     push_between(out, form)
 }
@@ -99,55 +103,51 @@ fn push_version_facts(
     out: &mut String,
     form: Form,
     app: u32,
+    bank: u32,
     version: u32,
-    previous: Option<u64>,
+    previous: Option<u32>,
 ) -> Result<(), AllocError>
-    ensures { OnOk result (string_bytes out.new ≡ string_bytes out.old ++ version_facts form app version previous) }
+    ensures { OnOk result (string_bytes out.new
+        ≡ string_bytes out.old ++ version_facts form app bank version previous) }
 {
     match form {
-        Form::Lines => push_version_line(out, app, version, previous),
-        Form::Json => push_version_members(out, app, version, previous),
+        Form::Lines => {
+            push_version_words(out, app, bank, version)?;
+            push_number(out, form, previous)?;
+            out.push_str("\n")
+        }
+        Form::Json => {
+            push_comma(out, app)?;
+            push_version_members(out, app, bank, version)?;
+            push_number(out, form, previous)?;
+            out.push_str(",\"root\":[")
+        }
     }
 }
 
-#[tactic(auto, unfolding(crate::specs::Listings::version_facts))]
-fn push_version_line(
-    out: &mut String,
-    app: u32,
-    version: u32,
-    previous: Option<u64>,
-) -> Result<(), AllocError>
-    ensures { OnOk result (string_bytes out.new ≡ string_bytes out.old ++ version_facts Lines app version previous) }
+#[tactic(auto, unfolding(crate::specs::Listings::version_words))]
+fn push_version_words(out: &mut String, app: u32, bank: u32, version: u32) -> Result<(), AllocError>
+    ensures { OnOk result (string_bytes out.new ≡ string_bytes out.old ++ version_words app bank version) }
 {
-    match previous {
-        Some(number) => write!(
-            out,
-            "application {app} version {version} previous {number}\n"
-        ),
-        None => write!(out, "application {app} version {version} previous -\n"),
-    }
+    write!(
+        out,
+        "application {app} version {version} bank {bank} previous "
+    )
 }
 
-#[tactic(auto, unfolding(crate::specs::Listings::version_facts))]
+#[tactic(auto, unfolding(crate::specs::Listings::version_members))]
 fn push_version_members(
     out: &mut String,
     app: u32,
+    bank: u32,
     version: u32,
-    previous: Option<u64>,
 ) -> Result<(), AllocError>
-    ensures { OnOk result (string_bytes out.new ≡ string_bytes out.old ++ version_facts Json app version previous) }
+    ensures { OnOk result (string_bytes out.new ≡ string_bytes out.old ++ version_members app bank version) }
 {
-    push_comma(out, app)?;
-    match previous {
-        Some(number) => write!(
-            out,
-            "{{\"application\":{app},\"state\":\"installed\",\"version\":{version},\"previous\":{number},\"root\":["
-        ),
-        None => write!(
-            out,
-            "{{\"application\":{app},\"state\":\"installed\",\"version\":{version},\"previous\":null,\"root\":["
-        ),
-    }
+    write!(
+        out,
+        "{{\"application\":{app},\"state\":\"installed\",\"version\":{version},\"bank\":{bank},\"previous\":"
+    )
 }
 
 // What stands between the copies of the root and the storages.
@@ -160,16 +160,43 @@ fn push_between(out: &mut String, form: Form) -> Result<(), AllocError>
     }
 }
 
+/// What stands between the storages of the active version and those of the previous one.
+pub(crate) fn push_next_list(out: &mut String, form: Form) -> Result<(), AllocError>
+    ensures { OnOk result (string_bytes out.new ≡ string_bytes out.old ++ next_list form) }
+{
+    match form {
+        Form::Lines => Ok(()),
+        Form::Json => out.push_str("],\"previousStorages\":["),
+    }
+}
+
 // The files of each copy of the root.
 fn push_root_copies(out: &mut String, form: Form, app: u32) -> Result<(), AllocError>
     requires { app < 8 }
     ensures { OnOk result (string_bytes out.new ≡ string_bytes out.old ++ root_copies form app) }
 {
-    let place = root_place(app);
     for copy in 0..3 {
-        push_root_copy(out, form, app, place, copy)?;
+        push_root_copy(out, form, app, copy)?;
     }
     Ok(())
+}
+
+fn push_root_copy(out: &mut String, form: Form, app: u32, copy: u32) -> Result<(), AllocError>
+    requires app { app < 8 }
+    requires copy { copy < 3 }
+    ensures { OnOk result (string_bytes out.new ≡ string_bytes out.old ++ root_copy form app copy) }
+{
+    let number = copy + 1;
+    let place = root_place(app);
+    let even = place.slot(copy, 0);
+    let odd = place.slot(copy, 1);
+    match form {
+        Form::Lines => write!(out, "root {app} {number} f{even} f{odd}\n"),
+        Form::Json => {
+            push_comma(out, copy)?;
+            write!(out, "[\"f{even}\",\"f{odd}\"]")
+        }
+    }
 }
 
 // The files of an application's root.
@@ -183,29 +210,6 @@ fn root_place(app: u32) -> Place
     }
 }
 
-fn push_root_copy(
-    out: &mut String,
-    form: Form,
-    app: u32,
-    place: Place,
-    copy: u32,
-) -> Result<(), AllocError>
-    requires place { place ≡ root_place app }
-    requires copy { copy < 3 }
-    ensures { OnOk result (string_bytes out.new ≡ string_bytes out.old ++ root_copy form app copy) }
-{
-    let number = copy + 1;
-    let even = place.slot(copy, 0);
-    let odd = place.slot(copy, 1);
-    match form {
-        Form::Lines => write!(out, "root {app} {number} f{even} f{odd}\n"),
-        Form::Json => {
-            push_comma(out, copy)?;
-            write!(out, "[\"f{even}\",\"f{odd}\"]")
-        }
-    }
-}
-
 // ---- a storage
 
 /// A storage of an application: what it is, what it holds where it opens, and the files of each copy.
@@ -213,18 +217,19 @@ pub(crate) fn push_storage(
     out: &mut String,
     form: Form,
     app: u32,
+    bank: u32,
     number: u32,
     config: &StorageConfig,
     place: Place,
     held: Option<Held>,
 ) -> Result<(), AllocError>
     ensures { OnOk result (string_bytes out.new ≡ string_bytes out.old
-        ++ storage_text form app number (storage_data config.now) place held) }
+        ++ storage_text form app bank number (storage_data config.now) place held) }
 {
-    push_storage_name(out, form, app, number, &config.name)?;
+    push_storage_name(out, form, app, bank, number, &config.name)?;
     push_config(out, form, config)?;
     push_held(out, form, config.maximum, held)?;
-    push_copies(out, form, app, &config.name, place)?;
+    push_copies(out, form, app, bank, &config.name, place)?;
     push_list_end(out, form)
 }
 
@@ -233,38 +238,68 @@ fn push_storage_name(
     out: &mut String,
     form: Form,
     app: u32,
+    bank: u32,
     number: u32,
     name: &Name,
 ) -> Result<(), AllocError>
-    ensures { OnOk result (string_bytes out.new ≡ string_bytes out.old ++ storage_name form app number name.now) }
+    ensures { OnOk result (string_bytes out.new
+        ≡ string_bytes out.old ++ storage_name form app bank number name.now) }
 {
-    let name = name.as_str();
     match form {
-        Form::Lines => write!(out, "storage {app} {name} "),
+        Form::Lines => {
+            write!(out, "storage {app} {bank} ")?;
+            out.push_str(name.as_str())?;
+            out.push_str(" ")
+        }
         Form::Json => {
             push_comma(out, number)?;
-            write!(out, "{{\"name\":\"{name}\",")
+            out.push_str("{\"name\":\"")?;
+            out.push_str(name.as_str())?;
+            out.push_str("\",")
         }
     }
 }
 
 // The kind, whether it is read-only, M and N.
-#[tactic(auto, unfolding(crate::specs::Listings::config_text))]
 fn push_config(out: &mut String, form: Form, config: &StorageConfig) -> Result<(), AllocError>
     ensures { OnOk result (string_bytes out.new ≡ string_bytes out.old ++ config_text form (storage_data config.now)) }
 {
-    let kind = kind_word(config.kind);
-    let access = access_word(config.read_only);
-    let truth = truth_word(config.read_only);
+    match form {
+        Form::Lines => push_config_words(out, config),
+        Form::Json => {
+            push_kind_member(out, config.kind)?;
+            out.push_str(access_member(config.read_only))?;
+            push_copies_members(out, config.m, config.n)
+        }
+    }
+}
+
+#[tactic(auto, unfolding(crate::specs::Listings::config_words))]
+fn push_config_words(out: &mut String, config: &StorageConfig) -> Result<(), AllocError>
+    ensures { OnOk result (string_bytes out.new ≡ string_bytes out.old ++ config_words (storage_data config.now)) }
+{
     let m = config.m;
     let n = config.n;
-    match form {
-        Form::Lines => write!(out, "{kind} {access} m {m} n {n} "),
-        Form::Json => write!(
-            out,
-            "\"kind\":\"{kind}\",\"readOnly\":{truth},\"m\":{m},\"n\":{n},"
-        ),
-    }
+    out.push_str(kind_word(config.kind))?;
+    out.push_str(" ")?;
+    out.push_str(access_word(config.read_only))?;
+    write!(out, " m {m} n {n} ")
+}
+
+#[tactic(auto, unfolding(crate::specs::Listings::kind_member))]
+fn push_kind_member(out: &mut String, kind: StoreKind) -> Result<(), AllocError>
+    ensures { OnOk result (string_bytes out.new ≡ string_bytes out.old ++ kind_member kind) }
+{
+    out.push_str("\"kind\":\"")?;
+    out.push_str(kind_word(kind))?;
+    out.push_str("\",")
+}
+
+#[tactic(auto, unfolding(crate::specs::Listings::copies_members))]
+fn push_copies_members(out: &mut String, m: u32, n: u32) -> Result<(), AllocError>
+    ensures { OnOk result (string_bytes out.new ≡ string_bytes out.old ++ copies_members m n) }
+{
+    write!(out, ",\"m\":{m},\"n\":{n},")
 }
 
 // Whether it opens, and what it holds and may hold.
@@ -276,68 +311,59 @@ fn push_held(
 ) -> Result<(), AllocError>
     ensures { OnOk result (string_bytes out.new ≡ string_bytes out.old ++ held_text form maximum held) }
 {
-    match form {
-        Form::Lines => push_held_words(out, maximum, held),
-        Form::Json => push_held_members(out, maximum, held),
+    match (form, held) {
+        (Form::Lines, Some(held)) => push_opened_words(out, maximum, held.elements, held.bytes),
+        (Form::Lines, None) => push_corrupt_words(out, maximum),
+        (Form::Json, Some(held)) => push_opened_members(out, maximum, held.elements, held.bytes),
+        (Form::Json, None) => push_corrupt_members(out, maximum),
     }
 }
 
-#[tactic(auto, unfolding(crate::specs::Listings::held_text))]
-fn push_held_words(out: &mut String, maximum: u64, held: Option<Held>) -> Result<(), AllocError>
-    ensures { OnOk result (string_bytes out.new ≡ string_bytes out.old ++ held_text Lines maximum held) }
+#[tactic(auto, unfolding(crate::specs::Listings::opened_words))]
+fn push_opened_words(
+    out: &mut String,
+    maximum: u64,
+    elements: u64,
+    bytes: u64,
+) -> Result<(), AllocError>
+    ensures { OnOk result (string_bytes out.new ≡ string_bytes out.old ++ opened_words maximum elements bytes) }
 {
-    match held {
-        Some(Held { elements, bytes }) => write!(
-            out,
-            "opens elements {elements} of 1024 bytes {bytes} of {maximum}\n"
-        ),
-        None => write!(out, "corrupt elements - of 1024 bytes - of {maximum}\n"),
-    }
+    write!(
+        out,
+        "opens elements {elements} of 1024 bytes {bytes} of {maximum}\n"
+    )
 }
 
-#[tactic(auto, unfolding(crate::specs::Listings::held_text))]
-fn push_held_members(out: &mut String, maximum: u64, held: Option<Held>) -> Result<(), AllocError>
-    ensures { OnOk result (string_bytes out.new ≡ string_bytes out.old ++ held_text Json maximum held) }
+#[tactic(auto, unfolding(crate::specs::Listings::corrupt_words))]
+fn push_corrupt_words(out: &mut String, maximum: u64) -> Result<(), AllocError>
+    ensures { OnOk result (string_bytes out.new ≡ string_bytes out.old ++ corrupt_words maximum) }
 {
-    match held {
-        Some(Held { elements, bytes }) => push_opened_members(out, maximum, elements, bytes),
-        None => push_corrupt_members(out, maximum),
-    }
+    write!(out, "corrupt elements - of 1024 bytes - of {maximum}\n")
 }
 
-#[tactic(auto, unfolding(crate::specs::Listings::held_text))]
-fn push_corrupt_members(out: &mut String, maximum: u64) -> Result<(), AllocError>
-    ensures { OnOk result (string_bytes out.new ≡ string_bytes out.old ++ held_text Json maximum None) }
-{
-    out.push_str(
-        "\"state\":\"corrupt\",\"elements\":null,\"maximumElements\":1024,\"bytes\":null,",
-    )?;
-    push_room(out, maximum)
-}
-
-// What the storage may hold, and the begin of its copies.
-#[tactic(auto, unfolding(crate::specs::Listings::room_members))]
-fn push_room(out: &mut String, maximum: u64) -> Result<(), AllocError>
-    ensures { OnOk result (string_bytes out.new ≡ string_bytes out.old ++ room_members maximum) }
-{
-    write!(out, "\"maximumBytes\":{maximum},\"copies\":[")
-}
-
-#[tactic(auto, unfolding(crate::specs::Listings::held_text))]
+#[tactic(auto, unfolding(crate::specs::Listings::opened_members))]
 fn push_opened_members(
     out: &mut String,
     maximum: u64,
     elements: u64,
     bytes: u64,
 ) -> Result<(), AllocError>
-    ensures { OnOk result (string_bytes out.new ≡ string_bytes out.old
-        ++ held_text Json maximum (Some (record { elements = elements; bytes = bytes }))) }
+    ensures { OnOk result (string_bytes out.new ≡ string_bytes out.old ++ opened_members maximum elements bytes) }
 {
     write!(
         out,
-        "\"state\":\"opens\",\"elements\":{elements},\"maximumElements\":1024,\"bytes\":{bytes},"
-    )?;
-    push_room(out, maximum)
+        "\"state\":\"opens\",\"elements\":{elements},\"maximumElements\":1024,\"bytes\":{bytes},\"maximumBytes\":{maximum},\"copies\":["
+    )
+}
+
+#[tactic(auto, unfolding(crate::specs::Listings::corrupt_members))]
+fn push_corrupt_members(out: &mut String, maximum: u64) -> Result<(), AllocError>
+    ensures { OnOk result (string_bytes out.new ≡ string_bytes out.old ++ corrupt_members maximum) }
+{
+    write!(
+        out,
+        "\"state\":\"corrupt\",\"elements\":null,\"maximumElements\":1024,\"bytes\":null,\"maximumBytes\":{maximum},\"copies\":["
+    )
 }
 
 // The files of each copy of a storage.
@@ -345,41 +371,71 @@ fn push_copies(
     out: &mut String,
     form: Form,
     app: u32,
+    bank: u32,
     name: &Name,
     place: Place,
 ) -> Result<(), AllocError>
-    ensures { OnOk result (string_bytes out.new ≡ string_bytes out.old ++ storage_files form app name.now place) }
+    ensures { OnOk result (string_bytes out.new ≡ string_bytes out.old ++ storage_files form app bank name.now place) }
 {
     for copy in 0..place.copies {
-        push_copy(out, form, app, name, place, copy)?;
+        push_copy(out, form, app, bank, name, place, copy)?;
     }
     Ok(())
 }
 
-#[tactic(auto, unfolding(crate::specs::Listings::copy_text))]
 fn push_copy(
     out: &mut String,
     form: Form,
     app: u32,
+    bank: u32,
     name: &Name,
     place: Place,
     copy: u32,
 ) -> Result<(), AllocError>
     requires { copy < place.copies }
-    ensures { OnOk result (string_bytes out.new ≡ string_bytes out.old ++ copy_text form app name.now place copy) }
+    ensures { OnOk result (string_bytes out.new ≡ string_bytes out.old ++ copy_text form app bank name.now place copy) }
 {
-    let name = name.as_str();
-    let number = copy + 1;
     let even = place.slot(copy, 0);
     let odd = place.slot(copy, 1);
     let area = place.area(copy);
     match form {
-        Form::Lines => write!(out, "copy {app} {name} {number} f{even} f{odd} f{area}\n"),
+        Form::Lines => {
+            push_copy_name(out, app, bank, name)?;
+            push_copy_words(out, copy + 1, even, odd, area)
+        }
         Form::Json => {
             push_comma(out, copy)?;
-            write!(out, "[\"f{even}\",\"f{odd}\",\"f{area}\"]")
+            push_copy_members(out, even, odd, area)
         }
     }
+}
+
+#[tactic(auto, unfolding(crate::specs::Listings::copy_name))]
+fn push_copy_name(out: &mut String, app: u32, bank: u32, name: &Name) -> Result<(), AllocError>
+    ensures { OnOk result (string_bytes out.new ≡ string_bytes out.old ++ copy_name app bank name.now) }
+{
+    write!(out, "copy {app} {bank} ")?;
+    out.push_str(name.as_str())
+}
+
+#[tactic(auto, unfolding(crate::specs::Listings::copy_words))]
+fn push_copy_words(
+    out: &mut String,
+    number: u32,
+    even: u32,
+    odd: u32,
+    area: u32,
+) -> Result<(), AllocError>
+    ensures { OnOk result (string_bytes out.new ≡ string_bytes out.old ++ copy_words number even odd area) }
+{
+    write!(out, " {number} f{even} f{odd} f{area}\n")
+}
+
+#[tactic(auto, unfolding(crate::specs::Listings::copy_members))]
+fn push_copy_members(out: &mut String, even: u32, odd: u32, area: u32) -> Result<(), AllocError>
+    ensures { OnOk result (string_bytes out.new ≡ string_bytes out.old ++ copy_members even odd area) }
+{
+    write!(out, "[\"f{even}\",\"f{odd}\",\"f{area}\"]")
 }
 
 // ---- words
@@ -404,6 +460,17 @@ fn push_comma(out: &mut String, number: u32) -> Result<(), AllocError>
     out.push_str(",")
 }
 
+// A number, or what says that there is none.
+fn push_number(out: &mut String, form: Form, number: Option<u32>) -> Result<(), AllocError>
+    ensures { OnOk result (string_bytes out.new ≡ string_bytes out.old ++ number_text form number) }
+{
+    match (number, form) {
+        (Some(number), _) => write!(out, "{number}"),
+        (None, Form::Lines) => out.push_str("-"),
+        (None, Form::Json) => out.push_str("null"),
+    }
+}
+
 fn kind_word(kind: StoreKind) -> &'static str
     ensures { result.now ≡ store_kind_word kind }
 {
@@ -419,8 +486,12 @@ fn access_word(read_only: bool) -> &'static str
     if read_only { "read-only" } else { "writable" }
 }
 
-fn truth_word(truth: bool) -> &'static str
-    ensures { result.now ≡ truth_word truth }
+fn access_member(read_only: bool) -> &'static str
+    ensures { result.now ≡ access_member read_only }
 {
-    if truth { "true" } else { "false" }
+    if read_only {
+        "\"readOnly\":true"
+    } else {
+        "\"readOnly\":false"
+    }
 }

@@ -1,4 +1,4 @@
--- What an audit, an export and an import promise: that the call was made, or that the job did not come to it.
+-- What an audit, a listing, an export and an import promise: that the call was made, or that the job did not come to it.
 use Rattle.std.proofs.Common.{ℕ, List, [], ◌∷◌, ◌≡◌, ◌≢◌, ◌⊎◌, ◌<◌, inl, inr, refl, sym, ap, subst, arith, length}
 use Rattle.std.proofs.Common.{◌∙◌, Option, Some, None, Bool, true, false, Result, Ok, Err, IfErr, IfSome, codes}
 use Rattle.std.proofs.KnownBytes.{Consumes-nil, Keeps-refl}
@@ -11,14 +11,15 @@ use Rattle.deploy_laws.specs.Apps.{App, app_at}
 use Rattle.deploy_rows.specs.Rows.{AnswersRow}
 use Rattle.per_audit.specs.Audits.{elements_at, findings_at, is_sound}
 use Rattle.per_audit.specs.declared.findings.Finding.{Finding}
+use Rattle.per_list.specs.Listings.{listing_text}
+use Rattle.per_list.specs.declared.forms.Form.{Form}
 use Rattle.per_backup.specs.Backups.{exporting, importing_into}
 use Rattle.per_backup.specs.Clauses.{ImportKeeps, Imported, IsAppSeen}
 use Rattle.per_run.specs.declared.endings.Ending.{Ending}
 use Rattle.per_run.specs.declared.endings.Ending.TheVariants.{AllRead, EndLine, BadLine, OutOfMemory, Source, Sink}
 use Rattle.per_run.specs.declared.endings.Ending.TheVariants.{TooLong}
 use Rattle.per_run.specs.Jobs.{AnswersOr, Audits, CameToOutput, Exports, FailsAtThree, Imports, IsInputTaken}
-use Rattle.per_run.specs.Jobs.{IsUncalled}
-use Rattle.per_run.specs.Jobs.{Makes, WritesOutput, answered_text, error_line}
+use Rattle.per_run.specs.Jobs.{IsUncalled, Lists, Makes, WritesOutput, answered_text, error_line}
 use Rattle.per_run.specs.Steps.{Breaks, IsCut, ending_of}
 use Rattle.per_run.proofs.Outputs.{not_cut, not_done, not_read, writes_as, writes_none}
 use Rattle.run_model.specs.Endings.{ending_status}
@@ -49,6 +50,20 @@ sound_none (f ∷ findings) is = let bad : false ≡ true = is in cc
 pub unsound_some : (findings : List Finding) → is_sound findings ≡ false → findings ≢ []
 unsound_some findings is none = let bad : is_sound [] ≡ false =
     subst (λ (fs : List Finding). is_sound fs ≡ false) none is in cc
+
+-- ---- a listing
+
+pub lists_none : (told : Bool) (form : Form) (status : ℕ) (now : Option (List ℕ)) (old new : Medium)
+    → (status ≡ 3) ⊎ (status ≡ 4) → LooksOnly old new → FailsAtThree status old.faults new.faults
+    → Lists told form status now now old new
+lists_none told form status now old new is stays failed = record {
+  text = listing_text form old.image;
+  text_is = λ tells. refl;
+  output = writes_none status now _ is;
+  stays = stays;
+  quiet = λ done. absurd (not_done status is done);
+  failed = failed;
+}
 
 -- ---- an answer that may be a refusal
 

@@ -6,6 +6,7 @@ use Rattle.std.proofs.KnownBytes.{Consumes-nil}
 use Rattle.std.proofs.lemmas.Bool.{leb-true}
 use Rattle.std.specs.Bool.{⊤}
 use Rattle.std.specs.List.{AllByRecursion, Contains}
+use Rattle.std.specs.Str.{bytes_eq}
 use Rattle.std.specs.Str.Parse.{digits_value, without_leading_plus}
 use Rattle.clap.proofs.ValueTestLemmas.{accepts-Accepts}
 use Rattle.clap.specs.Simple.{matches_of}
@@ -15,6 +16,7 @@ use Rattle.clap.specs.declared.builder.value_parser.ValueParser.TheVariants as v
 use Rattle.per_base.specs.Causes.{Rose}
 use Rattle.per_base.specs.Fields.{◌>>=◌, only_if}
 use Rattle.per_base.specs.Names.{is_name}
+use Rattle.per_list.specs.declared.forms.Form.TheVariants as form
 use Rattle.disk_model.specs.Laws.{elapses_none, reads_none, rose_before}
 use Rattle.disk_model.specs.Medium.{Medium, IsLawful}
 use Rattle.migrate_fns.specs.Rules.{Rule, Answers}
@@ -28,14 +30,15 @@ use Rattle.per_run.specs.declared.endings.Ending as parts
 use Rattle.per_run.specs.declared.endings.Ending.TheVariants as part
 use Rattle.per_run.specs.declared.words.Job.{Job}
 use Rattle.per_run.specs.declared.words.JobKind.{JobKind}
-use Rattle.per_run.specs.declared.words.JobKind.TheVariants.{Run, Serve, Format, Generate, Audit, Export, Import}
+use Rattle.per_run.specs.declared.words.JobKind.TheVariants.{Run, Serve, Format, Generate, Audit, Listing, Export}
+use Rattle.per_run.specs.declared.words.JobKind.TheVariants.{Import}
 use Rattle.per_run.specs.Jobs.{IsCaused, JobDone, by_disk, by_itself, by_sink, by_source, statuses_of}
 use Rattle.per_run.specs.Serves.{Heard, Serves, ServesBy, served, unprepared}
 use Rattle.per_run.specs.Steps.{IsCut, IsInRange, ending_of}
 use Rattle.per_run.specs.Words.{command, dir_of, export_job, flagged, flash_of, generate_of, has_matches, import_of}
-use Rattle.per_run.specs.Words.{is_application, is_set, job_in, job_kind_in, job_of, modes, only_mode, reads_input}
-use Rattle.per_run.specs.Words.{target_of, valued}
-use Rattle.per_run.proofs.Answered.{audits_none, exports_none, imports_cut}
+use Rattle.per_run.specs.Words.{is_application, is_set, job_in, job_kind_in, job_of, list_of, modes, only_mode}
+use Rattle.per_run.specs.Words.{reads_input, target_of, valued}
+use Rattle.per_run.proofs.Answered.{audits_none, exports_none, imports_cut, lists_none}
 use Rattle.per_run.proofs.Begins.{run_short, unbegun}
 use Rattle.per_run.proofs.Completes.{OneLine, completes}
 use Rattle.per_run.proofs.Fresh.{formats_none, generates_none}
@@ -134,6 +137,7 @@ short_caused Serve b n = by_itself (1, omega arith, refl)
 short_caused Format b n = by_itself (1, omega arith, refl)
 short_caused (Generate k) b n = by_itself (1, omega arith, refl)
 short_caused Audit b n = by_itself (1, omega arith, refl)
+short_caused (Listing f) b n = by_itself (1, omega arith, refl)
 short_caused (Export app name) b n = by_itself (1, omega arith, refl)
 short_caused (Import app name) b n = by_itself (1, omega arith, refl)
 
@@ -152,6 +156,12 @@ pub audit_caused : (status : ℕ) (b n : Failed) → ((status ≡ 0) ⊎ (status
 audit_caused status b n (inl (inl none)) = output_caused Audit status 0 b n (0, omega arith, refl) (inl none)
 audit_caused status b n (inl (inr eight)) = output_caused Audit status 8 b n (2, omega arith, refl) (inl eight)
 audit_caused status b n (inr other) = output_caused Audit status 0 b n (0, omega arith, refl) (inr other)
+
+-- a listing that was written
+pub list_caused : (kind : JobKind) (status : ℕ) (b n : Failed) → statuses_of kind ≡ 0 ∷ 4 ∷ []
+    → (status ≡ 0) ⊎ ((status ≡ 6) × Rose b.sink n.sink) → IsCaused kind status b n
+list_caused kind status b n has (inl none) = written_caused kind status b n has (inl none)
+list_caused kind status b n has (inr six) = by_sink six.0 six.1
 
 -- an export or an import that was answered
 answered_caused : (kind : JobKind) (status : ℕ) (b n : Failed) → Contains (statuses_of kind) 0
@@ -207,6 +217,7 @@ others_than_one Serve = (λ is. omega (arith, is), (λ is. omega (arith, is), (�
 others_than_one Format = (λ is. omega (arith, is), (λ is. omega (arith, is), tt))
 others_than_one (Generate k) = (λ is. omega (arith, is), (λ is. omega (arith, is), tt))
 others_than_one Audit = (λ is. omega (arith, is), (λ is. omega (arith, is), (λ is. omega (arith, is), tt)))
+others_than_one (Listing f) = (λ is. omega (arith, is), (λ is. omega (arith, is), tt))
 others_than_one (Export app name) = (λ is. omega (arith, is), (λ is. omega (arith, is), (λ is. omega (arith, is), tt)))
 others_than_one (Import app name) = (
   λ is. omega (arith, is),
@@ -280,6 +291,8 @@ done_none laws told medium (Generate n) rules answers left before source sink di
     generates_none told rules answers n 4 before (medium disk) (medium disk) (inr refl) (elapses_none lawful).faults
 done_none laws told medium Audit rules answers left before source sink disk lawful =
     audits_none told 4 before (medium disk) (medium disk) (inr refl) (looks_none lawful) (λ unfailed. refl)
+done_none laws told medium (Listing f) rules answers left before source sink disk lawful =
+    lists_none told f 4 before (medium disk) (medium disk) (inr refl) (looks_none lawful) (λ unfailed. refl)
 done_none laws told medium (Export app name) rules answers left before source sink disk lawful =
     exports_none told app name 4 before (medium disk) (medium disk) (inr refl) (looks_none lawful)
     (λ unfailed. refl)
@@ -387,6 +400,15 @@ target_safe kind value safe = go (target_of value) refl
     go None is = none_safe
     go (Some target) is = some_safe (kind target.0 target.1) (safe target.0 target.1 (target_within value target is))
 
+list_safe : (value : List ℕ) → IsSafe (list_of value)
+list_safe value = go (bytes_eq value (codes "lines")) (bytes_eq value (codes "json"))
+  where
+    go : (lines json : Bool)
+        → IsSafe (if lines then Some (Listing form.Lines) else if json then Some (Listing form.Json) else None)
+    go true json = some_safe (Listing form.Lines) tt
+    go false true = some_safe (Listing form.Json) tt
+    go false false = none_safe
+
 -- so is each that is named
 abbrev AreSafe : List (Option JobKind) → Type 0
 AreSafe [] = ⊤
@@ -406,9 +428,11 @@ valued_safe mode (Some v) safe = (safe v, tt)
 valued_safe mode None safe = tt
 
 modes_safe : (formats : Bool) (number : Option (List ℕ)) (audits : Bool) (exports imports : Option (List ℕ))
-    (serves : Bool) → AreSafe (modes formats number audits exports imports serves)
-modes_safe formats number audits exports imports serves =
-    both_safe ((((flagged Format formats ++ valued generate_of number) ++ flagged Audit audits)
+    (serves : Bool) (lists : Option (List ℕ)) → AreSafe (modes formats number audits exports imports serves lists)
+modes_safe formats number audits exports imports serves lists =
+    both_safe (((((flagged Format formats ++ valued generate_of number) ++ flagged Audit audits)
+    ++ valued export_job exports) ++ valued import_of imports) ++ flagged Serve serves) (valued list_of lists)
+    (both_safe ((((flagged Format formats ++ valued generate_of number) ++ flagged Audit audits)
     ++ valued export_job exports) ++ valued import_of imports) (flagged Serve serves)
     (both_safe (((flagged Format formats ++ valued generate_of number) ++ flagged Audit audits)
     ++ valued export_job exports) (valued import_of imports)
@@ -420,7 +444,8 @@ modes_safe formats number audits exports imports serves =
     (flagged_safe Audit audits tt))
     (valued_safe export_job exports (λ value. target_safe Export value (λ app name within. within))))
     (valued_safe import_of imports (λ value. target_safe Import value (λ app name within. within))))
-    (flagged_safe Serve serves tt)
+    (flagged_safe Serve serves tt))
+    (valued_safe list_of lists list_safe)
 
 only_safe : (ms : List (Option JobKind)) → AreSafe ms → IsSafe (only_mode ms)
 only_safe [] safe = some_safe Run tt
@@ -451,7 +476,7 @@ job_within ws job is = go (has_matches ws) is
     go : (b : Bool) → (if b then job_in rows else None) ≡ Some job → IsInRange job.kind
     go true says = only_safe _ (modes_safe (is_set (first_of (codes "format") rows)) (first_of (codes "generate") rows)
         (is_set (first_of (codes "audit") rows)) (first_of (codes "export") rows) (first_of (codes "import") rows)
-        (is_set (first_of (codes "serve") rows)))
+        (is_set (first_of (codes "serve") rows)) (first_of (codes "list") rows))
         job.kind
         (kind_of_job (job_kind_in rows) (flash_of (first_of (codes "flash") rows))
         (dir_of (first_of (codes "dir") rows))

@@ -29,10 +29,13 @@ use Rattle.per_audit.specs.Audits.{elements_at, findings_at}
 use Rattle.per_audit.specs.AuditText.{audit_text}
 use Rattle.per_audit.specs.declared.findings.Finding.{Finding}
 use Rattle.per_audit.specs.declared.findings.Listed.{Listed}
+use Rattle.per_list.specs.Listings.{listing_text}
+use Rattle.per_list.specs.declared.forms.Form.{Form}
 use Rattle.per_backup.specs.Backups.{exporting, importing_into}
 use Rattle.per_backup.specs.Clauses.{ImportKeeps, Imported, IsAppSeen}
 use Rattle.per_run.specs.declared.words.JobKind.{JobKind}
-use Rattle.per_run.specs.declared.words.JobKind.TheVariants.{Run, Serve, Format, Generate, Audit, Export, Import}
+use Rattle.per_run.specs.declared.words.JobKind.TheVariants.{Run, Serve, Format, Generate, Audit, Listing, Export}
+use Rattle.per_run.specs.declared.words.JobKind.TheVariants.{Import}
 use Rattle.per_run.specs.Serves.{Serves}
 use Rattle.per_run.specs.Words.{reads_input}
 
@@ -144,6 +147,18 @@ pub record Audits (told : Bool) (status : ℕ) (before now : Option (List ℕ)) 
   pub quiet : CameToOutput status → Quiet new
   pub failed : FailsAtThree status old.faults new.faults
 
+-- ---- a listing
+
+-- what is on the disk is said in this form; over a disk that models nothing it is some text
+pub record Lists (told : Bool) (form : Form) (status : ℕ) (before now : Option (List ℕ)) (old new : Medium) : Type 0
+  where
+    pub text : List ℕ
+    pub text_is : IsTrue told → text ≡ listing_text form old.image
+    pub output : WritesOutput status before now text
+    pub stays : LooksOnly old new
+    pub quiet : CameToOutput status → Quiet new
+    pub failed : FailsAtThree status old.faults new.faults
+
 -- ---- an answer that may be a refusal
 
 -- the line of an error, as a reply says it
@@ -231,6 +246,8 @@ JobDone told medium (Generate n) rules answers status left_before left_now befor
     Generates told rules answers n status before now (medium old) (medium new)
 JobDone told medium Audit rules answers status left_before left_now before now old_counts new_counts old new =
     Audits told status before now (medium old) (medium new)
+JobDone told medium (Listing form) rules answers status left_before left_now before now old_counts new_counts old new =
+    Lists told form status before now (medium old) (medium new)
 JobDone told medium (Export app name) rules answers status left_before left_now before now old_counts new_counts old
     new =
     Exports told app name status before now (medium old) (medium new)
@@ -245,6 +262,7 @@ statuses_of Serve = 0 ∷ 4 ∷ 7 ∷ []
 statuses_of Format = 0 ∷ 4 ∷ []
 statuses_of (Generate n) = 0 ∷ 4 ∷ []
 statuses_of Audit = 0 ∷ 4 ∷ 8 ∷ []
+statuses_of (Listing form) = 0 ∷ 4 ∷ []
 statuses_of (Export app name) = 0 ∷ 4 ∷ 9 ∷ []
 statuses_of (Import app name) = 0 ∷ 4 ∷ 7 ∷ 9 ∷ []
 

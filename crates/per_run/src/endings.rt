@@ -48,8 +48,8 @@ pub const REFUSED: u8 = 1;
 /// The status where a line is outside the grammar.
 pub const BAD_LINE: u8 = 2;
 
-/// The status where the disk failed while it was formatted or the runtime started, or in an audit, an export or an
-/// import.
+/// The status where the disk failed while it was formatted or the runtime started, or in an audit, a listing, an export
+/// or an import.
 pub const DEVICE: u8 = 3;
 
 /// The status where memory ran out.

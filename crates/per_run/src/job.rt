@@ -16,6 +16,7 @@ use crate::exporting::export_storage;
 use crate::formatting::format;
 use crate::generating::generate;
 use crate::importing::import_storage;
+use crate::listing::list_disk;
 use crate::run::run;
 use crate::serving::serve;
 use crate::words::{JobKind, WordsError, read_words};
@@ -30,10 +31,10 @@ use std::alloc::Global;
 ///
 /// | status | comes |
 /// |---|---|
-/// | 0 | the job is done, and all output is written: the input was read to its end or to the line `end`, the disk is formatted, the synthetic workload is handled, an audit found nothing, or the storage is exported or imported |
+/// | 0 | the job is done, and all output is written: the input was read to its end or to the line `end`, the disk is formatted, the synthetic workload is handled, an audit found nothing, what is on the disk is listed, or the storage is exported or imported |
 /// | 1 | only where the arguments are invalid; nothing was read or written |
 /// | 2 | the line with the number in `bad-line N` is outside the grammar; all lines before it were handled and answered; never of a run that stays |
-/// | 3 | the disk failed while it was formatted or the runtime started, or in an audit, an export or an import |
+/// | 3 | the disk failed while it was formatted or the runtime started, or in an audit, a listing, an export or an import |
 /// | 4 | memory ran out |
 /// | 5 | the source failed; all whole lines before were handled and answered, and nothing was imported |
 /// | 6 | the sink failed; what it took is a prefix of the output |
@@ -111,6 +112,7 @@ pub fn run_job<D: Disk, S: Source, K: Sink>(
         JobKind::Format => format(alloc, sink, disk),
         JobKind::Generate(number) => generate(alloc, number, migrations, sink, disk),
         JobKind::Audit => audit_disk(alloc, sink, disk),
+        JobKind::Listing(form) => list_disk(alloc, form, sink, disk),
         JobKind::Export(application, name) => {
             export_storage(alloc, u32::from(application), &name, sink, disk)
         }

@@ -6,14 +6,18 @@
 //! nothing of what they hold.
 #![tactic(auto)]
 
+mod errors;
 mod held;
 mod host;
+mod listing;
+mod names;
 mod notes;
 mod standard;
 mod streams;
 
-pub use held::{Access, Content, HostSystem, holds_only_others};
+pub use held::{Access, HostSystem, holds_only_others};
 pub use host::HostFile;
+pub use names::Content;
 pub use notes::{Explains, Noted, NotedFlash, Notes};
 pub use standard::{StdSink, StdSource};
 pub use streams::{Streams, fill_streams};

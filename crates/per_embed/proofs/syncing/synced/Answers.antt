@@ -1,5 +1,5 @@
 use Rattle.std.proofs.Common.{◌≡◌, ◌∙◌, ap, inr, refl}
-use Rattle.std.specs.Prelude.{Err, Option, Some}
+use Rattle.std.specs.Prelude.{Err, Some}
 use Rattle.kvs_store.specs.declared.syncing.SyncFault.{SyncFault}
 use Rattle.kvs_store.specs.declared.syncing.SyncFault.TheVariants.{OutOfMemory, WornOut}
 use Rattle.kvs_store.specs.Storages.{KvsSession}

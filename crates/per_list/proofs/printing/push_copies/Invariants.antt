@@ -4,5 +4,5 @@ use Rattle.per_list.proofs.Texts.{Left}
 use Rattle.per_list.proofs.printing.push_copies.Given as goal
 
 abbrev pub invariant-loop-copy : goal.invariant-loop-copy
-invariant-loop-copy l = Left (copy_text l.form l.app l.name l.place) l.place.copies l.copy (string_bytes l.fn.out)
-    (string_bytes l.out)
+invariant-loop-copy l = Left (copy_text l.form l.app l.bank l.name l.place) l.place.copies l.copy
+    (string_bytes l.fn.out) (string_bytes l.out)

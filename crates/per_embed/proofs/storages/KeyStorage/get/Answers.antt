@@ -1,4 +1,3 @@
-use Rattle.std.proofs.Common.{◌≡◌}
 use Rattle.per_embed.proofs.Values.{reads_got}
 use Rattle.per_embed.proofs.storages.KeyStorage.get.Goals as goal
 

@@ -1,4 +1,3 @@
-use Rattle.std.proofs.Common.{◌≡◌}
 use Rattle.per_embed.proofs.Values.{keeps_values}
 use Rattle.per_embed.proofs.storages.KeyStorage.sync.Goals as goal
 
