@@ -1,6 +1,6 @@
 //! A folder that is held: open and locked, until its owner goes.
 
-use crate::listing::entries;
+use crate::listing::list_folder;
 use crate::names::Content;
 use std::alloc::Global;
 use std::fs::{File, TryLockError};
@@ -97,6 +97,6 @@ pub fn holds_only_others<R: Files<File = File>>(
     dir: &str,
     content: Content,
 ) -> io::Result<bool> {
-    let found = entries(rt, alloc, dir, content)?;
+    let found = list_folder(rt, alloc, dir, content)?;
     Ok(found.numbers.is_empty() && found.has_others)
 }

@@ -4,7 +4,7 @@ ghost use Rattle.std.specs.Prelude.{◌≡◌, IfOk};
 
 use crate::errors::{passed_by, unless_outside};
 use crate::held::{Access, HostSystem};
-use crate::listing::entries;
+use crate::listing::list_folder;
 use std::alloc::Global;
 use std::fs::{self, File, OpenOptions};
 use std::io;
@@ -36,7 +36,7 @@ impl<'a, R: Files<File = File>> System for HostSystem<'a, R> {
 
     fn list(&mut self, alloc: Global) -> io::Result<Vec<u32>> {
         match self.folder {
-            Some(_) => Ok(entries(self.rt, alloc, self.dir.as_str(), self.content)?.numbers),
+            Some(_) => Ok(list_folder(self.rt, alloc, self.dir.as_str(), self.content)?.numbers),
             None => Ok(Vec::new(alloc)),
         }
     }

@@ -10,19 +10,19 @@ use std::rt::Files;
 
 /// What is in a folder: the numbers of its files, and whether something else is.
 #[derive(Drop)]
-pub(crate) struct Entries {
+pub(crate) struct Listing {
     pub(crate) numbers: Vec<u32>,
     pub(crate) has_others: bool,
 }
 
 /// Lists a folder. A name that is no text is none of a file.
-pub(crate) fn entries<R: Files<File = File>>(
+pub(crate) fn list_folder<R: Files<File = File>>(
     rt: &R,
     alloc: Global,
     dir: &str,
     content: Content,
-) -> io::Result<Entries> {
-    let mut found = Entries {
+) -> io::Result<Listing> {
+    let mut found = Listing {
         numbers: Vec::new(alloc),
         has_others: false,
     };
@@ -36,7 +36,7 @@ pub(crate) fn entries<R: Files<File = File>>(
     Ok(found)
 }
 
-impl Entries {
+impl Listing {
     ghost use Rattle.per_system.specs.Names.{IsNumberOf, file_name};
 
     /// Notes a name.

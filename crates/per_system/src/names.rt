@@ -1,6 +1,6 @@
 //! How the files of a folder are named.
 
-ghost use Rattle.std.specs.Prelude.{◌≡◌, ◌<◌, ◌^◌, ◌∷◌, ◌++◌, ℕ, IfOk, string_bytes};
+ghost use Rattle.std.specs.Prelude.{◌≡◌, ◌<◌, ◌^◌, ◌∷◌, ◌++◌, ℕ, IfOk, IsTrue, string_bytes};
 ghost use Rattle.std.specs.Fmt.{decimal};
 
 use std::alloc::{AllocError, Global};
@@ -47,8 +47,23 @@ impl Content {
 fn number_of(digits: &str) -> Option<u32>
     ensures { (n : ℕ) → n < 2 ^ 32 → digits.now ≡ decimal n → result ≡ Some n }
 {
-    match digits.as_bytes() {
-        [b'0'] | [b'1'..=b'9', ..] => digits.parse().ok(),
-        _ => None,
+    if begins_number(digits.as_bytes()) {
+        digits.parse().ok()
+    } else {
+        None
     }
+}
+
+/// Whether a text begins as a number does: with a digit, and with 0 only where that is all.
+fn begins_number(bytes: &[u8]) -> bool
+    ensures { (n : ℕ) → n < 2 ^ 32 → bytes.now ≡ decimal n → IsTrue result }
+{
+    if bytes.is_empty() {
+        return false;
+    }
+    let first = bytes[0];
+    if first == b'0' {
+        return bytes.len() == 1;
+    }
+    first > b'0' && first <= b'9'
 }
