@@ -34,7 +34,7 @@
 
 enum { KILLED = 137, UNKNOWN = 120 };
 
-/* The calls that stop the program; those behind fdatasync change files in ways that are not watched. */
+/* The calls that stop the program; those after fdatasync change files in ways that are not watched. */
 static const int stopping[] = {
     SYS_openat, SYS_write, SYS_pwrite64, SYS_fsync, SYS_fdatasync,
     SYS_open, SYS_creat, SYS_writev, SYS_pwritev, SYS_pwritev2, SYS_truncate, SYS_ftruncate, SYS_fallocate, SYS_rename, SYS_renameat,

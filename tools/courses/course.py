@@ -22,7 +22,7 @@ DEVICE_FAILED = 3
 
 
 class Difference(Exception):
-    """What the program did that no world allows, and behind how many lines of the run."""
+    """What the program did that no world allows, and after how many lines of the run."""
 
     def __init__(self, text, lines=0):
         super().__init__(text)

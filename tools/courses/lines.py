@@ -112,7 +112,7 @@ def on_files(dice):
 
 
 def in_sequence(dice, change, command, looks):
-    """Returns a command, at times behind one that gives it something to undo, and before one that looks at it."""
+    """Returns a command, at times after one that gives it something to undo, and before one that looks at it."""
     before = [change] if command != change and dice.one_in(2) else []
     after = [dice.one_of(looks)] if dice.one_in(2) else []
     return [*before, command, *after]

@@ -33,7 +33,7 @@ class Value(NamedTuple):
         return f"{self.kind}:{self.number}"
 
     def digits(self):
-        """Returns the content of a text: so many times its number, so that some take several blocks."""
+        """Returns the content of a text: its number, repeated so that some take several blocks."""
         return str(self.number) * self.number
 
     def encoded_length(self):

@@ -3,7 +3,7 @@
  *
  * NOTES  the file that the calls are noted in, each before it is made: `made NAME`, `write NAME AT LENGTH` and the
  *        bytes, `sync NAME`, with `.` for the folder; `stop` stands before the one that was not made
- * STOP   `kill R C` or `fail R C`: of the calls behind R replies on standard output the C-th (from 1) is not made.
+ * STOP   `kill R C` or `fail R C`: of the calls after R replies on standard output the C-th (from 1) is not made.
  *        The program is killed, or this call and each later one fail
  *
  * Nothing is synced: what a sync would have reached follows from the notes. */

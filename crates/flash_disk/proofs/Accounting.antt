@@ -32,7 +32,7 @@ module _ {F : Type 0} {told : Bool} {medium : F → FlashMedium} where
     no_less = le_refl _;
     later = le_refl _;
     steps = omega arith;
-    disputed = refl;
+    has_rivals = refl;
   }
 
   -- a call that succeeded, and then another
@@ -46,14 +46,14 @@ module _ {F : Type 0} {told : Bool} {medium : F → FlashMedium} where
     no_less = (let same : b.own ≡ a.own = first.kept in let less = second.no_less in omega (arith, same, less));
     later = le_trans first.later second.later;
     steps = (let before = first.steps in let on = second.steps in omega (arith, before, on, few));
-    disputed = second.disputed ∙ first.disputed;
+    has_rivals = second.has_rivals ∙ first.has_rivals;
   }
 
   -- what is known may change afterwards, but for the numbers and whether there are rivals
   pub accounts_here : {T E : Type 0} {n : ℕ} {a b now : Layer F} {r : Result T E} → now.flash ≡ b.flash
-      → now.own ≡ b.own → now.state.sequence ≡ b.state.sequence → now.state.disputed ≡ b.state.disputed
+      → now.own ≡ b.own → now.state.sequence ≡ b.state.sequence → now.state.has_rivals ≡ b.state.has_rivals
       → Accounts told medium n a b r → Accounts told medium n a now r
-  accounts_here {T} {E} {n} {a} {b} {now} {r} flash own sequence disputed is =
+  accounts_here {T} {E} {n} {a} {b} {now} {r} flash own sequence has_rivals is =
       let faults : faults_of medium now ≡ faults_of medium b =
       (let same : (medium now.flash).faults ≡ (medium b.flash).faults = ap (λ f. (medium f).faults) flash in
       omega (arith, same, own)) in
@@ -65,7 +65,7 @@ module _ {F : Type 0} {told : Bool} {medium : F → FlashMedium} where
         no_less = (let less = is.no_less in omega (arith, own, less));
         later = (let later = is.later in omega (arith, sequence, later));
         steps = (let steps = is.steps in omega (arith, sequence, steps));
-        disputed = disputed ∙ is.disputed;
+        has_rivals = has_rivals ∙ is.has_rivals;
       }
 
   -- another value, or another error, in place of the one that came
@@ -79,7 +79,7 @@ module _ {F : Type 0} {told : Bool} {medium : F → FlashMedium} where
     no_less = is.no_less;
     later = is.later;
     steps = is.steps;
-    disputed = is.disputed;
+    has_rivals = is.has_rivals;
   }
 
   -- it may use more numbers
@@ -93,7 +93,7 @@ module _ {F : Type 0} {told : Bool} {medium : F → FlashMedium} where
     no_less = is.no_less;
     later = is.later;
     steps = (let steps = is.steps in omega (arith, steps, few));
-    disputed = is.disputed;
+    has_rivals = is.has_rivals;
   }
 
   -- an error is handed on
@@ -108,7 +108,7 @@ module _ {F : Type 0} {told : Bool} {medium : F → FlashMedium} where
     no_less = is.no_less;
     later = is.later;
     steps = is.steps;
-    disputed = is.disputed;
+    has_rivals = is.has_rivals;
   }
 
   -- ---- in loops

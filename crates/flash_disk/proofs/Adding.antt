@@ -152,7 +152,7 @@ module _ (m now : FlashMedium) (s u : LayerState) (place : FlashPage) (r : PageR
   -- the record was added
   pub added_sound : now.state ≡ programmed m.state place.block place.page whole → now.blocks ≡ m.blocks
       → (after : LayerState)
-      → ((old new : Pages) (b : ℕ) → Sound old b u → IsFalse u.disputed → Enters old new b u place r
+      → ((old new : Pages) (b : ℕ) → Sound old b u → IsFalse u.has_rivals → Enters old new b u place r
       → Sound new b after) → IsSoundLayer now after
   added_sound done blocks after enters =
       let state : adding s.unsure ≡ u = sym on in
@@ -160,13 +160,13 @@ module _ (m now : FlashMedium) (s u : LayerState) (place : FlashPage) (r : PageR
       (subst (λ (z : FlashState). Sound z.pages m.blocks after) (sym done)
       (enters pages written m.blocks
       (subst (Sound pages m.blocks) state (still_sound s.unsure))
-      (subst (λ (q : LayerState). IsFalse q.disputed) state fresh.agreed)
+      (subst (λ (q : LayerState). IsFalse q.has_rivals) state fresh.agreed)
       (subst (λ q. Enters pages written m.blocks q place r) state
       (entering s.unsure written (whole_torn pages place.block place.page whole) adds))))
 
   -- its page has an entry from then on
   pub added_entries : (after : LayerState)
-      → ((old new : Pages) (b : ℕ) → Sound old b u → IsFalse u.disputed → Enters old new b u place r
+      → ((old new : Pages) (b : ℕ) → Sound old b u → IsFalse u.has_rivals → Enters old new b u place r
       → Occupies u.table after.table (page_of r))
       → Occupies s.table after.table (page_of r)
   added_entries after enters =
@@ -174,7 +174,7 @@ module _ (m now : FlashMedium) (s u : LayerState) (place : FlashPage) (r : PageR
       subst (λ table. Occupies table after.table (page_of r)) (ap (λ (q : LayerState). q.table) on)
       (enters pages written m.blocks
       (subst (Sound pages m.blocks) state (still_sound s.unsure))
-      (subst (λ (q : LayerState). IsFalse q.disputed) state fresh.agreed)
+      (subst (λ (q : LayerState). IsFalse q.has_rivals) state fresh.agreed)
       (subst (λ q. Enters pages written m.blocks q place r) state
       (entering s.unsure written (whole_torn pages place.block place.page whole) adds)))
 

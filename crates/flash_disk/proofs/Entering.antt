@@ -99,7 +99,7 @@ adds_usable old new blocks s place r sound adds has apart =
     }
 
 -- each newest record is outside the spare block, or an equal one does
-pub lies_elsewhere : (pages : Pages) (blocks : ℕ) (s : LayerState) → Sound pages blocks s → IsFalse s.disputed
+pub lies_elsewhere : (pages : Pages) (blocks : ℕ) (s : LayerState) → Sound pages blocks s → IsFalse s.has_rivals
     → LiesElsewhere pages (places blocks) s.spare
 lies_elsewhere pages blocks s sound agreed = λ file page x is.
     let key : FilePage = record { file = file; page = page } in
@@ -141,10 +141,10 @@ as_said pages blocks s t sound more = record {
 }
 
 -- pages with the same records, and blank where blank ones are to be filled
-pub same_sound : (old new : Pages) (blocks : ℕ) (s : LayerState) → Sound old blocks s → IsFalse s.disputed
+pub same_sound : (old new : Pages) (blocks : ℕ) (s : LayerState) → Sound old blocks s → IsFalse s.has_rivals
     → HasSameRecords old new
     → ((p : ℕ) → s.fill ≤ p → p < 64 → new s.current p ≡ old s.current p) → Sound new blocks s
-same_sound old new blocks s sound calm same blank = record {
+same_sound old new blocks s sound no_rivals same blank = record {
   knows = records_known old new same (places blocks) s.table sound.knows;
   tops = records_tops old new same (places blocks) s.sequence sound.tops;
   strays = same_said_strayless old new (places blocks) (records_alike old new same (places blocks)) s.stray_end
@@ -158,7 +158,7 @@ same_sound old new blocks s sound calm same blank = record {
   within = sound.within;
   is_spare = records_spare old new same (places blocks) s.spare sound.is_spare;
   agreed = λ agreed. records_agreed old new same (places blocks) (sound.agreed agreed);
-  rivals = λ disputed. absurd (true≢false (sym disputed ∙ calm));
+  rivals = λ has_rivals. absurd (true≢false (sym has_rivals ∙ no_rivals));
   apart = sound.apart;
   fresh = λ room. let fresh = sound.fresh room in record {
     agreed = fresh.agreed;
@@ -187,24 +187,25 @@ sound_holds m s sound sure = record {
 
 -- nothing that is kept is in doubt
 pub holds_sound : (m : FlashMedium) (s : LayerState) → IsDescribedBy m s → s.unsure ≡ None → IsSoundLayer m s
-holds_sound m s holds sure =
-    let same : m.state.pages ≡ holds.sure = subst (PendsAt holds.sure m.state.pages m.blocks s) sure holds.pends in
-    subst (λ p. Sound p m.blocks s) (sym same) holds.sound
+holds_sound m s described sure =
+    let same : m.state.pages ≡ described.sure =
+    subst (PendsAt described.sure m.state.pages m.blocks s) sure described.pends in
+    subst (λ p. Sound p m.blocks s) (sym same) described.sound
 
 -- a page in doubt was read
-module _ (m now : FlashMedium) (s t : LayerState) (place : FlashPage) (holds : IsDescribedBy m s)
+module _ (m now : FlashMedium) (s t : LayerState) (place : FlashPage) (described : IsDescribedBy m s)
     (is : s.unsure ≡ Some place)
     (pages : now.state.pages ≡ m.state.pages) (blocks : now.blocks ≡ m.blocks) (state : t ≡ s) (page : List ℕ)
     (read : place.block < m.blocks → place.page < 64 → page ≡ m.state.pages place.block place.page) where
-  abbrev pub pends : Pends holds.sure m.state.pages m.blocks s place
-  pends = subst (PendsAt holds.sure m.state.pages m.blocks s) is holds.pends
+  abbrev pub pends : Pends described.sure m.state.pages m.blocks s place
+  pends = subst (PendsAt described.sure m.state.pages m.blocks s) is described.pends
 
   abbrev sure_state : LayerState
   sure_state = record t { unsure = None }
 
-  was_sound : Sound holds.sure m.blocks sure_state
-  was_sound = subst (λ (q : LayerState). Sound holds.sure m.blocks (record q { unsure = None })) (sym state)
-      (as_said holds.sure m.blocks s (record s { unsure = None }) holds.sound (omega arith))
+  was_sound : Sound described.sure m.blocks sure_state
+  was_sound = subst (λ (q : LayerState). Sound described.sure m.blocks (record q { unsure = None })) (sym state)
+      (as_said described.sure m.blocks s (record s { unsure = None }) described.sound (omega arith))
 
   at_place : record_at m.state.pages (number place) ≡ record_in page
   at_place = record_at_place m.state.pages place.block place.page pends.small
@@ -217,21 +218,21 @@ module _ (m now : FlashMedium) (s t : LayerState) (place : FlashPage) (holds : I
   -- no record is in it
   pub nothing_there : record_in page ≡ None → Sound now.state.pages now.blocks sure_state
   nothing_there none = over_now (λ p b. Sound p b sure_state)
-      (same_sound holds.sure m.state.pages m.blocks sure_state was_sound
-      (subst (λ (q : LayerState). IsFalse q.disputed) (sym state) pends.agreed)
-      (torn_same holds.sure m.state.pages (number place) (record_at m.state.pages (number place)) pends.nothing
-      (torn_page holds.sure place.block place.page m.state.pages pends.elsewhere) (at_place ∙ none))
-      (still_blank holds.sure m.state.pages place.block place.page t.current t.fill pends.elsewhere
+      (same_sound described.sure m.state.pages m.blocks sure_state was_sound
+      (subst (λ (q : LayerState). IsFalse q.has_rivals) (sym state) pends.agreed)
+      (torn_same described.sure m.state.pages (number place) (record_at m.state.pages (number place)) pends.nothing
+      (torn_page described.sure place.block place.page m.state.pages pends.elsewhere) (at_place ∙ none))
+      (still_blank described.sure m.state.pages place.block place.page t.current t.fill pends.elsewhere
       (subst (λ (q : LayerState). place.block ≡ q.current → place.page < q.fill) (sym state) pends.behind)))
 
   -- a record came to be in it
   pub one_there : (r : PageRecord) → record_in page ≡ Some r → (after : LayerState)
-      → ((old new : Pages) (b : ℕ) → Sound old b sure_state → IsFalse t.disputed → Enters old new b sure_state place r
+      → ((old new : Pages) (b : ℕ) → Sound old b sure_state → IsFalse t.has_rivals → Enters old new b sure_state place r
       → Sound new b after)
       → Sound now.state.pages now.blocks after
-  one_there r some after enters = over_now (λ p b. Sound p b after) (enters holds.sure m.state.pages m.blocks was_sound
-      (subst (λ (q : LayerState). IsFalse q.disputed) (sym state) pends.agreed)
-      (subst (λ (q : LayerState). Enters holds.sure m.state.pages m.blocks (record q { unsure = None }) place r)
+  one_there r some after enters = over_now (λ p b. Sound p b after) (enters described.sure m.state.pages m.blocks was_sound
+      (subst (λ (q : LayerState). IsFalse q.has_rivals) (sym state) pends.agreed)
+      (subst (λ (q : LayerState). Enters described.sure m.state.pages m.blocks (record q { unsure = None }) place r)
       (sym state)
       (let entering = pends.may_enter r (at_place ∙ some) in record {
         adds = entering.adds;
@@ -250,7 +251,7 @@ module _ (m now : FlashMedium) (s t : LayerState) (place : FlashPage) (holds : I
       })))
 
 module _ (old new : Pages) (blocks : ℕ) (s : LayerState) (place : FlashPage) (r : PageRecord)
-    (sound : Sound old blocks s) (agreed : IsFalse s.disputed) (enters : Enters old new blocks s place r)
+    (sound : Sound old blocks s) (agreed : IsFalse s.has_rivals) (enters : Enters old new blocks s place r)
     (e : Newest) (is : IsItsEntry old new (places blocks) place r enters.adds e)
     (mid after : Table) (puts : SetsEntry s.table mid (page_of r) e) (mid_lens : mid.lens ≡ s.table.lens)
     (mid_limit : limit_of mid ≡ limit_of s.table)
@@ -376,7 +377,7 @@ module _ (old new : Pages) (blocks : ℕ) (s : LayerState) (place : FlashPage) (
     is_spare = adds_spare old new n place r enters.adds s.spare (lies_elsewhere old blocks s sound agreed)
         (λ same. enters.apart (sym block_is ∙ same));
     agreed = λ _. adds_agreed old new n place r enters.adds (sound.agreed agreed);
-    rivals = λ disputed. absurd (true≢false (sym disputed ∙ agreed));
+    rivals = λ has_rivals. absurd (true≢false (sym has_rivals ∙ agreed));
     apart = λ _ k f found. ⊎_elim
         (λ own. (λ same. enters.apart (ap (λ p. p.block) (sym is.0)
         ∙ (ap (λ (q : Newest). q.place.block) own.1 ∙ same))))

@@ -60,11 +60,11 @@ not_begun m s file at n end sound is late room why =
 pub allowed : (m : FlashMedium) (s : LayerState) (file at n end : ℕ) → IsSoundLayer m s → end ≡ at + n → end
     ≤ 1099511627776
     → missing s.table file (at / 256) (div_ceil end 256 - at / 256) ≤ limit_of s.table - page_len s.table
-    → IsFalse s.disputed → IsAllowed m file at n
-allowed m s file at n end sound is late room calm = record {
+    → IsFalse s.has_rivals → IsAllowed m file at n
+allowed m s file at n end sound is late room no_rivals = record {
   ends = omega (arith, late, is);
   fits = has_room_for m s file at n end sound is room;
-  agreed = sound.agreed calm;
+  agreed = sound.agreed no_rivals;
 }
 
 -- the pages that it takes are those that it lacked: a has the table s, whose entries are those of u when its pages are
@@ -92,14 +92,14 @@ Fails pages blocks t file at n = EndsTooLate at n
 
 -- what a write says after calls that only look, said of the flash before them
 pub fails_alone : (a b : FlashMedium) (s t : LayerState) (file at n : ℕ) → b.state ≡ a.state → b.blocks ≡ a.blocks
-    → IsSoundLayer b s → t.disputed ≡ s.disputed
+    → IsSoundLayer b s → t.has_rivals ≡ s.has_rivals
     → EndsTooLate at n ⊎ (WantsTooMany b file at n ⊎ StopsAdding t) → FailsAlone a t.sequence file at n
-fails_alone a b s t file at n state blocks sound disputed why =
+fails_alone a b s t file at n state blocks sound has_rivals why =
     let here : Fails b.state.pages b.blocks t file at n = ⊎_elim
     (λ late. inl late)
     (λ other. inr (⊎_elim
     (λ many. inl many)
-    (λ stops. inr (⊎_elim (λ last. inl last) (λ rival. inr (sound.rivals (sym disputed ∙ rival))) stops))
+    (λ stops. inr (⊎_elim (λ last. inl last) (λ rival. inr (sound.rivals (sym has_rivals ∙ rival))) stops))
     other))
     why in
     subst (λ k. Fails a.state.pages k t file at n) blocks

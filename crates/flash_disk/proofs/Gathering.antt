@@ -1,6 +1,6 @@
 -- A block whose records are moved for a copy: it is one of the copy alone, or there is no room for the copy; so the
 -- copies stay apart.
-use Rattle.std.proofs.Common.{◌≡◌, ◌≢◌, ◌⊎◌, ℕ, ◌<◌, ◌≤◌, Bool, refl, sym, subst, inl, inr, ⊎_elim, arith}
+use Rattle.std.proofs.Common.{◌≡◌, ◌≢◌, ℕ, ◌<◌, ◌≤◌, Bool, refl, sym, subst, inl, inr, ⊎_elim, arith}
 use Rattle.std.specs.Prelude.{IsTrue}
 use Rattle.std.specs.HashMap.{IsUnique}
 use Rattle.std.proofs.lemmas.Bool.{cases_eq}

@@ -19,7 +19,7 @@ use Rattle.flash_disk.specs.Learnt.{number, AddsRecord, Led, LedOf, IsLed}
 use Rattle.flash_disk.specs.Does.{Does}
 use Rattle.flash_disk.specs.Apart.{copy_of, IsApart, HoldsOnly, KeepsHeld, StandApart, HasNoRoom}
 use Rattle.flash_disk.specs.LedApart.{LeadsOnly, LeadsSome}
-use Rattle.flash_disk.specs.KeepsApart.{MayMix, StaysApart, KeepsApart, HasHome}
+use Rattle.flash_disk.specs.KeepsApart.{MayMix, StaysApart, KeepsApart, HasHome, LackedRoom, StandsOrLacked, ApartSince}
 use Rattle.flash_disk.specs.FlashDiskMedium.{still_case}
 use Rattle.flash_disk.proofs.Programming.{placed, either}
 use Rattle.flash_disk.proofs.Growing.{by_page}
@@ -260,6 +260,50 @@ module _ (copy : ℕ) (a b c : FlashMedium) (first : FlashElapses a b) (second :
       (subst (StandApart b.state.pages) (sym first.blocks) between)))
       (λ mix. inr (mix_early mix))
       (early.now many stand)
+
+-- what stood apart since a moment does so after calls of one copy, as long as there was room
+module _ (a b : FlashMedium) (time : FlashElapses a b) (copy : ℕ) (kept : KeepsApart copy a b) (t : ℕ)
+    (le : t ≤ a.moment) (was : ApartSince a t) where
+  still_lacked : LackedRoom a t → LackedRoom b t
+  still_lacked lacked = (
+    lacked.0,
+    lacked.1,
+    time.keeps t lacked.1 le lacked.2,
+    subst (λ k. HasNoRoom lacked.1.left k lacked.0) (sym time.blocks) lacked.3,
+  )
+
+  now_lacked : MayMix copy a b → LackedRoom b t
+  now_lacked mix = (
+    copy,
+    mix.0,
+    time.adds t mix.0 le mix.1,
+    subst (λ k. HasNoRoom mix.0.left k copy) (sym time.blocks) mix.2,
+  )
+
+  stood_before : (pages : Pages) → StandsOrLacked a t pages → StandsOrLacked b t pages
+  stood_before pages stands = ⊎_elim
+      (λ stand. inl (subst (StandApart pages) (sym time.blocks) stand))
+      (λ lacked. inr (still_lacked lacked))
+      stands
+
+  stays_after : (pages : Pages) → StaysApart copy a b pages → StandsOrLacked b t pages
+  stays_after pages stays = ⊎_elim
+      (λ stood. ⊎_elim
+      (λ stand. inl (subst (StandApart pages) (sym time.blocks) stand))
+      (λ mix. inr (now_lacked mix))
+      (stays was.many stood))
+      (λ lacked. inr (still_lacked lacked))
+      was.now
+
+  pub apart_since : ApartSince b t
+  apart_since = record {
+    many = subst (λ (k : ℕ). 16 ≤ k) (sym time.blocks) was.many;
+    now = stays_after b.state.pages kept.now;
+    during = λ c past plain. ⊎_elim
+        (λ early. stood_before c.left (was.during c early plain))
+        (λ since. stays_after c.left (kept.during c since plain))
+        (time.nothing_else t c le past);
+  }
 
 -- there is no room at this moment
 pub no_room_now : (copy : ℕ) (told : Bool) (m now : FlashMedium) → IsLawfulFlash told m → IsTrue told

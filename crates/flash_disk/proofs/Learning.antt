@@ -114,7 +114,8 @@ module _ (pages : Pages) (n : ℕ) where
     leads = says.leads;
     place = says.place;
     twin = twin_stays x e.twin (λ same apart. none x refl x.says same (own_page_of x.says)) says.twin;
-    agreed = λ calm. unrivalled_stays x (λ q here of_page same. absurd (none x refl q here of_page)) (says.agreed calm);
+    agreed = λ no_rivals. unrivalled_stays x (λ q here of_page same. absurd (none x refl q here of_page))
+        (says.agreed no_rivals);
     rivals = λ so. rivalled_stays x (says.rivals so);
     page = says.page;
   }
@@ -245,7 +246,7 @@ module _ (pages : Pages) (n : ℕ) where
           (λ below. let lt = less j r below copy.same own_page in omega arith)
           (λ last. copy.apart (ap (λ k. k / 64) last))
           (below_suc j n copy.within));
-      agreed = λ calm j q within is of_page same. ⊎_elim
+      agreed = λ no_rivals j q within is of_page same. ⊎_elim
           (λ below. let lt = less j q below is of_page in absurd (omega (arith, lt, same)))
           (λ last. same_Some q r (sym (subst (λ k. record_at pages k ≡ Some q) last is) ∙ here))
           (below_suc j n within);
@@ -324,9 +325,9 @@ module _ (pages : Pages) (n : ℕ) where
               twin = twin_stays best.0 e.twin (λ same apart. let q : r.sequence ≡ best.0.says.sequence =
                   ap (λ z. z.sequence) (same_Some r best.0.says (sym here ∙ same)) in
                   let s = best.2.leads.sequence in omega arith) best.2.twin;
-              agreed = λ calm. unrivalled_stays best.0 (λ q same of_page number. let z : q.sequence ≡ r.sequence =
+              agreed = λ no_rivals. unrivalled_stays best.0 (λ q same of_page number. let z : q.sequence ≡ r.sequence =
                   ap (λ z. z.sequence) (same_Some q r (sym same ∙ here)) in
-                  let s = best.2.leads.sequence in absurd (omega (arith, z, s, number, less))) (best.2.agreed calm);
+                  let s = best.2.leads.sequence in absurd (omega (arith, z, s, number, less))) (best.2.agreed no_rivals);
               rivals = λ so. rivalled_stays best.0 (best.2.rivals so);
               page = best.2.page;
             }))
@@ -455,7 +456,7 @@ module _ (pages : Pages) (n : ℕ) where
         -- whether it is rivalled after the record was seen
         agreed_says : (first : Option PageRecord) → first ≡ Some x.says → (rivalled : Bool)
             → RivalledAt first r e rivalled → IsFalse rivalled → Unrivalled pages (suc n) x
-        agreed_says first is rivalled at calm = let says = at.calm calm in unrivalled_stays x
+        agreed_says first is rivalled at no_rivals = let says = at.no_rivals no_rivals in unrivalled_stays x
             (λ q there of_page number. same_Some q r (sym there ∙ here)
             ∙ sym (same_record x.says is_newest.of_page (sym before_is.leads.sequence ∙ sequence) (says.1 x.says is)))
             (before_is.agreed says.0)
@@ -488,7 +489,7 @@ module _ (pages : Pages) (n : ℕ) where
             → RivalledAt seen r e rivalled
             → LearnsOf pages (suc n) (Some (record e { twin = twin; rivalled = rivalled }))
             (newer (newest pages r.file r.page n) placed)
-        equal seen is twin rivalled at calm = stays_newest old e learnt known_is
+        equal seen is twin rivalled at no_rivals = stays_newest old e learnt known_is
             (record e { twin = twin; rivalled = rivalled }) (omega (arith, sequence)) (record {
               leads = record {
                 small = before_is.leads.small;
@@ -500,7 +501,7 @@ module _ (pages : Pages) (n : ℕ) where
               };
               place = before_is.place;
               twin = twin_says seen (is ∙ before_is.leads.there) twin at;
-              agreed = agreed_says seen (is ∙ before_is.leads.there) rivalled calm;
-              rivals = rivals_say seen (is ∙ before_is.leads.there) rivalled calm;
+              agreed = agreed_says seen (is ∙ before_is.leads.there) rivalled no_rivals;
+              rivals = rivals_say seen (is ∙ before_is.leads.there) rivalled no_rivals;
               page = before_is.page;
             })

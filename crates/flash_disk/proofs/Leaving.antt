@@ -247,8 +247,8 @@ module _ (pages : Pages) (n block : ℕ) where
 
     unrivalled_by : (x : Placed) (k : Option Newest) → ((e : Newest) → k ≡ Some e → IsFalse e.rivalled)
         → LeavesOf pages n block k (Some x) → Unrivalled pages n x
-    unrivalled_by x None calm says = absurd says
-    unrivalled_by x (Some e) calm says = says.agreed (calm e refl)
+    unrivalled_by x None no_rivals says = absurd says
+    unrivalled_by x (Some e) no_rivals says = says.agreed (no_rivals e refl)
 
     of_key : (file page : ℕ) (x : Placed) → newest pages file page n ≡ Some x
         → page_of x.says ≡ record { file = file; page = page }
@@ -258,9 +258,9 @@ module _ (pages : Pages) (n block : ℕ) where
     -- where no entry is rivalled, the records are agreed
     pub agreed_at_last : ((key : FilePage) (e : Newest) → known table key ≡ Some e → IsFalse e.rivalled)
         → IsAgreed pages n
-    agreed_at_last calm file page x is j q within there of_page same =
+    agreed_at_last no_rivals file page x is j q within there of_page same =
         let key : FilePage = record { file = file; page = page } in
-        unrivalled_by x (known table key) (calm key) (subst (LeavesOf pages n block (known table key)) is
+        unrivalled_by x (known table key) (no_rivals key) (subst (LeavesOf pages n block (known table key)) is
         (leaving.says key)) j q within there
         (subst (λ (k : FilePage). is_of k.file k.page q ≡ true) (sym (of_key file page x is)) of_page) same
 

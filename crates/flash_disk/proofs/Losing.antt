@@ -1,5 +1,5 @@
 -- The loss of pages of a block costs the files of one copy.
-use Rattle.std.proofs.Common.{◌≡◌, ◌≢◌, ◌⊎◌, ℕ, ◌/◌, ◌%◌, ◌<◌, ◌≤◌, map, true, refl, sym, ap, subst, ◌∙◌, inl, inr}
+use Rattle.std.proofs.Common.{◌≡◌, ◌≢◌, ℕ, ◌/◌, ◌%◌, map, refl, sym, ap, subst, ◌∙◌}
 use Rattle.std.proofs.Common.{⊎_elim, arith, true≢false}
 use Rattle.std.specs.Prelude.{Option, Some, None, Bool, false, is_some}
 use Rattle.std.specs.List.{range_with_len}
@@ -8,7 +8,7 @@ use Rattle.std.proofs.lemmas.Option.{none-some}
 use Rattle.std.proofs.lemmas.Bool.{cases_eq}
 use Rattle.flash_model.specs.Pages.{Pages}
 use Rattle.flash_record.specs.PageRecord.{PageRecord, record_in}
-use Rattle.flash_disk.specs.Newest.{Placed, record_at, is_of, newest, places, IsNewest, IsNewestOf}
+use Rattle.flash_disk.specs.Newest.{Placed, record_at, newest, places, IsNewest, IsNewestOf}
 use Rattle.flash_disk.specs.FlashFiles.{file_byte, file_len, flash_files}
 use Rattle.flash_disk.specs.Standing.{said, IsAgreed}
 use Rattle.flash_disk.specs.declared.table.FilePage.{FilePage}

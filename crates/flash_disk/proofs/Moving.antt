@@ -62,7 +62,7 @@ record_of pages n table led key e is =
     )
 
 -- what counts is kept, and what the table leads to stands where it stood
-pub kept_sound : (old new : Pages) (blocks : ℕ) (s : LayerState) → Sound old blocks s → IsFalse s.disputed → 64 ≤ s.fill
+pub kept_sound : (old new : Pages) (blocks : ℕ) (s : LayerState) → Sound old blocks s → IsFalse s.has_rivals → 64 ≤ s.fill
     → KeepsRecords old new (places blocks)
     → ((key : FilePage) (e : Newest) → known s.table key ≡ Some e
     → record_at new (number e.place) ≡ record_at old (number e.place)) → Sound new blocks s
@@ -82,13 +82,13 @@ kept_sound old new blocks s sound agreed full keeps there =
       within = sound.within;
       is_spare = spare_of new n s.spare (led_elsewhere new n s.table knows.led s.spare (sound.apart agreed));
       agreed = λ _. keeps_agreed old new n all_agree keeps;
-      rivals = λ disputed. absurd (true≢false (sym disputed ∙ agreed));
+      rivals = λ has_rivals. absurd (true≢false (sym has_rivals ∙ agreed));
       apart = sound.apart;
       fresh = λ room. absurd (omega (arith, room, full));
     }
 
 -- the pages denote the files that they denoted
-pub kept_stands : (m : FlashMedium) (new : Pages) (s : LayerState) → IsSoundLayer m s → IsFalse s.disputed
+pub kept_stands : (m : FlashMedium) (new : Pages) (s : LayerState) → IsSoundLayer m s → IsFalse s.has_rivals
     → KeepsRecords m.state.pages new (places m.blocks) → Sound new m.blocks s
     → DenotesFiles m new
 kept_stands m new s sound agreed keeps now = record {
@@ -157,7 +157,7 @@ moved_then table from to a b c first second early late =
 
 -- ---- the spare block is erased
 
-module _ (m now : FlashMedium) (s : LayerState) (sound : IsSoundLayer m s) (agreed : IsFalse s.disputed) (full : 64
+module _ (m now : FlashMedium) (s : LayerState) (sound : IsSoundLayer m s) (agreed : IsFalse s.has_rivals) (full : 64
     ≤ s.fill)
   where
     abbrev pages : Pages
@@ -235,7 +235,7 @@ module _ (m now : FlashMedium) (s : LayerState) (sound : IsSoundLayer m s) (agre
           sound = subst (Sound (erase_block pages s.spare) m.blocks) (sym state)
               (as_said (erase_block pages s.spare) m.blocks s (record s { moved = t.moved })
               (loses_sound (erase_block pages s.spare) (whole_erase pages s.spare)) memory);
-          agreed = subst (λ (q : LayerState). IsFalse q.disputed) (sym state) agreed;
+          agreed = subst (λ (q : LayerState). IsFalse q.has_rivals) (sym state) agreed;
           full = subst (λ (q : LayerState). 64 ≤ q.fill) (sym state) full;
           spare = subst (λ (q : LayerState). q.spare ≡ to) (sym state) (sym spare);
           within = within;
@@ -488,7 +488,7 @@ module _ (m : FlashMedium) (s : LayerState) (from to done : ℕ) (moving : IsMov
           sound = subst (Sound written m.blocks) (sym state)
               (as_said written m.blocks s (record s { moved = t.moved }) (left_sound written written_torn written_keeps)
               memory);
-          agreed = subst (λ (q : LayerState). IsFalse q.disputed) (sym state) moving.agreed;
+          agreed = subst (λ (q : LayerState). IsFalse q.has_rivals) (sym state) moving.agreed;
           full = subst (λ (q : LayerState). 64 ≤ q.fill) (sym state) moving.full;
           spare = subst (λ (q : LayerState). q.spare ≡ to) (sym state) moving.spare;
           within = moving.within;
@@ -546,7 +546,7 @@ module _ (m look : FlashMedium) (same : look.state ≡ m.state) (blocks : look.b
       (moved_now table from to m s sound)
 
 -- what was kept in one stretch after the other
-pub keeps_on : (m mid : FlashMedium) (s : LayerState) → IsSoundLayer m s → IsFalse s.disputed → mid.blocks ≡ m.blocks
+pub keeps_on : (m mid : FlashMedium) (s : LayerState) → IsSoundLayer m s → IsFalse s.has_rivals → mid.blocks ≡ m.blocks
     → KeepsRecords m.state.pages mid.state.pages (places m.blocks)
     → (after : Pages) → KeepsRecords mid.state.pages after (places mid.blocks)
     → KeepsRecords m.state.pages after (places m.blocks)
@@ -555,7 +555,7 @@ keeps_on m mid s sound agreed blocks keeps after then =
     (subst (λ b. KeepsRecords mid.state.pages after (places b)) blocks then)
 
 -- no byte changed
-pub shows_same : (m now : FlashMedium) (s : LayerState) → IsSoundLayer m s → IsFalse s.disputed
+pub shows_same : (m now : FlashMedium) (s : LayerState) → IsSoundLayer m s → IsFalse s.has_rivals
     → KeepsRecords m.state.pages now.state.pages (places m.blocks) → now.blocks ≡ m.blocks
     → ShowsSame m now
 shows_same m now s sound agreed keeps blocks f i =
@@ -563,7 +563,7 @@ shows_same m now s sound agreed keeps blocks f i =
     (keeps_byte m.state.pages now.state.pages (places m.blocks) (sound.agreed agreed) keeps f i)
 
 -- a record that might be added still may
-pub fits_kept : (m now : FlashMedium) (s t : LayerState) → IsSoundLayer m s → IsFalse s.disputed
+pub fits_kept : (m now : FlashMedium) (s t : LayerState) → IsSoundLayer m s → IsFalse s.has_rivals
     → KeepsRecords m.state.pages now.state.pages (places m.blocks) → now.blocks ≡ m.blocks
     → ((key : FilePage) → HasPlace s.table key → HasPlace t.table key) → (file page len : ℕ) (bytes : List ℕ)
     → FitsIn m s file page len bytes → FitsIn now t file page len bytes

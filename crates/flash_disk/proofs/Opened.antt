@@ -21,7 +21,8 @@ use Rattle.flash_model.specs.State.{FlashState, FlashCase, settle_pages}
 use Rattle.flash_model.specs.FlashMedium.{FlashMedium, IsLawfulFlash}
 use Rattle.flash_disk.specs.FlashFiles.{flash_files}
 use Rattle.flash_disk.specs.FlashDiskMedium.{put_announced, files_told, flash_disk_medium, IsJustOpened}
-use Rattle.flash_disk.specs.FlashDiskLaws.{opens_now, agrees_now}
+use Rattle.flash_disk.specs.FlashDiskLaws.{opens_now, agrees_now, apart_now}
+use Rattle.flash_disk.specs.Apart.{StandApart}
 use Rattle.flash_disk.proofs.DiskCases.{told_files}
 use Rattle.flash_disk.proofs.Leading.{measured}
 use Rattle.flash_disk.proofs.Leaving.{leads_at_last, left_out, agreed_at_last, rivals_at_last, strayless_at_last}
@@ -36,8 +37,8 @@ pub record Measures (left : Table) (s : LayerState) : Type 0 where
       → HasLen s.table key.file
   pub spare : spare left.lens ≤ spare s.table.lens + page_len left
   pub ends : (key : FilePage) (e : Newest) → known s.table key ≡ Some e → IsFilledUpTo s.table.lens key e s.stray_end
-  pub calm : IsFalse s.disputed → (key : FilePage) (e : Newest) → known s.table key ≡ Some e → IsFalse e.rivalled
-  pub rivals : IsTrue s.disputed → (key : FilePage) × (e : Newest) × (known s.table key ≡ Some e) × IsTrue e.rivalled
+  pub no_rivals : IsFalse s.has_rivals → (key : FilePage) (e : Newest) → known s.table key ≡ Some e → IsFalse e.rivalled
+  pub rivals : IsTrue s.has_rivals → (key : FilePage) × (e : Newest) × (known s.table key ≡ Some e) × IsTrue e.rivalled
   pub full : s.fill ≡ 64
 
 module _ (pages : Pages) (blocks : ℕ) (s : LayerState) (left : Table)
@@ -78,11 +79,11 @@ module _ (pages : Pages) (blocks : ℕ) (s : LayerState) (left : Table)
     memory = memory;
     within = within;
     is_spare = is_spare;
-    agreed = λ calm. agreed_at_last pages (places blocks) s.spare left leaving
-        (λ key e is. measures.calm calm key e (there key e is));
+    agreed = λ no_rivals. agreed_at_last pages (places blocks) s.spare left leaving
+        (λ key e is. measures.no_rivals no_rivals key e (there key e is));
     rivals = λ so. let some = measures.rivals so in rivals_at_last pages (places blocks) s.spare left leaving some.0
         some.1 (before some.0 some.1 some.2) some.3;
-    apart = λ calm key e is. left_out pages (places blocks) s.spare left leaving key e (before key e is);
+    apart = λ no_rivals key e is. left_out pages (places blocks) s.spare left leaving key e (before key e is);
     fresh = λ less. (let full = measures.full in absurd (omega (arith, less, full)));
   }
 
@@ -131,6 +132,8 @@ module _ (told : Bool) (old new : FlashMedium) (lawful : IsLawfulFlash told new)
     opens = opens_now told new own 0 lawful (subst (λ (n : ℕ). 4 ≤ n) (sym blocks) many)
         (subst (λ (n : ℕ). n ≤ 4096) (sym blocks) few) (still_so IsUsable usable);
     agrees = λ agreed. agrees_now told new own 0 lawful (still_so (λ p b. IsAgreed p (places b)) agreed);
+    apart = λ enough stand. apart_now told new own 0 lawful (subst (λ (n : ℕ). 16 ≤ n) (sym blocks) enough)
+        (still_so StandApart stand);
   }
 
 -- a flash that was settled makes a disk on which nothing is pending

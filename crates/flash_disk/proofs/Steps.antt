@@ -107,7 +107,7 @@ module _ {F : Type 0} {told : Bool} {medium : F → FlashMedium} where
           no_less = omega (arith, own);
           later = omega (arith, sequence);
           steps = omega (arith, sequence);
-          disputed = ap (λ (s : LayerState). s.disputed) state;
+          has_rivals = ap (λ (s : LayerState). s.has_rivals) state;
         };
       }
 

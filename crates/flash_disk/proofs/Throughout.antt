@@ -77,7 +77,7 @@ module _ (sure pages : Pages) (blocks : ℕ) (s : LayerState) (sound : Sound sur
   kept_usable (Some place) pends = pending_usable place pends (record_at pages (number place)) refl
 
 pub holds_usable : (m : FlashMedium) (s : LayerState) → IsDescribedBy m s → IsUsable m.state.pages m.blocks
-holds_usable m s holds = kept_usable holds.sure m.state.pages m.blocks s holds.sound s.unsure holds.pends
+holds_usable m s described = kept_usable described.sure m.state.pages m.blocks s described.sound s.unsure described.pends
 
 -- ---- calls
 

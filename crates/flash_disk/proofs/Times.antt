@@ -1,4 +1,4 @@
--- How time goes on in the calls of a disk: as for its flash, which stays usable and agreed.
+-- How time goes on in the calls of a disk: as for its flash, which stays usable and agreed, and keeps the copies apart.
 use Rattle.std.proofs.Common.{◌≡◌, ◌⊎◌, ℕ, ◌+◌, ◌≤◌, Bool, List, le_refl}
 use Rattle.std.specs.Prelude.{IsTrue}
 use Rattle.disk_model.specs.Medium.{Elapses}
@@ -8,32 +8,38 @@ use Rattle.flash_disk.specs.declared.layer.LayerState.{LayerState}
 use Rattle.flash_disk.specs.FlashDiskMedium.{flash_disk_medium}
 use Rattle.flash_disk.specs.Sound.{IsDescribedBy}
 use Rattle.flash_disk.specs.Writes.{WritesInto}
+use Rattle.flash_disk.specs.Apart.{copy_of}
+use Rattle.flash_disk.specs.KeepsApart.{KeepsApart}
 use Rattle.flash_disk.proofs.DiskCases.{disk_elapses}
 use Rattle.flash_disk.proofs.Throughout.{holds_usable, look_usable, settle_usable, write_usable, look_agreed}
 use Rattle.flash_disk.proofs.Throughout.{settle_agreed, write_agreed}
+use Rattle.flash_disk.proofs.Holding.{look_apart, pages_apart}
 
 module _ (told : Bool) (a b : FlashMedium) (own own' written : ℕ) (s : LayerState)
-    (holds : IsTrue told → IsDescribedBy a s) (time : IsTrue told → FlashElapses a b)
+    (described : IsTrue told → IsDescribedBy a s) (time : IsTrue told → FlashElapses a b)
     (faults : a.faults + own ≤ b.faults + own') where
   -- calls that only look
   pub look_time : (IsTrue told → b.state ≡ a.state) → (IsTrue told → EachFlashCase (IsStill a.state) a b)
       → Elapses (flash_disk_medium told a own written) (flash_disk_medium told b own' written)
   look_time same looks = disk_elapses told a b own own' written written time faults (le_refl _)
-      (λ t. look_usable a b (time t) (holds_usable a s (holds t)) (same t) (looks t))
+      (λ t. look_usable a b (time t) (holds_usable a s (described t)) (same t) (looks t))
       (λ t. look_agreed a b (same t) (looks t))
+      0 (λ t. look_apart 0 a b (same t) (looks t))
 
   -- calls that change no page
   pub settle_time : (IsTrue told → b.state.pages ≡ a.state.pages)
       → EachFlashCase (λ c. IsStill a.state c ⊎ IsStill b.state c) a b
       → Elapses (flash_disk_medium told a own written) (flash_disk_medium told b own' written)
   settle_time pages cases = disk_elapses told a b own own' written written time faults (le_refl _)
-      (λ t. settle_usable a b (time t) (holds_usable a s (holds t)) (pages t) cases)
+      (λ t. settle_usable a b (time t) (holds_usable a s (described t)) (pages t) cases)
       (λ t. settle_agreed a b (pages t) cases)
+      0 (λ t. pages_apart 0 a b (pages t) cases)
 
   -- a write
   pub write_time : (written' file at : ℕ) (bytes : List ℕ) → written ≤ written'
-      → (IsTrue told → WritesInto file at bytes a b)
+      → (IsTrue told → WritesInto file at bytes a b) → (IsTrue told → KeepsApart (copy_of file) a b)
       → Elapses (flash_disk_medium told a own written) (flash_disk_medium told b own' written')
-  write_time written' file at bytes more writes = disk_elapses told a b own own' written written' time faults more
-      (λ t. write_usable a b (time t) (holds_usable a s (holds t)) file at bytes (writes t))
+  write_time written' file at bytes more writes apart = disk_elapses told a b own own' written written' time faults more
+      (λ t. write_usable a b (time t) (holds_usable a s (described t)) file at bytes (writes t))
       (λ t. write_agreed a b file at bytes (writes t))
+      (copy_of file) apart

@@ -22,7 +22,7 @@ view_of layer written = record {
 }
 
 module _ {F : Type 0} (told : Bool) (medium : F → FlashMedium) (written : ℕ) where
-  module _ (old new : Layer F) (holds : IsTrue told → IsDescribedBy (medium old.flash) old.state)
+  module _ (old new : Layer F) (described : IsTrue told → IsDescribedBy (medium old.flash) old.state)
       (time : IsTrue told → FlashElapses (medium old.flash) (medium new.flash)) (own : new.own ≡ old.own)
       (numbers : new.state.sequence ≡ old.state.sequence) where
     -- calls that only look
@@ -34,7 +34,7 @@ module _ {F : Type 0} (told : Bool) (medium : F → FlashMedium) (written : ℕ)
       numbers = numbers;
       pages = λ t. ap (λ (s : FlashState). s.pages) (same t);
       usable = λ t. look_usable (medium old.flash) (medium new.flash) (time t)
-          (holds_usable (medium old.flash) old.state (holds t)) (same t) (looks t);
+          (holds_usable (medium old.flash) old.state (described t)) (same t) (looks t);
       agreed = λ t. look_agreed (medium old.flash) (medium new.flash) (same t) (looks t);
     }
 
@@ -48,14 +48,14 @@ module _ {F : Type 0} (told : Bool) (medium : F → FlashMedium) (written : ℕ)
       numbers = numbers;
       pages = pages;
       usable = λ t. settle_usable (medium old.flash) (medium new.flash) (time t)
-          (holds_usable (medium old.flash) old.state (holds t)) (pages t) cases;
+          (holds_usable (medium old.flash) old.state (described t)) (pages t) cases;
       agreed = λ t. settle_agreed (medium old.flash) (medium new.flash) (pages t) cases;
     }
 
   pub looked_by : {T E : Type 0} {r : Result T E} (old new : Layer F)
       → (IsTrue told → IsDescribedBy (medium old.flash) old.state) → LearnsNothing told medium old new r
       → ChangesNoPage told medium (view_of old written) (view_of new written)
-  looked_by old new holds is = looked old new holds is.only.looks.time is.only.own
+  looked_by old new described is = looked old new described is.only.looks.time is.only.own
       (ap (λ (s : LayerState). s.sequence) is.state) is.only.looks.state is.only.looks.during
 
   -- one stretch after the other

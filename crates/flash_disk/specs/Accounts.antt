@@ -19,4 +19,4 @@ pub record Accounts {F T E : Type 0} (told : Bool) (medium : F → FlashMedium) 
   pub no_less : old.own ≤ new.own
   pub later : old.state.sequence ≤ new.state.sequence
   pub steps : new.state.sequence ≤ old.state.sequence + numbers
-  pub disputed : new.state.disputed ≡ old.state.disputed
+  pub has_rivals : new.state.has_rivals ≡ old.state.has_rivals

@@ -8,6 +8,7 @@ use Rattle.flash_model.specs.FlashMedium.{FlashMedium, IsLawfulFlash}
 use Rattle.flash_disk.specs.FlashFiles.{flash_files}
 use Rattle.flash_disk.specs.Newest.{places, IsUsable}
 use Rattle.flash_disk.specs.Standing.{IsAgreed}
+use Rattle.flash_disk.specs.Apart.{StandApart}
 use Rattle.flash_disk.specs.FlashDiskMedium.{put_announced, disk_case, still_case, files_told, flash_disk_medium}
 
 untold : {X : Type 0} → IsTrue false → X
@@ -94,7 +95,8 @@ module _ (told : Bool) (m : FlashMedium) (own written : ℕ) where
       still s tells past = lawful.only_now (still_case s)
           (subst (λ k. m.since k (still_case s)) (told_moment told m.moment tells) past)
 
-  -- what can be opened, or has no rivals, is so since now: with what calls keep, at each moment from now on
+  -- what can be opened, has no rivals or stands apart is so since now: with what calls keep, at each moment from now
+  -- on
   pub opens_now : IsLawfulFlash told m → 4 ≤ m.blocks → m.blocks ≤ 4096
       → (IsTrue told → IsUsable m.state.pages m.blocks) → disk.opens disk.moment
   opens_now lawful many few usable tells = record {
@@ -110,4 +112,13 @@ module _ (told : Bool) (m : FlashMedium) (own written : ℕ) where
     now = agreed tells;
     during = λ c past plain. subst (λ p. IsAgreed p (places m.blocks)) (sym (left_now lawful tells c past))
         (agreed tells);
+  }
+
+  pub apart_now : IsLawfulFlash told m → 16 ≤ m.blocks → (IsTrue told → StandApart m.state.pages m.blocks)
+      → disk.apart disk.moment
+  apart_now lawful many stand tells = record {
+    many = many;
+    now = inl (stand tells);
+    during = λ c past plain. inl (subst (λ p. StandApart p m.blocks) (sym (left_now lawful tells c past))
+        (stand tells));
   }

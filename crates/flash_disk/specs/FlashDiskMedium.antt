@@ -1,6 +1,6 @@
 -- What is said of a disk over a flash: its files are those that the newest records denote, and what a crash of the
 -- flash leaves is what a crash of the disk leaves, where no page passes its hash by chance.
-use Rattle.std.specs.Prelude.{◌≡◌, ℕ, ◌+◌, Bool, IsTrue, List, [], ◌∷◌, if◌then◌else◌}
+use Rattle.std.specs.Prelude.{◌≡◌, ℕ, ◌+◌, ◌≤◌, Bool, IsTrue, List, [], ◌∷◌, if◌then◌else◌}
 use Rattle.disk_model.specs.Image.{Image, put_image}
 use Rattle.disk_model.specs.Case.{Case}
 use Rattle.disk_model.specs.Medium.{Medium}
@@ -12,6 +12,8 @@ use Rattle.flash_disk.specs.FlashView.{FlashView}
 use Rattle.flash_disk.specs.Newest.{places}
 use Rattle.flash_disk.specs.Standing.{IsAgreed}
 use Rattle.flash_disk.specs.Throughout.{KeepsUsable, KeepsAgreed, UsableSince, AgreedSince}
+use Rattle.flash_disk.specs.Apart.{StandApart}
+use Rattle.flash_disk.specs.KeepsApart.{ApartSince}
 
 -- the files after these writes
 abbrev pub put_announced : Image → List Announced → Image
@@ -60,6 +62,7 @@ flash_disk_medium told m own written = record {
   gave = λ t c. IsTrue told × GaveFiles m t c;
   opens = λ t. IsTrue told → UsableSince m t;
   agrees = λ t. IsTrue told → AgreedSince m t;
+  apart = λ t. IsTrue told → ApartSince m t;
   faults = m.faults + own;
   written = written;
 }
@@ -68,11 +71,13 @@ flash_disk_medium told m own written = record {
 abbrev pub disk_seen : {F : Type 0} → (told : Bool) → (F → FlashMedium) → FlashView F → Medium
 disk_seen told medium v = flash_disk_medium told (medium v.flash) v.own v.written
 
--- A disk that was just opened over this flash: from now on what a stop leaves at any moment can be opened again, and if
--- the flash had no rivals it goes on taking writes.
+-- A disk that was just opened over this flash: from now on what a stop leaves at any moment can be opened again. If the
+-- flash had no rivals it goes on taking writes, and if it has 16 blocks or more and the copies stood apart they do so
+-- as long as there is room.
 pub record IsJustOpened (told : Bool) (m : FlashMedium) (disk : Medium) : Type 0 where
   pub opens : disk.opens disk.moment
   pub agrees : (IsTrue told → IsAgreed m.state.pages (places m.blocks)) → disk.agrees disk.moment
+  pub apart : 16 ≤ m.blocks → (IsTrue told → StandApart m.state.pages m.blocks) → disk.apart disk.moment
 
 -- a call that changes no page: no fault is its own, it uses no number, no rivals come, and a crash meanwhile leaves
 -- what can be opened

@@ -23,5 +23,5 @@ view_code {F} code =
 
 -- what is known of the flash fits it, and no more bytes were written than records with these numbers hold
 pub record FitsFlash (told : Bool) (m : FlashMedium) (s : LayerState) (written : ℕ) : Type 0 where
-  pub holds : IsTrue told → IsDescribedBy m s
+  pub described : IsTrue told → IsDescribedBy m s
   pub counted : written ≤ 256 * s.sequence

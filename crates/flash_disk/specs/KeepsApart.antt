@@ -23,6 +23,25 @@ pub record KeepsApart (copy : ℕ) (old new : FlashMedium) : Type 0 where
   pub during : (c : FlashCase) → new.since old.moment c → IsPlain c.before c.whole c.left
       → StaysApart copy old new c.left
 
+-- ---- the same from a moment on
+
+-- at some moment since this one no block but the spare one had room for some copy
+abbrev pub LackedRoom : FlashMedium → ℕ → Type 0
+LackedRoom m t = (copy : ℕ) × (c : FlashCase) × m.since t c × HasNoRoom c.left m.blocks copy
+
+-- the copies stand apart on these pages, or there was no room for one
+abbrev pub StandsOrLacked : FlashMedium → ℕ → Pages → Type 0
+StandsOrLacked m t pages = StandApart pages m.blocks ⊎ LackedRoom m t
+
+-- there are enough blocks, and the copies stand apart now and after a crash at any moment since this one, if no page
+-- passes its hash by chance and as long as there was room for each copy
+pub record ApartSince (m : FlashMedium) (t : ℕ) : Type 0 where
+  pub many : 16 ≤ m.blocks
+  pub now : StandsOrLacked m t m.state.pages
+  pub during : (c : FlashCase) → m.since t c → IsPlain c.before c.whole c.left → StandsOrLacked m t c.left
+
+-- ---- a home
+
 -- where the copies stood apart, a block holds this one only, or there was no room for it
 abbrev pub HasHome : (copy : ℕ) → (old new : FlashMedium) → (block : ℕ) → Type 0
 HasHome copy old new block = 16 ≤ old.blocks → StandApart old.state.pages old.blocks

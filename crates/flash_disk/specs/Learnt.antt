@@ -75,7 +75,7 @@ pub record TwinAt (first : Option PageRecord) (r : PageRecord) (old : Newest) (p
 
 -- whether the newest record is rivalled after a record with its number was found: where it is not, the two are equal
 pub record RivalledAt (first : Option PageRecord) (r : PageRecord) (old : Newest) (rivalled : Bool) : Type 0 where
-  pub calm : IsFalse rivalled → IsFalse old.rivalled × ((q : PageRecord) → first ≡ Some q → SaysTheSame q r)
+  pub no_rivals : IsFalse rivalled → IsFalse old.rivalled × ((q : PageRecord) → first ≡ Some q → SaysTheSame q r)
   pub rivals : IsTrue rivalled → IsTrue old.rivalled ⊎ ((q : PageRecord) → first ≡ Some q → SaysTheSame q r → ⊥)
 
 -- all these places are learnt, and there are not too many pages; or there are

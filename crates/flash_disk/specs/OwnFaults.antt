@@ -38,7 +38,7 @@ TakesPages old new file at n = page_count new.state.pages (places new.blocks)
 
 -- no record can be added: the greatest number was used, or two records of a page that have its greatest number differ
 abbrev pub StopsAdding : LayerState → Type 0
-StopsAdding s = (s.sequence ≡ 18446744073709551615) ⊎ IsTrue s.disputed
+StopsAdding s = (s.sequence ≡ 18446744073709551615) ⊎ IsTrue s.has_rivals
 
 -- a write of n bytes into a file fails though the flash does not, where this is the greatest number used by its end
 abbrev pub FailsAlone : FlashMedium → (sequence file at n : ℕ) → Type 0

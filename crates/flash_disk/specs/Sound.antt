@@ -33,7 +33,7 @@ SameFill old new = (new.fill ≡ old.fill) × (new.unsure ≡ old.unsure) × (ne
 
 -- the page that is to be filled next is blank, and is not in the spare block
 pub record HasFreshPage (pages : Pages) (blocks : ℕ) (s : LayerState) : Type 0 where
-  pub agreed : IsFalse s.disputed
+  pub agreed : IsFalse s.has_rivals
   pub within : s.current < blocks
   pub apart : s.current ≢ s.spare
   pub blank : pages s.current s.fill ≡ blank_page
@@ -54,9 +54,9 @@ pub record Sound (pages : Pages) (blocks : ℕ) (s : LayerState) : Type 0 where
   -- the spare block may be erased
   pub within : s.spare < blocks
   pub is_spare : IsSpare pages (places blocks) s.spare
-  pub agreed : IsFalse s.disputed → IsAgreed pages (places blocks)
-  pub rivals : IsTrue s.disputed → HasRivals pages (places blocks)
-  pub apart : IsFalse s.disputed → LeavesOut s.table s.spare
+  pub agreed : IsFalse s.has_rivals → IsAgreed pages (places blocks)
+  pub rivals : IsTrue s.has_rivals → HasRivals pages (places blocks)
+  pub apart : IsFalse s.has_rivals → LeavesOut s.table s.spare
   pub fresh : s.fill < 64 → HasFreshPage pages blocks s
 
 abbrev pub IsSoundLayer : FlashMedium → LayerState → Type 0
@@ -84,7 +84,7 @@ pub record Enters (old new : Pages) (blocks : ℕ) (s : LayerState) (place : Fla
 
 -- what a page may hold in which a call that failed may have left anything
 pub record Pends (sure pages : Pages) (blocks : ℕ) (s : LayerState) (place : FlashPage) : Type 0 where
-  pub agreed : IsFalse s.disputed
+  pub agreed : IsFalse s.has_rivals
   pub small : place.page < 64
   pub within : place.block < blocks
   pub apart : place.block ≢ s.spare

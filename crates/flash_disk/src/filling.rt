@@ -35,8 +35,8 @@ impl<F: Flash> Layer<F> {
 
     // Reads again what a failed call may have left anything in.
     pub(crate) fn make_sure(&mut self) -> Result<(), DiskFailed>
-        requires holds { IsTrue F.told → IsDescribedBy (F.medium self.old.flash) self.old.state }
-        ensures holds { IsTrue F.told → IsDescribedBy (F.medium self.new.flash) self.new.state }
+        requires described { IsTrue F.told → IsDescribedBy (F.medium self.old.flash) self.old.state }
+        ensures described { IsTrue F.told → IsDescribedBy (F.medium self.new.flash) self.new.state }
         ensures stays { StaysSound F.told F.medium self.new result }
         ensures sequence { self.new.state.sequence ≡ self.old.state.sequence }
         ensures unchanged { IsTrue F.told → (F.medium self.new.flash).state ≡ (F.medium self.old.flash).state }
@@ -95,7 +95,7 @@ impl<F: Flash> Layer<F> {
         ensures rises { OnOk result (self.old.state.sequence < self.new.state.sequence) }
         ensures entries { IsTrue F.told → OnOk result (Occupies self.old.state.table self.new.state.table
             (record { file = file; page = page })) }
-        ensures calm { IsTrue F.told → OnOk result (IsFalse self.old.state.disputed) }
+        ensures no_rivals { IsTrue F.told → OnOk result (IsFalse self.old.state.has_rivals) }
     {
         self.make_room(file)?;
         self.add(file, page, len, bytes)
@@ -119,7 +119,7 @@ impl<F: Flash> Layer<F> {
         ensures own { IsTrue F.told → (self.new.own ≡ self.old.own) ⊎ (self.new.state.sequence ≡ 18446744073709551615) }
         ensures entries { IsTrue F.told → OnOk result (Occupies self.old.state.table self.new.state.table
             (record { file = file; page = page })) }
-        ensures calm { IsTrue F.told → OnOk result (IsFalse self.old.state.disputed) }
+        ensures no_rivals { IsTrue F.told → OnOk result (IsFalse self.old.state.has_rivals) }
     {
         let sequence = self.next_sequence()?;
         let place = FlashPage {
@@ -158,11 +158,11 @@ impl<F: Flash> Layer<F> {
         ensures unsure { self.new.state.unsure ≡ self.old.state.unsure }
         ensures sequence { self.new.state.sequence ≡ self.old.state.sequence }
         ensures sound { (old new : Pages) (blocks : ℕ) → Sound old blocks self.old.state
-            → IsFalse self.old.state.disputed
+            → IsFalse self.old.state.has_rivals
             → Enters old new blocks self.old.state place (stated found.entry) → Sound new blocks self.new.state }
-        ensures disputed { self.new.state.disputed ≡ self.old.state.disputed }
+        ensures has_rivals { self.new.state.has_rivals ≡ self.old.state.has_rivals }
         ensures entries { (old new : Pages) (blocks : ℕ) → Sound old blocks self.old.state
-            → IsFalse self.old.state.disputed
+            → IsFalse self.old.state.has_rivals
             → Enters old new blocks self.old.state place (stated found.entry)
             → Occupies self.old.state.table self.new.state.table (page_of (stated found.entry)) }
     {
@@ -192,7 +192,7 @@ impl<F: Flash> Layer<F> {
             (F.medium self.new.flash) self.new.state.current) }
         ensures sequence { self.new.state.sequence ≡ self.old.state.sequence }
         ensures accounts { Accounts F.told F.medium 0 self.old self.new result }
-        ensures own { IsTrue F.told → IsFalse self.old.state.disputed → self.new.own ≡ self.old.own }
+        ensures own { IsTrue F.told → IsFalse self.old.state.has_rivals → self.new.own ≡ self.old.own }
         ensures entries { IsTrue F.told → OnOk result (SameEntries self.old.state.table self.new.state.table) }
     {
         let next = self.streams.next_of(&self.state.table, file);
@@ -221,7 +221,7 @@ impl<F: Flash> Layer<F> {
             (F.medium self.new.flash) self.new.state.current) }
         ensures sequence { self.new.state.sequence ≡ self.old.state.sequence }
         ensures accounts { Accounts F.told F.medium 0 self.old self.new result }
-        ensures own { IsTrue F.told → IsFalse self.old.state.disputed → self.new.own ≡ self.old.own }
+        ensures own { IsTrue F.told → IsFalse self.old.state.has_rivals → self.new.own ≡ self.old.own }
         ensures entries { IsTrue F.told → OnOk result (SameEntries self.old.state.table self.new.state.table) }
     {
         self.state.fill = BLOCK_PAGES;
@@ -240,7 +240,7 @@ impl<F: Flash> Layer<F> {
             (F.medium self.old.flash).state.pages (F.medium self.old.flash).blocks
             (record self.old.state { current = place.block; fill = place.page })) }
     {
-        if self.state.disputed || place.block == self.state.spare || !self.has(place) {
+        if self.state.has_rivals || place.block == self.state.spare || !self.has(place) {
             return Ok(false);
         }
         let mut page = BLANK_PAGE;
@@ -267,13 +267,13 @@ impl<F: Flash> Layer<F> {
         ensures sequence { self.new.state.sequence ≡ self.old.state.sequence }
         ensures accounts { Accounts F.told F.medium 0 self.old self.new result }
         ensures light { IsTrue F.told → OnOk result (self.new.state.fill < 64) }
-        ensures own { IsTrue F.told → IsFalse self.old.state.disputed → self.new.own ≡ self.old.own }
+        ensures own { IsTrue F.told → IsFalse self.old.state.has_rivals → self.new.own ≡ self.old.own }
         ensures entries { IsTrue F.told → OnOk result (SameEntries self.old.state.table self.new.state.table) }
     {
         let target = self.state.spare;
         let own = self.streams.lightest(&self.state.table, file, target);
         let victim = self.state.table.given_up(own, target);
-        if self.state.disputed || victim == target {
+        if self.state.has_rivals || victim == target {
             return Err(self.fault());
         }
         self.erase_block(target)?;

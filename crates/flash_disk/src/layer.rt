@@ -40,7 +40,7 @@ pub struct LayerState {
     /// What was moved into the block that is to be filled next, with room for a block.
     pub moved: Vec<(FilePage, Newest)>,
     /// Whether two records of a page have its greatest number and differ, so that no block may be erased.
-    pub disputed: bool,
+    pub has_rivals: bool,
     /// Where the last byte other than zero ended that a newest record had past the end of its file at the opening; 0
     /// where there was none.
     pub stray_end: u64,

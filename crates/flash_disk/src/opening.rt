@@ -121,7 +121,7 @@ fn empty_state(alloc: Global, blocks: u32) -> Result<LayerState, AllocError>
         sequence: 0,
         unsure: None,
         moved: Vec::with_capacity(alloc, BLOCK_PAGES as usize)?,
-        disputed: false,
+        has_rivals: false,
         stray_end: 0,
     })
 }
@@ -167,7 +167,7 @@ impl<F: Flash> Layer<F> {
         self.leave_spare()?;
         self.state.table.measure();
         self.state.stray_end = self.state.table.stray_end();
-        self.state.disputed = self.state.table.is_disputed();
+        self.state.has_rivals = self.state.table.has_rivals();
         self.streams.leave_mixed(&self.state.table);
         match self.flash.settle() {
             Ok(()) => Ok(true),
@@ -421,7 +421,7 @@ pub(crate) fn newest_at(place: FlashPage, found: Record<'_>) -> Newest
     ensures sequence { result.sequence ≡ found.entry.sequence }
     ensures len { result.len ≡ found.entry.len }
     ensures twin { result.twin ≡ None }
-    ensures calm { IsFalse result.rivalled }
+    ensures no_rivals { IsFalse result.rivalled }
     ensures page { found.entry.page < 4294967296 }
     ensures filled { length found.entry.bytes.now ≡ 256 → (j : ℕ) → result.filled ≤ j
         → slice_index found.entry.bytes.now j ≡ 0 }

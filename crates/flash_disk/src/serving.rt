@@ -78,7 +78,7 @@ impl<F: Flash> Layer<F> {
         ensures rises { OnOk result (self.old.state.sequence < self.new.state.sequence) }
         ensures entries { IsTrue F.told → OnOk result (Occupies self.old.state.table self.new.state.table
             (record { file = file; page = page })) }
-        ensures calm { IsTrue F.told → OnOk result (IsFalse self.old.state.disputed) }
+        ensures no_rivals { IsTrue F.told → OnOk result (IsFalse self.old.state.has_rivals) }
     {
         let key = FilePage {
             file,
@@ -172,7 +172,7 @@ impl<F: Flash> Layer<F> {
             (F.medium self.old.flash) (F.medium self.new.flash) }
         ensures apart { IsTrue F.told → KeepsApart (copy_of file) (F.medium self.old.flash) (F.medium self.new.flash) }
         ensures rises { OnOk result (length bytes.now + 256 * self.old.state.sequence ≤ 256 * self.new.state.sequence) }
-        ensures calm { IsTrue F.told → OnOk result (0 < length bytes.now → IsFalse self.old.state.disputed) }
+        ensures no_rivals { IsTrue F.told → OnOk result (0 < length bytes.now → IsFalse self.old.state.has_rivals) }
         ensures takes { IsTrue F.told → OnOk result (page_len self.new.state.table
             ≤ page_len self.old.state.table + missing self.old.state.table file (at / 256)
             (div_ceil (at + length bytes.now) 256 - at / 256)) }
@@ -198,7 +198,7 @@ impl<F: Flash> Layer<F> {
     pub(crate) fn write_file(&mut self, file: u32, at: u64, bytes: &[u8]) -> Result<(), DiskFailed>
         requires some { 0 < length bytes.now }
         requires ready { IsSure F.told F.medium self.old }
-        ensures holds { IsTrue F.told → IsDescribedBy (F.medium self.new.flash) self.new.state }
+        ensures described { IsTrue F.told → IsDescribedBy (F.medium self.new.flash) self.new.state }
         ensures put { IsTrue F.told → OnOk result (files_on (F.medium self.new.flash)
             ≡ put_image (files_on (F.medium self.old.flash)) file at bytes.now) }
         ensures rises { OnOk result (length bytes.now + 256 * self.old.state.sequence ≤ 256 * self.new.state.sequence) }
@@ -236,7 +236,7 @@ impl<F: Flash> Layer<F> {
         requires ready { IsSure F.told F.medium self.old }
         requires room { missing self.old.state.table file (at / 256) (div_ceil end 256 - at / 256)
             ≤ limit_of self.old.state.table - page_len self.old.state.table }
-        ensures holds { IsTrue F.told → IsDescribedBy (F.medium self.new.flash) self.new.state }
+        ensures described { IsTrue F.told → IsDescribedBy (F.medium self.new.flash) self.new.state }
         ensures put { IsTrue F.told → OnOk result (files_on (F.medium self.new.flash)
             ≡ put_image (files_on (F.medium self.old.flash)) file at bytes.now) }
         ensures rises { OnOk result (length bytes.now + 256 * self.old.state.sequence ≤ 256 * self.new.state.sequence) }

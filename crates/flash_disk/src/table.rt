@@ -342,8 +342,8 @@ impl Table {
     }
 
     /// Whether two records of a page have its greatest number and differ.
-    pub fn is_disputed(&self) -> bool
-        ensures calm { IsFalse result → (key : FilePage) (entry : Newest) → known self.now key ≡ Some entry
+    pub fn has_rivals(&self) -> bool
+        ensures no_rivals { IsFalse result → (key : FilePage) (entry : Newest) → known self.now key ≡ Some entry
             → IsFalse entry.rivalled }
         ensures rivals { IsTrue result → (key : FilePage) × (entry : Newest) × (known self.now key ≡ Some entry)
             × IsTrue entry.rivalled }

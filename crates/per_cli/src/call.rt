@@ -10,7 +10,8 @@ use crate::{NO_DISK, NO_INPUT, NO_MEMORY, REFUSED_CALL, REFUSED_WORDS, program};
 use command_text::LineError;
 use per_run::{JobKind, WordsError, read_words};
 use per_words::{
-    Shown, call_lines, content_lines, manifest_lines, options_in, shown_in, takes_manifest, written,
+    Shown, call_lines, content_lines, manifest_lines, options_in, shown_bytes, shown_in,
+    takes_manifest,
 };
 use std::alloc::{AllocError, Global};
 use std::cell::Cell;
@@ -284,7 +285,7 @@ impl<'a, R: Print + Eprint> Answers<'a, R> {
             }
             Shown::Nothing | Shown::Text | Shown::Names | Shown::Octets => {}
         }
-        match written(self.alloc, shown, text) {
+        match shown_bytes(self.alloc, shown, text) {
             Ok(out) => io::writer(self.rt).write_all(out.as_slice()),
             Err(_) => Err(io::Error::from(io::ErrorKind::OutOfMemory)),
         }

@@ -26,7 +26,7 @@ mod telling;
 use asking::Asking;
 use per_run::{JobKind, read_words};
 use per_system::fill_streams;
-use per_words::{is_call, named_in};
+use per_words::{is_call, named_words};
 use std::io::IsTerminal;
 use std::process::{self, ExitCode};
 use std::{env, io};
@@ -82,7 +82,7 @@ fn main(rt: HostRuntime) -> ExitCode {
             return ExitCode::from(status_of(&error));
         }
     };
-    let Ok(named) = named_in(rt.alloc(), &words) else {
+    let Ok(named) = named_words(rt.alloc(), &words) else {
         return ExitCode::from(program::no_memory(&rt));
     };
     let status = match wish_of(&words, named.as_slice()) {

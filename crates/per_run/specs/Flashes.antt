@@ -6,14 +6,17 @@ use Rattle.disk_model.specs.Medium.{Quiet, Elapses}
 use Rattle.flash_model.specs.FlashMedium.{FlashMedium}
 use Rattle.flash_model.specs.Pages.{IsPlain}
 use Rattle.flash_model.specs.State.{FlashCase, settle_pages}
+use Rattle.flash_disk.specs.Apart.{StandApart}
 use Rattle.flash_disk.specs.FlashDiskMedium.{IsJustOpened, disk_case, disk_seen}
 use Rattle.flash_disk.specs.FlashFiles.{flash_files}
 use Rattle.flash_disk.specs.FlashView.{FlashView}
+use Rattle.flash_disk.specs.KeepsApart.{ApartSince}
 use Rattle.flash_disk.specs.Learnt.{IsTop}
 use Rattle.flash_disk.specs.Looks.{LeavesFlashAlone, OpensFlash}
 use Rattle.flash_disk.specs.Newest.{IsUnusable, IsUsable, places}
 use Rattle.flash_disk.specs.Standing.{IsAgreed}
 use Rattle.flash_disk.specs.Throughout.{AgreedSince, UsableSince}
+use Rattle.flash_laws.specs.Outvotes.{OutlastsSince}
 use Rattle.migrate_fns.specs.Rules.{Answers, Rule}
 use Rattle.run_model.specs.Endings.{Failed}
 use Rattle.per_run.specs.declared.flash.FlashRun.{FlashRun}
@@ -74,7 +77,9 @@ LeavesFiles told medium flash opened disk c =
 
 -- After a stop at any moment since the flash was handed in it can be opened again, and has the files that the job's
 -- promise speaks of, as far as no page passes its hash by chance: it is refused neither for its size nor for what its
--- pages hold. If it had no rivals it goes on taking writes.
+-- pages hold. If it had no rivals it goes on taking writes. If it has 16 blocks or more and the copies stood apart they
+-- do so, also at the end, unless at some moment there was no room for one. So where both are, the copies outvote each
+-- loss of pages of one block.
 pub record OpensAgain {F : Type 0} (told : Bool) (medium : F → FlashMedium) (flash : F)
     (opened disk : FlashView F) : Type 0 where
   pub usable : UsableSince (medium disk.flash) (medium flash).moment
@@ -83,6 +88,11 @@ pub record OpensAgain {F : Type 0} (told : Bool) (medium : F → FlashMedium) (f
       → IsPlain c.before c.whole c.left → IsUnusable c.left (medium disk.flash).blocks → ⊥
   pub agreed : IsAgreed (medium flash).state.pages (places (medium flash).blocks)
       → AgreedSince (medium disk.flash) (medium flash).moment
+  pub apart : 16 ≤ (medium flash).blocks → StandApart (medium flash).state.pages (medium flash).blocks
+      → ApartSince (medium disk.flash) (medium flash).moment
+  pub outlasts : IsAgreed (medium flash).state.pages (places (medium flash).blocks) → 16 ≤ (medium flash).blocks
+      → StandApart (medium flash).state.pages (medium flash).blocks
+      → OutlastsSince (medium disk.flash) (medium flash).moment
   pub files : (c : FlashCase) → (medium disk.flash).since (medium flash).moment c → IsPlain c.before c.whole c.left
       → LeavesFiles told medium flash opened disk c
 

@@ -14,6 +14,7 @@ use crate::job::run_job;
 use crate::words::{JobKind, WordsError, read_words};
 use command_text::one_line;
 use flash_disk::{FlashDisk, FlashOpenError};
+use flash_laws::lost_pages_are_outvoted_since;
 use flash_model::Flash;
 use migrate_fns::Migrations;
 use per_base::{Sink, Source};
@@ -104,6 +105,7 @@ fn run_over<F: Flash, S: Source, K: Sink>(
     ensures same { IfUnopened result (λ status back. (status ≡ 4) ⊎ (status ≡ 11) → back ≡ flash) }
     ensures not_words { IfUnopened result (λ status back. status ≢ 1) }
 {
+    lost_pages_are_outvoted_since::<F>();
     match FlashDisk::open(alloc, flash) {
         Ok(mut disk) => {
             let status = run_job(alloc, kind, migrations, source, sink, &mut disk);

@@ -19,10 +19,10 @@ options_in is_value (w ∷ ws) =
     if is_value || is_option w then w ∷ options_in (not is_value && takes_value w) ws else options_in false ws
 
 -- all other words
-abbrev pub named_in : Bool → List (List ℕ) → List (List ℕ)
-named_in is_value [] = []
-named_in is_value (w ∷ ws) =
-    if is_value || is_option w then named_in (not is_value && takes_value w) ws else w ∷ named_in false ws
+abbrev pub named_words : Bool → List (List ℕ) → List (List ℕ)
+named_words is_value [] = []
+named_words is_value (w ∷ ws) =
+    if is_value || is_option w then named_words (not is_value && takes_value w) ws else w ∷ named_words false ws
 
 abbrev pub is_flag : List ℕ → Bool
 is_flag = is_among (codes "--format" ∷ codes "--audit" ∷ codes "--serve" ∷ [])

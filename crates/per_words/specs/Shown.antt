@@ -16,8 +16,8 @@ says_nothing line = bytes_eq line (codes "ok") || (bytes_eq line (codes "names")
     || begins (codes "handle ") line))
 
 -- what follows the word of an answer that is one text
-abbrev pub text_in : List ℕ → Option (List ℕ)
-text_in line = branch (literal_at (codes "value ") line) (λ rest. Some rest)
+abbrev pub text_after_word : List ℕ → Option (List ℕ)
+text_after_word line = branch (literal_at (codes "value ") line) (λ rest. Some rest)
     (branch (literal_at (codes "number ") line) (λ rest. Some rest)
     (branch (literal_at (codes "byte ") line) (λ rest. Some rest)
     (branch (literal_at (codes "info ") line) (λ rest. Some rest)
@@ -31,7 +31,7 @@ shown_as s (Some text) other = (s, text)
 -- the text of an answer that was given: names, bytes, or one text, which is the whole line where no word is before it
 abbrev pub given_in : List ℕ → Shown × List ℕ
 given_in line = shown_as shown.Names (literal_at (codes "names ") line)
-    (shown_as shown.Octets (literal_at (codes "bytes ") line) (shown.Text, unwrap_or (text_in line) line))
+    (shown_as shown.Octets (literal_at (codes "bytes ") line) (shown.Text, unwrap_or (text_after_word line) line))
 
 -- what a line is to a person, and its text
 abbrev pub shown_in : List ℕ → Shown × List ℕ

@@ -11,8 +11,8 @@ use Rattle.command_text.specs.declared.errors.LineError.{LineError}
 use Rattle.command_text.specs.declared.errors.LineError.TheVariants as error
 use Rattle.command_text.specs.declared.lines.Line.{Line}
 use Rattle.command_text.specs.declared.lines.Line.TheVariants as line
-use Rattle.per_words.specs.declared.forms.Form.{Form}
-use Rattle.per_words.specs.declared.forms.Form.TheVariants as form
+use Rattle.per_words.specs.declared.kinds.CallKind.{CallKind}
+use Rattle.per_words.specs.declared.kinds.CallKind.TheVariants as kind
 
 -- ---- lines
 
@@ -77,17 +77,17 @@ abbrev pub changes_files : List ℕ → Bool
 changes_files = is_among (codes "put" ∷ codes "delete" ∷ codes "recover-file" ∷ codes "reset-file" ∷ [])
 
 -- what is done around a call of a storage
-abbrev pub form_of : List ℕ → Option Form
-form_of call =
-    if is_of_closed call then Some form.Closed else (
-    if reads_keys call then Some form.ReadsKeys else (
-    if changes_keys call then Some form.ChangesKeys else (
-    if reads_files call then Some form.ReadsFiles else (
-    if changes_files call then Some form.ChangesFiles else None))))
+abbrev pub call_kind : List ℕ → Option CallKind
+call_kind call =
+    if is_of_closed call then Some kind.Closed else (
+    if reads_keys call then Some kind.ReadsKeys else (
+    if changes_keys call then Some kind.ChangesKeys else (
+    if reads_files call then Some kind.ReadsFiles else (
+    if changes_files call then Some kind.ChangesFiles else None))))
 
 -- the word of the call in a line
-abbrev pub spelled : List ℕ → List ℕ
-spelled call = if bytes_eq call (codes "ls") then codes "files" else call
+abbrev pub call_word : List ℕ → List ℕ
+call_word call = if bytes_eq call (codes "ls") then codes "files" else call
 
 -- ---- to what it is made
 
@@ -96,9 +96,9 @@ abbrev pub is_digit : ℕ → Bool
 is_digit digit = nat_le 48 digit && nat_le digit 55
 
 -- the digit of an application, alone
-abbrev pub application_in : List ℕ → Option ℕ
-application_in (digit ∷ []) = if is_digit digit then Some digit else None
-application_in other = None
+abbrev pub application_digit : List ℕ → Option ℕ
+application_digit (digit ∷ []) = if is_digit digit then Some digit else None
+application_digit other = None
 
 -- the digit of an application and a storage, with a colon between them
 abbrev pub place_in : List ℕ → Option (ℕ × List ℕ)
@@ -108,32 +108,32 @@ place_in other = None
 -- ---- the lines of a call
 
 -- the storage is opened, where it is to be open
-abbrev pub opening_lines : Form → ℕ → List ℕ → List (List ℕ)
-opening_lines form.Closed digit storage = []
-opening_lines form.ReadsKeys digit storage = line_with digit (codes "open-kvs" ∷ storage ∷ []) ∷ []
-opening_lines form.ChangesKeys digit storage = line_with digit (codes "open-kvs" ∷ storage ∷ []) ∷ []
-opening_lines form.ReadsFiles digit storage = line_with digit (codes "open-files" ∷ storage ∷ []) ∷ []
-opening_lines form.ChangesFiles digit storage = line_with digit (codes "open-files" ∷ storage ∷ []) ∷ []
+abbrev pub opening_lines : CallKind → ℕ → List ℕ → List (List ℕ)
+opening_lines kind.Closed digit storage = []
+opening_lines kind.ReadsKeys digit storage = line_with digit (codes "open-kvs" ∷ storage ∷ []) ∷ []
+opening_lines kind.ChangesKeys digit storage = line_with digit (codes "open-kvs" ∷ storage ∷ []) ∷ []
+opening_lines kind.ReadsFiles digit storage = line_with digit (codes "open-files" ∷ storage ∷ []) ∷ []
+opening_lines kind.ChangesFiles digit storage = line_with digit (codes "open-files" ∷ storage ∷ []) ∷ []
 
 -- what the call changed is made durable
-abbrev pub durable_lines : Form → ℕ → List ℕ → List (List ℕ)
-durable_lines form.Closed digit storage = []
-durable_lines form.ReadsKeys digit storage = []
-durable_lines form.ChangesKeys digit storage = line_with digit (codes "sync" ∷ storage ∷ []) ∷ []
-durable_lines form.ReadsFiles digit storage = []
-durable_lines form.ChangesFiles digit storage = line_with digit (codes "close" ∷ storage ∷ []) ∷ []
+abbrev pub durable_lines : CallKind → ℕ → List ℕ → List (List ℕ)
+durable_lines kind.Closed digit storage = []
+durable_lines kind.ReadsKeys digit storage = []
+durable_lines kind.ChangesKeys digit storage = line_with digit (codes "sync" ∷ storage ∷ []) ∷ []
+durable_lines kind.ReadsFiles digit storage = []
+durable_lines kind.ChangesFiles digit storage = line_with digit (codes "close" ∷ storage ∷ []) ∷ []
 
 -- all lines of a call on a storage
-abbrev pub storage_lines : Form → ℕ → List ℕ → (call : List ℕ) → List (List ℕ) → List (List ℕ)
-storage_lines f digit storage call arguments = opening_lines f digit storage
-    ++ line_with digit (spelled call ∷ storage ∷ arguments) ∷ durable_lines f digit storage
+abbrev pub storage_lines : CallKind → ℕ → List ℕ → (call : List ℕ) → List (List ℕ) → List (List ℕ)
+storage_lines k digit storage call arguments = opening_lines k digit storage
+    ++ line_with digit (call_word call ∷ storage ∷ arguments) ∷ durable_lines k digit storage
 
 -- all lines of the call with this word, to what it is made, and its arguments; none where it cannot be made alone
 abbrev pub call_lines : List ℕ → List ℕ → List (List ℕ) → Option (List (List ℕ))
 call_lines call target arguments =
     if is_of_application call
-    then option_map (λ digit. line_with digit (call ∷ arguments) ∷ []) (application_in target)
-    else (form_of call >>= λ f. place_in target >>= λ place. Some (storage_lines f place.0 place.1 call arguments))
+    then option_map (λ digit. line_with digit (call ∷ arguments) ∷ []) (application_digit target)
+    else (call_kind call >>= λ k. place_in target >>= λ place. Some (storage_lines k place.0 place.1 call arguments))
 
 -- a byte of a manifest, whose line feeds become tabs: as they, white space between its words and not allowed within one
 abbrev pub tabbed : ℕ → ℕ
@@ -143,7 +143,7 @@ tabbed byte = if nat_eq byte 10 then 9 else byte
 abbrev pub manifest_lines : List ℕ → List ℕ → List ℕ → Option (List (List ℕ))
 manifest_lines call target manifest =
     if takes_manifest call
-    then option_map (λ digit. line_with digit (call ∷ map tabbed manifest ∷ []) ∷ []) (application_in target)
+    then option_map (λ digit. line_with digit (call ∷ map tabbed manifest ∷ []) ∷ []) (application_digit target)
     else None
 
 -- ---- the lines that write a content
@@ -172,8 +172,8 @@ writing_lines digit storage file content =
 
 -- all lines of the call that makes the content that of the file
 unfoldable pub file_lines : ℕ → List ℕ → List ℕ → List ℕ → List (List ℕ)
-file_lines digit storage file content = opening_lines form.ChangesFiles digit storage
-    ++ (writing_lines digit storage file content ++ durable_lines form.ChangesFiles digit storage)
+file_lines digit storage file content = opening_lines kind.ChangesFiles digit storage
+    ++ (writing_lines digit storage file content ++ durable_lines kind.ChangesFiles digit storage)
 
 abbrev pub content_lines : List ℕ → List ℕ → List ℕ → Option (List (List ℕ))
 content_lines target file content = place_in target >>= λ place. Some (file_lines place.0 place.1 file content)

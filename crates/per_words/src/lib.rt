@@ -3,13 +3,13 @@
 //! A call that is made alone has its storage opened before it, and made durable after it where it changes something
 //! ([`call_lines`]). Each line that is made is one of an event, whatever the words were, so that no word becomes a line
 //! of its own. A manifest of many lines becomes one ([`manifest_lines`]), and a content that is too long for a line is
-//! written in pieces ([`content_lines`]). [`shown_in`] says what a line of a reply is to a person, and [`written`] what
-//! is written of it: a value stands without the word before it, and bytes as they are.
+//! written in pieces ([`content_lines`]). [`shown_in`] says what a line of a reply is to a person, and [`shown_bytes`]
+//! what is written of it: a value stands without the word before it, and bytes as they are.
 //!
-//! The words of a shell are told apart by [`options_in`] and [`named_in`]; [`unknown_in`] finds one that is refused.
+//! The words of a shell are told apart by [`options_in`] and [`named_words`]; [`unknown_in`] finds one that is refused.
 #![tactic(auto)]
 
-mod forms;
+mod kinds;
 mod lines;
 mod places;
 mod pushing;
@@ -17,8 +17,8 @@ mod putting;
 mod showing;
 mod words;
 
-pub use forms::{Form, is_call, takes_manifest};
+pub use kinds::{CallKind, is_call, takes_manifest};
 pub use lines::{call_lines, manifest_lines};
 pub use putting::content_lines;
-pub use showing::{Shown, shown_in, written};
-pub use words::{named_in, options_in, unknown_in};
+pub use showing::{Shown, shown_bytes, shown_in};
+pub use words::{named_words, options_in, unknown_in};

@@ -7,8 +7,8 @@ ghost use Rattle.command_text.specs.declared.errors.LineError.{LineError};
 ghost use Rattle.per_words.specs.Words.{Adds, AreFed, IsOneLine, call_lines, durable_lines, line_with};
 ghost use Rattle.per_words.specs.Words.{manifest_lines, opening_lines, storage_lines, tabbed};
 
-use crate::forms::{Form, form_of, is_of_application, spelled, takes_manifest};
-use crate::places::{application_in, place_in};
+use crate::kinds::{CallKind, call_kind, call_word, is_of_application, takes_manifest};
+use crate::places::{application_digit, place_in};
 use crate::pushing::push_call;
 use command_text::LineError;
 use std::alloc::{AllocError, Global};
@@ -37,15 +37,15 @@ pub fn call_lines(
         → call_lines call.now target.now (map (λ word. word.now) arguments.now) ≢ None }
 {
     if is_of_application(call) {
-        return match application_in(target) {
+        return match application_digit(target) {
             Some(digit) => application_lines(alloc, digit, call, arguments),
             None => Err(LineError::NotALine),
         };
     }
-    let form = form_of(call).ok_or(LineError::NotALine)?;
+    let kind = call_kind(call).ok_or(LineError::NotALine)?;
     let (digit, storage) = place_in(target).ok_or(LineError::NotALine)?;
     let mut text = Vec::new(alloc);
-    push_storage_call(alloc, &mut text, form, digit, storage, call, arguments)?;
+    push_storage_call(alloc, &mut text, kind, digit, storage, call, arguments)?;
     Ok(text)
 }
 
@@ -71,7 +71,7 @@ pub fn manifest_lines(
     if !takes_manifest(call) {
         return Err(LineError::NotALine);
     }
-    match application_in(target) {
+    match application_digit(target) {
         Some(digit) => tabbed_line(alloc, digit, call, manifest),
         None => Err(LineError::NotALine),
     }
@@ -127,36 +127,36 @@ fn tabbed(byte: u8) -> u8
 fn push_storage_call(
     alloc: Global,
     text: &mut Vec<u8>,
-    form: Form,
+    kind: CallKind,
     digit: u8,
     storage: &[u8],
     call: &[u8],
     arguments: &[&[u8]],
 ) -> Result<(), LineError>
     ensures { Adds result text.old.items text.new.items
-        (storage_lines form digit storage.now call.now (map (λ word. word.now) arguments.now)) }
+        (storage_lines kind digit storage.now call.now (map (λ word. word.now) arguments.now)) }
 {
-    push_opening(alloc, text, form, digit, storage)?;
-    push_call(alloc, text, digit, &[spelled(call), storage], arguments)?;
-    push_durable(alloc, text, form, digit, storage)
+    push_opening(alloc, text, kind, digit, storage)?;
+    push_call(alloc, text, digit, &[call_word(call), storage], arguments)?;
+    push_durable(alloc, text, kind, digit, storage)
 }
 
 /// Adds the line that opens the storage, where it is to be open.
 pub(crate) fn push_opening(
     alloc: Global,
     text: &mut Vec<u8>,
-    form: Form,
+    kind: CallKind,
     digit: u8,
     storage: &[u8],
 ) -> Result<(), LineError>
-    ensures { Adds result text.old.items text.new.items (opening_lines form digit storage.now) }
+    ensures { Adds result text.old.items text.new.items (opening_lines kind digit storage.now) }
 {
-    match form {
-        Form::Closed => Ok(()),
-        Form::ReadsKeys | Form::ChangesKeys => {
+    match kind {
+        CallKind::Closed => Ok(()),
+        CallKind::ReadsKeys | CallKind::ChangesKeys => {
             push_call(alloc, text, digit, &[b"open-kvs", storage], &[])
         }
-        Form::ReadsFiles | Form::ChangesFiles => {
+        CallKind::ReadsFiles | CallKind::ChangesFiles => {
             push_call(alloc, text, digit, &[b"open-files", storage], &[])
         }
     }
@@ -166,15 +166,15 @@ pub(crate) fn push_opening(
 pub(crate) fn push_durable(
     alloc: Global,
     text: &mut Vec<u8>,
-    form: Form,
+    kind: CallKind,
     digit: u8,
     storage: &[u8],
 ) -> Result<(), LineError>
-    ensures { Adds result text.old.items text.new.items (durable_lines form digit storage.now) }
+    ensures { Adds result text.old.items text.new.items (durable_lines kind digit storage.now) }
 {
-    match form {
-        Form::ChangesKeys => push_call(alloc, text, digit, &[b"sync", storage], &[]),
-        Form::ChangesFiles => push_call(alloc, text, digit, &[b"close", storage], &[]),
-        Form::Closed | Form::ReadsKeys | Form::ReadsFiles => Ok(()),
+    match kind {
+        CallKind::ChangesKeys => push_call(alloc, text, digit, &[b"sync", storage], &[]),
+        CallKind::ChangesFiles => push_call(alloc, text, digit, &[b"close", storage], &[]),
+        CallKind::Closed | CallKind::ReadsKeys | CallKind::ReadsFiles => Ok(()),
     }
 }

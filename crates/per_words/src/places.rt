@@ -2,11 +2,11 @@
 
 ghost use Rattle.std.specs.Prelude.{◌≡◌};
 ghost use Rattle.value_text.specs.Readers.{Finds};
-ghost use Rattle.per_words.specs.Words.{application_in, is_digit, place_in};
+ghost use Rattle.per_words.specs.Words.{application_digit, is_digit, place_in};
 
 /// The digit of an application, alone.
-pub(crate) fn application_in(target: &[u8]) -> Option<u8>
-    ensures { result ≡ application_in target.now }
+pub(crate) fn application_digit(target: &[u8]) -> Option<u8>
+    ensures { result ≡ application_digit target.now }
 {
     let (digit, rest) = target.split_first()?;
     (rest.is_empty() && is_digit(*digit)).then_some(*digit)

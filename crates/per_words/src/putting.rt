@@ -7,9 +7,9 @@ ghost use Rattle.value_text.specs.Texts.{hex_text};
 ghost use Rattle.command_text.specs.declared.errors.LineError.{LineError};
 ghost use Rattle.per_words.specs.Words.{Adds, AreFed, IsOneLine, content_lines, cut_up, durable_lines, file_lines};
 ghost use Rattle.per_words.specs.Words.{line_with, piece_line, writing_lines};
-ghost use Rattle.per_words.specs.declared.forms.Form.{Form};
+ghost use Rattle.per_words.specs.declared.kinds.CallKind.{CallKind};
 
-use crate::forms::Form;
+use crate::kinds::CallKind;
 use crate::lines::{push_durable, push_opening};
 use crate::places::place_in;
 use crate::pushing::push_call;
@@ -57,7 +57,7 @@ fn push_file(
 ) -> Result<(), LineError>
     ensures { Adds result text.old.items text.new.items (file_lines digit storage.now file.now content.now) }
 {
-    match push_opening(alloc, text, Form::ChangesFiles, digit, storage) {
+    match push_opening(alloc, text, CallKind::ChangesFiles, digit, storage) {
         Ok(()) => push_durably(alloc, text, digit, storage, file, content),
         Err(error) => Err(error),
     }
@@ -73,10 +73,10 @@ fn push_durably(
     content: &[u8],
 ) -> Result<(), LineError>
     ensures { Adds result text.old.items text.new.items (writing_lines digit storage.now file.now content.now
-        ++ durable_lines Form.ChangesFiles digit storage.now) }
+        ++ durable_lines CallKind.ChangesFiles digit storage.now) }
 {
     match push_content(alloc, text, digit, storage, file, content) {
-        Ok(()) => push_durable(alloc, text, Form::ChangesFiles, digit, storage),
+        Ok(()) => push_durable(alloc, text, CallKind::ChangesFiles, digit, storage),
         Err(error) => Err(error),
     }
 }

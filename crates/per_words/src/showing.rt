@@ -2,9 +2,9 @@
 
 ghost use Rattle.std.specs.Prelude.{◌≡◌, ◌++◌, ◌∷◌, [], IfOk, map};
 ghost use Rattle.value_text.specs.Readers.{Finds, literal_at};
-ghost use Rattle.per_words.specs.Shown.{IsWritten, begins, ended, given_in, says_nothing, shown_in, text_in};
+ghost use Rattle.per_words.specs.Shown.{IsWritten, begins, ended, given_in, says_nothing, shown_in, text_after_word};
 
-use crate::forms::is_word;
+use crate::kinds::is_word;
 use std::alloc::{AllocError, Global};
 use value_model::DecodeError;
 use value_text::parse_hex;
@@ -46,7 +46,7 @@ pub fn shown_in(line: &[u8]) -> (Shown, &[u8])
 }
 
 /// What is written of a text that is shown so; nothing of a report or an error.
-pub fn written(alloc: Global, shown: Shown, text: &[u8]) -> Result<Vec<u8>, AllocError>
+pub fn shown_bytes(alloc: Global, shown: Shown, text: &[u8]) -> Result<Vec<u8>, AllocError>
     ensures { IfOk result (λ out. IsWritten shown text.now out.items) }
 {
     match shown {
@@ -77,12 +77,12 @@ fn given_in(line: &[u8]) -> (Shown, &[u8])
     if let Some(digits) = after(b"bytes ", line) {
         return (Shown::Octets, digits);
     }
-    (Shown::Text, text_in(line).unwrap_or(line))
+    (Shown::Text, text_after_word(line).unwrap_or(line))
 }
 
 /// What follows the word of an answer that is one text.
-fn text_in(line: &[u8]) -> Option<&[u8]>
-    ensures { Finds (λ rest. rest.now) result (text_in line.now) }
+fn text_after_word(line: &[u8]) -> Option<&[u8]>
+    ensures { Finds (λ rest. rest.now) result (text_after_word line.now) }
 {
     if let Some(value) = after(b"value ", line) {
         return Some(value);

@@ -2,10 +2,10 @@
 
 ghost use Rattle.std.specs.Prelude.{◌≡◌, IfOk, false, map, string_bytes};
 ghost use Rattle.value_text.specs.Readers.{Finds};
-ghost use Rattle.per_words.specs.Apart.{has_value, is_flag, is_known, is_option, named_in, options_in};
+ghost use Rattle.per_words.specs.Apart.{has_value, is_flag, is_known, is_option, named_words, options_in};
 ghost use Rattle.per_words.specs.Apart.{takes_value, unknown_in};
 
-use crate::forms::is_word;
+use crate::kinds::is_word;
 use std::alloc::{AllocError, Global};
 
 /// The words that are options, and the values of those that take one, in their order.
@@ -25,9 +25,9 @@ pub fn options_in(alloc: Global, words: &[String]) -> Result<Vec<String>, AllocE
 }
 
 /// All other words, in their order.
-pub fn named_in<'a>(alloc: Global, words: &'a [String]) -> Result<Vec<&'a [u8]>, AllocError>
+pub fn named_words<'a>(alloc: Global, words: &'a [String]) -> Result<Vec<&'a [u8]>, AllocError>
     ensures { IfOk result (λ named. map (λ word. word.now) named.items
-        ≡ named_in false (map string_bytes words.now)) }
+        ≡ named_words false (map string_bytes words.now)) }
 {
     let mut named = Vec::new(alloc);
     let mut is_value = false;

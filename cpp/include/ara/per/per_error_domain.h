@@ -1,4 +1,4 @@
-/// The errors of persistency: their numbers, their texts, and which one stands for which error of the engine.
+/// The errors of persistency: their numbers, their texts, and which error of the engine each denotes.
 #pragma once
 
 #include <cstdlib>
@@ -51,7 +51,7 @@ enum class PerErrc : ara::core::ErrorDomain::CodeType {
 
 namespace detail {
 
-/// An error of the engine, the one that stands for it, and what it says.
+/// An error of the engine, the one that denotes it here, and what it says.
 struct ErrorRow {
   int engine;
   PerErrc code;

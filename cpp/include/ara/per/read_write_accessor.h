@@ -49,7 +49,7 @@ class ReadWriteAccessor final : public ReadAccessor {
   }
 
   /// Writes over what is at the position and extends the file, or with `OpenMode::kAppend` writes at its end. The
-  /// position is then behind what was written. Where the call is refused, content and position stay as they were.
+  /// position is then after what was written. Where the call is refused, content and position stay as they were.
   ///
   /// # Errors
   /// - `kLimitReached`: the file would have more than 1,048,576 bytes
@@ -70,7 +70,7 @@ class ReadWriteAccessor final : public ReadAccessor {
   }
 
  private:
-  /// So many bytes go on a line of the engine, two digits each, beside the longest name.
+  /// How many bytes go on a line of the engine, two digits each, beside the longest name.
   static constexpr std::size_t kPiece = 65'536;
 
   [[nodiscard]] ara::core::Result<void> Write(std::string_view bytes) {

@@ -33,7 +33,7 @@
 
 namespace ara::per::detail {
 
-/// A line has at most so many bytes, without its line feed, the digit of the application and the space behind it.
+/// The most bytes of a line, without its line feed, the digit of the application and the space after it.
 inline constexpr std::size_t kMaxCallSize = 262'144 - 2;
 
 using UpdateCallback = std::function<void(const ara::core::InstanceSpecifier&, ara::core::String)>;

@@ -10,7 +10,7 @@
 
 namespace ara::per::detail {
 
-/// A manifest has at most so many bytes.
+/// The most bytes of a manifest.
 inline constexpr std::size_t kMaxManifestSize = 65'536;
 
 /// The manifest on one line: outside texts a line feed says as much as a space, and none is allowed within one.

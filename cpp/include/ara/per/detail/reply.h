@@ -114,7 +114,7 @@ struct Report {
   return in.IsAtEnd();
 }
 
-/// Tells the program of reports. No lock is held, so that it may call the library.
+/// Hands the reports to the program. No lock is held, so that it may call the library.
 inline void Deliver(const std::vector<Report>& reports) {
   if (reports.empty()) return;
   const RecoveryReportCallback listener = RecoveryListener().Get();
@@ -145,7 +145,7 @@ inline void Deliver(const std::vector<Report>& reports) {
   return Result<bool>::FromError(Unexpected(answer.Value()));
 }
 
-/// The number behind a word.
+/// The number after a word.
 template <class Number>
 [[nodiscard]] Result<Number> NumberBehind(std::string_view word, const Result<std::string>& answer) {
   if (!answer) return Result<Number>::FromError(answer.Error());

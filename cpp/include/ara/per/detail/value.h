@@ -22,7 +22,7 @@ inline constexpr bool kNever = false;
 ///   kDepth        how deep its type nests
 ///   kCodeSize     how many bytes the encoding of the type has
 ///   PutType       appends the text of the type
-///   PayloadSize   how many bytes the encoding has behind the type
+///   PayloadSize   how many bytes the encoding has after the type
 ///   Put           appends the text of a value; false where it holds a text that is not UTF-8
 ///   Get           reads such a text; false where it does not fit the type of C++
 template <class T, class = void>

@@ -372,6 +372,11 @@ returns-clause-written g c =
     ≤ (g.D.Disk.medium c.args.disk.now).written + c.args.shape.place.copies
     * (256 * (blocks_of_all c.args.contents.items) + length t + 5 * 44)) text_is written)
 
+pub returns-in_err-cell-clause-time : goal.returns-in_err-cell-clause-time
+returns-in_err-cell-clause-time g c =
+    elapses_on (elapses_on c.in_ok-keep_only.ensures.clears.time c.in_ok-spelled.ensures.time)
+    c.in_err-cell.ensures.formats.time
+
 pub returns-clause-time : goal.returns-clause-time
 returns-clause-time g c = elapses_on (elapses_on c.in_ok-keep_only.ensures.clears.time c.in_ok-spelled.ensures.time)
     c.in_ok-cell.ensures.formats.time

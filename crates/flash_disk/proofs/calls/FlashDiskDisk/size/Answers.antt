@@ -14,7 +14,7 @@ returns-in_err-make_sure-clause-time g c =
     subst (λ v. Elapses (disk_seen told g.F.Flash.medium v)
     (flash_disk_medium told m1 c.make_sure.new.self.own c.self.inside.written)) c.self.view_is
     (look_time told m0 m1 c.self.inside.layer.own c.make_sure.new.self.own c.self.inside.written
-    c.self.inside.layer.state c.self.invariant.holds e.accounts.time e.accounts.cause.later
+    c.self.inside.layer.state c.self.invariant.described e.accounts.time e.accounts.cause.later
     e.unchanged (λ t. e.during))
 
 pub returns-clause-time : goal.returns-clause-time
@@ -26,7 +26,7 @@ returns-clause-time g c =
     subst (λ v. Elapses (disk_seen told g.F.Flash.medium v)
     (flash_disk_medium told m1 c.make_sure.new.self.own c.self.inside.written)) c.self.view_is
     (look_time told m0 m1 c.self.inside.layer.own c.make_sure.new.self.own c.self.inside.written
-    c.self.inside.layer.state c.self.invariant.holds e.accounts.time e.accounts.cause.later
+    c.self.inside.layer.state c.self.invariant.described e.accounts.time e.accounts.cause.later
     e.unchanged (λ t. e.during))
 
 pub returns-in_err-make_sure-clause-unchanged : goal.returns-in_err-make_sure-clause-unchanged
@@ -37,7 +37,7 @@ returns-in_err-make_sure-clause-unchanged g c =
     let written = c.self.inside.written in
     let e = c.make_sure.ensures in
     subst (λ v. ChangesNoPage told medium v (view_of c.make_sure.new.self written)) c.self.view_is
-    (looked told medium written layer c.make_sure.new.self c.self.invariant.holds e.accounts.time e.own e.sequence
+    (looked told medium written layer c.make_sure.new.self c.self.invariant.described e.accounts.time e.own e.sequence
     e.unchanged (λ t. e.during))
 
 pub returns-clause-unchanged : goal.returns-clause-unchanged
@@ -48,5 +48,5 @@ returns-clause-unchanged g c =
     let written = c.self.inside.written in
     let e = c.make_sure.ensures in
     subst (λ v. ChangesNoPage told medium v (view_of c.make_sure.new.self written)) c.self.view_is
-    (looked told medium written layer c.make_sure.new.self c.self.invariant.holds e.accounts.time e.own e.sequence
+    (looked told medium written layer c.make_sure.new.self c.self.invariant.described e.accounts.time e.own e.sequence
     e.unchanged (λ t. e.during))

@@ -17,7 +17,7 @@ returns-in_err-make_sure-clause-time g c =
     subst (λ v. Elapses (disk_seen told g.F.Flash.medium v)
     (flash_disk_medium told m1 c.make_sure.new.self.own c.self.inside.written)) c.self.view_is
     (look_time told m0 m1 c.self.inside.layer.own c.make_sure.new.self.own c.self.inside.written
-    c.self.inside.layer.state c.self.invariant.holds e.accounts.time e.accounts.cause.later
+    c.self.inside.layer.state c.self.invariant.described e.accounts.time e.accounts.cause.later
     e.unchanged (λ t. e.during))
 
 pub returns-clause-time : goal.returns-clause-time
@@ -34,9 +34,9 @@ returns-clause-time g c =
     c.self.view_is
     (elapses_on
     (look_time told m0 m1 c.self.inside.layer.own c.make_sure.new.self.own c.self.inside.written
-    c.self.inside.layer.state c.self.invariant.holds e.accounts.time e.accounts.cause.later
+    c.self.inside.layer.state c.self.invariant.described e.accounts.time e.accounts.cause.later
     e.unchanged (λ t. e.during))
-    (settle_time told m1 m2 own own c.self.inside.written c.make_sure.new.self.state e.holds (λ t. n.time)
+    (settle_time told m1 m2 own own c.self.inside.written c.make_sure.new.self.state e.described (λ t. n.time)
     (omega (arith, later))
     (λ t. settle_stays m1 m2 c.settle.result (n.state t) (n.failed t)) n.during))
 
@@ -48,7 +48,7 @@ returns-in_err-make_sure-clause-unchanged g c =
     let written = c.self.inside.written in
     let e = c.make_sure.ensures in
     subst (λ v. ChangesNoPage told medium v (view_of c.make_sure.new.self written)) c.self.view_is
-    (looked told medium written layer c.make_sure.new.self c.self.invariant.holds e.accounts.time e.own e.sequence
+    (looked told medium written layer c.make_sure.new.self c.self.invariant.described e.accounts.time e.own e.sequence
     e.unchanged (λ t. e.during))
 
 pub returns-clause-unchanged : goal.returns-clause-unchanged
@@ -63,8 +63,8 @@ returns-clause-unchanged g c =
     let last : Layer _ = record sure { flash = c.settle.new.self } in
     subst (λ v. ChangesNoPage told medium v (view_of last written)) c.self.view_is
     (changes_then told medium written layer sure last e.accounts.time (λ t. n.time)
-    (looked told medium written layer c.make_sure.new.self c.self.invariant.holds e.accounts.time e.own e.sequence
+    (looked told medium written layer c.make_sure.new.self c.self.invariant.described e.accounts.time e.own e.sequence
     e.unchanged (λ t. e.during))
-    (settled told medium written sure last e.holds (λ t. n.time) refl refl
+    (settled told medium written sure last e.described (λ t. n.time) refl refl
     (λ t. settle_stays (medium sure.flash) (medium c.settle.new.self) c.settle.result (n.state t) (n.failed t))
     n.during))

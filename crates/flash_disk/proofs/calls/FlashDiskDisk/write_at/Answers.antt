@@ -89,7 +89,7 @@ returns-in_err-make_sure-clause-usable g c told =
     let m1 = g.F.Flash.medium c.make_sure.new.self.flash in
     let e = c.make_sure.ensures in
     subst (λ v. KeepsUsable (g.F.Flash.medium v.flash) m1) c.self.view_is
-    (look_usable m0 m1 (e.accounts.time told) (holds_usable m0 c.self.inside.layer.state (c.self.invariant.holds told))
+    (look_usable m0 m1 (e.accounts.time told) (holds_usable m0 c.self.inside.layer.state (c.self.invariant.described told))
     (e.unchanged told) e.during)
 
 pub returns-in_err-write_file-clause-usable : goal.returns-in_err-write_file-clause-usable
@@ -101,9 +101,9 @@ returns-in_err-write_file-clause-usable g c told =
     let w = c.write_file.ensures in
     subst (λ v. KeepsUsable (g.F.Flash.medium v.flash) m2) c.self.view_is
     (usable_then m0 m1 m2 (e.accounts.time told) (w.accounts.time told)
-    (look_usable m0 m1 (e.accounts.time told) (holds_usable m0 c.self.inside.layer.state (c.self.invariant.holds told))
+    (look_usable m0 m1 (e.accounts.time told) (holds_usable m0 c.self.inside.layer.state (c.self.invariant.described told))
     (e.unchanged told) e.during)
-    (write_usable m1 m2 (w.accounts.time told) (holds_usable m1 c.make_sure.new.self.state (e.holds told)) c.args.file
+    (write_usable m1 m2 (w.accounts.time told) (holds_usable m1 c.make_sure.new.self.state (e.described told)) c.args.file
     c.args.at
     c.args.bytes.now (w.writes told)))
 
@@ -116,9 +116,9 @@ returns-clause-usable g c told =
     let w = c.write_file.ensures in
     subst (λ v. KeepsUsable (g.F.Flash.medium v.flash) m2) c.self.view_is
     (usable_then m0 m1 m2 (e.accounts.time told) (w.accounts.time told)
-    (look_usable m0 m1 (e.accounts.time told) (holds_usable m0 c.self.inside.layer.state (c.self.invariant.holds told))
+    (look_usable m0 m1 (e.accounts.time told) (holds_usable m0 c.self.inside.layer.state (c.self.invariant.described told))
     (e.unchanged told) e.during)
-    (write_usable m1 m2 (w.accounts.time told) (holds_usable m1 c.make_sure.new.self.state (e.holds told)) c.args.file
+    (write_usable m1 m2 (w.accounts.time told) (holds_usable m1 c.make_sure.new.self.state (e.described told)) c.args.file
     c.args.at
     c.args.bytes.now (w.writes told)))
 
@@ -127,7 +127,7 @@ returns-then-is_empty-clause-usable g c told =
     let m = g.F.Flash.medium c.self.inside.layer.flash in
     subst (λ v. KeepsUsable (g.F.Flash.medium v.flash) (g.F.Flash.medium v.flash)) c.self.view_is
     (rest_usable g.F.Flash.told m (g.met.F.Flash.lawful c.self.inside.layer.flash)
-    (holds_usable m c.self.inside.layer.state (c.self.invariant.holds told)))
+    (holds_usable m c.self.inside.layer.state (c.self.invariant.described told)))
 
 pub returns-in_err-write_file-clause-agreed : goal.returns-in_err-write_file-clause-agreed
 returns-in_err-write_file-clause-agreed g c told =
@@ -170,7 +170,7 @@ returns-in_err-write_file-clause-own g c told =
       some,
       fails_alone m0 m1 c.make_sure.new.self.state state c.args.file c.args.at n (c.make_sure.ensures.unchanged told)
           time.blocks
-          (c.in_ok-make_sure.ensures.stays.sound told) c.write_file.ensures.accounts.disputed why,
+          (c.in_ok-make_sure.ensures.stays.sound told) c.write_file.ensures.accounts.has_rivals why,
     ))
     (c.write_file.ensures.own told))
 
@@ -183,7 +183,7 @@ returns-in_err-make_sure-clause-time g c =
     subst (λ v. Elapses (medium_of told g.F.Flash.medium v)
     (flash_disk_medium told m1 c.make_sure.new.self.own c.self.inside.written)) c.self.view_is
     (look_time told m0 m1 c.self.inside.layer.own c.make_sure.new.self.own c.self.inside.written
-    c.self.inside.layer.state c.self.invariant.holds e.accounts.time e.accounts.cause.later
+    c.self.inside.layer.state c.self.invariant.described e.accounts.time e.accounts.cause.later
     e.unchanged (λ t. e.during))
 
 pub returns-in_err-write_file-clause-time : goal.returns-in_err-write_file-clause-time
@@ -198,11 +198,11 @@ returns-in_err-write_file-clause-time g c =
     (flash_disk_medium told m2 c.write_file.new.self.own c.self.inside.written)) c.self.view_is
     (elapses_on
     (look_time told m0 m1 c.self.inside.layer.own c.make_sure.new.self.own c.self.inside.written
-    c.self.inside.layer.state c.self.invariant.holds e.accounts.time e.accounts.cause.later
+    c.self.inside.layer.state c.self.invariant.described e.accounts.time e.accounts.cause.later
     e.unchanged (λ t. e.during))
     (write_time told m1 m2 c.make_sure.new.self.own c.write_file.new.self.own c.self.inside.written
-    c.make_sure.new.self.state e.holds w.accounts.time w.accounts.cause.later
-    c.self.inside.written c.args.file c.args.at c.args.bytes.now (le_refl _) w.writes))
+    c.make_sure.new.self.state e.described w.accounts.time w.accounts.cause.later
+    c.self.inside.written c.args.file c.args.at c.args.bytes.now (le_refl _) w.writes w.apart))
 
 pub returns-clause-time : goal.returns-clause-time
 returns-clause-time g c =
@@ -216,12 +216,12 @@ returns-clause-time g c =
     (flash_disk_medium told m2 c.write_file.new.self.own c.with_more-self-inside.result)) c.self.view_is
     (elapses_on
     (look_time told m0 m1 c.self.inside.layer.own c.make_sure.new.self.own c.self.inside.written
-    c.self.inside.layer.state c.self.invariant.holds e.accounts.time e.accounts.cause.later
+    c.self.inside.layer.state c.self.invariant.described e.accounts.time e.accounts.cause.later
     e.unchanged (λ t. e.during))
     (write_time told m1 m2 c.make_sure.new.self.own c.write_file.new.self.own c.self.inside.written
-    c.make_sure.new.self.state e.holds w.accounts.time w.accounts.cause.later
+    c.make_sure.new.self.state e.described w.accounts.time w.accounts.cause.later
     c.with_more-self-inside.result c.args.file c.args.at c.args.bytes.now
-    (let sum = c.with_more-self-inside.ensures in omega (arith, sum)) w.writes))
+    (let sum = c.with_more-self-inside.ensures in omega (arith, sum)) w.writes w.apart))
 
 pub returns-clause-kept : goal.returns-clause-kept
 returns-clause-kept g c =

@@ -12,7 +12,7 @@ returns-in-Ok-false-clause-unusable g c told same =
 
 pub invariant_of-result : goal.invariant_of-result
 invariant_of-result g c = record {
-  holds = λ told. holds_all (g.F.Flash.medium c.learn.new.self.flash) c.learn.new.self.state
+  described = λ told. holds_all (g.F.Flash.medium c.learn.new.self.flash) c.learn.new.self.state
       (g.F.Flash.medium c.args.flash).state.pages
       (subst (λ b. Sound (g.F.Flash.medium c.args.flash).state.pages b c.learn.new.self.state)
       (c.blocks-blocks.ensures ∙ sym c.in-Ok-true.ensures.blocks)

@@ -1,4 +1,4 @@
-use Rattle.std.proofs.Common.{◌≡◌, ◌+◌, ◌*◌, refl, sym, ap, inl, inr, subst, ◌∙◌, arith}
+use Rattle.std.proofs.Common.{◌≡◌, ◌*◌, refl, sym, ap, inl, inr, subst, ◌∙◌, arith}
 use Rattle.flash_record.specs.PageRecord.{PageRecord}
 use Rattle.flash_disk.specs.declared.table.FlashPage.{FlashPage}
 use Rattle.flash_disk.specs.declared.layer.LayerState.{LayerState}
@@ -283,7 +283,7 @@ returns-in-Ok-clause-entries g c told =
 pub returns-in-Ok-clause-accounts : goal.returns-in-Ok-clause-accounts
 returns-in-Ok-clause-accounts g c =
     let e = c.enter.ensures in
-    accounts_here e.flash e.own e.sequence e.disputed (accounts_on 1 0 1 (omega arith)
+    accounts_here e.flash e.own e.sequence e.has_rivals (accounts_on 1 0 1 (omega arith)
     (accounts_here refl refl refl refl c.in_ok-sequence.ensures.accounts) c.in-Ok.ensures.accounts)
 
 pub returns-in-Err-clause-accounts : goal.returns-in-Err-clause-accounts

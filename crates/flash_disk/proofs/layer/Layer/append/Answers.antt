@@ -74,9 +74,9 @@ returns-in_err-make_room-clause-adds g c =
       stays = sure_fails r _ fails c.make_room.ensures.ready;
       accounts = accounts_more 1 (omega arith) (accounts_fails r _ fails c.in_err-make_room.ensures.accounts);
       own = λ told. ⊎_elim
-          (λ disputed. inr (inr (c.make_room.ensures.accounts.disputed ∙ disputed)))
-          (λ calm. inl (c.make_room.ensures.own told calm))
-          (cases_Bool c.args.self.now.state.disputed);
+          (λ has_rivals. inr (inr (c.make_room.ensures.accounts.has_rivals ∙ has_rivals)))
+          (λ no_rivals. inl (c.make_room.ensures.own told no_rivals))
+          (cases_Bool c.args.self.now.state.has_rivals);
     }
 
 pub returns-clause-adds : goal.returns-clause-adds
@@ -85,10 +85,10 @@ returns-clause-adds g c = record {
   accounts = accounts_on 0 1 1 (omega arith) c.in_ok-make_room.ensures.accounts
       c.add.ensures.accounts;
   own = λ told. ⊎_elim
-      (λ disputed. inr (inr (c.add.ensures.accounts.disputed ∙ (c.make_room.ensures.accounts.disputed ∙ disputed))))
-      (λ calm. ⊎_elim
-      (λ same. inl (same ∙ c.make_room.ensures.own told calm))
+      (λ has_rivals. inr (inr (c.add.ensures.accounts.has_rivals ∙ (c.make_room.ensures.accounts.has_rivals ∙ has_rivals))))
+      (λ no_rivals. ⊎_elim
+      (λ same. inl (same ∙ c.make_room.ensures.own told no_rivals))
       (λ last. inr (inl last))
       (c.add.ensures.own told))
-      (cases_Bool c.args.self.now.state.disputed);
+      (cases_Bool c.args.self.now.state.has_rivals);
 }

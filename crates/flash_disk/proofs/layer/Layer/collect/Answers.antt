@@ -43,7 +43,7 @@ returns-in_err-erase_block-clause-ready g c = record {
       let look = g.F.Flash.medium c.erase_block.new.self.flash in
       let e = c.erase_block.ensures in
       let sound : IsSoundLayer m s = c.requires.ready.sound told in
-      let agreed : IsFalse s.disputed = c.if-self.false in
+      let agreed : IsFalse s.has_rivals = c.if-self.false in
       subst (IsSoundLayer look) (sym e.state) (erase_failed m look s sound agreed c.requires.full
       (c.in_err-erase_block.ensures.failed told) (e.accounts.time told).blocks);
 }
@@ -55,7 +55,7 @@ returns-in_err-erase_block-clause-fits g c told =
     let look = g.F.Flash.medium c.erase_block.new.self.flash in
     let e = c.erase_block.ensures in
     let sound : IsSoundLayer m s = c.requires.ready.sound told in
-    let agreed : IsFalse s.disputed = c.if-self.false in
+    let agreed : IsFalse s.has_rivals = c.if-self.false in
     fits_kept m look s c.erase_block.new.self.state sound agreed
     (erase_failed_keeps m look s sound agreed c.requires.full (c.in_err-erase_block.ensures.failed told))
     (e.accounts.time told).blocks
@@ -68,7 +68,7 @@ returns-in_err-erase_block-clause-does g c told =
     let look = g.F.Flash.medium c.erase_block.new.self.flash in
     let e = c.erase_block.ensures in
     let sound : IsSoundLayer m s = c.requires.ready.sound told in
-    let agreed : IsFalse s.disputed = c.if-self.false in
+    let agreed : IsFalse s.has_rivals = c.if-self.false in
     erase_stands m look s sound agreed c.requires.full c.erase_block.result (e.done told) (e.failed told)
     (e.during told)
 
@@ -79,7 +79,7 @@ copy_needed-requires-clause-moving g c told =
     let look = g.F.Flash.medium c.erase_block.new.self.flash in
     let e = c.erase_block.ensures in
     let sound : IsSoundLayer m s = c.requires.ready.sound told in
-    let agreed : IsFalse s.disputed = c.if-self.false in
+    let agreed : IsFalse s.has_rivals = c.if-self.false in
     let t : LayerState = record c.erase_block.new.self.state { moved = c.clear.new.self } in
     let state : t ≡ record s { moved = c.clear.new.self } =
     ap (λ (q : LayerState). let z : LayerState = record q { moved = c.clear.new.self } in z) e.state in
@@ -101,7 +101,7 @@ returns-in_err-copy_needed-clause-fits g c told =
     let look = g.F.Flash.medium c.erase_block.new.self.flash in
     let e = c.erase_block.ensures in
     let sound : IsSoundLayer m s = c.requires.ready.sound told in
-    let agreed : IsFalse s.disputed = c.if-self.false in
+    let agreed : IsFalse s.has_rivals = c.if-self.false in
     let now = g.F.Flash.medium c.copy_needed.new.self.flash in
     let t = c.copy_needed.new.self.state in
     let n = c.copy_needed.ensures in
@@ -120,7 +120,7 @@ returns-in_err-copy_needed-clause-does g c told =
     let look = g.F.Flash.medium c.erase_block.new.self.flash in
     let e = c.erase_block.ensures in
     let sound : IsSoundLayer m s = c.requires.ready.sound told in
-    let agreed : IsFalse s.disputed = c.if-self.false in
+    let agreed : IsFalse s.has_rivals = c.if-self.false in
     let now = g.F.Flash.medium c.copy_needed.new.self.flash in
     let t = c.copy_needed.new.self.state in
     let n = c.copy_needed.ensures in
@@ -145,7 +145,7 @@ returns-clause-ready g c = record {
       let look = g.F.Flash.medium c.erase_block.new.self.flash in
       let e = c.erase_block.ensures in
       let sound : IsSoundLayer m s = c.requires.ready.sound told in
-      let agreed : IsFalse s.disputed = c.if-self.false in
+      let agreed : IsFalse s.has_rivals = c.if-self.false in
       let now = g.F.Flash.medium c.copy_needed.new.self.flash in
       let t = c.copy_needed.new.self.state in
       let n = c.copy_needed.ensures in
@@ -180,7 +180,7 @@ returns-clause-fits g c told =
     let look = g.F.Flash.medium c.erase_block.new.self.flash in
     let e = c.erase_block.ensures in
     let sound : IsSoundLayer m s = c.requires.ready.sound told in
-    let agreed : IsFalse s.disputed = c.if-self.false in
+    let agreed : IsFalse s.has_rivals = c.if-self.false in
     let now = g.F.Flash.medium c.copy_needed.new.self.flash in
     let t = c.copy_needed.new.self.state in
     let n = c.copy_needed.ensures in
@@ -211,7 +211,7 @@ returns-clause-shown g c told =
     let look = g.F.Flash.medium c.erase_block.new.self.flash in
     let e = c.erase_block.ensures in
     let sound : IsSoundLayer m s = c.requires.ready.sound told in
-    let agreed : IsFalse s.disputed = c.if-self.false in
+    let agreed : IsFalse s.has_rivals = c.if-self.false in
     let now = g.F.Flash.medium c.copy_needed.new.self.flash in
     let t = c.copy_needed.new.self.state in
     let n = c.copy_needed.ensures in
@@ -228,7 +228,7 @@ returns-clause-does g c told =
     let look = g.F.Flash.medium c.erase_block.new.self.flash in
     let e = c.erase_block.ensures in
     let sound : IsSoundLayer m s = c.requires.ready.sound told in
-    let agreed : IsFalse s.disputed = c.if-self.false in
+    let agreed : IsFalse s.has_rivals = c.if-self.false in
     let now = g.F.Flash.medium c.copy_needed.new.self.flash in
     let t = c.copy_needed.new.self.state in
     let n = c.copy_needed.ensures in
@@ -244,25 +244,25 @@ returns-clause-does g c told =
     (moved_stands c.erase_block.new.self.state.table c.given_up-victim.result s.spare look now (n.does told))
 
 pub returns-then-self-clause-own : goal.returns-then-self-clause-own
-returns-then-self-clause-own g c told calm =
+returns-then-self-clause-own g c told no_rivals =
     let s = c.args.self.now.state in
     let sound : IsSoundLayer (g.F.Flash.medium c.args.self.now.flash) s = c.requires.ready.sound told in
     let light = light_enough (g.F.Flash.medium c.args.self.now.flash).blocks s.table s.spare
     c.given_up-victim.result sound.counted
     c.given_up-victim.ensures.within c.given_up-victim.ensures.light in
     ⊎_elim
-    (λ disputed. absurd (true≢false (sym disputed ∙ calm)))
+    (λ has_rivals. absurd (true≢false (sym has_rivals ∙ no_rivals)))
     (λ none. absurd (light.0 none.1))
     c.then-self.either
 
 pub returns-in_err-erase_block-clause-own : goal.returns-in_err-erase_block-clause-own
-returns-in_err-erase_block-clause-own g c told calm = c.erase_block.ensures.own told
+returns-in_err-erase_block-clause-own g c told no_rivals = c.erase_block.ensures.own told
 
 pub returns-in_err-copy_needed-clause-own : goal.returns-in_err-copy_needed-clause-own
-returns-in_err-copy_needed-clause-own g c told calm = c.copy_needed.ensures.own told ∙ c.erase_block.ensures.own told
+returns-in_err-copy_needed-clause-own g c told no_rivals = c.copy_needed.ensures.own told ∙ c.erase_block.ensures.own told
 
 pub returns-clause-own : goal.returns-clause-own
-returns-clause-own g c told calm = c.copy_needed.ensures.own told ∙ c.erase_block.ensures.own told
+returns-clause-own g c told no_rivals = c.copy_needed.ensures.own told ∙ c.erase_block.ensures.own told
 
 pub returns-clause-light : goal.returns-clause-light
 returns-clause-light g c told =
@@ -337,7 +337,7 @@ returns-in_err-copy_needed-clause-apart g c told =
     let e = c.erase_block.ensures in
     let n = c.copy_needed.ensures in
     let sound : IsSoundLayer m s = c.requires.ready.sound told in
-    let agreed : IsFalse s.disputed = c.if-self.false in
+    let agreed : IsFalse s.has_rivals = c.if-self.false in
     let copy = copy_of c.args.file in
     let victim = c.given_up-victim.result in
     let l = c.lightest-own.ensures in
@@ -360,7 +360,7 @@ returns-clause-apart g c told =
     let e = c.erase_block.ensures in
     let n = c.copy_needed.ensures in
     let sound : IsSoundLayer m s = c.requires.ready.sound told in
-    let agreed : IsFalse s.disputed = c.if-self.false in
+    let agreed : IsFalse s.has_rivals = c.if-self.false in
     let copy = copy_of c.args.file in
     let victim = c.given_up-victim.result in
     let l = c.lightest-own.ensures in
@@ -383,7 +383,7 @@ returns-clause-home g c told =
     let e = c.erase_block.ensures in
     let n = c.copy_needed.ensures in
     let sound : IsSoundLayer m s = c.requires.ready.sound told in
-    let agreed : IsFalse s.disputed = c.if-self.false in
+    let agreed : IsFalse s.has_rivals = c.if-self.false in
     let copy = copy_of c.args.file in
     let victim = c.given_up-victim.result in
     let l = c.lightest-own.ensures in

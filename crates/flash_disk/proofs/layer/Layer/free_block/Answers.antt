@@ -32,7 +32,7 @@ returns-clause-fits g c told file page len bytes fits =
     (c.collect.ensures.fits told file page len bytes (turned_fits m m refl refl s t refl file page len bytes fits)))
 
 pub returns-clause-own : goal.returns-clause-own
-returns-clause-own g c told calm = absurd (let less = c.in_ok-collect.ensures.light told in omega (arith, less))
+returns-clause-own g c told no_rivals = absurd (let less = c.in_ok-collect.ensures.light told in omega (arith, less))
 
 pub returns-clause-apart : goal.returns-clause-apart
 returns-clause-apart g c told =

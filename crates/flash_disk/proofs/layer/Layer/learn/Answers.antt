@@ -88,8 +88,8 @@ returns-in-Ok-clause-sound g c told usable_now =
       measured = c.measure.ensures.measured;
       spare = c.measure.ensures.spare;
       ends = c.stray_end-self.ensures;
-      calm = c.is_disputed-self.ensures.calm;
-      rivals = c.is_disputed-self.ensures.rivals;
+      no_rivals = c.has_rivals-self.ensures.no_rivals;
+      rivals = c.has_rivals-self.ensures.rivals;
       full = l.step.fill.0 ∙ (f.step.fill.0 ∙ (e.step.fill.0 ∙ c.requires.full));
     })
     (limit ∙ c.requires.limit) room (λ file. ap (λ m. len_in m file) lens ∙ c.requires.empty.lens file)

@@ -24,7 +24,7 @@ returns-in_default-clause-learns g c told learnt here =
       entry.twin,
       entry.filled c.requires.long,
       entry.page,
-      entry.calm,
+      entry.no_rivals,
     ))
     c.put.ensures.full c.put.ensures.put
 
@@ -46,7 +46,7 @@ returns-then-old-found-clause-learns g c told learnt here =
       entry.twin,
       entry.filled c.requires.long,
       entry.page,
-      entry.calm,
+      entry.no_rivals,
     ) c.if-old-found.true)
     c.put-then-old-found.ensures.full c.put-then-old-found.ensures.put
 

@@ -11,7 +11,7 @@ returns-in-Some-read_record-clause-stays g c = record {
       let e = c.in_ok-read_page.ensures in
       let sound = one_there (g.F.Flash.medium c.args.self.now.flash) (g.F.Flash.medium c.read_page.new.self.flash)
       c.args.self.now.state c.read_page.new.self.state c.in-Some.place
-      (c.requires.holds told) c.in-Some.is (e.reads.only.pages told) e.reads.only.blocks e.reads.state
+      (c.requires.described told) c.in-Some.is (e.reads.only.pages told) e.reads.only.blocks e.reads.state
       c.read_page.new.out
       (e.bytes told)
       (stated c.in-Some-read_record.record) c.in-Some-read_record.ensures.record c.enter.new.self.state
@@ -20,8 +20,8 @@ returns-in-Some-read_record-clause-stays g c = record {
   failed = λ told. tt;
 }
 
-pub returns-in-Some-read_record-clause-holds : goal.returns-in-Some-read_record-clause-holds
-returns-in-Some-read_record-clause-holds g c told =
+pub returns-in-Some-read_record-clause-described : goal.returns-in-Some-read_record-clause-described
+returns-in-Some-read_record-clause-described g c told =
     sound_holds (g.F.Flash.medium c.enter.new.self.flash) c.enter.new.self.state
     ((returns-in-Some-read_record-clause-stays g c).sound told) c.enter.ensures.unsure
 
@@ -32,14 +32,14 @@ returns-in_default-read_record-clause-stays g c = record {
       let e = c.in_ok-read_page.ensures in
       nothing_there (g.F.Flash.medium c.args.self.now.flash) (g.F.Flash.medium c.read_page.new.self.flash)
       c.args.self.now.state c.read_page.new.self.state c.in-Some.place
-      (c.requires.holds told) c.in-Some.is (e.reads.only.pages told) e.reads.only.blocks e.reads.state
+      (c.requires.described told) c.in-Some.is (e.reads.only.pages told) e.reads.only.blocks e.reads.state
       c.read_page.new.out
       (e.bytes told)
       c.in_default-read_record.ensures.record;
   failed = λ told. tt;
 }
 
-pub returns-in_default-read_record-clause-holds : goal.returns-in_default-read_record-clause-holds
-returns-in_default-read_record-clause-holds g c told =
+pub returns-in_default-read_record-clause-described : goal.returns-in_default-read_record-clause-described
+returns-in_default-read_record-clause-described g c told =
     sound_holds (g.F.Flash.medium c.read_page.new.self.flash) (record c.read_page.new.self.state { unsure = None })
     ((returns-in_default-read_record-clause-stays g c).sound told) refl

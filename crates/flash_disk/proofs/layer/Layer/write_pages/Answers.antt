@@ -28,7 +28,7 @@ loop-done-init g c =
       apart = λ told. none_apart (copy_of c.args.file) g.F.Flash.told a lawful;
       numbered = omega arith;
       counts = counted_none 0 c.args.self.now lawful;
-      calm = λ told some. absurd (omega (arith, some));
+      no_rivals = λ told some. absurd (omega (arith, some));
       affords = r.affords;
       as_many = λ told. refl;
     }
@@ -81,7 +81,7 @@ loop-done-preserved g c =
           (div_ceil (c.args.at + length c.args.bytes.now) 256 - c.args.at / 256) (start / 256 - c.args.at / 256)
           (start / 256) (omega arith) (omega arith)
           (e.entries told) (i.affords told);
-      calm = λ told some. sym i.counts.disputed ∙ e.calm told;
+      no_rivals = λ told some. sym i.counts.has_rivals ∙ e.no_rivals told;
       as_many = λ told. as_many c.args.file (c.args.at / 256) c.loop-done.self.state.table
           c.write_page.new.self.state.table
           (div_ceil (c.args.at + length c.args.bytes.now) 256 - c.args.at / 256) (start / 256 - c.args.at / 256)

@@ -28,7 +28,7 @@ invariant-loop-done g l = record {
       (g.F.Flash.medium l.self.flash);
   numbered : l.done + 256 * l.initial.self.state.sequence ≤ 256 * l.self.state.sequence;
   counts : Counted g.F.Flash.told g.F.Flash.medium l.done l.initial.self l.self;
-  calm : g.F.Flash.told ≡ true → 0 < l.done → IsFalse l.initial.self.state.disputed;
+  no_rivals : g.F.Flash.told ≡ true → 0 < l.done → IsFalse l.initial.self.state.has_rivals;
   affords : g.F.Flash.told ≡ true → Affords l.self.state.table l.file (l.at / 256)
       (div_ceil (l.at + length l.bytes) 256 - l.at / 256);
   as_many : g.F.Flash.told ≡ true

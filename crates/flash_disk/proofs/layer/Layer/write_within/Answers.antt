@@ -80,10 +80,10 @@ returns-clause-allowed g c told =
     let a = g.F.Flash.medium c.args.self.now.flash in
     let s = c.args.self.now.state in
     on_ok_weaker c.write_pages.result
-    (λ calm. allowed a s c.args.file c.args.at (length c.args.bytes.now) c.args.end (c.requires.ready.sound told)
+    (λ no_rivals. allowed a s c.args.file c.args.at (length c.args.bytes.now) c.args.end (c.requires.ready.sound told)
     c.requires.end c.requires.least
-    c.requires.room (sym c.in_ok-wipe_strays.ensures.adds.accounts.disputed ∙ calm c.requires.some))
-    (c.write_pages.ensures.calm told)
+    c.requires.room (sym c.in_ok-wipe_strays.ensures.adds.accounts.has_rivals ∙ no_rivals c.requires.some))
+    (c.write_pages.ensures.no_rivals told)
 
 pub returns-clause-takes : goal.returns-clause-takes
 returns-clause-takes g c told =

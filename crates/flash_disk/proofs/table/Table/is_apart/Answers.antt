@@ -1,4 +1,4 @@
-use Rattle.std.proofs.Common.{◌≡◌, [], sym, subst, ◌∙◌, inl, inr, ⊎_elim}
+use Rattle.std.proofs.Common.{◌≡◌, [], sym, subst, ◌∙◌, inl, ⊎_elim}
 use Rattle.std.specs.Prelude.{Some}
 use Rattle.std.specs.Map.{lookup}
 use Rattle.std.specs.Map.Iter.{deref_pair}

@@ -1,4 +1,4 @@
-use Rattle.std.proofs.Common.{◌≡◌, ◌≢◌, ◌⊎◌, ℕ, ◌≤◌, ◌<◌}
+use Rattle.std.proofs.Common.{◌≢◌, ◌⊎◌, ℕ, ◌≤◌, ◌<◌}
 use Rattle.flash_disk.specs.Known.{load_known}
 use Rattle.flash_disk.specs.LedApart.{IsFree}
 use Rattle.flash_disk.proofs.table.Table.lightest_own.Given as goal

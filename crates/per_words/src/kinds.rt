@@ -2,12 +2,12 @@
 
 ghost use Rattle.std.specs.Prelude.{◌≡◌, ◌||◌, is_some};
 ghost use Rattle.std.specs.Str.{bytes_eq};
-ghost use Rattle.per_words.specs.Words.{changes_files, changes_keys, form_of, is_of_application, is_of_closed};
-ghost use Rattle.per_words.specs.Words.{reads_files, reads_keys, spelled, takes_manifest};
+ghost use Rattle.per_words.specs.Words.{call_kind, call_word, changes_files, changes_keys, is_of_application};
+ghost use Rattle.per_words.specs.Words.{is_of_closed, reads_files, reads_keys, takes_manifest};
 
 /// What is done around a call of a storage that is made alone.
 #[derive(Clone, Copy)]
-pub enum Form {
+pub enum CallKind {
     /// The storage is closed.
     Closed,
     /// The call reads keys.
@@ -22,9 +22,9 @@ pub enum Form {
 
 /// Whether the word is that of a call that can be made alone.
 pub fn is_call(call: &[u8]) -> bool
-    ensures { result ≡ takes_manifest call.now || (is_of_application call.now || is_some (form_of call.now)) }
+    ensures { result ≡ takes_manifest call.now || (is_of_application call.now || is_some (call_kind call.now)) }
 {
-    takes_manifest(call) || is_of_application(call) || form_of(call).is_some()
+    takes_manifest(call) || is_of_application(call) || call_kind(call).is_some()
 }
 
 /// Whether the call takes a manifest.
@@ -45,19 +45,19 @@ pub(crate) fn is_of_application(call: &[u8]) -> bool
 }
 
 /// What is done around the call with this word, where it is one of a storage.
-pub(crate) fn form_of(call: &[u8]) -> Option<Form>
-    ensures { result ≡ form_of call.now }
+pub(crate) fn call_kind(call: &[u8]) -> Option<CallKind>
+    ensures { result ≡ call_kind call.now }
 {
     if is_of_closed(call) {
-        Some(Form::Closed)
+        Some(CallKind::Closed)
     } else if reads_keys(call) {
-        Some(Form::ReadsKeys)
+        Some(CallKind::ReadsKeys)
     } else if changes_keys(call) {
-        Some(Form::ChangesKeys)
+        Some(CallKind::ChangesKeys)
     } else if reads_files(call) {
-        Some(Form::ReadsFiles)
+        Some(CallKind::ReadsFiles)
     } else if changes_files(call) {
-        Some(Form::ChangesFiles)
+        Some(CallKind::ChangesFiles)
     } else {
         None
     }
@@ -109,8 +109,8 @@ fn changes_files(call: &[u8]) -> bool
 }
 
 /// The word of the call in a line.
-pub(crate) fn spelled(call: &[u8]) -> &[u8]
-    ensures { result.now ≡ spelled call.now }
+pub(crate) fn call_word(call: &[u8]) -> &[u8]
+    ensures { result.now ≡ call_word call.now }
 {
     if is_word(call, b"ls") { b"files" } else { call }
 }

@@ -1,8 +1,8 @@
 use Rattle.std.proofs.Common.{◌≡◌, ◌++◌, drop, map, false, string_bytes}
-use Rattle.per_words.specs.Apart.{named_in}
-use Rattle.per_words.proofs.words.named_in.Given as goal
+use Rattle.per_words.specs.Apart.{named_words}
+use Rattle.per_words.proofs.words.named_words.Given as goal
 
 -- what is named so far, and in the words that are left
 abbrev pub invariant-loop-word : goal.invariant-loop-word
 invariant-loop-word l = map (λ word. word.now) l.named.items
-    ++ named_in l.is_value (map string_bytes (drop l.word-index l.words)) ≡ named_in false (map string_bytes l.words)
+    ++ named_words l.is_value (map string_bytes (drop l.word-index l.words)) ≡ named_words false (map string_bytes l.words)
