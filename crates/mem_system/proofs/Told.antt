@@ -10,7 +10,8 @@ use Rattle.disk_model.specs.Written.{put_outside, put_inside, put_none, length-p
 use Rattle.disk_model.specs.Written.{put_image_here, put_image_elsewhere}
 use Rattle.system_model.specs.SystemMedium.{InRange, TearCase, AnnounceCase, ShowsBytes}
 use Rattle.mem_system.specs.declared.record.Call.TheVariants.{Make, FailSync, SyncFolder, Settle}
-use Rattle.mem_system.specs.History.{FolderState, LeavesFile, MayLeave, IsLeft, NoneLost, bytes_written, file_synced, after_call}
+use Rattle.mem_system.specs.History.{FolderState, LeavesFile, MayLeave, IsLeft, NoneLost, bytes_written}
+use Rattle.mem_system.specs.History.{file_synced, after_call}
 use Rattle.mem_system.specs.HistoryLaws.{IsBounded}
 
 -- ---- a write

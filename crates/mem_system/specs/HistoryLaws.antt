@@ -33,7 +33,8 @@ reaches image file at bytes i range =
     let h = length-put_some (image file) at bytes some in
     let e = ap length (put_image_here image file at bytes) in omega (arith, h, e, range.1)
 
-sound_written : (s : FolderState) (file at : ℕ) (bytes : List ℕ) → IsBounded s → IsBounded (bytes_written s file at bytes)
+sound_written : (s : FolderState) (file at : ℕ) (bytes : List ℕ) → IsBounded s
+    → IsBounded (bytes_written s file at bytes)
 sound_written s file at bytes sound = record {
   sure = λ f n is. le_trans (sound.sure f n is) (no_shorter s.image file at bytes f);
   free = λ f i free. ⊎_elim

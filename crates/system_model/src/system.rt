@@ -1,7 +1,7 @@
 //! The trait of a system: the calls for the files of one folder, and what each says of bytes, names and power losses.
 
-ghost use Rattle.std.specs.Prelude.{◌≡◌, ◌≢◌, ◌⊎◌, ◌↔◌, ℕ, ◌≤◌, ◌+◌, Bool, IsTrue, IsFalse, IfOk, OnOk, OnErr, IfSome, IfNone};
-ghost use Rattle.std.specs.Prelude.{[], length, take, Contains};
+ghost use Rattle.std.specs.Prelude.{◌≡◌, ◌≢◌, ◌⊎◌, ◌↔◌, ℕ, ◌≤◌, ◌+◌, Bool, IsTrue, IsFalse, IfOk, OnOk, OnErr};
+ghost use Rattle.std.specs.Prelude.{IfSome, IfNone, [], length, take, Contains};
 ghost use Rattle.disk_model.specs.Image.{put_image};
 ghost use Rattle.disk_model.specs.Case.{Case, Follows};
 ghost use Rattle.disk_model.specs.Medium.{Quiet, IsLawful, Elapses, OnlyReads, WritesNothing};

@@ -5,8 +5,8 @@ use Rattle.mem_system.proofs.Done.{Wrote, wrote, noted_on}
 use Rattle.mem_system.specs.declared.record.Call.TheVariants.{Write}
 use Rattle.mem_system.proofs.memory.MemSystemSystem.write.Goals as goal
 
-done : (c : goal.After-self-1) → Wrote c.args.file.now.number c.args.at c.min-count.result c.args.bytes.now (mem_medium c.args.self.now)
-    (mem_medium c.put.new.self)
+done : (c : goal.After-self-1) → Wrote c.args.file.now.number c.args.at c.min-count.result c.args.bytes.now
+    (mem_medium c.args.self.now) (mem_medium c.put.new.self)
 done c =
     let (copy, copied, noted) = c.in_ok-put.ensures.ok in
     let is : copy.items ≡ take c.min-count.result c.args.bytes.now = grind (arith, common_steps, copied) in
