@@ -1,6 +1,6 @@
 -- What a call on the storage leaves of the total.
 use Rattle.std.proofs.Common.{◌≡◌, ◌<◌, ◌^◌, ℕ, List, Bool, ap, arith, subst}
-use Rattle.std.specs.Prelude.{IfSome, IsSomeAnd, IsTrue, Ok, Option, Some, None}
+use Rattle.std.specs.Prelude.{IfSome, IsSomeAnd, IsTrue, OnErr, Option, Some, None, Result, Ok, Err}
 use Rattle.disk_model.specs.Medium.{IsLawful, Medium, Quiet}
 use Rattle.value_model.specs.Kinds.{Kind, four, unsigned_kind}
 use Rattle.value_model.specs.Trees.{Tree, unsigned_tree}
@@ -13,6 +13,11 @@ use Rattle.kvs_laws.specs.Values.{HasValue}
 use Rattle.per_embed.specs.Owned.{IsOpenOn, IsSaved, KeepsValues, asked_of}
 use Rattle.odometer.specs.declared.odometers.TheConstants.{KEY}
 use Rattle.odometer.specs.Odometers.{HasTotal, ReadsTotal, TotalThroughout, kilometres, the_total}
+
+-- what holds however a call ends, holds where it is refused
+pub on_err : {A E : Type 0} {P : Type 0} (result : Result A E) → P → OnErr result P
+on_err (Ok answer) holds = tt
+on_err (Err error) holds = holds
 
 -- a number is a value
 pub number_is_value : (tree : ℕ → Tree) (total : ℕ) → tree ≡ unsigned_tree four → total < 2 ^ 32 → IsValue (tree total)

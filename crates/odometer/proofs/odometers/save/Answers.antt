@@ -1,5 +1,5 @@
 use Rattle.std.proofs.Common.{◌≡◌, inl, inr, refl}
-use Rattle.odometer.proofs.Totals.{number_is_value, total_kept, total_saved, total_stands, total_throughout}
+use Rattle.odometer.proofs.Totals.{number_is_value, on_err, total_kept, total_saved, total_stands, total_throughout}
 use Rattle.odometer.proofs.odometers.save.Goals as goal
 
 -- ---- it is not set
@@ -38,10 +38,10 @@ returns-clause-any_moment g c = λ tells before has.
     same (c.sync.ensures.any_moment tells)
 
 pub returns-in_err-sync-clause-stays : goal.returns-in_err-sync-clause-stays
-returns-in_err-sync-clause-stays g c = λ before has.
+returns-in_err-sync-clause-stays g c = on_err c.from_residual-in_err-sync.result (λ before has.
     let kept = total_kept c.args.car.now.kvs c.set.new.self.kvs c.args.key.now _ before c.args.total
     c.scalars_have_trees.ensures.u32.1 c.in_ok-set.ensures.ok c.in_ok-set.ensures.beside has in
-    elim c.in_err-sync.ensures.unchanged [ inl closed ↦ rw closed.1 tt | inr same ↦ rw same kept ]
+    elim c.in_err-sync.ensures.unchanged [ inl closed ↦ rw closed.1 tt | inr same ↦ rw same kept ])
 
 pub returns-clause-total : goal.returns-clause-total
 returns-clause-total g c =
