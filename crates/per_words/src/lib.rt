@@ -9,6 +9,7 @@
 //! The words of a shell are told apart by [`options_in`] and [`named_words`]; [`unknown_in`] finds one that is refused.
 #![tactic(auto)]
 
+mod flaws;
 mod kinds;
 mod lines;
 mod places;
@@ -17,6 +18,7 @@ mod putting;
 mod showing;
 mod words;
 
+pub use flaws::{Flaw, Needed, flaw_in};
 pub use kinds::{CallKind, is_call, takes_manifest};
 pub use lines::{call_lines, manifest_lines};
 pub use putting::content_lines;
