@@ -1,4 +1,4 @@
-//! Which part of a manifest breaks a rule, and which parts an update may have been refused for.
+//! Which part of a manifest breaks a rule, and for which parts an update may have been refused.
 
 use deployment_model::{CollectionStrategy, ElementConfig, ElementStrategy, StorageConfig};
 use manifest::{ManifestError, read_manifest};
@@ -208,5 +208,116 @@ fn things<'a>(value: &'a Value, word: &str) -> &'a [Value] {
     match value.get(word).and_then(Value::as_array) {
         Some(list) => list.as_slice(),
         None => &[],
+    }
+}
+
+/// How many bytes of a text that is no JSON are read before that shows.
+pub(crate) fn end_of_json(alloc: Global, manifest: &[u8]) -> usize {
+    match Value::from_slice(alloc, manifest) {
+        Ok(_) => manifest.len(),
+        Err(error) => error.column(),
+    }
+}
+
+/// The keys that may be stored with another type than this one, which the manifest says of them, in words.
+pub(crate) fn keys_of_type(
+    alloc: Global,
+    manifest: &[u8],
+    asked: &str,
+) -> Result<Option<String>, AllocError> {
+    let mut parts = Parts::new(alloc);
+    let Ok(deployment) = read_manifest(alloc, manifest) else {
+        return Ok(None);
+    };
+    for storage in deployment.storages.as_slice() {
+        for element in storage.elements.as_slice() {
+            if is_kept(storage, element) && has_type(alloc, element, asked)? {
+                parts.push(&storage.name, Some(&element.name))?;
+            }
+        }
+    }
+    parts.into_text()
+}
+
+/// The storages that may have so many bytes, in words.
+pub(crate) fn storages_of_size(
+    alloc: Global,
+    manifest: &[u8],
+    maximum: u64,
+) -> Result<Option<String>, AllocError> {
+    let mut parts = Parts::new(alloc);
+    let Ok(deployment) = read_manifest(alloc, manifest) else {
+        return Ok(None);
+    };
+    for storage in deployment.storages.as_slice() {
+        if storage.maximum == maximum {
+            parts.push(&storage.name, None)?;
+        }
+    }
+    parts.into_text()
+}
+
+/// Whether an update keeps what is stored of the element.
+fn is_kept(storage: &StorageConfig, element: &ElementConfig) -> bool {
+    match element.strategy {
+        Some(strategy) => matches!(strategy, ElementStrategy::KeepExisting),
+        None => matches!(storage.strategy, CollectionStrategy::KeepExisting),
+    }
+}
+
+fn has_type(alloc: Global, element: &ElementConfig, asked: &str) -> Result<bool, AllocError> {
+    match &element.value_type {
+        Some(value_type) => Ok(print_type(alloc, value_type)?.as_str() == asked),
+        None => Ok(false),
+    }
+}
+
+/// Parts of a manifest, of which one is meant.
+#[derive(Drop)]
+struct Parts {
+    alloc: Global,
+    text: String,
+    count: usize,
+}
+
+impl Parts {
+    fn new(alloc: Global) -> Parts {
+        Parts {
+            alloc,
+            text: String::new(alloc),
+            count: 0,
+        }
+    }
+
+    fn push(&mut self, storage: &Name, element: Option<&Name>) -> Result<(), AllocError> {
+        if self.count < NAMED_PARTS {
+            if self.count > 0 {
+                self.text.push_str(", ")?;
+            }
+            self.text.push_str(storage.as_str())?;
+            if let Some(element) = element {
+                self.text.push(':')?;
+                self.text.push_str(element.as_str())?;
+            }
+        }
+        self.count = self.count.saturating_add(1);
+        Ok(())
+    }
+
+    /// The parts in words; nothing where there is none.
+    fn into_text(self) -> Result<Option<String>, AllocError> {
+        let Parts { alloc, text, count } = self;
+        match count {
+            0 => Ok(None),
+            1 => Ok(Some(text)),
+            _ => {
+                let more = count.saturating_sub(NAMED_PARTS);
+                if more == 0 {
+                    Ok(Some(format!(in alloc; "one of {text}")?))
+                } else {
+                    Ok(Some(format!(in alloc; "one of {text} and {more} others")?))
+                }
+            }
+        }
     }
 }

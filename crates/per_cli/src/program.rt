@@ -1,6 +1,7 @@
 //! A run of the program over a folder, or a flash in it, and two streams.
 
 use crate::causes::{Ended, Fault, say, say_foreign};
+use crate::hearing::{ByLine, LastLine};
 use crate::telling::Telling;
 use crate::{NO_DISK, NO_MEMORY, WRONG_SIZE};
 use flash_disk::erase_all;
@@ -106,8 +107,12 @@ fn run_with<R: Files<File = File> + Eprint, I: Read + Drop, O: Write + Drop>(
         Err(_) => return no_memory(rt),
     };
     let notes = Notes::new();
+    let line = LastLine::new(alloc);
+    let Ok(input) = ByLine::new(alloc, input, target.takes_lines, &line) else {
+        return no_memory(rt);
+    };
     run_noting(
-        rt, alloc, migrations, words, input, output, &target, dir, &notes,
+        rt, alloc, migrations, words, input, output, &target, dir, &notes, &line,
     )
 }
 
@@ -122,6 +127,7 @@ fn run_noting<'a, R: Files<File = File> + Eprint, I: Read + Drop, O: Write + Dro
     target: &'a Target,
     dir: String,
     notes: &'a Notes,
+    line: &'a LastLine,
 ) -> u8 {
     if is_foreign(rt, alloc, target) {
         let dir = target.dir.as_str();
@@ -131,9 +137,11 @@ fn run_noting<'a, R: Files<File = File> + Eprint, I: Read + Drop, O: Write + Dro
     let mut source = StdSource::new(input);
     let mut sink = StdSink::new(Telling {
         rt,
+        alloc,
         dir: target.dir.as_str(),
         notes,
         otherwise: target.flash.map(|_| Fault::Full),
+        line,
         output,
     });
     let content = content_of(target);

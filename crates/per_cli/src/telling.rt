@@ -1,20 +1,26 @@
-//! The output of a run, whose failures of the disk are told where they are answered.
+//! The output of a run: why the disk failed, and why a line was refused, is told where it is answered.
 
 use crate::causes::{Fault, say_answered};
+use crate::hearing::LastLine;
+use crate::reasons::say_why;
 use per_system::Notes;
+use std::alloc::Global;
 use std::io::{self, Write};
 
 /// The reply where the disk failed.
 const FAILED: &[u8] = b"error 4 PhysicalStorageFailure\n";
 
-/// An output that says on standard error why the disk failed, before it takes the reply that answers it.
+/// An output that says on standard error why the disk failed, or a line was refused, before it takes the reply.
 #[derive(Drop)]
 pub(crate) struct Telling<'a, R: Eprint, O: Write + Drop> {
     pub(crate) rt: &'a R,
+    pub(crate) alloc: Global,
     pub(crate) dir: &'a str,
     pub(crate) notes: &'a Notes,
     /// Why the disk failed, where no call of the system did.
     pub(crate) otherwise: Option<Fault>,
+    /// The line that is answered.
+    pub(crate) line: &'a LastLine,
     pub(crate) output: O,
 }
 
@@ -23,6 +29,11 @@ impl<'a, R: Eprint, O: Write + Drop> Write for Telling<'a, R, O> {
         if answers_failure(bytes) {
             let news = self.notes.news().map(Fault::System);
             let _ = say_answered(self.rt, self.dir, news.or(self.otherwise));
+        }
+        if let Some(answer) = refusal_in(bytes) {
+            if let Some(line) = self.line.text(self.alloc) {
+                let _ = say_why(self.rt, self.alloc, answer, line.as_slice());
+            }
         }
         self.output.write(bytes)
     }
@@ -38,4 +49,11 @@ fn answers_failure(bytes: &[u8]) -> bool {
         Some(before) => before.is_empty() || before.ends_with(b"\n"),
         None => false,
     }
+}
+
+/// The answer, where a line was refused by it.
+fn refusal_in(bytes: &[u8]) -> Option<&[u8]> {
+    let lines = bytes.strip_suffix(b"\n")?;
+    let answer = lines.rsplit(|byte| *byte == b'\n').next()?;
+    (answer.starts_with(b"error ") || answer.starts_with(b"bad-line ")).then_some(answer)
 }

@@ -9,8 +9,8 @@ use Rattle.value_text.specs.Whole.{bytes_in, signed_in, unsigned_in}
 use Rattle.command_text.specs.Grammar.{has_feed}
 use Rattle.command_text.specs.Reading.{appending_modes, kind_words, octet_in, origin_words, other_modes}
 use Rattle.per_words.specs.declared.flaws.Flaw.{Flaw}
-use Rattle.per_words.specs.declared.flaws.Needed.{Needed}
-use Rattle.per_words.specs.declared.flaws.Needed.TheVariants as needed
+use Rattle.per_words.specs.declared.needs.Needed.{Needed}
+use Rattle.per_words.specs.declared.needs.Needed.TheVariants as needed
 use Rattle.per_words.specs.Words.{application_digit, is_among}
 
 -- ---- words
