@@ -4,7 +4,7 @@ ghost use Rattle.std.specs.Prelude.{◌≤◌, length};
 
 use command_text::LINE_BYTES;
 use std::alloc::Global;
-use std::cell::{Cell, RefCell};
+use std::cell::{Cell, Ref, RefCell};
 use std::io::{self, BufRead, BufReader, Read};
 
 /// How many bytes are read ahead.
@@ -46,15 +46,12 @@ impl LastLine {
         }
     }
 
-    /// The line, where there is memory for it.
-    pub(crate) fn text(&self, alloc: Global) -> Option<Vec<u8>> {
+    /// The line, where it is known whole.
+    pub(crate) fn text(&self) -> Option<Ref<'_, Vec<u8>>> {
         if self.is_torn.get() {
             return None;
         }
-        match self.text.try_borrow() {
-            Ok(text) => text.to_vec(alloc).ok(),
-            Err(_) => None,
-        }
+        self.text.try_borrow().ok()
     }
 }
 

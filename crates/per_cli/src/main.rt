@@ -16,11 +16,14 @@
 #![tactic(auto)]
 
 mod asking;
+mod blame;
 mod call;
 mod causes;
 mod demo;
+mod hearing;
 mod help;
 mod program;
+mod reasons;
 mod telling;
 
 use asking::Asking;

@@ -1,7 +1,7 @@
 //! Why a line was refused, on standard error: what its reply has no room for.
 
 use crate::blame::{blamed, end_of_json, keys_of_type, storages_of_size};
-use per_words::{Flaw, Needed, flaw_in};
+use per_words::{Needed, flaw_in};
 use std::alloc::{AllocError, Global};
 use std::io;
 
@@ -79,30 +79,47 @@ fn why_bad(alloc: Global, answer: &[u8], line: &[u8]) -> Result<Option<String>, 
     let Ok(answer) = str::from_utf8(answer) else {
         return Ok(None);
     };
-    match flaw_in(alloc, line)? {
-        Some(flaw) => {
-            let why = flaw_text(alloc, flaw, line)?;
-            Ok(Some(format!(in alloc; "{answer}: {why}")?))
-        }
+    match why_no_line(alloc, line)? {
+        Some(why) => Ok(Some(format!(in alloc; "{answer}: {why}")?)),
         None => Ok(None),
     }
 }
 
-/// What is wrong with the line, in words.
-pub(crate) fn flaw_text(alloc: Global, flaw: Flaw, line: &[u8]) -> Result<String, AllocError> {
+/// Why a text is no line, in words.
+pub(crate) fn why_no_line(alloc: Global, line: &[u8]) -> Result<Option<String>, AllocError> {
+    let Some(flaw) = flaw_in(alloc, line)? else {
+        return Ok(None);
+    };
     let column = flaw.column;
     let more = if line.ends_with(b"\r") {
         ", and the line ends with a carriage return"
     } else {
         ""
     };
-    match flaw.needed {
-        Needed::End => format!(in alloc; "it is to end before column {column}{more}"),
+    let why = match flaw.needed {
+        Needed::End => format!(in alloc; "it is to end before column {column}{more}")?,
         needed => {
             let needed = needed_text(needed);
-            format!(in alloc; "column {column} is to be {needed}{more}")
+            format!(in alloc; "at column {column} is to be {needed}{more}")?
         }
-    }
+    };
+    Ok(Some(why))
+}
+
+/// Why words are no call by itself, whose line would be this one, in words.
+pub(crate) fn why_no_call(alloc: Global, line: &[u8]) -> Result<Option<String>, AllocError> {
+    let Some(flaw) = flaw_in(alloc, line)? else {
+        return Ok(None);
+    };
+    let rest = line.get(flaw.column.saturating_sub(1)..).unwrap_or(&[]);
+    let needed = needed_text(flaw.needed);
+    let why = match (flaw.needed, str::from_utf8(rest)) {
+        (Needed::End, _) => String::from_str(alloc, "it takes fewer words")?,
+        (_, Ok("")) => format!(in alloc; "what is missing is {needed}")?,
+        (_, Ok(rest)) => format!(in alloc; "{rest} is to be {needed}")?,
+        (_, Err(_)) => format!(in alloc; "what is wrong is to be {needed}")?,
+    };
+    Ok(Some(why))
 }
 
 fn needed_text(needed: Needed) -> &'static str {
@@ -118,7 +135,8 @@ fn needed_text(needed: Needed) -> &'static str {
         Needed::Octet => "a byte in two hexadecimal digits, as 0a",
         Needed::Manifest => "a manifest",
         Needed::OpenKind => "r, w or rw",
-        Needed::OpenMode => "none, or some of begin, end, truncate, append in this order, joined by +",
+        Needed::OpenMode =>
+            "none, or some of begin, end, truncate, append in this order, joined by +",
         Needed::Origin => "begin, current or end",
         Needed::Offset => "a number, as 1 or -1",
         Needed::End => "its end",
@@ -175,8 +193,13 @@ fn why_full(alloc: Global, allowed: u64, manifest: &[u8]) -> Result<Option<Strin
 fn manifest_in(line: &[u8]) -> Option<&[u8]> {
     let (_, call) = split_at_space(line)?;
     let (word, manifest) = split_at_space(call)?;
-    let takes_one = word == b"install" || word == b"update" || word == b"update-begin";
-    takes_one.then_some(manifest)
+    (is_word(word, b"install")
+        || is_word(word, b"update")
+        || is_word(word, b"update-begin")).then_some(manifest)
+}
+
+fn is_word(text: &[u8], word: &[u8]) -> bool {
+    text == word
 }
 
 fn split_at_space(text: &[u8]) -> Option<(&[u8], &[u8])> {

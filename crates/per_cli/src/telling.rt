@@ -31,15 +31,23 @@ impl<'a, R: Eprint, O: Write + Drop> Write for Telling<'a, R, O> {
             let _ = say_answered(self.rt, self.dir, news.or(self.otherwise));
         }
         if let Some(answer) = refusal_in(bytes) {
-            if let Some(line) = self.line.text(self.alloc) {
-                let _ = say_why(self.rt, self.alloc, answer, line.as_slice());
-            }
+            let _ = self.say_why(answer);
         }
         self.output.write(bytes)
     }
 
     fn flush(&mut self) -> io::Result<()> {
         self.output.flush()
+    }
+}
+
+impl<'a, R: Eprint, O: Write + Drop> Telling<'a, R, O> {
+    /// Says why the line was refused, where it is known whole.
+    fn say_why(&self, answer: &[u8]) -> io::Result<()> {
+        match self.line.text() {
+            Some(line) => say_why(self.rt, self.alloc, answer, line.as_slice()),
+            None => Ok(()),
+        }
     }
 }
 
@@ -51,9 +59,13 @@ fn answers_failure(bytes: &[u8]) -> bool {
     }
 }
 
-/// The answer, where a line was refused by it.
+/// The answer, where a line was refused by it: the last line, where reports stand before it.
 fn refusal_in(bytes: &[u8]) -> Option<&[u8]> {
     let lines = bytes.strip_suffix(b"\n")?;
-    let answer = lines.rsplit(|byte| *byte == b'\n').next()?;
+    let answer = if lines.starts_with(b"report ") {
+        lines.rsplit(|byte| *byte == b'\n').next()?
+    } else {
+        lines
+    };
     (answer.starts_with(b"error ") || answer.starts_with(b"bad-line ")).then_some(answer)
 }

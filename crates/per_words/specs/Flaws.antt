@@ -103,7 +103,7 @@ meets needed.End text = nat_eq (length text) 0
 
 -- A place of a text is what is needed there, and how many bytes the text has from there on.
 
--- what is needed last takes all that is left; where its first word would do, the text is to end after that
+-- what is needed last takes all that is left; where the first word of that would do, the text is to end after it
 abbrev pub unmet_last : Needed → List ℕ → Option (Needed × ℕ)
 unmet_last n text =
     if meets n text then None else (
@@ -138,7 +138,7 @@ unmet_in_line text =
 abbrev pub flaw_at : ℕ → Needed × ℕ → Flaw
 flaw_at size place = record { needed = place.0; column = suc size - place.1 }
 
--- a line that is too long is to end after as many bytes as it may have
+-- where a text that is no line stops being one; one that is too long after as many bytes as a line may have
 abbrev pub flaw_in : List ℕ → Option Flaw
 flaw_in line = option_map (flaw_at (length line)) (if nat_lt 262144 (length line)
     then Some (needed.End, length line - 262144) else unmet_in_line line)

@@ -21,7 +21,7 @@ mod showing;
 mod words;
 
 pub use flaws::{Flaw, flaw_in};
-pub use kinds::{CallKind, is_call, takes_manifest};
+pub use kinds::{CallKind, call_word, is_call, takes_manifest};
 pub use lines::{call_lines, manifest_lines};
 pub use needs::Needed;
 pub use putting::content_lines;
