@@ -42,6 +42,8 @@ pub(crate) struct Ended<'a> {
     pub(crate) takes_lines: bool,
     /// Whether a file of the disk or of the flash is in the folder.
     pub(crate) has_files: bool,
+    /// Whether a line of an audit says that something is damaged or lost.
+    pub(crate) has_damage: bool,
     /// The last calls that failed.
     pub(crate) disk: Option<Fault>,
     pub(crate) source: Option<io::Error>,
@@ -95,7 +97,10 @@ pub(crate) fn say<R: Files + Eprint>(rt: &R, ended: &Ended<'_>) -> io::Result<()
         6 => say_stream(rt, "standard output", ended.sink),
         7 => rt.eprintln("per: the first 67108864 bytes of the input have no line `end`"),
         8 if !ended.has_files => say_of_folder(rt, ended),
-        8 => rt.eprintln("per: the audit found something; its lines say what"),
+        8 if ended.has_damage => rt.eprintln("per: the audit found something; its lines say what"),
+        8 => rt.eprintln(
+            "per: the audit found nothing damaged or lost; what is unsettled, as by a stop, the next opening settles",
+        ),
         9 if !ended.has_files => say_of_folder(rt, ended),
         9 => rt.eprintln(
             "per: the export or the import was refused; the line that was written says why",

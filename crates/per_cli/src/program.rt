@@ -17,18 +17,20 @@ use per_system::{
 };
 use per_words::unknown_in;
 use std::alloc::{AllocError, Global};
+use std::cell::Cell;
 use std::fs::File;
 use std::io::{Read, Write};
 use std::rt::Files;
 use system_model::{Failure, System};
 
-/// The folder that the words name, for what it is held, whether it is formatted, whether lines are to be handled in it,
-/// whether it may be formatted for them, and how many blocks its flash has, where it has one.
+/// The folder that the words name, for what it is held, whether it is formatted or audited, whether lines are to be
+/// handled in it, whether it may be formatted for them, and how many blocks its flash has, where it has one.
 #[derive(Drop)]
 struct Target {
     dir: String,
     access: Access,
     formats: bool,
+    audits: bool,
     takes_lines: bool,
     formats_blank: bool,
     flash: Option<u32>,
@@ -135,6 +137,7 @@ fn run_noting<'a, R: Files<File = File> + Eprint, I: Read + Drop, O: Write + Dro
         return NO_DISK;
     }
     let mut source = StdSource::new(input);
+    let has_damage = Cell::new(false);
     let mut sink = StdSink::new(Telling {
         rt,
         alloc,
@@ -142,6 +145,7 @@ fn run_noting<'a, R: Files<File = File> + Eprint, I: Read + Drop, O: Write + Dro
         notes,
         otherwise: target.flash.map(|_| Fault::Full),
         line,
+        has_damage: target.audits.then_some(&has_damage),
         output,
     });
     let content = content_of(target);
@@ -165,6 +169,7 @@ fn run_noting<'a, R: Files<File = File> + Eprint, I: Read + Drop, O: Write + Dro
         flash: target.flash,
         takes_lines: target.takes_lines,
         has_files: outcome.has_files,
+        has_damage: has_damage.get(),
         disk: notes.last().map(Fault::System).or(outcome.fault),
         source: source.failure(),
         sink: sink.failure(),
@@ -317,6 +322,7 @@ fn target_of(alloc: Global, words: &[String]) -> Result<(Target, String), AllocE
         Ok(job) => {
             let access = access_of(&job.kind);
             let formats = matches!(job.kind, JobKind::Format | JobKind::Generate(_));
+            let audits = matches!(job.kind, JobKind::Audit);
             let takes_lines = matches!(job.kind, JobKind::Run | JobKind::Serve);
             let formats_blank = matches!(job.kind, JobKind::Serve);
             let flash = job.flash;
@@ -326,6 +332,7 @@ fn target_of(alloc: Global, words: &[String]) -> Result<(Target, String), AllocE
                 dir,
                 access,
                 formats,
+                audits,
                 takes_lines,
                 formats_blank,
                 flash,
@@ -338,6 +345,7 @@ fn target_of(alloc: Global, words: &[String]) -> Result<(Target, String), AllocE
                 dir: String::new(alloc),
                 access: Access::Read,
                 formats: false,
+                audits: false,
                 takes_lines: false,
                 formats_blank: false,
                 flash: None,

@@ -100,7 +100,7 @@ pub(crate) fn why_no_line(alloc: Global, line: &[u8]) -> Result<Option<String>, 
         Needed::End => format!(in alloc; "it is to end before column {column}{more}")?,
         needed => {
             let needed = needed_text(needed);
-            format!(in alloc; "at column {column} is to be {needed}{more}")?
+            format!(in alloc; "column {column} is to be {needed}{more}")?
         }
     };
     Ok(Some(why))

@@ -5,6 +5,7 @@ use crate::hearing::LastLine;
 use crate::reasons::say_why;
 use per_system::Notes;
 use std::alloc::Global;
+use std::cell::Cell;
 use std::io::{self, Write};
 
 /// The reply where the disk failed.
@@ -21,6 +22,8 @@ pub(crate) struct Telling<'a, R: Eprint, O: Write + Drop> {
     pub(crate) otherwise: Option<Fault>,
     /// The line that is answered.
     pub(crate) line: &'a LastLine,
+    /// Where it is noted that a line of an audit says that something is damaged or lost.
+    pub(crate) has_damage: Option<&'a Cell<bool>>,
     pub(crate) output: O,
 }
 
@@ -29,6 +32,10 @@ impl<'a, R: Eprint, O: Write + Drop> Write for Telling<'a, R, O> {
         if answers_failure(bytes) {
             let news = self.notes.news().map(Fault::System);
             let _ = say_answered(self.rt, self.dir, news.or(self.otherwise));
+        }
+        match self.has_damage {
+            Some(has_damage) if says_damage(bytes) => has_damage.set(true),
+            _ => {}
         }
         if let Some(answer) = refusal_in(bytes) {
             let _ = self.say_why(answer);
@@ -57,6 +64,12 @@ fn answers_failure(bytes: &[u8]) -> bool {
         Some(before) => before.is_empty() || before.ends_with(b"\n"),
         None => false,
     }
+}
+
+/// Whether a line of an audit says so. The text of an audit is handed over at once.
+fn says_damage(bytes: &[u8]) -> bool {
+    bytes.split(|byte| *byte == b'\n').any(|line| line.starts_with(b"damaged ")
+        || line.starts_with(b"lost "))
 }
 
 /// The answer, where a line was refused by it: the last line, where reports stand before it.
