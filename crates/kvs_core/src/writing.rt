@@ -14,7 +14,7 @@ ghost use Rattle.kvs_core.specs.Calls as calls;
 
 use crate::session::KeySession;
 use key_maps::{KEYS, KeyElement, Stored};
-use per_base::{Limit, Name, PerError};
+use per_base::{Limit, Name, PerError, element_size};
 use per_value::PerValue;
 use std::mem;
 use value_model::{Value, ValueError};
@@ -169,6 +169,11 @@ impl KeySession {
             → calls.with_room self.now.config (with_element self.now.visible name.now key) ≡ Err error) }
         ensures space { IfErr result (λ error. error ≢ PerError.OutOfMemory) }
     {
+        self.maps.invariants();
+        // Room for one key more is room for this one in any case, and so most keys are not looked up here.
+        if self.maps.size() + element_size(name, len) <= self.config.maximum {
+            return Ok(());
+        }
         let needed = self.maps.size_with(name, len);
         if needed > self.config.maximum {
             return Err(PerError::OutOfStorageSpace {
