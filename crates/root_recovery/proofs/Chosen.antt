@@ -1,0 +1,78 @@
+-- From what is chosen among the texts that were seen to the row.
+use Rattle.std.proofs.Common.{◌≡◌, ℕ, Bool, true, false, Option, Some, None, find, refl, sym, ap, ◌∙◌}
+use Rattle.std.specs.Prelude.{is_some}
+use Rattle.disk_model.specs.Image.{Image}
+use Rattle.disk_model.specs.declared.place.Place.{Place}
+use Rattle.guarded_cell.specs.declared.looking.Seen.{Seen}
+use Rattle.guarded_cell.specs.Held.{held, standing, standing_in}
+use Rattle.root_text.specs.declared.versions.RootSays.{RootSays}
+use Rattle.root_text.specs.RootText.{Root, root_of}
+use Rattle.root_text.specs.RootText as text
+use Rattle.root_text.specs.Views.{root_said}
+use Rattle.deploy_laws.specs.Places.{root_place}
+use Rattle.deploy_laws.specs.Apps.{App, Says, app_at, app_saying, says_at, says_by, says_in}
+use Rattle.deploy_laws.specs.Apps as says
+use Rattle.root_recovery.specs.Choices.{IsLeft, is_readable}
+use Rattle.root_recovery.specs.Recoveries.{Row, after_recovery, after_row, is_root_text, left_at, none_left, reads}
+use Rattle.root_recovery.specs.Recoveries.{recovering, row_by, takes, taking, taking_root}
+use Rattle.root_recovery.proofs.Lefts.{left_is, recovering_is}
+
+-- ---- whether a root reads
+
+readable_by : (g : ℕ) (read : Option Root) (left : Option Seen) → is_some read ≡ true
+    → row_by (says_by g read) left ≡ reads
+readable_by g None left e = absurd cc
+readable_by g (Some text.absent) left e = refl
+readable_by g (Some (text.installed bank active previous)) left e = refl
+
+readable_row : (stands left : Option Seen) → is_readable stands ≡ true → row_by (says_in stands) left ≡ reads
+readable_row None left e = absurd cc
+readable_row (Some seen) left e = readable_by seen.generation (root_of seen.text) left e
+
+unread_by : (g : ℕ) (read : Option Root) → is_some read ≡ false → says_by g read ≡ says.nothing
+unread_by g None e = refl
+unread_by g (Some root) e = absurd cc
+
+unread_says : (stands : Option Seen) → is_readable stands ≡ false → says_in stands ≡ says.nothing
+unread_says None e = refl
+unread_says (Some seen) e = unread_by seen.generation (root_of seen.text) e
+
+-- ---- the row
+
+-- of guarded_cell
+abbrev pub AmongLaw : Type 0
+AmongLaw = (image : Image) (place : Place) (m : ℕ) → standing image place m ≡ standing_in m (held image place)
+
+module _ (among : AmongLaw) (image : Image) (app : ℕ) where
+  says_among : says_at image app ≡ says_in (standing_in 2 (held image (root_place app)))
+  unfolding says_at
+  says_among = ap says_in (among image (root_place app) 2)
+
+  pub row_reads : is_readable (standing_in 2 (held image (root_place app))) ≡ true → recovering image app ≡ reads
+  row_reads e = recovering_is image app ∙ ap (λ (s : Says). row_by s (left_at image app)) says_among
+      ∙ readable_row (standing_in 2 (held image (root_place app))) (left_at image app) e
+
+  module _ (unread : is_readable (standing_in 2 (held image (root_place app))) ≡ false) where
+    pub says_nothing : says_at image app ≡ says.nothing
+    says_nothing = says_among ∙ unread_says (standing_in 2 (held image (root_place app))) unread
+
+    row_taking : recovering image app ≡ taking (find is_root_text (held image (root_place app)))
+    row_taking = recovering_is image app ∙ ap (λ (s : Says). row_by s (left_at image app)) says_nothing
+        ∙ ap taking (left_is image app)
+
+    pub row_none : find is_root_text (held image (root_place app)) ≡ None → recovering image app ≡ none_left
+    row_none e = row_taking ∙ ap taking e
+
+    pub row_takes : (seen : Seen) (root : Root) → find is_root_text (held image (root_place app)) ≡ Some seen
+        → root_of seen.text ≡ Some root → recovering image app ≡ takes seen.generation root seen.copies
+    row_takes seen root e said = row_taking ∙ ap taking e ∙ ap (taking_root seen) said
+
+-- ---- the application afterwards
+
+after_is : (image : Image) (app : ℕ) → after_recovery image app ≡ after_row image app (recovering image app)
+unfolding after_recovery
+after_is image app = refl
+
+pub after_by : (image : Image) (app : ℕ) (row : Row) → recovering image app ≡ row
+    → after_recovery image app ≡ after_row image app row
+after_by image app row is = after_is image app ∙ ap (after_row image app) is

@@ -1,0 +1,6 @@
+pub mod Finding
+pub mod Lefts
+pub mod Chosen
+pub mod Storages
+pub mod Stopped
+pub mod Afterwards

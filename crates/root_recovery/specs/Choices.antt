@@ -1,0 +1,36 @@
+-- What is chosen among the texts that were seen.
+use Rattle.std.specs.Prelude.{◌≡◌, List, find, Bool, false, Option, Some, None}
+use denote.Ref.{Bor}
+use Rattle.guarded_cell.specs.declared.looking.Seen.{Seen}
+use Rattle.guarded_cell.specs.Held.{standing_in}
+use Rattle.root_text.specs.declared.versions.RootSays.{RootSays}
+use Rattle.root_text.specs.RootText.{IsRoot, root_of, root_text}
+use Rattle.root_text.specs.Views.{root_said}
+use Rattle.root_recovery.specs.declared.choosing.Choice.{Choice}
+use Rattle.root_recovery.specs.declared.choosing.Choice.TheVariants.{Reads, NoneLeft, Takes}
+use Rattle.root_recovery.specs.Recoveries.{is_root_text}
+
+-- there is a text, and it says a root
+abbrev pub is_readable : Option Seen → Bool
+is_readable None = false
+is_readable (Some seen) = is_root_text seen
+
+-- this root was read of the text
+pub record IsReadFrom (seen : Seen) (says : RootSays) : Type 0 where
+  pub said : root_of seen.text ≡ Some (root_said says)
+  pub rules : IsRoot (root_said says)
+  pub spelled : seen.text ≡ root_text (root_said says)
+
+abbrev pub seen_of : Bor Seen × RootSays → Seen
+seen_of found = found.0.now
+
+-- it is the first of the texts that says a root, and two copies hold none
+pub record IsLeft (seens : List Seen) (seen : Seen) (says : RootSays) : Type 0 where
+  pub unread : is_readable (standing_in 2 seens) ≡ false
+  pub first : find is_root_text seens ≡ Some seen
+  pub read : IsReadFrom seen says
+
+abbrev pub IsChoice : List Seen → Choice → Type 0
+IsChoice seens Reads = is_readable (standing_in 2 seens) ≡ Bool.true
+IsChoice seens NoneLeft = (is_readable (standing_in 2 seens) ≡ false) × (find is_root_text seens ≡ None)
+IsChoice seens (Takes seen says) = IsLeft seens seen.now says

@@ -1,0 +1,6 @@
+pub mod Failures
+pub mod Recoveries
+pub mod Choices
+pub mod Left
+pub mod Texts
+pub mod Samples

@@ -1,0 +1,176 @@
+//! Recovering a root.
+
+ghost use Rattle.std.specs.Prelude.{◌≡◌, ◌<◌, ◌≤◌, ◌+◌, IfOk, IsErrOf, IsTrue, OnOk};
+ghost use Rattle.per_base.specs.Causes.{Rose};
+ghost use Rattle.disk_model.specs.Frame.{IsSettledOn, Spares};
+ghost use Rattle.disk_model.specs.Medium.{EachCase, Elapses, Quiet};
+ghost use Rattle.disk_model.specs.Place.{IsNoSlot};
+ghost use Rattle.guarded_cell.specs.Register.{IsAlone};
+ghost use Rattle.guarded_cell.specs.Seens.{IsSealable, IsSeenOn};
+ghost use Rattle.guarded_cell.specs.Slots.{IsSlotsOf};
+ghost use Rattle.guarded_cell.specs.Stops.{PutStops};
+ghost use Rattle.root_text.specs.RootText.{root_text};
+ghost use Rattle.root_text.specs.Views.{root_said};
+ghost use Rattle.deploy_laws.specs.Apps.{AreClean, IsCleanApp, app_at, shapes_named};
+ghost use Rattle.deploy_laws.specs.Places.{root_place};
+ghost use Rattle.deploy_laws.specs.Stands.{StandsThroughout};
+ghost use Rattle.root_recovery.specs.Choices.{IsReadFrom};
+ghost use Rattle.root_recovery.specs.Recoveries.{IsHeldByAll, IsRefused, after_recovery, most_written, recovering};
+ghost use Rattle.root_recovery.specs.Recoveries.{row_of};
+
+use crate::choosing::{Choice, choose};
+use crate::errors::RecoveryError;
+use deploy_laws::{files_lie_apart, others_stand, roots_say, roots_stay, untouched_stands};
+use disk_model::{Disk, Place};
+use element_laws::untouched_is_kept;
+use guarded_cell::{Looked, Seen, Slots, adopt_seen, held_is_lawful, look};
+use per_base::Numbers;
+use root_text::{RootSays, one_root};
+use std::alloc::Global;
+
+/// A root that was recovered.
+#[derive(Debug, Drop)]
+pub struct Recovered {
+    /// The generation of its text.
+    pub generation: u64,
+    /// What it says.
+    pub says: RootSays,
+    /// The copies that held it, counted from 1 and ascending.
+    pub copies: Numbers,
+}
+
+/// What a recovery came to.
+#[derive(Debug, Drop)]
+pub enum Recovery {
+    /// The root reads, and nothing was changed.
+    Reads,
+    /// No copy holds a root, and nothing was changed.
+    NoneLeft,
+    /// Every copy holds this root now.
+    Taken(Recovered),
+}
+
+/// Recovers the root of an application that cannot be read: of the roots that copies hold it takes the one of the
+/// greatest generation, at one generation the one whose first copy is lowest, and brings every copy to it. Where the
+/// root reads, or no copy holds one, nothing is changed. It begins with a sync.
+///
+/// # Errors
+///
+/// `Device` where the disk fails, and `OutOfMemory`, before which nothing was changed.
+pub fn recover_root<D: Disk>(
+    alloc: Global,
+    disk: &mut D,
+    app: u32,
+) -> Result<Recovery, RecoveryError>
+    requires { app < 8 }
+
+    // Which root is taken, or why none is; and the application afterwards.
+    ensures row { IsTrue D.told
+        → IfOk result (λ recovery. row_of recovery ≡ recovering (D.medium disk.old).image app) }
+    ensures app { IsTrue D.told → OnOk result (app_at (D.medium disk.new).image app
+        ≡ after_recovery (D.medium disk.old).image app) }
+
+    // Every copy holds it then, and no slot holds anything else.
+    ensures held { IsTrue D.told
+        → IfOk result (λ recovery. IsHeldByAll (D.medium disk.new).image app (row_of recovery)) }
+    ensures clean { IsTrue D.told → IsCleanApp app (D.medium disk.old).image
+        → AreClean (D.medium disk.old).image (shapes_named app (after_recovery (D.medium disk.old).image app).says)
+        → OnOk result (IsCleanApp app (D.medium disk.new).image) }
+
+    ensures refused { IfOk result (λ recovery. IsRefused (row_of recovery)
+        → ((D.medium disk.new).image ≡ (D.medium disk.old).image)
+        × ((D.medium disk.new).written ≡ (D.medium disk.old).written)) }
+    ensures memory { IsErrOf result RecoveryError.OutOfMemory
+        → ((D.medium disk.new).image ≡ (D.medium disk.old).image)
+        × ((D.medium disk.new).written ≡ (D.medium disk.old).written) }
+    ensures quiet { OnOk result (Quiet (D.medium disk.new)) }
+    ensures cause { IsErrOf result RecoveryError.Device → Rose (D.medium disk.old).faults (D.medium disk.new).faults }
+    ensures passes { OnOk result ((D.medium disk.new).faults ≡ (D.medium disk.old).faults) }
+    ensures fed { IsErrOf result RecoveryError.OutOfMemory → (D.medium disk.new).faults ≡ (D.medium disk.old).faults }
+
+    // However it ends, only slots of the root change, at the end and at any moment.
+    ensures elsewhere { IsTrue D.told
+        → Spares (IsNoSlot (root_place app)) (D.medium disk.old).image (D.medium disk.new).image }
+    ensures outside { IsTrue D.told → Quiet (D.medium disk.old)
+        → EachCase (IsSettledOn (IsNoSlot (root_place app)) (D.medium disk.old).image)
+        (D.medium disk.old) (D.medium disk.new) }
+
+    // A stop at any moment leaves the application as unreadable as before, or recovered.
+    ensures any_moment { IsTrue D.told
+        → AreClean (D.medium disk.old).image (shapes_named app (after_recovery (D.medium disk.old).image app).says)
+        → StandsThroughout app (after_recovery (D.medium disk.old).image app) (D.medium disk.old) (D.medium disk.new) }
+    ensures written { (D.medium disk.new).written ≤ (D.medium disk.old).written + most_written }
+    ensures time { Elapses (D.medium disk.old) (D.medium disk.new) }
+{
+    roots_say();
+    roots_stay();
+    files_lie_apart();
+    others_stand();
+    untouched_stands();
+    untouched_is_kept();
+    held_is_lawful();
+    one_root();
+    let Looked { seens, slots } = look(alloc, disk, root_place(app))?;
+    match choose(alloc, &seens)? {
+        Choice::Reads => Ok(Recovery::Reads),
+        Choice::NoneLeft => Ok(Recovery::NoneLeft),
+        Choice::Takes(seen, says) => {
+            let recovered = bring(alloc, disk, app, seen, slots, says)?;
+            Ok(Recovery::Taken(recovered))
+        }
+    }
+}
+
+// Brings every copy of the root to a text that was seen, which says this.
+fn bring<D: Disk>(
+    alloc: Global,
+    disk: &mut D,
+    app: u32,
+    seen: &Seen,
+    slots: Slots,
+    says: RootSays,
+) -> Result<Recovered, RecoveryError>
+    requires app { app < 8 }
+    requires sealable { IsSealable seen.now }
+    requires read { IsReadFrom seen.now says }
+    requires seen { IsTrue D.told → IsSeenOn (D.medium disk.old).image (root_place app) seen.now }
+    requires slots { IsTrue D.told → IsSlotsOf (D.medium disk.old).image (root_place app) slots }
+
+    ensures recovered { IfOk result (λ recovered. recovered
+        ≡ record { generation = seen.now.generation; says = says; copies = seen.now.copies }) }
+    ensures alone { IsTrue D.told → OnOk result (IsAlone (D.medium disk.new).image (root_place app) seen.now.generation
+        (root_text (root_said says))) }
+    ensures quiet { OnOk result (Quiet (D.medium disk.new)) }
+    ensures memory { IsErrOf result RecoveryError.OutOfMemory → disk.new ≡ disk.old }
+    ensures cause { IsErrOf result RecoveryError.Device → Rose (D.medium disk.old).faults (D.medium disk.new).faults }
+    ensures passes { OnOk result ((D.medium disk.new).faults ≡ (D.medium disk.old).faults) }
+
+    // Only slots of the root change. A stop at any moment leaves every copy what it held or every copy the text.
+    ensures elsewhere { IsTrue D.told
+        → Spares (IsNoSlot (root_place app)) (D.medium disk.old).image (D.medium disk.new).image }
+    ensures any_moment { IsTrue D.told → Quiet (D.medium disk.old)
+        → EachCase (PutStops (root_place app) seen.now.generation seen.now.text (D.medium disk.old).image)
+        (D.medium disk.old) (D.medium disk.new) }
+    ensures written { (D.medium disk.new).written ≤ (D.medium disk.old).written + most_written }
+    ensures time { Elapses (D.medium disk.old) (D.medium disk.new) }
+{
+    one_root();
+    let copies = seen.copies.copy()?;
+    adopt_seen(alloc, disk, root_place(app), seen, slots)?;
+    Ok(Recovered {
+        generation: seen.generation,
+        says,
+        copies,
+    })
+}
+
+// The files of an application's root.
+fn root_place(app: u32) -> Place
+    requires { app < 8 }
+    ensures { result ≡ root_place app }
+{
+    Place {
+        first: 4096 * app,
+        copies: 3,
+    }
+}
