@@ -1,6 +1,7 @@
 -- What a recovery leaves of an application, at its end and at every moment.
-use Rattle.std.proofs.Common.{◌≡◌, ℕ, ◌<◌, ◌≤◌, List, Bool, Some, refl, sym, ap, ◌∙◌, subst, arith}
-use Rattle.std.specs.Prelude.{map, IsTrue}
+use Rattle.std.proofs.Common.{◌≡◌, ℕ, ◌<◌, ◌≤◌, List, [], Bool, length, Option, Some, refl, sym, ap, ◌∙◌}
+use Rattle.std.proofs.Common.{subst, arith}
+use Rattle.std.specs.Prelude.{IsTrue}
 use Rattle.disk_model.specs.Case.{Case}
 use Rattle.disk_model.specs.Frame.{IsSettledOn, Spares}
 use Rattle.disk_model.specs.Image.{Image}
@@ -10,13 +11,13 @@ use Rattle.disk_model.specs.Place.{IsNoSlot}
 use Rattle.disk_model.specs.lemmas.Frames.{settled_on}
 use Rattle.hash_guard.specs.Laws.{generation_positive}
 use Rattle.disk_model.specs.Place.{slot}
-use Rattle.guarded_cell.specs.Held.{copies_that, holds}
+use Rattle.guarded_cell.specs.Held.{holds}
 use Rattle.guarded_cell.specs.Register.{Holds, IsAlone, own}
 use Rattle.guarded_cell.specs.Stops.{PutStops}
 use Rattle.guarded_cell.specs.lemmas.CopyLaws.{some_passes}
 use Rattle.guarded_cell.specs.lemmas.HeldLaws.{holds_is}
 use Rattle.element_laws.specs.Phases.{UntouchedLaw}
-use Rattle.element_state.specs.States.{State, store_at}
+use Rattle.element_state.specs.States.{State}
 use Rattle.root_text.specs.RootText.{IsRoot, Root, root_of, root_text}
 use Rattle.root_text.specs.RootText as text
 use Rattle.deploy_laws.specs.Places.{IsFileOf, IsNoRootFile, root_place}
@@ -29,7 +30,7 @@ use Rattle.root_recovery.specs.Left.{IsRowOf}
 use Rattle.root_recovery.specs.Recoveries.{Row, after_recovery, after_row, none_left, reads, recovering, takes}
 use Rattle.root_recovery.proofs.Chosen.{after_by}
 use Rattle.root_recovery.proofs.Lefts.{ShowsLaw, is_row}
-use Rattle.root_recovery.proofs.Stopped.{app_says, says_some, stands}
+use Rattle.root_recovery.proofs.Stopped.{app_says, stands}
 
 -- ---- the application afterwards
 
@@ -92,7 +93,7 @@ module _ (shows : ShowsLaw) (image : Image) (app : ℕ) where
 
 module _ (app : ℕ) (old new : Medium) (same : new.image ≡ old.image) (idle : Quiet old → IsIdle old new) where
   pub look_elsewhere : Spares (IsNoSlot (root_place app)) old.image new.image
-  look_elsewhere f no = ap (λ (i : Image). i f) same
+  look_elsewhere f aside = ap (λ (i : Image). i f) same
 
   pub look_outside : Quiet old → EachCase (IsSettledOn (IsNoSlot (root_place app)) old.image) old new
   look_outside quiet c past = settled_on (IsNoSlot (root_place app)) ((idle quiet).during c past)

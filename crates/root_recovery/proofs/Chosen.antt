@@ -1,20 +1,22 @@
 -- From what is chosen among the texts that were seen to the row.
-use Rattle.std.proofs.Common.{◌≡◌, ℕ, Bool, true, false, Option, Some, None, find, refl, sym, ap, ◌∙◌}
+use Rattle.std.proofs.Common.{◌≡◌, ℕ, List, true, false, Option, Some, None, find, refl, sym, ap, ◌∙◌, subst}
 use Rattle.std.specs.Prelude.{is_some}
 use Rattle.disk_model.specs.Image.{Image}
 use Rattle.disk_model.specs.declared.place.Place.{Place}
 use Rattle.guarded_cell.specs.declared.looking.Seen.{Seen}
 use Rattle.guarded_cell.specs.Held.{held, standing, standing_in}
-use Rattle.root_text.specs.declared.versions.RootSays.{RootSays}
 use Rattle.root_text.specs.RootText.{Root, root_of}
 use Rattle.root_text.specs.RootText as text
 use Rattle.root_text.specs.Views.{root_said}
 use Rattle.deploy_laws.specs.Places.{root_place}
 use Rattle.deploy_laws.specs.Apps.{App, Says, app_at, app_saying, says_at, says_by, says_in}
 use Rattle.deploy_laws.specs.Apps as says
-use Rattle.root_recovery.specs.Choices.{IsLeft, is_readable}
+use Rattle.root_recovery.specs.declared.choosing.Choice.{Choice}
+use Rattle.root_recovery.specs.declared.recovering.Recovered.{Recovered}
+use Rattle.root_recovery.specs.declared.recovering.Recovery.TheVariants.{Taken}
+use Rattle.root_recovery.specs.Choices.{IsChoice, IsLeft, is_readable}
 use Rattle.root_recovery.specs.Recoveries.{Row, after_recovery, after_row, is_root_text, left_at, none_left, reads}
-use Rattle.root_recovery.specs.Recoveries.{recovering, row_by, takes, taking, taking_root}
+use Rattle.root_recovery.specs.Recoveries.{recovering, row_by, row_of, takes, taking, taking_root}
 use Rattle.root_recovery.proofs.Lefts.{left_is, recovering_is}
 
 -- ---- whether a root reads
@@ -66,6 +68,20 @@ module _ (among : AmongLaw) (image : Image) (app : ℕ) where
     pub row_takes : (seen : Seen) (root : Root) → find is_root_text (held image (root_place app)) ≡ Some seen
         → root_of seen.text ≡ Some root → recovering image app ≡ takes seen.generation root seen.copies
     row_takes seen root e said = row_taking ∙ ap taking e ∙ ap (taking_root seen) said
+
+    pub row_left : (seen : Seen) (recovered : Recovered) → IsLeft (held image (root_place app)) seen recovered
+        → recovering image app ≡ row_of (Taken recovered)
+    row_left seen recovered left = row_takes seen (root_said recovered.says) left.first left.read.said
+        ∙ ap (λ (g : ℕ). takes g (root_said recovered.says) seen.copies) (sym left.counts)
+        ∙ ap (takes recovered.generation (root_said recovered.says)) (sym left.copies_are)
+
+-- what was chosen among the texts that a look at the root's place gave
+pub choice_at : (place : Place) (app : ℕ) (image : Image) (items texts : List Seen) (found choice : Choice)
+    → place ≡ root_place app → items ≡ held image place → texts ≡ items → found ≡ choice → IsChoice texts found
+    → IsChoice (held image (root_place app)) choice
+choice_at place app image items texts found choice same are given is chosen =
+    subst (λ (xs : List Seen). IsChoice xs choice) (given ∙ are ∙ ap (λ (p : Place). held image p) same)
+    (subst (IsChoice texts) is chosen)
 
 -- ---- the application afterwards
 

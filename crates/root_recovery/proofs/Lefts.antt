@@ -9,13 +9,13 @@ use Rattle.guarded_cell.specs.declared.looking.Seen.{Seen}
 use Rattle.guarded_cell.specs.Held.{copies_that, held, holds}
 use Rattle.guarded_cell.specs.Register.{Holds}
 use Rattle.guarded_cell.specs.Shown.{ShowsTexts}
-use Rattle.guarded_cell.specs.lemmas.CopyLaws.{first_passing}
+use Rattle.guarded_cell.specs.lemmas.CopyLaws.{first_passing, some_passes}
 use Rattle.guarded_cell.specs.lemmas.HeldLaws.{holds_is, is_holds}
 use Rattle.root_text.specs.RootText.{Root, root_of}
 use Rattle.deploy_laws.specs.Places.{root_place}
 use Rattle.deploy_laws.specs.Apps.{Says, says_at}
 use Rattle.deploy_laws.specs.Apps as says
-use Rattle.root_recovery.specs.Left.{HoldsRoot, IsLeftOf, IsRowOf, NoneIsLeft}
+use Rattle.root_recovery.specs.Left.{HoldsRoot, IsLeftOf, IsRowOf}
 use Rattle.root_recovery.specs.Recoveries.{is_root_text, left_at, recovering, row_by, taking, taking_root}
 use Rattle.root_recovery.proofs.Finding.{IsFirst, find_first, find_none, first_is}
 
@@ -55,7 +55,7 @@ module _ (shows : ShowsLaw) (image : Image) (app : ℕ) where
   is_one copy generation text it l = ap (λ (t : List ℕ). is_some (root_of t)) l.same ∙ ap is_some it.said
 
   never : (b : Bool) → b ≡ true → b ≡ false → ⊥
-  never b yes no = absurd cc
+  never b passes fails = absurd cc
 
   none_left : find is_root_text texts ≡ None → (copy generation : ℕ) (text : List ℕ)
       → ¬ (HoldsRoot image app copy generation text)
@@ -68,7 +68,7 @@ module _ (shows : ShowsLaw) (image : Image) (app : ℕ) where
     first : IsFirst is_root_text texts seen
     first = find_first is_root_text texts seen found
 
-    copies_are : seen.copies ≡ copies_that (λ copy. holds image (root_place app) copy (seen.generation, seen.text)) 3
+    pub copies_are : seen.copies ≡ copies_that (λ copy. holds image (root_place app) copy (seen.generation, seen.text)) 3
     copies_are = first_is is_root_text (λ (s : Seen). s.copies
         ≡ copies_that (λ copy. holds image (root_place app) copy (s.generation, s.text)) 3) texts seen first
         (shows image (root_place app)).copies_are
@@ -76,6 +76,16 @@ module _ (shows : ShowsLaw) (image : Image) (app : ℕ) where
     some : 1 ≤ length seen.copies
     some = first_is is_root_text (λ (s : Seen). 1 ≤ length s.copies) texts seen first
         (shows image (root_place app)).some
+
+    -- a copy that holds it
+    pub holder : (copy : ℕ) × (copy < 3) × Holds image (root_place app) copy seen.generation seen.text
+    holder = let (copy, lt, holding) = some_passes
+        (λ copy. holds image (root_place app) copy (seen.generation, seen.text)) 3
+        (subst (λ (cs : List ℕ). 1 ≤ length cs) copies_are some) in (
+          copy,
+          lt,
+          holds_is image (root_place app) copy (seen.generation, seen.text) holding,
+        )
 
     -- no root stands before it
     behind : (copy generation : ℕ) (text : List ℕ) (it : HoldsRoot image app copy generation text)

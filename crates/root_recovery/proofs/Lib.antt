@@ -1,3 +1,4 @@
+pub mod Placed
 pub mod Finding
 pub mod Lefts
 pub mod Chosen

@@ -1,25 +1,27 @@
 -- A stop while every copy of a root that says nothing is brought to a text that some copy holds, and then damage.
-use Rattle.std.proofs.Common.{◌≡◌, ◌⊎◌, ℕ, zero, suc, ◌+◌, ◌<◌, List, Option, Some, None, refl, sym, ap, ◌∙◌, subst, inl}
+use Rattle.std.proofs.Common.{◌≡◌, ◌⊎◌, ℕ, zero, suc, ◌<◌, List, Option, Some, None, refl, sym, ap, ◌∙◌, subst, inl}
 use Rattle.std.proofs.Common.{inr, ⊎_elim, arith}
+use Rattle.std.specs.Prelude.{map}
 use Rattle.disk_model.specs.Image.{Image}
 use Rattle.disk_model.specs.Case.{Case}
-use Rattle.disk_model.specs.Damage.{AtLeast, DecaysFor}
+use Rattle.disk_model.specs.Damage.{AtLeast}
 use Rattle.guarded_cell.specs.declared.looking.Seen.{Seen}
 use Rattle.guarded_cell.specs.Held.{standing}
-use Rattle.guarded_cell.specs.Register.{HasNoStanding, Holds, IsHeldBy}
+use Rattle.guarded_cell.specs.Register.{HasNoStanding, Holds}
 use Rattle.guarded_cell.specs.Stops.{IsOldOrNew, PutStops}
 use Rattle.guarded_cell.specs.lemmas.HeldLaws.{standing_none, standing_stands}
 use Rattle.guarded_cell.specs.lemmas.StopLaws.{at_least_one}
-use Rattle.element_state.specs.Clean.{IsPiece, IsSound, in_slot}
+use Rattle.element_state.specs.Clean.{in_slot}
+use Rattle.element_state.specs.States.{store_at}
 use Rattle.element_laws.specs.Phases.{UntouchedLaw}
 use Rattle.root_text.specs.RootText.{Root, root_of}
 use Rattle.root_text.specs.RootText as text
 use Rattle.deploy_laws.specs.Places.{root_place}
-use Rattle.deploy_laws.specs.Apps.{AreClean, AreVersions, App, IsCleanApp, IsCleanRoot, Says, app_at, app_saying}
+use Rattle.deploy_laws.specs.Apps.{AreClean, App, IsCleanApp, IsCleanRoot, Says, app_at, app_saying}
 use Rattle.deploy_laws.specs.Apps.{nothing, says_at, says_by, says_in, shapes_named}
 use Rattle.deploy_laws.specs.Laws.{CoveredLaw, StorageFilesLaw, VersionsLaw}
 use Rattle.deploy_laws.specs.Pieces.{DecaysApp, IsSoundApp, of_root}
-use Rattle.deploy_laws.specs.Stands.{AreKept, Stands, StandsCase}
+use Rattle.deploy_laws.specs.Stands.{AreKept, Stands}
 use Rattle.root_recovery.proofs.Storages.{AreStill, all_beside, still}
 
 -- of at least m copies each is one that it was, or something is so

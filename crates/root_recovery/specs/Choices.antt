@@ -6,6 +6,7 @@ use Rattle.guarded_cell.specs.Held.{standing_in}
 use Rattle.root_text.specs.declared.versions.RootSays.{RootSays}
 use Rattle.root_text.specs.RootText.{IsRoot, root_of, root_text}
 use Rattle.root_text.specs.Views.{root_said}
+use Rattle.root_recovery.specs.declared.recovering.Recovered.{Recovered}
 use Rattle.root_recovery.specs.declared.choosing.Choice.{Choice}
 use Rattle.root_recovery.specs.declared.choosing.Choice.TheVariants.{Reads, NoneLeft, Takes}
 use Rattle.root_recovery.specs.Recoveries.{is_root_text}
@@ -24,13 +25,15 @@ pub record IsReadFrom (seen : Seen) (says : RootSays) : Type 0 where
 abbrev pub seen_of : Bor Seen × RootSays → Seen
 seen_of found = found.0.now
 
--- it is the first of the texts that says a root, and two copies hold none
-pub record IsLeft (seens : List Seen) (seen : Seen) (says : RootSays) : Type 0 where
+-- it is the first of the texts that says a root, where two copies hold none, and gives this
+pub record IsLeft (seens : List Seen) (seen : Seen) (recovered : Recovered) : Type 0 where
   pub unread : is_readable (standing_in 2 seens) ≡ false
   pub first : find is_root_text seens ≡ Some seen
-  pub read : IsReadFrom seen says
+  pub read : IsReadFrom seen recovered.says
+  pub counts : recovered.generation ≡ seen.generation
+  pub copies_are : recovered.copies ≡ seen.copies
 
 abbrev pub IsChoice : List Seen → Choice → Type 0
 IsChoice seens Reads = is_readable (standing_in 2 seens) ≡ Bool.true
 IsChoice seens NoneLeft = (is_readable (standing_in 2 seens) ≡ false) × (find is_root_text seens ≡ None)
-IsChoice seens (Takes seen says) = IsLeft seens seen.now says
+IsChoice seens (Takes seen recovered) = IsLeft seens seen.now recovered

@@ -8,7 +8,7 @@ use Rattle.disk_model.specs.Orders.{named_in}
 use Rattle.guarded_cell.specs.Held.{held_in_first, standing, lacking}
 use Rattle.root_text.specs.RootText.{root_of, root_in}
 use Rattle.root_text.specs.RootText as text
-use Rattle.deploy_laws.specs.Apps.{App, absent, app_at, says_at, shapes_named}
+use Rattle.deploy_laws.specs.Apps.{absent, app_at, says_at, shapes_named}
 use Rattle.root_recovery.specs.Recoveries.{after_recovery, left_at, none_left, reads, recovering, takes}
 
 -- all that the samples compute with

@@ -1,5 +1,5 @@
 -- The text of what a recovery came to.
-use Rattle.std.specs.Prelude.{ℕ, List, ◌++◌, codes, Option, Some, None, option_map}
+use Rattle.std.specs.Prelude.{ℕ, List, ◌++◌, codes, option_map}
 use Rattle.std.specs.Fmt.{decimal}
 use Rattle.command_text.specs.declared.replies.AppStatus.TheVariants as status
 use Rattle.command_text.specs.Replies.{copies_text, status_text}

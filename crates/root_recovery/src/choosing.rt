@@ -8,6 +8,7 @@ ghost use Rattle.root_recovery.specs.Choices.{IsChoice, IsReadFrom, is_readable,
 ghost use Rattle.root_recovery.specs.Recoveries.{is_root_text};
 
 use crate::errors::RecoveryError;
+use crate::recovering::Recovered;
 use guarded_cell::Seen;
 use root_text::{RootError, RootSays, read_root};
 use std::alloc::Global;
@@ -19,8 +20,8 @@ pub(crate) enum Choice<'a> {
     Reads,
     /// No copy holds a root.
     NoneLeft,
-    /// This text is taken, and it says this root.
-    Takes(&'a Seen, RootSays),
+    /// This text is taken, which gives this root.
+    Takes(&'a Seen, Recovered),
 }
 
 /// What these texts leave of a root, in the order in which they were seen.
@@ -33,7 +34,18 @@ pub(crate) fn choose(alloc: Global, seens: &[Seen]) -> Result<Choice, RecoveryEr
     }
     match first_root(alloc, seens)? {
         None => Ok(Choice::NoneLeft),
-        Some((seen, says)) => Ok(Choice::Takes(seen, says)),
+        Some((seen, says)) => {
+            let copies = seen.copies.copy()?;
+            let generation = seen.generation;
+            Ok(Choice::Takes(
+                seen,
+                Recovered {
+                    generation,
+                    says,
+                    copies,
+                },
+            ))
+        }
     }
 }
 
@@ -42,13 +54,20 @@ fn reads(alloc: Global, seens: &[Seen]) -> Result<bool, RecoveryError>
     ensures reads { IfOk result (λ reads. reads ≡ is_readable (standing_in 2 seens.now)) }
     ensures memory { ¬ (IsErrOf result RecoveryError.Device) }
 {
-    match seens.iter().find(|seen| is_enough(seen)) {
+    match first_of_two(seens) {
         None => Ok(false),
         Some(seen) => {
             let says = read_seen(alloc, seen)?;
             Ok(says.is_some())
         }
     }
+}
+
+// The first of the texts that two copies hold.
+fn first_of_two(seens: &[Seen]) -> Option<&Seen>
+    ensures { option_map (λ seen. seen.now) result ≡ standing_in 2 seens.now }
+{
+    seens.iter().find(|seen| is_enough(seen))
 }
 
 // Whether two copies hold it.

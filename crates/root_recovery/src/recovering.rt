@@ -1,6 +1,6 @@
 //! Recovering a root.
 
-ghost use Rattle.std.specs.Prelude.{◌≡◌, ◌<◌, ◌≤◌, ◌+◌, IfOk, IsErrOf, IsTrue, OnOk};
+ghost use Rattle.std.specs.Prelude.{◌≡◌, ◌<◌, ◌≤◌, ◌+◌, IfOk, IsErrOf, IsTrue, OnOk, length};
 ghost use Rattle.per_base.specs.Causes.{Rose};
 ghost use Rattle.disk_model.specs.Frame.{IsSettledOn, Spares};
 ghost use Rattle.disk_model.specs.Medium.{EachCase, Elapses, Quiet};
@@ -9,12 +9,9 @@ ghost use Rattle.guarded_cell.specs.Register.{IsAlone};
 ghost use Rattle.guarded_cell.specs.Seens.{IsSealable, IsSeenOn};
 ghost use Rattle.guarded_cell.specs.Slots.{IsSlotsOf};
 ghost use Rattle.guarded_cell.specs.Stops.{PutStops};
-ghost use Rattle.root_text.specs.RootText.{root_text};
-ghost use Rattle.root_text.specs.Views.{root_said};
 ghost use Rattle.deploy_laws.specs.Apps.{AreClean, IsCleanApp, app_at, shapes_named};
 ghost use Rattle.deploy_laws.specs.Places.{root_place};
 ghost use Rattle.deploy_laws.specs.Stands.{StandsThroughout};
-ghost use Rattle.root_recovery.specs.Choices.{IsReadFrom};
 ghost use Rattle.root_recovery.specs.Recoveries.{IsHeldByAll, IsRefused, after_recovery, most_written, recovering};
 ghost use Rattle.root_recovery.specs.Recoveries.{row_of};
 
@@ -114,32 +111,29 @@ pub fn recover_root<D: Disk>(
     match choose(alloc, &seens)? {
         Choice::Reads => Ok(Recovery::Reads),
         Choice::NoneLeft => Ok(Recovery::NoneLeft),
-        Choice::Takes(seen, says) => {
-            let recovered = bring(alloc, disk, app, seen, slots, says)?;
+        Choice::Takes(seen, recovered) => {
+            bring(alloc, disk, app, seen, slots)?;
             Ok(Recovery::Taken(recovered))
         }
     }
 }
 
-// Brings every copy of the root to a text that was seen, which says this.
+// Brings every copy of the root to a text that was seen, which is that of this root.
 fn bring<D: Disk>(
     alloc: Global,
     disk: &mut D,
     app: u32,
     seen: &Seen,
     slots: Slots,
-    says: RootSays,
-) -> Result<Recovered, RecoveryError>
+) -> Result<(), RecoveryError>
     requires app { app < 8 }
     requires sealable { IsSealable seen.now }
-    requires read { IsReadFrom seen.now says }
+    requires short { length seen.now.text ≤ 131084 }
     requires seen { IsTrue D.told → IsSeenOn (D.medium disk.old).image (root_place app) seen.now }
     requires slots { IsTrue D.told → IsSlotsOf (D.medium disk.old).image (root_place app) slots }
 
-    ensures recovered { IfOk result (λ recovered. recovered
-        ≡ record { generation = seen.now.generation; says = says; copies = seen.now.copies }) }
     ensures alone { IsTrue D.told → OnOk result (IsAlone (D.medium disk.new).image (root_place app) seen.now.generation
-        (root_text (root_said says))) }
+        seen.now.text) }
     ensures quiet { OnOk result (Quiet (D.medium disk.new)) }
     ensures memory { IsErrOf result RecoveryError.OutOfMemory → disk.new ≡ disk.old }
     ensures cause { IsErrOf result RecoveryError.Device → Rose (D.medium disk.old).faults (D.medium disk.new).faults }
@@ -154,14 +148,8 @@ fn bring<D: Disk>(
     ensures written { (D.medium disk.new).written ≤ (D.medium disk.old).written + most_written }
     ensures time { Elapses (D.medium disk.old) (D.medium disk.new) }
 {
-    one_root();
-    let copies = seen.copies.copy()?;
     adopt_seen(alloc, disk, root_place(app), seen, slots)?;
-    Ok(Recovered {
-        generation: seen.generation,
-        says,
-        copies,
-    })
+    Ok(())
 }
 
 // The files of an application's root.
