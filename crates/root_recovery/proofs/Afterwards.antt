@@ -26,8 +26,10 @@ use Rattle.deploy_laws.specs.Apps.{says_by, says_generation, shapes_named}
 use Rattle.deploy_laws.specs.Laws.{AloneCleanLaw, AloneLaw, CoveredLaw, RootAloneLaw, RootSlotsLaw, StillAppLaw}
 use Rattle.deploy_laws.specs.Laws.{StorageFilesLaw, VersionsLaw}
 use Rattle.deploy_laws.specs.Stands.{IsLater, StandsCase, StandsThroughout, next_root, same_root}
+use Rattle.root_recovery.specs.Clauses.{IsRecovered, KeepsSettled}
 use Rattle.root_recovery.specs.Left.{IsRowOf}
-use Rattle.root_recovery.specs.Recoveries.{Row, after_recovery, after_row, none_left, reads, recovering, takes}
+use Rattle.root_recovery.specs.Recoveries.{IsHeldByAll, IsRefused, Row, after_recovery, after_row, none_left, reads}
+use Rattle.root_recovery.specs.Recoveries.{recovering, takes}
 use Rattle.root_recovery.proofs.Chosen.{after_by}
 use Rattle.root_recovery.proofs.Lefts.{ShowsLaw, is_row}
 use Rattle.root_recovery.proofs.Stopped.{app_says, stands}
@@ -64,6 +66,25 @@ module _ (again : AgainLaw) (alone : AloneLaw) (versions : VersionsLaw) (slots :
   taken_clean were = clean app g (root_text r) r new held (again r is)
       ((aside app next old new lt next_versions root_spared).1 were)
 
+module _ (again : AgainLaw) (alone : AloneLaw) (versions : VersionsLaw) (slots : RootSlotsLaw) (aside : RootAloneLaw)
+    (clean : AloneCleanLaw) (app g : ℕ) (r : Root) (copies : List ℕ) (old mid new : Image) (lt : app < 8)
+    (is : IsRoot r) (row_is : recovering old app ≡ takes g r copies) (same : mid ≡ old)
+    (spared : Spares (IsNoSlot (root_place app)) mid new)
+    (held : IsAlone new (root_place app) g (root_text r)) where
+  spared_since : Spares (IsNoSlot (root_place app)) old new
+  spared_since = subst (λ (i : Image). Spares (IsNoSlot (root_place app)) i new) same spared
+
+  pub taken_ends : IsRecovered app (takes g r copies) old new
+  taken_ends = record {
+    row_is = sym row_is;
+    world = taken_app again alone versions slots aside clean app g r old new lt is spared_since held
+        ∙ sym (after_by old app (takes g r copies) row_is);
+    held = held;
+    clean = λ was cleans. taken_clean again alone versions slots aside clean app g r old new lt is spared_since held
+        (subst (λ (a : App). AreClean old (shapes_named app a.says)) (after_by old app (takes g r copies) row_is)
+        cleans);
+  }
+
 -- ---- it may come of the application
 
 own_generation : (g : ℕ) (r : Root) → says_generation (says_by g (Some r)) ≡ g
@@ -91,44 +112,69 @@ module _ (shows : ShowsLaw) (image : Image) (app : ℕ) where
 
 -- ---- looking
 
-module _ (app : ℕ) (old new : Medium) (same : new.image ≡ old.image) (idle : Quiet old → IsIdle old new) where
-  pub look_elsewhere : Spares (IsNoSlot (root_place app)) old.image new.image
-  look_elsewhere f aside = ap (λ (i : Image). i f) same
-
+module _ (app : ℕ) (lt : app < 8) (still : StillAppLaw) (shows : ShowsLaw) (old new : Medium)
+    (same : new.image ≡ old.image) (idle : Quiet old → IsIdle old new) where
   pub look_outside : Quiet old → EachCase (IsSettledOn (IsNoSlot (root_place app)) old.image) old new
   look_outside quiet c past = settled_on (IsNoSlot (root_place app)) ((idle quiet).during c past)
 
-  pub look_stands : (still : StillAppLaw) (shows : ShowsLaw) → app < 8
-      → StandsThroughout app (after_recovery old.image app) old new
-  look_stands still shows lt quiet clean c past = still app old.image (after_recovery old.image app) c lt clean
+  pub look_stands : StandsThroughout app (after_recovery old.image app) old new
+  look_stands quiet clean c past = still app old.image (after_recovery old.image app) c lt clean
       (settled_on (IsFileOf app) ((idle quiet).during c past)) (later shows old.image app)
+
+  pub look_keeps : KeepsSettled app old new
+  look_keeps = record {
+    elsewhere = λ f aside. ap (λ (i : Image). i f) same;
+    outside = look_outside;
+    stands = λ cleans. look_stands;
+  }
+
+-- where nothing is taken the application is the same
+pub refused_ends : (app : ℕ) (row : Row) (old new : Image) → IsRefused row → recovering old app ≡ row → new ≡ old
+    → IsRecovered app row old new
+refused_ends app row old new refused is same = record {
+  row_is = sym is;
+  world = ap (λ (i : Image). app_at i app) same ∙ sym (after_by old app row is ∙ unchanged row refused);
+  held = none_held row refused;
+  clean = λ was cleans. subst (λ (i : Image). IsCleanApp app i) (sym same) was;
+}
+  where
+    unchanged : (row : Row) → IsRefused row → after_row old app row ≡ app_at old app
+    unchanged reads refused = refl
+    unchanged none_left refused = refl
+    unchanged (takes g root copies) refused = absurd refused
+
+    none_held : (row : Row) → IsRefused row → IsHeldByAll new app row
+    none_held reads refused = tt
+    none_held none_left refused = tt
+    none_held (takes g root copies) refused = absurd refused
 
 -- ---- and then bringing every copy to what is left
 
 module _ (app : ℕ) (lt : app < 8) (told : Bool) (g : ℕ) (t : List ℕ) (old mid new : Medium)
     (same : mid.image ≡ old.image) (idle : Quiet old → IsIdle old mid) (first : Elapses old mid)
-    (next : Elapses mid new)
-    (puts : IsTrue told → Quiet mid → EachCase (PutStops (root_place app) g t mid.image) mid new) where
-  puts_then : IsTrue told → Quiet old → (c : Case) → new.since mid.moment c → PutStops (root_place app) g t old.image c
-  puts_then tells quiet c past = subst (λ (i : Image). PutStops (root_place app) g t i c) same
-      (puts tells (idle quiet).quiet c past)
+    (next : Elapses mid new) (tells : IsTrue told)
+    (elsewhere : Spares (IsNoSlot (root_place app)) mid.image new.image)
+    (puts : IsTrue told → Quiet mid → EachCase (PutStops (root_place app) g t mid.image) mid new)
+    (covers : CoveredLaw) (untouched : UntouchedLaw) (versions : VersionsLaw)
+    (files : StorageFilesLaw) (still : StillAppLaw) (shows : ShowsLaw) (bad : says_at old.image app ≡ nothing)
+    (holder : (copy : ℕ) × (copy < 3) × Holds old.image (root_place app) copy g t) (r : Root)
+    (said : root_of t ≡ Some r) (after : after_recovery old.image app ≡ app_saying old.image app (says_by g (Some r)))
+  where
+    puts_then : Quiet old → (c : Case) → new.since mid.moment c → PutStops (root_place app) g t old.image c
+    puts_then quiet c past = subst (λ (i : Image). PutStops (root_place app) g t i c) same
+        (puts tells (idle quiet).quiet c past)
 
-  pub taken_outside : IsTrue told → Quiet old
-      → EachCase (IsSettledOn (IsNoSlot (root_place app)) old.image) old new
-  taken_outside tells quiet = goes_on (IsSettledOn (IsNoSlot (root_place app)) old.image) first next
-      (look_outside app old mid same idle quiet)
-      (λ c past. (puts_then tells quiet c past).elsewhere)
-
-  pub taken_stands : (covers : CoveredLaw) (untouched : UntouchedLaw) (versions : VersionsLaw)
-      (files : StorageFilesLaw) (still : StillAppLaw) (shows : ShowsLaw) → IsTrue told → says_at old.image app ≡ nothing
-      → (holder : (copy : ℕ) × (copy < 3) × Holds old.image (root_place app) copy g t) → (r : Root)
-      → root_of t ≡ Some r → after_recovery old.image app ≡ app_saying old.image app (says_by g (Some r))
-      → AreClean old.image (shapes_named app (after_recovery old.image app).says)
-      → StandsThroughout app (after_recovery old.image app) old new
-  taken_stands covers untouched versions files still shows tells bad holder r said after cleans quiet clean =
-      goes_on (StandsCase app (app_at old.image app) (after_recovery old.image app)) first next
-      (look_stands app old mid same idle still shows lt quiet clean)
-      (λ c past. subst (λ (a : App). StandsCase app (app_at old.image app) a c) (sym after)
-      (stands covers untouched versions files app lt g t r old.image c clean bad holder said
-      (puts_then tells quiet c past)
-      (subst (λ (a : App). AreClean old.image (shapes_named app a.says)) after cleans)))
+    pub taken_keeps : KeepsSettled app old new
+    taken_keeps = record {
+      elsewhere = λ f aside. elsewhere f aside ∙ ap (λ (i : Image). i f) same;
+      outside = λ quiet. goes_on (IsSettledOn (IsNoSlot (root_place app)) old.image) first next
+          (look_outside app lt still shows old mid same idle quiet)
+          (λ c past. (puts_then quiet c past).elsewhere);
+      stands = λ cleans quiet clean.
+          goes_on (StandsCase app (app_at old.image app) (after_recovery old.image app)) first next
+          (look_stands app lt still shows old mid same idle quiet clean)
+          (λ c past. subst (λ (a : App). StandsCase app (app_at old.image app) a c) (sym after)
+          (stands covers untouched versions files app lt g t r old.image c clean bad holder said
+          (puts_then quiet c past)
+          (subst (λ (a : App). AreClean old.image (shapes_named app a.says)) after cleans)));
+    }

@@ -69,10 +69,10 @@ module _ (among : AmongLaw) (image : Image) (app : ℕ) where
         → root_of seen.text ≡ Some root → recovering image app ≡ takes seen.generation root seen.copies
     row_takes seen root e said = row_taking ∙ ap taking e ∙ ap (taking_root seen) said
 
-    pub row_left : (seen : Seen) (recovered : Recovered) → IsLeft (held image (root_place app)) seen recovered
-        → recovering image app ≡ row_of (Taken recovered)
-    row_left seen recovered left = row_takes seen (root_said recovered.says) left.first left.read.said
-        ∙ ap (λ (g : ℕ). takes g (root_said recovered.says) seen.copies) (sym left.counts)
+    pub left_row : (seen : Seen) (recovered : Recovered) → IsLeft (held image (root_place app)) seen recovered
+        → takes seen.generation (root_said recovered.says) seen.copies ≡ row_of (Taken recovered)
+    left_row seen recovered left =
+        ap (λ (g : ℕ). takes g (root_said recovered.says) seen.copies) (sym left.counts)
         ∙ ap (takes recovered.generation (root_said recovered.says)) (sym left.copies_are)
 
 -- what was chosen among the texts that a look at the root's place gave

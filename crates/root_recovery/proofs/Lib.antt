@@ -5,3 +5,4 @@ pub mod Chosen
 pub mod Storages
 pub mod Stopped
 pub mod Afterwards
+pub mod Synced

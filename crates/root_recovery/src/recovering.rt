@@ -2,18 +2,16 @@
 
 ghost use Rattle.std.specs.Prelude.{◌≡◌, ◌<◌, ◌≤◌, ◌+◌, IfOk, IsErrOf, IsTrue, OnOk, length};
 ghost use Rattle.per_base.specs.Causes.{Rose};
-ghost use Rattle.disk_model.specs.Frame.{IsSettledOn, Spares};
+ghost use Rattle.disk_model.specs.Frame.{Spares};
 ghost use Rattle.disk_model.specs.Medium.{EachCase, Elapses, Quiet};
 ghost use Rattle.disk_model.specs.Place.{IsNoSlot};
 ghost use Rattle.guarded_cell.specs.Register.{IsAlone};
 ghost use Rattle.guarded_cell.specs.Seens.{IsSealable, IsSeenOn};
 ghost use Rattle.guarded_cell.specs.Slots.{IsSlotsOf};
 ghost use Rattle.guarded_cell.specs.Stops.{PutStops};
-ghost use Rattle.deploy_laws.specs.Apps.{AreClean, IsCleanApp, app_at, shapes_named};
 ghost use Rattle.deploy_laws.specs.Places.{root_place};
-ghost use Rattle.deploy_laws.specs.Stands.{StandsThroughout};
-ghost use Rattle.root_recovery.specs.Recoveries.{IsHeldByAll, IsRefused, after_recovery, most_written, recovering};
-ghost use Rattle.root_recovery.specs.Recoveries.{row_of};
+ghost use Rattle.root_recovery.specs.Clauses.{IsRecovered, KeepsSettled, LeavesAll, LeavesSettled, RecoveryKeeps};
+ghost use Rattle.root_recovery.specs.Recoveries.{IsRefused, most_written, row_of};
 
 use crate::choosing::{Choice, choose};
 use crate::errors::RecoveryError;
@@ -60,23 +58,10 @@ pub fn recover_root<D: Disk>(
     app: u32,
 ) -> Result<Recovery, RecoveryError>
     requires { app < 8 }
-
-    // Which root is taken, or why none is; and the application afterwards.
-    ensures row { IsTrue D.told
-        → IfOk result (λ recovery. row_of recovery ≡ recovering (D.medium disk.old).image app) }
-    ensures app { IsTrue D.told → OnOk result (app_at (D.medium disk.new).image app
-        ≡ after_recovery (D.medium disk.old).image app) }
-
-    // Every copy holds it then, and no slot holds anything else.
-    ensures held { IsTrue D.told
-        → IfOk result (λ recovery. IsHeldByAll (D.medium disk.new).image app (row_of recovery)) }
-    ensures clean { IsTrue D.told → IsCleanApp app (D.medium disk.old).image
-        → AreClean (D.medium disk.old).image (shapes_named app (after_recovery (D.medium disk.old).image app).says)
-        → OnOk result (IsCleanApp app (D.medium disk.new).image) }
-
+    ensures ended { IsTrue D.told → IfOk result (λ recovery.
+        IsRecovered app (row_of recovery) (D.medium disk.old).image (D.medium disk.new).image) }
     ensures refused { IfOk result (λ recovery. IsRefused (row_of recovery)
-        → ((D.medium disk.new).image ≡ (D.medium disk.old).image)
-        × ((D.medium disk.new).written ≡ (D.medium disk.old).written)) }
+        → LeavesAll (D.medium disk.old) (D.medium disk.new)) }
     ensures memory { IsErrOf result RecoveryError.OutOfMemory
         → ((D.medium disk.new).image ≡ (D.medium disk.old).image)
         × ((D.medium disk.new).written ≡ (D.medium disk.old).written) }
@@ -84,18 +69,31 @@ pub fn recover_root<D: Disk>(
     ensures cause { IsErrOf result RecoveryError.Device → Rose (D.medium disk.old).faults (D.medium disk.new).faults }
     ensures passes { OnOk result ((D.medium disk.new).faults ≡ (D.medium disk.old).faults) }
     ensures fed { IsErrOf result RecoveryError.OutOfMemory → (D.medium disk.new).faults ≡ (D.medium disk.old).faults }
+    ensures keeps { IsTrue D.told → RecoveryKeeps app (D.medium disk.old) (D.medium disk.new) }
+    ensures written { (D.medium disk.new).written ≤ (D.medium disk.old).written + most_written }
+    ensures time { Elapses (D.medium disk.old) (D.medium disk.new) }
+{
+    if disk.sync().is_err() {
+        return Err(RecoveryError::Device);
+    }
+    recover_synced(alloc, disk, app)
+}
 
-    // However it ends, only slots of the root change, at the end and at any moment.
-    ensures elsewhere { IsTrue D.told
-        → Spares (IsNoSlot (root_place app)) (D.medium disk.old).image (D.medium disk.new).image }
-    ensures outside { IsTrue D.told → Quiet (D.medium disk.old)
-        → EachCase (IsSettledOn (IsNoSlot (root_place app)) (D.medium disk.old).image)
-        (D.medium disk.old) (D.medium disk.new) }
-
-    // A stop at any moment leaves the application as unreadable as before, or recovered.
-    ensures any_moment { IsTrue D.told
-        → AreClean (D.medium disk.old).image (shapes_named app (after_recovery (D.medium disk.old).image app).says)
-        → StandsThroughout app (after_recovery (D.medium disk.old).image app) (D.medium disk.old) (D.medium disk.new) }
+// The same without the sync.
+fn recover_synced<D: Disk>(alloc: Global, disk: &mut D, app: u32) -> Result<Recovery, RecoveryError>
+    requires { app < 8 }
+    ensures ended { IsTrue D.told → IfOk result (λ recovery.
+        IsRecovered app (row_of recovery) (D.medium disk.old).image (D.medium disk.new).image) }
+    ensures refused { IfOk result (λ recovery. IsRefused (row_of recovery)
+        → LeavesSettled (D.medium disk.old) (D.medium disk.new)) }
+    ensures memory { IsErrOf result RecoveryError.OutOfMemory
+        → ((D.medium disk.new).image ≡ (D.medium disk.old).image)
+        × ((D.medium disk.new).written ≡ (D.medium disk.old).written) }
+    ensures quiet { OnOk result (Quiet (D.medium disk.new)) }
+    ensures cause { IsErrOf result RecoveryError.Device → Rose (D.medium disk.old).faults (D.medium disk.new).faults }
+    ensures passes { OnOk result ((D.medium disk.new).faults ≡ (D.medium disk.old).faults) }
+    ensures fed { IsErrOf result RecoveryError.OutOfMemory → (D.medium disk.new).faults ≡ (D.medium disk.old).faults }
+    ensures keeps { IsTrue D.told → KeepsSettled app (D.medium disk.old) (D.medium disk.new) }
     ensures written { (D.medium disk.new).written ≤ (D.medium disk.old).written + most_written }
     ensures time { Elapses (D.medium disk.old) (D.medium disk.new) }
 {
