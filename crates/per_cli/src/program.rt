@@ -293,7 +293,8 @@ fn access_of(kind: &JobKind) -> Access {
         | JobKind::Serve
         | JobKind::Format
         | JobKind::Generate(_)
-        | JobKind::Import(_, _) => Access::Write,
+        | JobKind::Import(_, _)
+        | JobKind::RecoverRoot(_) => Access::Write,
     }
 }
 

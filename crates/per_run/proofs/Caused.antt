@@ -29,13 +29,14 @@ use Rattle.per_run.specs.declared.endings.Ending.TheVariants as part
 use Rattle.per_run.specs.declared.words.Job.{Job}
 use Rattle.per_run.specs.declared.words.JobKind.{JobKind}
 use Rattle.per_run.specs.declared.words.JobKind.TheVariants.{Run, Serve, Format, Generate, Audit, Export, Import}
+use Rattle.per_run.specs.declared.words.JobKind.TheVariants.{RecoverRoot}
 use Rattle.per_run.specs.Jobs.{IsCaused, JobDone, by_disk, by_itself, by_sink, by_source, statuses_of}
 use Rattle.per_run.specs.Serves.{Heard, Serves, ServesBy, served, unprepared}
 use Rattle.per_run.specs.Steps.{IsCut, IsInRange, ending_of}
 use Rattle.per_run.specs.Words.{command, dir_of, export_job, flagged, flash_of, generate_of, has_matches, import_of}
 use Rattle.per_run.specs.Words.{is_application, is_set, job_in, job_kind_in, job_of, modes, only_mode, reads_input}
-use Rattle.per_run.specs.Words.{target_of, valued}
-use Rattle.per_run.proofs.Answered.{audits_none, exports_none, imports_cut}
+use Rattle.per_run.specs.Words.{application_of, recover_of, target_of, valued}
+use Rattle.per_run.proofs.Answered.{audits_none, exports_none, imports_cut, recovers_none, recovery_keeps_none}
 use Rattle.per_run.proofs.Begins.{run_short, unbegun}
 use Rattle.per_run.proofs.Completes.{OneLine, completes}
 use Rattle.per_run.proofs.Fresh.{formats_none, generates_none}
@@ -136,6 +137,7 @@ short_caused (Generate k) b n = by_itself (1, omega arith, refl)
 short_caused Audit b n = by_itself (1, omega arith, refl)
 short_caused (Export app name) b n = by_itself (1, omega arith, refl)
 short_caused (Import app name) b n = by_itself (1, omega arith, refl)
+short_caused (RecoverRoot app) b n = by_itself (1, omega arith, refl)
 
 -- the output of a job that came to it, by this status where all of it was taken
 pub output_caused : (kind : JobKind) (status done : ℕ) (b n : Failed) → Contains (statuses_of kind) done
@@ -176,6 +178,12 @@ import_caused app name status b n (inr (inl four)) =
 import_caused app name status b n (inr (inr (inl disk))) = by_disk disk.0 disk.1
 import_caused app name status b n (inr (inr (inr sink))) = by_sink sink.0 sink.1
 
+-- a recovery that was answered
+pub recover_caused : (app : ℕ) (status : ℕ) (b n : Failed) → ((status ≡ 0) ⊎ (status ≡ 9))
+    ⊎ ((status ≡ 4) ⊎ ((status ≡ 6) × Rose b.sink n.sink)) → IsCaused (RecoverRoot app) status b n
+recover_caused app status b n is =
+    answered_caused (RecoverRoot app) status b n (0, omega arith, refl) (2, omega arith, refl) is
+
 -- and one whose input was not read whole
 pub cut_caused : (app : ℕ) (name : List ℕ) (ending : parts.Ending) (status count : ℕ) (b n : Failed)
     → status ≡ ending_status (ending_of ending) → IsCut ending count → (ending ≡ part.Source → Rose b.source n.source)
@@ -215,6 +223,7 @@ others_than_one (Import app name) = (
     (λ is. omega (arith, is), (λ is. omega (arith, is), tt)),
   ),
 )
+others_than_one (RecoverRoot app) = (λ is. omega (arith, is), (λ is. omega (arith, is), (λ is. omega (arith, is), tt)))
 
 has_no_one : (kind : JobKind) → Contains (statuses_of kind) 1 → ⊥
 has_no_one kind contains = no_one (statuses_of kind) (others_than_one kind) contains.0 contains.1 contains.2
@@ -290,6 +299,9 @@ done_none laws told medium (Import app name) rules answers left before source si
       taken = record { takes = Consumes-nil left; bound = omega arith; end_seen = not_seen };
       cut = tt;
     })
+done_none laws told medium (RecoverRoot app) rules answers left before source sink disk lawful =
+    recovers_none told app 4 before (medium disk) (medium disk) (inr refl)
+    (λ tells. recovery_keeps_none app (medium disk) lawful) (λ unfailed. refl)
 
 pub unread_none : {S : Type 0} (o : Option Job) (s : S) → IfSome o (λ job. reads_input job.kind ≡ false → s ≡ s)
 unread_none o s = each_is o (λ job. reads_input job.kind ≡ false → s ≡ s) (λ job reads. refl)
@@ -405,10 +417,34 @@ valued_safe : (mode : List ℕ → Option JobKind) (value : Option (List ℕ)) �
 valued_safe mode (Some v) safe = (safe v, tt)
 valued_safe mode None safe = tt
 
+high_within : (low high : Bool) → (low && high) ≡ true → high ≡ true
+high_within true high is = is
+high_within false high is = let bad : false ≡ true = is in cc
+
+application_within : (value : List ℕ) (app : ℕ) → application_of value ≡ Some app → app < 8
+application_within [] app is = let bad : ◌≡◌ {A = Option ℕ} None (Some app) = is in absurd (cc)
+application_within (digit ∷ []) app is =
+    let told : (is_application digit ≡ true) × (digit - 48 ≡ app) =
+    only_some (is_application digit) (digit - 48) app is in
+    let small : digit ≤ 55 = leb-true digit 55 (high_within (nat_le 48 digit) (nat_le digit 55) told.0) in
+    let same = told.1 in
+    omega (arith, small, same)
+application_within (digit ∷ other ∷ more) app is = let bad : ◌≡◌ {A = Option ℕ} None (Some app) = is in absurd (cc)
+
+recover_safe : (value : List ℕ) → IsSafe (recover_of value)
+recover_safe value = go (application_of value) refl
+  where
+    go : (o : Option ℕ) → application_of value ≡ o → IsSafe (option_map RecoverRoot o)
+    go None is = none_safe
+    go (Some app) is = some_safe (RecoverRoot app) (application_within value app is)
+
 modes_safe : (formats : Bool) (number : Option (List ℕ)) (audits : Bool) (exports imports : Option (List ℕ))
-    (serves : Bool) → AreSafe (modes formats number audits exports imports serves)
-modes_safe formats number audits exports imports serves =
-    both_safe ((((flagged Format formats ++ valued generate_of number) ++ flagged Audit audits)
+    (serves : Bool) (recovers : Option (List ℕ))
+    → AreSafe (modes formats number audits exports imports serves recovers)
+modes_safe formats number audits exports imports serves recovers =
+    both_safe (((((flagged Format formats ++ valued generate_of number) ++ flagged Audit audits)
+    ++ valued export_job exports) ++ valued import_of imports) ++ flagged Serve serves) (valued recover_of recovers)
+    (both_safe ((((flagged Format formats ++ valued generate_of number) ++ flagged Audit audits)
     ++ valued export_job exports) ++ valued import_of imports) (flagged Serve serves)
     (both_safe (((flagged Format formats ++ valued generate_of number) ++ flagged Audit audits)
     ++ valued export_job exports) (valued import_of imports)
@@ -420,7 +456,8 @@ modes_safe formats number audits exports imports serves =
     (flagged_safe Audit audits tt))
     (valued_safe export_job exports (λ value. target_safe Export value (λ app name within. within))))
     (valued_safe import_of imports (λ value. target_safe Import value (λ app name within. within))))
-    (flagged_safe Serve serves tt)
+    (flagged_safe Serve serves tt))
+    (valued_safe recover_of recovers recover_safe)
 
 only_safe : (ms : List (Option JobKind)) → AreSafe ms → IsSafe (only_mode ms)
 only_safe [] safe = some_safe Run tt

@@ -29,10 +29,14 @@ use Rattle.per_audit.specs.Audits.{elements_at, findings_at}
 use Rattle.per_audit.specs.AuditText.{audit_text}
 use Rattle.per_audit.specs.declared.findings.Finding.{Finding}
 use Rattle.per_audit.specs.declared.findings.Listed.{Listed}
+use Rattle.root_recovery.specs.Clauses.{IsRecovered, RecoveryKeeps}
+use Rattle.root_recovery.specs.Recoveries.{IsRefused, Row}
+use Rattle.root_recovery.specs.Texts.{recovery_text}
 use Rattle.per_backup.specs.Backups.{exporting, importing_into}
 use Rattle.per_backup.specs.Clauses.{ImportKeeps, Imported, IsAppSeen}
 use Rattle.per_run.specs.declared.words.JobKind.{JobKind}
 use Rattle.per_run.specs.declared.words.JobKind.TheVariants.{Run, Serve, Format, Generate, Audit, Export, Import}
+use Rattle.per_run.specs.declared.words.JobKind.TheVariants.{RecoverRoot}
 use Rattle.per_run.specs.Serves.{Serves}
 use Rattle.per_run.specs.Words.{reads_input}
 
@@ -42,7 +46,8 @@ use Rattle.per_run.specs.Words.{reads_input}
 abbrev pub WroteProperPrefix : (before now : Option (List ℕ)) → List ℕ → Type 0
 WroteProperPrefix before now text = (count : ℕ) × (count < length text) × Appends before now (take count text)
 
--- the sink took all of the output: the job is done, its audit has findings, or its export or import is refused
+-- the sink took all of the output: the job is done, its audit has findings, or its export, its import or its recovery is
+-- refused
 abbrev pub IsOutputWritten : ℕ → Type 0
 IsOutputWritten status = (status ≡ 0) ⊎ ((status ≡ 8) ⊎ (status ≡ 9))
 
@@ -214,6 +219,22 @@ pub record Imports (told : Bool) (app : ℕ) (name : List ℕ) (status : ℕ)
   pub uncalled : IsFalse ended → IsUncalled before now old new
   pub made : IsTrue ended → Makes told app name given status before now old new
 
+-- ---- a recovery of a root
+
+-- what was recovered is said, or why nothing was; 9 and not 0 is the status of a refusal; over a disk that models
+-- nothing it is some row
+pub record Recovers (told : Bool) (app : ℕ) (status : ℕ) (before now : Option (List ℕ)) (old new : Medium) : Type 0 where
+  pub row : Row
+  pub ended : IsTrue told → CameToOutput status → IsRecovered app row old.image new.image
+  pub output : WritesOutput status before now (recovery_text row)
+  pub done : status ≡ 0 → ¬ (IsRefused row)
+  pub refused : status ≡ 9 → IsRefused row
+  pub stays : CameToOutput status → IsRefused row → LooksOnly old new
+  -- at every moment, however it ends
+  pub keeps : IsTrue told → RecoveryKeeps app old new
+  pub quiet : CameToOutput status → Quiet new
+  pub failed : FailsAtThree status old.faults new.faults
+
 -- ---- all jobs
 
 abbrev pub JobDone : {D : Type 0} → (told : Bool) → (medium : D → Medium) → JobKind → List Rule → Answers → (status : ℕ)
@@ -237,6 +258,9 @@ JobDone told medium (Export app name) rules answers status left_before left_now 
 JobDone told medium (Import app name) rules answers status left_before left_now before now old_counts new_counts old
     new =
     Imports told app name status left_before left_now before now (medium old) (medium new)
+JobDone told medium (RecoverRoot app) rules answers status left_before left_now before now old_counts new_counts old
+    new =
+    Recovers told app status before now (medium old) (medium new)
 
 -- the statuses that no failure brings
 abbrev pub statuses_of : JobKind → List ℕ
@@ -247,6 +271,7 @@ statuses_of (Generate n) = 0 ∷ 4 ∷ []
 statuses_of Audit = 0 ∷ 4 ∷ 8 ∷ []
 statuses_of (Export app name) = 0 ∷ 4 ∷ 9 ∷ []
 statuses_of (Import app name) = 0 ∷ 4 ∷ 7 ∷ 9 ∷ []
+statuses_of (RecoverRoot app) = 0 ∷ 4 ∷ 9 ∷ []
 
 -- the others come only by a failure in this very run: 3 of the disk, 5 of the source, 6 of the sink
 pub data IsCaused (kind : JobKind) (status : ℕ) (old new : Failed) : Type 0 where

@@ -14,6 +14,7 @@ use Rattle.per_base.specs.Names.{is_name}
 use Rattle.per_run.specs.declared.words.Job.{Job}
 use Rattle.per_run.specs.declared.words.JobKind.{JobKind}
 use Rattle.per_run.specs.declared.words.JobKind.TheVariants.{Run, Serve, Format, Generate, Audit, Export, Import}
+use Rattle.per_run.specs.declared.words.JobKind.TheVariants.{RecoverRoot}
 use Rattle.per_run.specs.declared.words.WordsError.{WordsError}
 use Rattle.per_run.specs.declared.words.WordsError.TheVariants as words_error
 
@@ -23,11 +24,12 @@ abbrev pub named_rule : List ℕ → ArgAction → Rule
 named_rule name action = record (new_rule name) { long = Some name; action = Some action }
 
 -- a required option `--dir`, the flags `--format`, `--audit` and `--serve`, and the options `--flash`, `--generate`,
--- `--export` and `--import`
+-- `--export`, `--import` and `--recover-root`
 abbrev pub option_rules : List Rule
 option_rules = record (named_rule (codes "dir") Set) { required = true } ∷ named_rule (codes "flash") Set
     ∷ named_rule (codes "format") SetTrue ∷ named_rule (codes "generate") Set ∷ named_rule (codes "audit") SetTrue
-    ∷ named_rule (codes "export") Set ∷ named_rule (codes "import") Set ∷ named_rule (codes "serve") SetTrue ∷ []
+    ∷ named_rule (codes "export") Set ∷ named_rule (codes "import") Set ∷ named_rule (codes "serve") SetTrue
+    ∷ named_rule (codes "recover-root") Set ∷ []
 
 -- with these options; the words come without the program's name
 abbrev pub command : App
@@ -87,12 +89,15 @@ export_job value = option_map (λ target. Export target.0 target.1) (target_of v
 abbrev pub import_of : List ℕ → Option JobKind
 import_of value = option_map (λ target. Import target.0 target.1) (target_of value)
 
+abbrev pub recover_of : List ℕ → Option JobKind
+recover_of value = option_map RecoverRoot (application_of value)
+
 -- the modes that are named
 abbrev pub modes : (formats : Bool) → (generates : Option (List ℕ)) → (audits : Bool)
-    → (exports imports : Option (List ℕ)) → (serves : Bool) → List (Option JobKind)
-modes formats generates audits exports imports serves = flagged Format formats ++ valued generate_of generates
-    ++ flagged Audit audits ++ valued export_job exports ++ valued import_of imports
-    ++ flagged Serve serves
+    → (exports imports : Option (List ℕ)) → (serves : Bool) → (recovers : Option (List ℕ)) → List (Option JobKind)
+modes formats generates audits exports imports serves recovers = flagged Format formats
+    ++ valued generate_of generates ++ flagged Audit audits ++ valued export_job exports ++ valued import_of imports
+    ++ flagged Serve serves ++ valued recover_of recovers
 
 -- at most one is named, and where none is the lines of the input are handled
 abbrev pub only_mode : List (Option JobKind) → Option JobKind
@@ -103,7 +108,7 @@ only_mode (mode ∷ other ∷ others) = None
 abbrev pub job_kind_in : List Row → Option JobKind
 job_kind_in rows = only_mode (modes (is_set (first_of (codes "format") rows)) (first_of (codes "generate") rows)
     (is_set (first_of (codes "audit") rows)) (first_of (codes "export") rows) (first_of (codes "import") rows)
-    (is_set (first_of (codes "serve") rows)))
+    (is_set (first_of (codes "serve") rows)) (first_of (codes "recover-root") rows))
 
 -- the number of blocks of the flash, where one is named
 abbrev pub flash_of : Option (List ℕ) → Option (Option ℕ)

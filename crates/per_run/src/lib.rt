@@ -6,7 +6,8 @@
 //! answered and ends nothing, and an empty disk is formatted first. `--format` formats the disk, and
 //! `--generate N` does that and then handles a synthetic workload, generated from a number. `--audit` lists what is on
 //! the disk and finds what is damaged or lost, and mends nothing. `--export A:S` writes a storage as one text, and
-//! `--import A:S` rebuilds it from such a text. The contract says what every status means: which lines were handled,
+//! `--import A:S` rebuilds it from such a text. `--recover-root A` brings every copy of a root that does not read to the
+//! newest that one copy holds. The contract says what every status means: which lines were handled,
 //! what was written, what the disk then denotes, what a stop at any moment leaves, and that a failure of the disk,
 //! the source or the sink ends the program only where its count of faults rose.
 //!
@@ -32,6 +33,7 @@ mod input;
 mod job;
 mod preparing;
 mod reader;
+mod recovering;
 mod refusing;
 mod run;
 mod serving;

@@ -6,7 +6,7 @@ ghost use Rattle.clap.specs.declared.error.kind.ErrorKind.{ErrorKind};
 ghost use Rattle.clap.specs.declared.builder.action.ArgAction.TheVariants.{Set, SetTrue};
 ghost use Rattle.per_run.specs.Words.{ReadsWord, application_of, command, dir_of, export_job, flash_of, generate_of};
 ghost use Rattle.per_run.specs.Words.{import_of, is_set, job_in, job_kind_in, job_of, modes, name_of, named_rule};
-ghost use Rattle.per_run.specs.Words.{number_in, only_mode, target_of};
+ghost use Rattle.per_run.specs.Words.{number_in, only_mode, recover_of, target_of};
 
 use clap::error::ErrorKind;
 use clap::{Arg, ArgAction, ArgMatches, Command, Error};
@@ -42,6 +42,8 @@ pub enum JobKind {
     Export(u8, Name),
     /// The storage of this name of an application, 0 to 7, is rebuilt from the text that the input is.
     Import(u8, Name),
+    /// The root of an application, 0 to 7, is recovered, where it does not read and some copy holds one.
+    RecoverRoot(u8),
 }
 
 /// Why the words give no job.
@@ -95,7 +97,8 @@ fn command<'a>(alloc: Global) -> Result<Command<'a>, AllocError>
         .arg(flag(alloc, "audit"))?
         .arg(option(alloc, "export"))?
         .arg(option(alloc, "import"))?
-        .arg(flag(alloc, "serve"))
+        .arg(flag(alloc, "serve"))?
+        .arg(option(alloc, "recover-root"))
 }
 
 /// An option of this name, with one value.
@@ -147,6 +150,7 @@ fn kind_in(alloc: Global, matches: &ArgMatches<'_>) -> Result<JobKind, WordsErro
         matches.get_str("export"),
         matches.get_str("import"),
         is_set(matches.get_str("serve")),
+        matches.get_str("recover-root"),
     )
 }
 
@@ -159,18 +163,23 @@ fn only_mode(
     exports: Option<&str>,
     imports: Option<&str>,
     serves: bool,
+    recovers: Option<&str>,
 ) -> Result<JobKind, WordsError>
     ensures { ReadsWord result (only_mode (modes formats (option_map (λ text. text.now) generates.entry) audits
-        (option_map (λ text. text.now) exports.entry) (option_map (λ text. text.now) imports.entry) serves)) }
+        (option_map (λ text. text.now) exports.entry) (option_map (λ text. text.now) imports.entry) serves
+        (option_map (λ text. text.now) recovers.entry))) }
 {
-    match (formats, generates, audits, exports, imports, serves) {
-        (false, None, false, None, None, false) => Ok(JobKind::Run),
-        (true, None, false, None, None, false) => Ok(JobKind::Format),
-        (false, Some(number), false, None, None, false) => generate_of(number),
-        (false, None, true, None, None, false) => Ok(JobKind::Audit),
-        (false, None, false, Some(target), None, false) => export_of(alloc, target),
-        (false, None, false, None, Some(target), false) => import_of(alloc, target),
-        (false, None, false, None, None, true) => Ok(JobKind::Serve),
+    match (
+        formats, generates, audits, exports, imports, serves, recovers,
+    ) {
+        (false, None, false, None, None, false, None) => Ok(JobKind::Run),
+        (true, None, false, None, None, false, None) => Ok(JobKind::Format),
+        (false, Some(number), false, None, None, false, None) => generate_of(number),
+        (false, None, true, None, None, false, None) => Ok(JobKind::Audit),
+        (false, None, false, Some(target), None, false, None) => export_of(alloc, target),
+        (false, None, false, None, Some(target), false, None) => import_of(alloc, target),
+        (false, None, false, None, None, true, None) => Ok(JobKind::Serve),
+        (false, None, false, None, None, false, Some(application)) => recover_of(application),
         _ => Err(WordsError::Refused),
     }
 }
@@ -206,6 +215,13 @@ fn import_of(alloc: Global, text: &str) -> Result<JobKind, WordsError>
 {
     let (application, name) = target_of(alloc, text)?;
     Ok(JobKind::Import(application, name))
+}
+
+/// The application is named by its digit.
+fn recover_of(text: &str) -> Result<JobKind, WordsError>
+    ensures { ReadsWord result (recover_of text.now) }
+{
+    Ok(JobKind::RecoverRoot(application_of(text)?))
 }
 
 /// How many blocks the flash has, where one is named: 4 to 4096.
