@@ -6,7 +6,7 @@ use system_model::{Asked, Failure};
 
 /// What is said of the words where they are refused.
 const USAGE: &str =
-    "usage: per --dir DIR [--flash N] [--serve | --format | --generate N | --audit | --export A:S | --import A:S]";
+    "usage: per --dir DIR [--flash N] [--serve | --format | --generate N | --audit | --export A:S | --import A:S | --recover-root A]";
 
 /// Why calls of the disk failed.
 #[derive(Clone, Copy, Debug)]
@@ -98,7 +98,7 @@ pub(crate) fn say<R: Files + Eprint>(rt: &R, ended: &Ended<'_>) -> io::Result<()
         8 => rt.eprintln("per: the audit found something; its lines say what"),
         9 if !ended.has_files => say_of_folder(rt, ended),
         9 => rt.eprintln(
-            "per: the export or the import was refused; the line that was written says why",
+            "per: the export, the import or the recovery was refused; the line that was written says why",
         ),
         10 => eprintln!(rt;
             "per: the flash in {dir} cannot be opened: it holds more pages of files than so many blocks may, or no block is spare"

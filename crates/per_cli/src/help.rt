@@ -24,6 +24,9 @@ power loss, lost copies and updates.
                                 one text; mends nothing
   ./per --import A:S --dir DIR  makes that storage anew of such a text on
                                 standard input, whole or not at all
+  ./per --recover-root A --dir DIR
+                                takes what one copy holds of the root of
+                                application A, where too few copies agree
   ./per --flash N --dir DIR     the same as without --flash, in one file of the
                                 folder that stands for raw flash of N blocks,
                                 4 to 4096; beside each of the words above
@@ -45,6 +48,7 @@ standard error, and then the status is 9. --flash N may stand beside --dir DIR.
   ./per ls 0:f --dir DIR             the same of files
   ./per put 0:f a --dir DIR <A       the content is what standard input has
   ./per cat 0:f a --dir DIR >B       writes the content, byte by byte
+  ./per recover-root 0 --dir DIR     the same as --recover-root 0
  Likewise, with what they take in a line:
   finish, rollback, wipe, exists, get-as, remove, remove-all, recover-key,
   reset-key, files, file-exists, size-of, info, delete, recover-file,
@@ -157,15 +161,16 @@ Status
   2 a line is outside the grammar; bad-line and its number are the last reply;
     not with --serve
   3 the disk failed while the program started or formatted, in an audit, an
-    export or an import, or in a call by itself; or another run holds the
-    folder; or --serve or install found nothing but other files in it
+    export, an import or a recovery, or in a call by itself; or another run
+    holds the folder; or --serve or install found nothing but other files in it
   4 memory ran out
   5 the input failed, or the file that a call by itself takes
   6 the output failed
   7 the first 67108864 bytes of the input have neither the line `end` nor the
     input's end; with --serve no bytes are too many
   8 the audit found something; its lines say what
-  9 the export, the import or the call by itself was refused; its line says why
+  9 the export, the import, the recovery of a root or the call by itself was
+    refused; its line says why
  10 the flash cannot be opened: too many pages of files, or no spare block
  11 the file of the flash has more blocks than N
  12 the system does not give the words

@@ -3,7 +3,8 @@
 //! `per --dir DIR` makes the folder a disk, standard input a source and standard output a sink, and ends with the
 //! status of [`per_run::per_run`] over them and the six converters of [`number_converters`]. `per --help` says what
 //! there is, and `per --demo` shows a first session. A call by itself, as `per get 0:cockpit volume --dir DIR`, is such
-//! a run too ([`call`]): of the lines that make the call, with its reply for a person.
+//! a run too ([`call`]): of the lines that make the call, with its reply for a person. A job may be named as a call is
+//! ([`jobs`]).
 //!
 //! Where a run did not end well, one line on standard error says why ([`causes`]). Main itself ends with 4 where memory
 //! runs out before the top call, with 6 where a standard stream that was closed cannot be filled, and with 12 where the
@@ -20,6 +21,7 @@ mod call;
 mod causes;
 mod demo;
 mod help;
+mod jobs;
 mod program;
 mod telling;
 
@@ -63,6 +65,8 @@ enum Asked {
     Demo,
     /// One call, by itself.
     Call,
+    /// A job of the program, named as a call is.
+    Job,
     /// A run of the program, if the words are accepted.
     Run,
 }
@@ -90,6 +94,7 @@ fn main(rt: HostRuntime) -> ExitCode {
         Asked::Version => help::show_version(&rt),
         Asked::Demo => demo::show(&rt, process::id(rt.process())),
         Asked::Call => call::run(&rt, &words, named.as_slice()),
+        Asked::Job => jobs::run(&rt, &words, named.as_slice()),
         Asked::Run if is_asked(&rt, &words) => {
             program::run(&rt, &words, Asking::new(&rt, rt.alloc()), rt.stdout())
         }
@@ -130,6 +135,7 @@ fn wish_of(words: &[String], named: &[&[u8]]) -> Asked {
     }
     match named {
         [call, ..] if is_call(call) => Asked::Call,
+        [job, ..] if jobs::is_job(job) => Asked::Job,
         _ => Asked::Run,
     }
 }

@@ -10,7 +10,8 @@ is_option word = starts_with nat_eq word (codes "--")
 
 -- the next word belongs to this one
 abbrev pub takes_value : List ℕ → Bool
-takes_value = is_among (codes "--dir" ∷ codes "--flash" ∷ codes "--generate" ∷ codes "--export" ∷ codes "--import" ∷ [])
+takes_value = is_among (codes "--dir" ∷ codes "--flash" ∷ codes "--generate" ∷ codes "--export" ∷ codes "--import"
+    ∷ codes "--recover-root" ∷ [])
 
 -- options and their values; whether the first word is a value
 abbrev pub options_in : Bool → List (List ℕ) → List (List ℕ)
@@ -30,7 +31,8 @@ is_flag = is_among (codes "--format" ∷ codes "--audit" ∷ codes "--serve" ∷
 -- an option of a run with its value behind an equals sign
 abbrev pub has_value : List ℕ → Bool
 has_value word = list_any (λ front. starts_with nat_eq word front)
-    (codes "--dir=" ∷ codes "--flash=" ∷ codes "--generate=" ∷ codes "--export=" ∷ codes "--import=" ∷ [])
+    (codes "--dir=" ∷ codes "--flash=" ∷ codes "--generate=" ∷ codes "--export=" ∷ codes "--import="
+    ∷ codes "--recover-root=" ∷ [])
 
 -- the word is an option of a run, with its value behind an equals sign or not
 abbrev pub is_known : List ℕ → Bool

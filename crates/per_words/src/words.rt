@@ -72,6 +72,7 @@ fn takes_value(word: &[u8]) -> bool
         || is_word(word, b"--generate")
         || is_word(word, b"--export")
         || is_word(word, b"--import")
+        || is_word(word, b"--recover-root")
 }
 
 /// Whether the word is an option of a run, with its value behind an equals sign or not.
@@ -97,4 +98,5 @@ fn has_value(word: &[u8]) -> bool
         || word.starts_with(b"--generate=")
         || word.starts_with(b"--export=")
         || word.starts_with(b"--import=")
+        || word.starts_with(b"--recover-root=")
 }
