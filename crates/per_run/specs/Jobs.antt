@@ -46,7 +46,7 @@ use Rattle.per_run.specs.Words.{reads_input}
 abbrev pub WroteProperPrefix : (before now : Option (List ℕ)) → List ℕ → Type 0
 WroteProperPrefix before now text = (count : ℕ) × (count < length text) × Appends before now (take count text)
 
--- the sink took all of the output: the job is done, its audit has findings, or its export, its import or its recovery is
+-- the sink took all of the output: the job is done, its audit has findings, or its export, import or recovery is
 -- refused
 abbrev pub IsOutputWritten : ℕ → Type 0
 IsOutputWritten status = (status ≡ 0) ⊎ ((status ≡ 8) ⊎ (status ≡ 9))
@@ -223,7 +223,7 @@ pub record Imports (told : Bool) (app : ℕ) (name : List ℕ) (status : ℕ)
 
 -- what was recovered is said, or why nothing was; 9 and not 0 is the status of a refusal; over a disk that models
 -- nothing it is some row
-pub record Recovers (told : Bool) (app : ℕ) (status : ℕ) (before now : Option (List ℕ)) (old new : Medium) : Type 0 where
+pub record Recovers (told : Bool) (app status : ℕ) (before now : Option (List ℕ)) (old new : Medium) : Type 0 where
   pub row : Row
   pub ended : IsTrue told → CameToOutput status → IsRecovered app row old.image new.image
   pub output : WritesOutput status before now (recovery_text row)
