@@ -30,7 +30,7 @@ use Rattle.per_audit.specs.AuditText.{audit_text}
 use Rattle.per_audit.specs.declared.findings.Finding.{Finding}
 use Rattle.per_audit.specs.declared.findings.Listed.{Listed}
 use Rattle.root_recovery.specs.Clauses.{IsRecovered, RecoveryKeeps}
-use Rattle.root_recovery.specs.Recoveries.{IsRefused, Row}
+use Rattle.root_recovery.specs.Recoveries.{IsRefused, RootRow}
 use Rattle.root_recovery.specs.Texts.{recovery_text}
 use Rattle.per_backup.specs.Backups.{exporting, importing_into}
 use Rattle.per_backup.specs.Clauses.{ImportKeeps, Imported, IsAppSeen}
@@ -224,7 +224,7 @@ pub record Imports (told : Bool) (app : ℕ) (name : List ℕ) (status : ℕ)
 -- what was recovered is said, or why nothing was; 9 and not 0 is the status of a refusal; over a disk that models
 -- nothing it is some row
 pub record Recovers (told : Bool) (app status : ℕ) (before now : Option (List ℕ)) (old new : Medium) : Type 0 where
-  pub row : Row
+  pub row : RootRow
   pub ended : IsTrue told → CameToOutput status → IsRecovered app row old.image new.image
   pub output : WritesOutput status before now (recovery_text row)
   pub done : status ≡ 0 → ¬ (IsRefused row)

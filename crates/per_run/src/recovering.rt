@@ -2,7 +2,7 @@
 
 ghost use Rattle.std.specs.Prelude.{◌≡◌, ◌⊎◌, ◌<◌, ℕ};
 ghost use Rattle.disk_model.specs.Medium.{Elapses};
-ghost use Rattle.root_recovery.specs.Recoveries.{IsRefused, row_of};
+ghost use Rattle.root_recovery.specs.Recoveries.{IsRefused, row_answered};
 ghost use Rattle.per_run.specs.Jobs.{IsCaused, Recovers};
 ghost use Rattle.per_run.specs.declared.words.JobKind.{JobKind};
 
@@ -33,8 +33,8 @@ pub fn recover<D: Disk, K: Sink>(alloc: Global, application: u32, sink: &mut K, 
 
 /// The status of a recovery whose text is written.
 fn verdict(recovery: &Recovery) -> u8
-    ensures done { result ≡ 0 → ¬ (IsRefused (row_of recovery.now)) }
-    ensures refused { result ≡ 9 → IsRefused (row_of recovery.now) }
+    ensures done { result ≡ 0 → ¬ (IsRefused (row_answered recovery.now)) }
+    ensures refused { result ≡ 9 → IsRefused (row_answered recovery.now) }
     ensures status { (result ≡ 0) ⊎ (result ≡ 9) }
 {
     match recovery {

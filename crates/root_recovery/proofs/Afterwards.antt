@@ -26,10 +26,10 @@ use Rattle.deploy_laws.specs.Apps.{says_by, says_generation, shapes_named}
 use Rattle.deploy_laws.specs.Laws.{AloneCleanLaw, AloneLaw, CoveredLaw, RootAloneLaw, RootSlotsLaw, StillAppLaw}
 use Rattle.deploy_laws.specs.Laws.{StorageFilesLaw, VersionsLaw}
 use Rattle.deploy_laws.specs.Stands.{IsLater, StandsCase, StandsThroughout, next_root, same_root}
-use Rattle.root_recovery.specs.Clauses.{IsRecovered, KeepsSettled}
+use Rattle.root_recovery.specs.Clauses.{IsRecovered, RecoveryKeepsSynced}
 use Rattle.root_recovery.specs.Left.{IsRowOf}
-use Rattle.root_recovery.specs.Recoveries.{IsHeldByAll, IsRefused, Row, after_recovery, after_row, none_left, reads}
-use Rattle.root_recovery.specs.Recoveries.{recovering, takes}
+use Rattle.root_recovery.specs.Recoveries.{IsHeldByAll, IsRefused, RootRow, after_recovery, after_row, none_left, reads}
+use Rattle.root_recovery.specs.Recoveries.{recovery_at, takes}
 use Rattle.root_recovery.proofs.Chosen.{after_by}
 use Rattle.root_recovery.proofs.Lefts.{ShowsLaw, is_row}
 use Rattle.root_recovery.proofs.Stopped.{app_says, stands}
@@ -68,7 +68,7 @@ module _ (again : AgainLaw) (alone : AloneLaw) (versions : VersionsLaw) (slots :
 
 module _ (again : AgainLaw) (alone : AloneLaw) (versions : VersionsLaw) (slots : RootSlotsLaw) (aside : RootAloneLaw)
     (clean : AloneCleanLaw) (app g : ℕ) (r : Root) (copies : List ℕ) (old mid new : Image) (lt : app < 8)
-    (is : IsRoot r) (row_is : recovering old app ≡ takes g r copies) (same : mid ≡ old)
+    (is : IsRoot r) (row_is : recovery_at old app ≡ takes g r copies) (same : mid ≡ old)
     (spared : Spares (IsNoSlot (root_place app)) mid new)
     (held : IsAlone new (root_place app) g (root_text r)) where
   spared_since : Spares (IsNoSlot (root_place app)) old new
@@ -92,7 +92,7 @@ own_generation g text.absent = refl
 own_generation g (text.installed bank active previous) = refl
 
 module _ (shows : ShowsLaw) (image : Image) (app : ℕ) where
-  later_by : (row : Row) → IsRowOf image app row → IsLater (app_at image app) (after_row image app row)
+  later_by : (row : RootRow) → IsRowOf image app row → IsLater (app_at image app) (after_row image app row)
   later_by reads is = same_root refl refl
   later_by none_left is = same_root refl refl
   later_by (takes g root copies) is =
@@ -107,8 +107,8 @@ module _ (shows : ShowsLaw) (image : Image) (app : ℕ) where
       next_root (omega (arith, positive, none, counts))
 
   pub later : IsLater (app_at image app) (after_recovery image app)
-  later = subst (λ (a : App). IsLater (app_at image app) a) (sym (after_by image app (recovering image app) refl))
-      (later_by (recovering image app) (is_row shows image app))
+  later = subst (λ (a : App). IsLater (app_at image app) a) (sym (after_by image app (recovery_at image app) refl))
+      (later_by (recovery_at image app) (is_row shows image app))
 
 -- ---- looking
 
@@ -121,7 +121,7 @@ module _ (app : ℕ) (lt : app < 8) (still : StillAppLaw) (shows : ShowsLaw) (ol
   look_stands quiet clean c past = still app old.image (after_recovery old.image app) c lt clean
       (settled_on (IsFileOf app) ((idle quiet).during c past)) (later shows old.image app)
 
-  pub look_keeps : KeepsSettled app old new
+  pub look_keeps : RecoveryKeepsSynced app old new
   look_keeps = record {
     elsewhere = λ f aside. ap (λ (i : Image). i f) same;
     outside = look_outside;
@@ -129,7 +129,7 @@ module _ (app : ℕ) (lt : app < 8) (still : StillAppLaw) (shows : ShowsLaw) (ol
   }
 
 -- where nothing is taken the application is the same
-pub refused_ends : (app : ℕ) (row : Row) (old new : Image) → IsRefused row → recovering old app ≡ row → new ≡ old
+pub refused_ends : (app : ℕ) (row : RootRow) (old new : Image) → IsRefused row → recovery_at old app ≡ row → new ≡ old
     → IsRecovered app row old new
 refused_ends app row old new refused is same = record {
   row_is = sym is;
@@ -138,12 +138,12 @@ refused_ends app row old new refused is same = record {
   clean = λ was cleans. subst (λ (i : Image). IsCleanApp app i) (sym same) was;
 }
   where
-    unchanged : (row : Row) → IsRefused row → after_row old app row ≡ app_at old app
+    unchanged : (row : RootRow) → IsRefused row → after_row old app row ≡ app_at old app
     unchanged reads refused = refl
     unchanged none_left refused = refl
     unchanged (takes g root copies) refused = absurd refused
 
-    none_held : (row : Row) → IsRefused row → IsHeldByAll new app row
+    none_held : (row : RootRow) → IsRefused row → IsHeldByAll new app row
     none_held reads refused = tt
     none_held none_left refused = tt
     none_held (takes g root copies) refused = absurd refused
@@ -164,7 +164,7 @@ module _ (app : ℕ) (lt : app < 8) (told : Bool) (g : ℕ) (t : List ℕ) (old 
     puts_then quiet c past = subst (λ (i : Image). PutStops (root_place app) g t i c) same
         (puts tells (idle quiet).quiet c past)
 
-    pub taken_keeps : KeepsSettled app old new
+    pub taken_keeps : RecoveryKeepsSynced app old new
     taken_keeps = record {
       elsewhere = λ f aside. elsewhere f aside ∙ ap (λ (i : Image). i f) same;
       outside = λ quiet. goes_on (IsSettledOn (IsNoSlot (root_place app)) old.image) first next

@@ -14,20 +14,20 @@ use Rattle.deploy_laws.specs.Apps as says
 use Rattle.root_recovery.specs.declared.choosing.Choice.{Choice}
 use Rattle.root_recovery.specs.declared.recovering.Recovered.{Recovered}
 use Rattle.root_recovery.specs.declared.recovering.Recovery.TheVariants.{Taken}
-use Rattle.root_recovery.specs.Choices.{IsChoice, IsLeft, is_readable}
-use Rattle.root_recovery.specs.Recoveries.{Row, after_recovery, after_row, is_root_text, left_at, none_left, reads}
-use Rattle.root_recovery.specs.Recoveries.{recovering, row_by, row_of, takes, taking, taking_root}
+use Rattle.root_recovery.specs.Choices.{IsChoice, IsTakenOf, stands_as_root}
+use Rattle.root_recovery.specs.Recoveries.{RootRow, after_recovery, after_row, is_root_text, left_at, none_left, reads}
+use Rattle.root_recovery.specs.Recoveries.{recovery_at, recovery_by, row_answered, takes, taking, taking_root}
 use Rattle.root_recovery.proofs.Lefts.{left_is, recovering_is}
 
 -- ---- whether a root reads
 
 readable_by : (g : ℕ) (read : Option Root) (left : Option Seen) → is_some read ≡ true
-    → row_by (says_by g read) left ≡ reads
+    → recovery_by (says_by g read) left ≡ reads
 readable_by g None left e = absurd cc
 readable_by g (Some text.absent) left e = refl
 readable_by g (Some (text.installed bank active previous)) left e = refl
 
-readable_row : (stands left : Option Seen) → is_readable stands ≡ true → row_by (says_in stands) left ≡ reads
+readable_row : (stands left : Option Seen) → stands_as_root stands ≡ true → recovery_by (says_in stands) left ≡ reads
 readable_row None left e = absurd cc
 readable_row (Some seen) left e = readable_by seen.generation (root_of seen.text) left e
 
@@ -35,7 +35,7 @@ unread_by : (g : ℕ) (read : Option Root) → is_some read ≡ false → says_b
 unread_by g None e = refl
 unread_by g (Some root) e = absurd cc
 
-unread_says : (stands : Option Seen) → is_readable stands ≡ false → says_in stands ≡ says.nothing
+unread_says : (stands : Option Seen) → stands_as_root stands ≡ false → says_in stands ≡ says.nothing
 unread_says None e = refl
 unread_says (Some seen) e = unread_by seen.generation (root_of seen.text) e
 
@@ -50,27 +50,27 @@ module _ (among : AmongLaw) (image : Image) (app : ℕ) where
   unfolding says_at
   says_among = ap says_in (among image (root_place app) 2)
 
-  pub row_reads : is_readable (standing_in 2 (held image (root_place app))) ≡ true → recovering image app ≡ reads
-  row_reads e = recovering_is image app ∙ ap (λ (s : Says). row_by s (left_at image app)) says_among
+  pub row_reads : stands_as_root (standing_in 2 (held image (root_place app))) ≡ true → recovery_at image app ≡ reads
+  row_reads e = recovering_is image app ∙ ap (λ (s : Says). recovery_by s (left_at image app)) says_among
       ∙ readable_row (standing_in 2 (held image (root_place app))) (left_at image app) e
 
-  module _ (unread : is_readable (standing_in 2 (held image (root_place app))) ≡ false) where
+  module _ (unread : stands_as_root (standing_in 2 (held image (root_place app))) ≡ false) where
     pub says_nothing : says_at image app ≡ says.nothing
     says_nothing = says_among ∙ unread_says (standing_in 2 (held image (root_place app))) unread
 
-    row_taking : recovering image app ≡ taking (find is_root_text (held image (root_place app)))
-    row_taking = recovering_is image app ∙ ap (λ (s : Says). row_by s (left_at image app)) says_nothing
+    row_taking : recovery_at image app ≡ taking (find is_root_text (held image (root_place app)))
+    row_taking = recovering_is image app ∙ ap (λ (s : Says). recovery_by s (left_at image app)) says_nothing
         ∙ ap taking (left_is image app)
 
-    pub row_none : find is_root_text (held image (root_place app)) ≡ None → recovering image app ≡ none_left
+    pub row_none : find is_root_text (held image (root_place app)) ≡ None → recovery_at image app ≡ none_left
     row_none e = row_taking ∙ ap taking e
 
     pub row_takes : (seen : Seen) (root : Root) → find is_root_text (held image (root_place app)) ≡ Some seen
-        → root_of seen.text ≡ Some root → recovering image app ≡ takes seen.generation root seen.copies
+        → root_of seen.text ≡ Some root → recovery_at image app ≡ takes seen.generation root seen.copies
     row_takes seen root e said = row_taking ∙ ap taking e ∙ ap (taking_root seen) said
 
-    pub left_row : (seen : Seen) (recovered : Recovered) → IsLeft (held image (root_place app)) seen recovered
-        → takes seen.generation (root_said recovered.says) seen.copies ≡ row_of (Taken recovered)
+    pub left_row : (seen : Seen) (recovered : Recovered) → IsTakenOf (held image (root_place app)) seen recovered
+        → takes seen.generation (root_said recovered.says) seen.copies ≡ row_answered (Taken recovered)
     left_row seen recovered left =
         ap (λ (g : ℕ). takes g (root_said recovered.says) seen.copies) (sym left.counts)
         ∙ ap (takes recovered.generation (root_said recovered.says)) (sym left.copies_are)
@@ -85,10 +85,10 @@ choice_at place app image items texts found choice same are given is chosen =
 
 -- ---- the application afterwards
 
-after_is : (image : Image) (app : ℕ) → after_recovery image app ≡ after_row image app (recovering image app)
+after_is : (image : Image) (app : ℕ) → after_recovery image app ≡ after_row image app (recovery_at image app)
 unfolding after_recovery
 after_is image app = refl
 
-pub after_by : (image : Image) (app : ℕ) (row : Row) → recovering image app ≡ row
+pub after_by : (image : Image) (app : ℕ) (row : RootRow) → recovery_at image app ≡ row
     → after_recovery image app ≡ after_row image app row
 after_by image app row is = after_is image app ∙ ap (after_row image app) is

@@ -15,8 +15,8 @@ use Rattle.root_text.specs.RootText.{Root, root_of}
 use Rattle.deploy_laws.specs.Places.{root_place}
 use Rattle.deploy_laws.specs.Apps.{Says, says_at}
 use Rattle.deploy_laws.specs.Apps as says
-use Rattle.root_recovery.specs.Left.{HoldsRoot, IsLeftOf, IsRowOf}
-use Rattle.root_recovery.specs.Recoveries.{is_root_text, left_at, recovering, row_by, taking, taking_root}
+use Rattle.root_recovery.specs.Left.{HoldsRoot, IsRootLeft, IsRowOf}
+use Rattle.root_recovery.specs.Recoveries.{is_root_text, left_at, recovery_at, recovery_by, taking, taking_root}
 use Rattle.root_recovery.proofs.Finding.{IsFirst, find_first, find_none, first_is}
 
 -- of guarded_cell
@@ -27,8 +27,8 @@ pub left_is : (image : Image) (app : ℕ) → left_at image app ≡ find is_root
 unfolding left_at
 left_is image app = refl
 
-pub recovering_is : (image : Image) (app : ℕ) → recovering image app ≡ row_by (says_at image app) (left_at image app)
-unfolding recovering
+pub recovering_is : (image : Image) (app : ℕ) → recovery_at image app ≡ recovery_by (says_at image app) (left_at image app)
+unfolding recovery_at
 recovering_is image app = refl
 
 module _ (shows : ShowsLaw) (image : Image) (app : ℕ) where
@@ -161,7 +161,7 @@ module _ (shows : ShowsLaw) (image : Image) (app : ℕ) where
         (cases_lt first.at l.at)
 
     pub left_of : says_at image app ≡ says.nothing → (root : Root) → root_of seen.text ≡ Some root
-        → IsLeftOf image app seen.generation root seen.copies
+        → IsRootLeft image app seen.generation root seen.copies
     left_of nothing root said = record {
       nothing_said = nothing;
       text = seen.text;
@@ -187,10 +187,10 @@ module _ (shows : ShowsLaw) (image : Image) (app : ℕ) where
   row_by_left nothing None is = record { nothing_said = nothing; none = none_left is }
   row_by_left nothing (Some seen) is = row_by_text seen is nothing (root_of seen.text) refl
 
-  row_by_says : (s : Says) → says_at image app ≡ s → IsRowOf image app (row_by s (left_at image app))
+  row_by_says : (s : Says) → says_at image app ≡ s → IsRowOf image app (recovery_by s (left_at image app))
   row_by_says says.nothing is = row_by_left is (left_at image app) (sym (left_is image app))
   row_by_says (says.absent g) is = λ none. absurd cc
   row_by_says (says.installed g active previous) is = λ none. absurd cc
 
-  pub is_row : IsRowOf image app (recovering image app)
+  pub is_row : IsRowOf image app (recovery_at image app)
   is_row = subst (IsRowOf image app) (sym (recovering_is image app)) (row_by_says (says_at image app) refl)

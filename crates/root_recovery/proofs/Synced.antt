@@ -10,9 +10,9 @@ use Rattle.disk_model.specs.Place.{IsNoSlot}
 use Rattle.deploy_laws.specs.Apps.{IsCleanApp, app_at}
 use Rattle.deploy_laws.specs.Places.{root_place}
 use Rattle.deploy_laws.specs.Stands.{StandsCase}
-use Rattle.root_recovery.specs.Clauses.{AreCleanAfter, IsRecovered, KeepsSettled, LeavesAll, LeavesSettled}
+use Rattle.root_recovery.specs.Clauses.{AreCleanAfter, IsRecovered, RecoveryKeepsSynced, LeavesAll, LeavesSettled}
 use Rattle.root_recovery.specs.Clauses.{RecoveryKeeps}
-use Rattle.root_recovery.specs.Recoveries.{Row, after_recovery}
+use Rattle.root_recovery.specs.Recoveries.{RootRow, after_recovery}
 
 -- ---- a result that was tested
 
@@ -53,7 +53,7 @@ module _ (told : Bool) (old mid new : Medium) (law : IsLawful told mid) (time : 
       (λ at. inr (each c at))
       (cases_on time later c past)
 
-  pub then_ends : (app : ℕ) (row : Row) → IsRecovered app row mid.image new.image
+  pub then_ends : (app : ℕ) (row : RootRow) → IsRecovered app row mid.image new.image
       → IsRecovered app row old.image new.image
   then_ends app row ended = subst (λ (i : Image). IsRecovered app row i new.image) nothing.image ended
 
@@ -65,7 +65,7 @@ module _ (told : Bool) (old mid new : Medium) (law : IsLawful told mid) (time : 
         (behind (IsSettledAt mid.image) (leaves.idle quiet).during);
   }
 
-  pub then_keeps : (app : ℕ) → KeepsSettled app mid new → RecoveryKeeps app old new
+  pub then_keeps : (app : ℕ) → RecoveryKeepsSynced app mid new → RecoveryKeeps app old new
   then_keeps app keeps = record {
     elsewhere = λ f aside. keeps.elsewhere f aside ∙ ap (λ (i : Image). i f) nothing.image;
     outside = subst (λ (i : Image). EachCase (λ c. old.now c ⊎ IsSettledOn (IsNoSlot (root_place app)) i c) old new)

@@ -12,9 +12,9 @@ use Rattle.root_recovery.specs.declared.choosing.Choice.TheVariants.{Reads, None
 use Rattle.root_recovery.specs.Recoveries.{is_root_text}
 
 -- there is a text, and it says a root
-abbrev pub is_readable : Option Seen → Bool
-is_readable None = false
-is_readable (Some seen) = is_root_text seen
+abbrev pub stands_as_root : Option Seen → Bool
+stands_as_root None = false
+stands_as_root (Some seen) = is_root_text seen
 
 -- this root was read of the text
 pub record IsReadFrom (seen : Seen) (says : RootSays) : Type 0 where
@@ -22,18 +22,18 @@ pub record IsReadFrom (seen : Seen) (says : RootSays) : Type 0 where
   pub rules : IsRoot (root_said says)
   pub spelled : seen.text ≡ root_text (root_said says)
 
-abbrev pub seen_of : Bor Seen × RootSays → Seen
-seen_of found = found.0.now
+abbrev pub seen_taken : Bor Seen × RootSays → Seen
+seen_taken found = found.0.now
 
 -- it is the first of the texts that says a root, where two copies hold none, and gives this
-pub record IsLeft (seens : List Seen) (seen : Seen) (recovered : Recovered) : Type 0 where
-  pub unread : is_readable (standing_in 2 seens) ≡ false
+pub record IsTakenOf (seens : List Seen) (seen : Seen) (recovered : Recovered) : Type 0 where
+  pub unread : stands_as_root (standing_in 2 seens) ≡ false
   pub first : find is_root_text seens ≡ Some seen
   pub read : IsReadFrom seen recovered.says
   pub counts : recovered.generation ≡ seen.generation
   pub copies_are : recovered.copies ≡ seen.copies
 
 abbrev pub IsChoice : List Seen → Choice → Type 0
-IsChoice seens Reads = is_readable (standing_in 2 seens) ≡ Bool.true
-IsChoice seens NoneLeft = (is_readable (standing_in 2 seens) ≡ false) × (find is_root_text seens ≡ None)
-IsChoice seens (Takes seen recovered) = IsLeft seens seen.now recovered
+IsChoice seens Reads = stands_as_root (standing_in 2 seens) ≡ Bool.true
+IsChoice seens NoneLeft = (stands_as_root (standing_in 2 seens) ≡ false) × (find is_root_text seens ≡ None)
+IsChoice seens (Takes seen recovered) = IsTakenOf seens seen.now recovered

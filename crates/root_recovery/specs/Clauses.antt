@@ -8,16 +8,16 @@ use Rattle.disk_model.specs.Place.{IsNoSlot}
 use Rattle.deploy_laws.specs.Apps.{AreClean, IsCleanApp, app_at, shapes_named}
 use Rattle.deploy_laws.specs.Places.{root_place}
 use Rattle.deploy_laws.specs.Stands.{StandsCase, StandsThroughout}
-use Rattle.root_recovery.specs.Recoveries.{IsHeldByAll, Row, after_recovery, recovering}
+use Rattle.root_recovery.specs.Recoveries.{IsHeldByAll, RootRow, after_recovery, recovery_at}
 
 -- the places of the storages that the application has after a recovery are clean
 abbrev pub AreCleanAfter : Image → ℕ → Type 0
 AreCleanAfter image app = AreClean image (shapes_named app (after_recovery image app).says)
 
 -- A recovery that ended.
-pub record IsRecovered (app : ℕ) (row : Row) (old new : Image) : Type 0 where
+pub record IsRecovered (app : ℕ) (row : RootRow) (old new : Image) : Type 0 where
   -- which root was taken, or why none was; and the application afterwards
-  pub row_is : row ≡ recovering old app
+  pub row_is : row ≡ recovery_at old app
   pub world : app_at new app ≡ after_recovery old app
   -- a root that was taken is held by every copy, and no slot holds anything else
   pub held : IsHeldByAll new app row
@@ -40,7 +40,7 @@ pub record LeavesAll (old new : Medium) : Type 0 where
 
 -- ---- the same of the calls after the sync with which a recovery begins, where nothing is pending
 
-pub record KeepsSettled (app : ℕ) (old new : Medium) : Type 0 where
+pub record RecoveryKeepsSynced (app : ℕ) (old new : Medium) : Type 0 where
   pub elsewhere : Spares (IsNoSlot (root_place app)) old.image new.image
   pub outside : Quiet old → EachCase (IsSettledOn (IsNoSlot (root_place app)) old.image) old new
   pub stands : AreCleanAfter old.image app → StandsThroughout app (after_recovery old.image app) old new

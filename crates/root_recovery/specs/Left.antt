@@ -6,7 +6,7 @@ use Rattle.guarded_cell.specs.Register.{Holds}
 use Rattle.root_text.specs.RootText.{Root, root_of}
 use Rattle.deploy_laws.specs.Places.{root_place}
 use Rattle.deploy_laws.specs.Apps.{nothing, says_at}
-use Rattle.root_recovery.specs.Recoveries.{Row, reads, none_left, takes}
+use Rattle.root_recovery.specs.Recoveries.{RootRow, reads, none_left, takes}
 
 -- a copy holds, under this generation, a text that says a root
 pub record HoldsRoot (image : Image) (app copy generation : ℕ) (text : List ℕ) : Type 0 where
@@ -21,7 +21,7 @@ pub record NoneIsLeft (image : Image) (app : ℕ) : Type 0 where
   pub none : (copy generation : ℕ) (text : List ℕ) → ¬ (HoldsRoot image app copy generation text)
 
 -- the root says nothing, and this one is left of it, which these copies hold
-pub record IsLeftOf (image : Image) (app generation : ℕ) (root : Root) (copies : List ℕ) : Type 0 where
+pub record IsRootLeft (image : Image) (app generation : ℕ) (root : Root) (copies : List ℕ) : Type 0 where
   pub nothing_said : says_at image app ≡ nothing
   pub text : List ℕ
   pub said : root_of text ≡ Some root
@@ -33,11 +33,11 @@ pub record IsLeftOf (image : Image) (app generation : ℕ) (root : Root) (copies
   pub lowest : (copy : ℕ) (other : List ℕ) → HoldsRoot image app copy generation other → ¬ (other ≡ text)
       → (lower : ℕ) × (lower < copy) × Holds image (root_place app) lower generation text
 
-abbrev pub IsRowOf : Image → ℕ → Row → Type 0
+abbrev pub IsRowOf : Image → ℕ → RootRow → Type 0
 IsRowOf image app reads = ¬ (says_at image app ≡ nothing)
 IsRowOf image app none_left = NoneIsLeft image app
-IsRowOf image app (takes g root copies) = IsLeftOf image app g root copies
+IsRowOf image app (takes g root copies) = IsRootLeft image app g root copies
 
 -- so it is of every image
-abbrev pub RowLaw : (Image → ℕ → Row) → Type 0
+abbrev pub RowLaw : (Image → ℕ → RootRow) → Type 0
 RowLaw row = (image : Image) (app : ℕ) → IsRowOf image app (row image app)

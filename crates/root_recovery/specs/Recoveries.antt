@@ -15,10 +15,10 @@ use Rattle.root_recovery.specs.declared.recovering.Recovery.TheVariants.{Reads, 
 
 -- the root reads; or no copy holds one; or this one is taken, under its generation, of the copies that hold it, counted
 -- from 1
-pub data Row : Type 0 where
-  reads : Row
-  none_left : Row
-  takes : (generation : ℕ) (root : Root) (copies : List ℕ) → Row
+pub data RootRow : Type 0 where
+  reads : RootRow
+  none_left : RootRow
+  takes : (generation : ℕ) (root : Root) (copies : List ℕ) → RootRow
 
 -- ---- what is left of a root
 
@@ -31,48 +31,48 @@ is_root_text seen = is_some (root_of seen.text)
 unfoldable pub left_at : Image → ℕ → Option Seen
 left_at image app = find is_root_text (held image (root_place app))
 
-abbrev pub taking_root : Seen → Option Root → Row
+abbrev pub taking_root : Seen → Option Root → RootRow
 taking_root seen None = none_left
 taking_root seen (Some root) = takes seen.generation root seen.copies
 
-abbrev pub taking : Option Seen → Row
+abbrev pub taking : Option Seen → RootRow
 taking None = none_left
 taking (Some seen) = taking_root seen (root_of seen.text)
 
 -- ---- a recovery
 
 -- only a root that says nothing is recovered
-abbrev pub row_by : Says → Option Seen → Row
-row_by says.nothing left = taking left
-row_by (says.absent g) left = reads
-row_by (says.installed g active previous) left = reads
+abbrev pub recovery_by : Says → Option Seen → RootRow
+recovery_by says.nothing left = taking left
+recovery_by (says.absent g) left = reads
+recovery_by (says.installed g active previous) left = reads
 
-unfoldable pub recovering : Image → ℕ → Row
-recovering image app = row_by (says_at image app) (left_at image app)
+unfoldable pub recovery_at : Image → ℕ → RootRow
+recovery_at image app = recovery_by (says_at image app) (left_at image app)
 
-abbrev pub after_row : Image → ℕ → Row → App
+abbrev pub after_row : Image → ℕ → RootRow → App
 after_row image app reads = app_at image app
 after_row image app none_left = app_at image app
 after_row image app (takes g root copies) = app_saying image app (says_by g (Some root))
 
 -- the application afterwards: as the root says that was taken, its storages as they were; else the same
 unfoldable pub after_recovery : Image → ℕ → App
-after_recovery image app = after_row image app (recovering image app)
+after_recovery image app = after_row image app (recovery_at image app)
 
 -- ---- what is answered
 
-abbrev pub row_of : Recovery → Row
-row_of Reads = reads
-row_of NoneLeft = none_left
-row_of (Taken recovered) = takes recovered.generation (root_said recovered.says) recovered.copies
+abbrev pub row_answered : Recovery → RootRow
+row_answered Reads = reads
+row_answered NoneLeft = none_left
+row_answered (Taken recovered) = takes recovered.generation (root_said recovered.says) recovered.copies
 
-abbrev pub IsRefused : Row → Type 0
+abbrev pub IsRefused : RootRow → Type 0
 IsRefused reads = ⊤
 IsRefused none_left = ⊤
 IsRefused (takes g root copies) = ⊥
 
 -- a root that was taken is held by every copy, and no slot holds anything else
-abbrev pub IsHeldByAll : Image → ℕ → Row → Type 0
+abbrev pub IsHeldByAll : Image → ℕ → RootRow → Type 0
 IsHeldByAll image app reads = ⊤
 IsHeldByAll image app none_left = ⊤
 IsHeldByAll image app (takes g root copies) = IsAlone image (root_place app) g (root_text root)

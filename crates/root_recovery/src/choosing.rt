@@ -4,7 +4,7 @@ ghost use Rattle.std.specs.Prelude.{◌≡◌, IfOk, IfSome, IsErrOf, find, nat_
 ghost use Rattle.guarded_cell.specs.Held.{standing_in};
 ghost use Rattle.root_text.specs.RootText.{root_of};
 ghost use Rattle.root_text.specs.Views.{root_said};
-ghost use Rattle.root_recovery.specs.Choices.{IsChoice, IsReadFrom, is_readable, seen_of};
+ghost use Rattle.root_recovery.specs.Choices.{IsChoice, IsReadFrom, seen_taken, stands_as_root};
 ghost use Rattle.root_recovery.specs.Recoveries.{is_root_text};
 
 use crate::errors::RecoveryError;
@@ -51,7 +51,7 @@ pub(crate) fn choose(alloc: Global, seens: &[Seen]) -> Result<Choice, RecoveryEr
 
 // Whether the text that two copies hold says a root.
 fn reads(alloc: Global, seens: &[Seen]) -> Result<bool, RecoveryError>
-    ensures reads { IfOk result (λ reads. reads ≡ is_readable (standing_in 2 seens.now)) }
+    ensures reads { IfOk result (λ reads. reads ≡ stands_as_root (standing_in 2 seens.now)) }
     ensures memory { ¬ (IsErrOf result RecoveryError.Device) }
 {
     match first_of_two(seens) {
@@ -79,7 +79,7 @@ fn is_enough(seen: &Seen) -> bool
 
 // The first of the texts that says a root, and the root.
 fn first_root(alloc: Global, seens: &[Seen]) -> Result<Option<(&Seen, RootSays)>, RecoveryError>
-    ensures first { IfOk result (λ found. option_map seen_of found ≡ find is_root_text seens.now) }
+    ensures first { IfOk result (λ found. option_map seen_taken found ≡ find is_root_text seens.now) }
     ensures read { IfOk result (λ found. IfSome found (λ f. IsReadFrom f.0.now f.1)) }
     ensures memory { ¬ (IsErrOf result RecoveryError.Device) }
 {

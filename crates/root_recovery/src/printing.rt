@@ -2,7 +2,7 @@
 
 ghost use Rattle.std.specs.Prelude.{◌≡◌, ◌++◌, IfOk, OnOk, string_bytes};
 ghost use Rattle.root_text.specs.Views.{root_said};
-ghost use Rattle.root_recovery.specs.Recoveries.{row_of, takes};
+ghost use Rattle.root_recovery.specs.Recoveries.{row_answered, takes};
 ghost use Rattle.root_recovery.specs.Texts.{recovery_text, root_words};
 
 use crate::recovering::{Recovered, Recovery};
@@ -16,7 +16,7 @@ impl Recovery {
     /// and the versions that it names, or `absent`; or `refused readable`; or `refused none-left`.
     #[tactic(auto, unfolding(crate::specs::Texts::recovery_text))]
     pub fn text(&self, alloc: Global) -> Result<Vec<u8>, AllocError>
-        ensures { IfOk result (λ text. text.items ≡ recovery_text (row_of self.now)) }
+        ensures { IfOk result (λ text. text.items ≡ recovery_text (row_answered self.now)) }
     {
         let mut text = String::new(alloc);
         match self {

@@ -10,8 +10,9 @@ ghost use Rattle.guarded_cell.specs.Seens.{IsSealable, IsSeenOn};
 ghost use Rattle.guarded_cell.specs.Slots.{IsSlotsOf};
 ghost use Rattle.guarded_cell.specs.Stops.{PutStops};
 ghost use Rattle.deploy_laws.specs.Places.{root_place};
-ghost use Rattle.root_recovery.specs.Clauses.{IsRecovered, KeepsSettled, LeavesAll, LeavesSettled, RecoveryKeeps};
-ghost use Rattle.root_recovery.specs.Recoveries.{IsRefused, most_written, row_of};
+ghost use Rattle.root_recovery.specs.Clauses.{IsRecovered, LeavesAll, LeavesSettled, RecoveryKeeps};
+ghost use Rattle.root_recovery.specs.Clauses.{RecoveryKeepsSynced};
+ghost use Rattle.root_recovery.specs.Recoveries.{IsRefused, most_written, row_answered};
 
 use crate::choosing::{Choice, choose};
 use crate::errors::RecoveryError;
@@ -59,8 +60,8 @@ pub fn recover_root<D: Disk>(
 ) -> Result<Recovery, RecoveryError>
     requires { app < 8 }
     ensures ended { IsTrue D.told → IfOk result (λ recovery.
-        IsRecovered app (row_of recovery) (D.medium disk.old).image (D.medium disk.new).image) }
-    ensures refused { IfOk result (λ recovery. IsRefused (row_of recovery)
+        IsRecovered app (row_answered recovery) (D.medium disk.old).image (D.medium disk.new).image) }
+    ensures refused { IfOk result (λ recovery. IsRefused (row_answered recovery)
         → LeavesAll (D.medium disk.old) (D.medium disk.new)) }
     ensures memory { IsErrOf result RecoveryError.OutOfMemory
         → ((D.medium disk.new).image ≡ (D.medium disk.old).image)
@@ -83,8 +84,8 @@ pub fn recover_root<D: Disk>(
 fn recover_synced<D: Disk>(alloc: Global, disk: &mut D, app: u32) -> Result<Recovery, RecoveryError>
     requires { app < 8 }
     ensures ended { IsTrue D.told → IfOk result (λ recovery.
-        IsRecovered app (row_of recovery) (D.medium disk.old).image (D.medium disk.new).image) }
-    ensures refused { IfOk result (λ recovery. IsRefused (row_of recovery)
+        IsRecovered app (row_answered recovery) (D.medium disk.old).image (D.medium disk.new).image) }
+    ensures refused { IfOk result (λ recovery. IsRefused (row_answered recovery)
         → LeavesSettled (D.medium disk.old) (D.medium disk.new)) }
     ensures memory { IsErrOf result RecoveryError.OutOfMemory
         → ((D.medium disk.new).image ≡ (D.medium disk.old).image)
@@ -93,7 +94,7 @@ fn recover_synced<D: Disk>(alloc: Global, disk: &mut D, app: u32) -> Result<Reco
     ensures cause { IsErrOf result RecoveryError.Device → Rose (D.medium disk.old).faults (D.medium disk.new).faults }
     ensures passes { OnOk result ((D.medium disk.new).faults ≡ (D.medium disk.old).faults) }
     ensures fed { IsErrOf result RecoveryError.OutOfMemory → (D.medium disk.new).faults ≡ (D.medium disk.old).faults }
-    ensures keeps { IsTrue D.told → KeepsSettled app (D.medium disk.old) (D.medium disk.new) }
+    ensures keeps { IsTrue D.told → RecoveryKeepsSynced app (D.medium disk.old) (D.medium disk.new) }
     ensures written { (D.medium disk.new).written ≤ (D.medium disk.old).written + most_written }
     ensures time { Elapses (D.medium disk.old) (D.medium disk.new) }
 {

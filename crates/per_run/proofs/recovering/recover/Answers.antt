@@ -1,6 +1,6 @@
 -- The root is recovered, and what is written is which was taken, or why none was; or the disk failed, or memory ran out.
 use Rattle.std.proofs.Common.{Err, ap, arith, inl, inr, refl, ◌∙◌}
-use Rattle.root_recovery.specs.Recoveries.{IsRefused, row_of}
+use Rattle.root_recovery.specs.Recoveries.{IsRefused, row_answered}
 use Rattle.root_recovery.specs.Texts.{recovery_text}
 use Rattle.per_run.specs.declared.words.JobKind.TheVariants.{RecoverRoot}
 use Rattle.per_run.specs.Jobs.{by_disk}
@@ -10,12 +10,12 @@ use Rattle.per_run.proofs.recovering.recover.Goals as goal
 
 pub returns-in-Ok-clause-job : goal.returns-in-Ok-clause-job
 returns-in-Ok-clause-job g c = record {
-  row = row_of c.in-Ok.recovery;
+  row = row_answered c.in-Ok.recovery;
   ended = λ tells came. c.in-Ok.ensures.ended tells;
-  output = c.write_made_output.ensures.output (recovery_text (row_of c.in-Ok.recovery)) c.text.ensures;
-  done = recovered_as (¬ (IsRefused (row_of c.in-Ok.recovery))) c.write_made_output.result c.verdict.result 0 _
+  output = c.write_made_output.ensures.output (recovery_text (row_answered c.in-Ok.recovery)) c.text.ensures;
+  done = recovered_as (¬ (IsRefused (row_answered c.in-Ok.recovery))) c.write_made_output.result c.verdict.result 0 _
       c.verdict.ensures.done (λ e. omega (arith, e)) (λ e. omega (arith, e)) c.write_made_output.ensures.status;
-  refused = recovered_as (IsRefused (row_of c.in-Ok.recovery)) c.write_made_output.result c.verdict.result 9 _
+  refused = recovered_as (IsRefused (row_answered c.in-Ok.recovery)) c.write_made_output.result c.verdict.result 9 _
       c.verdict.ensures.refused (λ e. omega (arith, e)) (λ e. omega (arith, e)) c.write_made_output.ensures.status;
   stays = λ came refused. let leaves = c.in-Ok.ensures.refused refused in
       record { image = leaves.image; written = leaves.written; during = leaves.during };

@@ -1,7 +1,7 @@
 use Rattle.std.proofs.Common.{◌∙◌, sym}
 use Rattle.disk_model.specs.Laws.{elapses_on, rose_before}
 use Rattle.root_recovery.specs.Clauses.{IsRecovered, LeavesAll, LeavesSettled}
-use Rattle.root_recovery.specs.Recoveries.{IsRefused, row_of}
+use Rattle.root_recovery.specs.Recoveries.{IsRefused, row_answered}
 use Rattle.root_recovery.proofs.Synced.{each_ok, on_err, on_ok, passes_on, then_ends, then_keeps, then_leaves}
 use Rattle.root_recovery.proofs.Synced.{unsynced_keeps}
 use Rattle.root_recovery.proofs.recovering.recover_root.Goals as goal
@@ -20,11 +20,11 @@ returns-clause-ended g c = λ tells.
     let old = g.D.Disk.medium c.args.disk.now in
     let mid = g.D.Disk.medium c.sync.new.self in
     let new = g.D.Disk.medium c.recover_synced.new.disk in
-    each_ok (λ recovery. IsRecovered c.args.app (row_of recovery) mid.image new.image)
-    (λ recovery. IsRecovered c.args.app (row_of recovery) old.image new.image) c.recover_synced.result
+    each_ok (λ recovery. IsRecovered c.args.app (row_answered recovery) mid.image new.image)
+    (λ recovery. IsRecovered c.args.app (row_answered recovery) old.image new.image) c.recover_synced.result
     (λ recovery. then_ends g.D.Disk.told old mid new (g.met.D.Disk.lawful c.sync.new.self) c.sync.ensures.time
     c.sync.ensures.writes_nothing (on_ok c.sync.result (sym c.if-is_err.ensures.value) c.sync.ensures.quiet)
-    c.recover_synced.ensures.time c.args.app (row_of recovery))
+    c.recover_synced.ensures.time c.args.app (row_answered recovery))
     (c.recover_synced.ensures.ended tells)
 
 pub returns-clause-refused : goal.returns-clause-refused
@@ -32,8 +32,8 @@ returns-clause-refused g c =
     let old = g.D.Disk.medium c.args.disk.now in
     let mid = g.D.Disk.medium c.sync.new.self in
     let new = g.D.Disk.medium c.recover_synced.new.disk in
-    each_ok (λ recovery. IsRefused (row_of recovery) → LeavesSettled mid new)
-    (λ recovery. IsRefused (row_of recovery) → LeavesAll old new) c.recover_synced.result
+    each_ok (λ recovery. IsRefused (row_answered recovery) → LeavesSettled mid new)
+    (λ recovery. IsRefused (row_answered recovery) → LeavesAll old new) c.recover_synced.result
     (λ recovery given refused. then_leaves g.D.Disk.told old mid new (g.met.D.Disk.lawful c.sync.new.self)
     c.sync.ensures.time c.sync.ensures.writes_nothing
     (on_ok c.sync.result (sym c.if-is_err.ensures.value) c.sync.ensures.quiet) c.recover_synced.ensures.time

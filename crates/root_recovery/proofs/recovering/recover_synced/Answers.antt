@@ -7,7 +7,7 @@ use Rattle.deploy_laws.specs.Places.{root_place}
 use Rattle.root_recovery.specs.Choices.{IsChoice}
 use Rattle.root_recovery.specs.Clauses.{IsRecovered}
 use Rattle.root_recovery.specs.declared.choosing.Choice.TheVariants.{Reads, NoneLeft, Takes}
-use Rattle.root_recovery.specs.Recoveries.{Row, is_root_text, none_left, reads, takes}
+use Rattle.root_recovery.specs.Recoveries.{RootRow, is_root_text, none_left, reads, takes}
 use Rattle.root_recovery.proofs.Afterwards.{look_keeps, refused_ends, taken_ends, taken_keeps}
 use Rattle.root_recovery.proofs.Chosen.{after_by, choice_at, left_row, row_none, row_reads, row_takes, says_nothing}
 use Rattle.root_recovery.proofs.Finding.{find_first, first_is}
@@ -103,7 +103,7 @@ returns-clause-ended g c = λ tells.
     (c.in_ok-seens.ensures.held tells) c.deref.ensures.value c.in-Takes.is c.in_ok-choose.ensures.choice in
     let seen = c.in-Takes.seen.now in
     let root = root_said c.in-Takes.recovered.says in
-    subst (λ (row : Row). IsRecovered c.args.app row old new)
+    subst (λ (row : RootRow). IsRecovered c.args.app row old new)
     (left_row c.held_is_lawful.ensures.among old c.args.app left.unread seen c.in-Takes.recovered left)
     (taken_ends c.one_root.ensures.again c.roots_say.ensures.alone c.roots_say.ensures.versions
     c.files_lie_apart.ensures.slots c.others_stand.ensures.root c.roots_say.ensures.clean c.args.app seen.generation
