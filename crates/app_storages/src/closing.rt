@@ -9,7 +9,7 @@ ghost use Rattle.app_storages.specs.Slots.{IsResting};
 use crate::finding::find;
 use crate::laws::storages_stand;
 use crate::replying::{answered, refusal};
-use crate::slots::Slots;
+use crate::slots::OpenSlots;
 use command_text::{Answer, Reply, errors_have_texts};
 use deploy::{Root, Stop};
 use disk_model::Disk;
@@ -17,7 +17,7 @@ use open_storages::Closing;
 use per_base::{Name, PerError};
 use std::alloc::Global;
 
-impl Slots {
+impl OpenSlots {
     /// Closes an open storage of an application at rest: what is pending of keys is dropped, and the working files are
     /// made durable.
     ///

@@ -37,8 +37,15 @@ place_at first copies = record {
 abbrev pub first_file : ℕ → ℕ
 first_file app = 4096 * app
 
+-- the copies of a root, and how many of them must agree
+abbrev pub copies_of_root : ℕ
+copies_of_root = 3
+
+abbrev pub agreeing_of_root : ℕ
+agreeing_of_root = 2
+
 abbrev pub root_place : ℕ → Place
-root_place app = place_at (first_file app) 3
+root_place app = place_at (first_file app) copies_of_root
 
 -- the first file of storage `number` of a bank
 abbrev pub storage_file : (app bank number : ℕ) → ℕ

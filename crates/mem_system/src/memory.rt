@@ -164,7 +164,7 @@ impl MemSystem {
 impl System for MemSystem {
     ghost use Rattle.std.specs.Prelude.{false};
     ghost use Rattle.disk_model.specs.Silence.{silent_is_lawful};
-    ghost use Rattle.system_model.specs.Untold.{untold};
+    ghost use Rattle.system_model.specs.Unmodelled.{unmodelled};
 
     type File = MemFile;
 
@@ -172,7 +172,7 @@ impl System for MemSystem {
 
     ghost told = { false };
 
-    ghost medium = { λ _. untold };
+    ghost medium = { λ _. unmodelled };
 
     ghost lawful = { λ _. silent_is_lawful 0 };
 

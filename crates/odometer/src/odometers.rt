@@ -39,9 +39,9 @@ impl<D: Disk + Drop> Model for Odometer<D> {
     ghost use Rattle.std.specs.Prelude.{◌≡◌, IfSome};
     ghost use Rattle.std.specs.Coded.{codes};
     ghost use Rattle.value_model.specs.Codes.{kind_code};
-    ghost use Rattle.odometer.specs.Odometers.{HasTotal, Seen};
+    ghost use Rattle.odometer.specs.Odometers.{HasTotal, SeenOdometer};
 
-    ghost Value = { Seen D };
+    ghost Value = { SeenOdometer D };
 
     ghost coded = { Prim.hlevel (codes, kind_code) };
 

@@ -1,6 +1,7 @@
 -- What the streams in memory know of themselves: a source with the bytes that are left, a sink with the bytes that it
--- took.
-use Rattle.std.specs.Prelude.{◌≡◌, ℕ, List, Bool, IsTrue, IsFalse, nat_eq}
+-- took. And what is written of a text where its sink fails.
+use Rattle.std.specs.Prelude.{◌≡◌, ◌<◌, ℕ, List, length, take, Option, Bool, IsTrue, IsFalse, nat_eq}
+use Rattle.std.specs.Io.KnownBytes.{Appends}
 use Rattle.std.specs.List.{list_any}
 use Rattle.per_base.specs.Causes.{raised}
 
@@ -23,6 +24,10 @@ pub record SinkState : Type 0 where
   pub faults : ℕ
   -- how often memory ran out for the bytes
   pub starved : ℕ
+
+-- a proper prefix of the text was written
+abbrev pub WroteProperPrefix : (before now : Option (List ℕ)) → List ℕ → Type 0
+WroteProperPrefix before now text = (count : ℕ) × (count < length text) × Appends before now (take count text)
 
 -- whether the plan lets the call of this number fail
 abbrev pub is_failing : List ℕ → ℕ → Bool

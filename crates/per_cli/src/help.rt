@@ -16,16 +16,16 @@ power loss, lost copies and updates.
                                 of lines; a bad one is answered and passed over;
                                 a last one without its line feed is dropped; an
                                 empty folder is made ready first
-  ./per --generate N --dir DIR  formats, and handles a large input that is made
-                                from N, 1 to 100000
+  ./per --generate N --dir DIR  formats, and handles a synthetic workload from
+                                N, 1 to 100000
   ./per --audit --dir DIR       lists what is kept, and what is damaged or lost;
                                 mends nothing
   ./per --export A:S --dir DIR  writes storage S of application A, 0 to 7, as
                                 one text; mends nothing
-  ./per --import A:S --dir DIR  makes that storage anew of such a text on
+  ./per --import A:S --dir DIR  rebuilds that storage from such a text on
                                 standard input, whole or not at all
   ./per --flash N --dir DIR     the same as without --flash, in one file of the
-                                folder that stands for raw flash of N blocks,
+                                folder that serves as raw flash of N blocks,
                                 4 to 4096; beside each of the words above
   ./per --demo                  shows a first session, in a folder of its own
   ./per --help                  shows this, also beside other words
@@ -140,7 +140,7 @@ const ENDINGS: &str = "Errors
  15 InvalidSize
  20 NotInstalled
  21 AlreadyInstalled
- 22 ManifestRejected         the first broken rule; docs/FORMATS.md lists them
+ 22 ManifestRejected         the first violated rule; docs/FORMATS.md lists them
  23 NoPreviousVersion
  24 NotOpen
  25 LimitReached             elements, handles, file-bytes, value-bytes,
@@ -153,7 +153,7 @@ const ENDINGS: &str = "Errors
 
 Status
   0 all lines were handled and answered, or the job was done
-  1 the words are refused, also a number of blocks outside 4 to 4096
+  1 the arguments are invalid, also a number of blocks outside 4 to 4096
   2 a line is outside the grammar; bad-line and its number are the last reply;
     not with --serve
   3 the disk failed while the program started or formatted, in an audit, an

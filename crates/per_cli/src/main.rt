@@ -7,10 +7,10 @@
 //!
 //! Where a run did not end well, one line on standard error says why ([`causes`]). Main itself ends with 4 where memory
 //! runs out before the top call, with 6 where a standard stream that was closed cannot be filled, and with 12 where the
-//! system does not give the words; help and the demo also with 6 where the output fails, and the demo with 3 where its
-//! folder cannot be made; a call by itself with 1 where its words are refused, with 3 where the device failed in it,
-//! with 5 where what it takes cannot be read, and with 9 where it was refused. The status is 3 or 11 too where the file
-//! of a flash cannot be looked at, or has more bytes than its blocks.
+//! system does not give the arguments; help and the demo also with 6 where the output fails, and the demo with 3 where
+//! its folder cannot be made; a call by itself with 1 where its arguments are invalid, with 3 where the device failed
+//! in it, with 5 where what it takes cannot be read, and with 9 where it was refused. The status is 3 or 11 too where
+//! the file of a flash cannot be looked at, or has more bytes than its blocks.
 //!
 //! At a terminal the lines of a run are asked for ([`asking`]).
 #![tactic(auto)]

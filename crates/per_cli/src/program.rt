@@ -12,7 +12,7 @@ use number_converters::{WithConverters, with_converters};
 use per_base::{Sink, Source};
 use per_run::{FlashRun, JobKind, WordsError, per_flash, per_run, read_words};
 use per_system::{
-    Access, Content, HostSystem, Noted, NotedFlash, Notes, StdSink, StdSource, holds_only_others,
+    Access, DeviceKind, HostSystem, Noted, NotedFlash, Notes, StdSink, StdSource, holds_only_others,
 };
 use per_words::unknown_in;
 use std::alloc::{AllocError, Global};
@@ -136,8 +136,8 @@ fn run_noting<'a, R: Files<File = File> + Eprint, I: Read + Drop, O: Write + Dro
         otherwise: target.flash.map(|_| Fault::Full),
         output,
     });
-    let content = content_of(target);
-    let outcome = match HostSystem::hold(rt, alloc, dir, content, target.access) {
+    let kind = device_kind_of(target);
+    let outcome = match HostSystem::hold(rt, alloc, dir, kind, target.access) {
         Ok(system) => run_over(
             alloc,
             words,
@@ -166,10 +166,10 @@ fn run_noting<'a, R: Files<File = File> + Eprint, I: Read + Drop, O: Write + Dro
 }
 
 /// What the folder holds.
-fn content_of(target: &Target) -> Content {
+fn device_kind_of(target: &Target) -> DeviceKind {
     match target.flash {
-        Some(_) => Content::Flash,
-        None => Content::Disk,
+        Some(_) => DeviceKind::Flash,
+        None => DeviceKind::Disk,
     }
 }
 
@@ -178,7 +178,7 @@ fn content_of(target: &Target) -> Content {
 fn is_foreign<R: Files<File = File>>(rt: &R, alloc: Global, target: &Target) -> bool {
     target.formats_blank
         && matches!(
-            holds_only_others(rt, alloc, target.dir.as_str(), content_of(target)),
+            holds_only_others(rt, alloc, target.dir.as_str(), device_kind_of(target)),
             Ok(true)
         )
 }

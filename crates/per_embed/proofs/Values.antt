@@ -7,7 +7,7 @@ use Rattle.disk_model.specs.Medium.{Medium}
 use Rattle.value_model.specs.Kinds.{Kind}
 use Rattle.value_model.specs.Trees.{Tree}
 use Rattle.element_state.specs.States.{Opens}
-use Rattle.element_store.specs.Stores.{shape_of}
+use Rattle.element_store.specs.Stores.{store_shape}
 use Rattle.element_maps.specs.Storages.{IsStoring}
 use Rattle.kvs_store.specs.Storages.{KvsSession}
 use Rattle.kvs_store.specs.Synced.{synced_view}
@@ -28,7 +28,7 @@ opens_with told m kvs name kind value tells is has = record {
 
 pub keeps_values : SyncLaw → (told : Bool) (storage : Option KvsSession) (old new : Medium)
     → IfSome storage (IsOpenOn told old)
-    → IfSome storage (λ kvs. IsStoring told (shape_of kvs.store) (Opens (synced_view kvs) []) old new) → IsTrue told
+    → IfSome storage (λ kvs. IsStoring told (store_shape kvs.store) (Opens (synced_view kvs) []) old new) → IsTrue told
     → IfSome storage (λ kvs. KeepsValues kvs old new)
 keeps_values sync told None old new is storing tells = tt
 keeps_values sync told (Some kvs) old new is storing tells = λ name kind before after was shows clean c since.
@@ -38,7 +38,7 @@ keeps_values sync told (Some kvs) old new is storing tells = λ name kind before
 reads_so : ReadsLaw → (told : Bool) (storage : Option KvsSession) (m : Medium) (name : List ℕ) (kind : Kind)
     (value : Tree) → IfSome storage (IsOpenOn told m)
     → IsSomeAnd storage (λ kvs. HasValue (asked_of kvs name kind) kvs.session.visible value) → IsTrue told
-    → IfSome storage (λ kvs. IsSaved kvs → ReadsAs (asked_of kvs name kind) (shape_of kvs.store) value m.image)
+    → IfSome storage (λ kvs. IsSaved kvs → ReadsAs (asked_of kvs name kind) (store_shape kvs.store) value m.image)
 reads_so reads told None m name kind value is has tells = tt
 reads_so reads told (Some kvs) m name kind value is has tells = λ saved.
     reads (asked_of kvs name kind) m.image kvs value (opens_with told m kvs name kind value tells is
@@ -49,7 +49,7 @@ pub reads_got : {A : Type 0} (tree : A → Tree) (reads : ReadsLaw) (told : Bool
     → IfOk result (λ thing. IsSomeAnd storage (λ kvs.
     HasValue (asked_of kvs name kind) kvs.session.visible (tree thing)))
     → IfOk result (λ thing. IsTrue told → IfSome storage (λ kvs. IsSaved kvs
-    → ReadsAs (asked_of kvs name kind) (shape_of kvs.store) (tree thing) m.image))
+    → ReadsAs (asked_of kvs name kind) (store_shape kvs.store) (tree thing) m.image))
 reads_got tree reads told storage m name kind (Ok thing) is has = λ tells.
     reads_so reads told storage m name kind (tree thing) is has tells
 reads_got tree reads told storage m name kind (Err error) is has = tt

@@ -4,9 +4,9 @@ use Rattle.per_base.specs.declared.reports.Report.{Report}
 use Rattle.disk_model.specs.Medium.{Medium, Quiet}
 use Rattle.value_model.specs.Kinds.{Kind}
 use Rattle.value_model.specs.Trees.{Tree}
-use Rattle.element_store.specs.Stores.{IsUsed, shape_of, view_in}
+use Rattle.element_store.specs.Stores.{IsUsed, store_shape, view_in}
 use Rattle.kvs_store.specs.Storages.{KvsSession, keys_in}
-use Rattle.kvs_laws.specs.Values.{Asked, HasValue, ValueThroughout}
+use Rattle.kvs_laws.specs.Values.{AskedKey, HasValue, ValueThroughout}
 
 -- its disk, what is open on it, and what the opening reported
 pub record OwnedKeys (D : Type 0) : Type 0 where
@@ -21,7 +21,7 @@ pub record IsOpenOn (told : Bool) (m : Medium) (kvs : KvsSession) : Type 0 where
   pub quiet : Quiet m
 
 -- a key of the storage, asked for by a type
-abbrev pub asked_of : KvsSession → List ℕ → Kind → Asked
+abbrev pub asked_of : KvsSession → List ℕ → Kind → AskedKey
 asked_of kvs name kind = record { config = kvs.config; name = name; kind = kind }
 
 -- the calls see what is synchronised
@@ -34,4 +34,4 @@ abbrev pub KeepsValues : KvsSession → (old new : Medium) → Type 0
 KeepsValues kvs old new = (name : List ℕ) (kind : Kind) (before after : Tree)
     → HasValue (asked_of kvs name kind) kvs.session.synced before
     → HasValue (asked_of kvs name kind) kvs.session.visible after
-    → ValueThroughout (asked_of kvs name kind) (shape_of kvs.store) (view_in kvs.store).lacking before after old new
+    → ValueThroughout (asked_of kvs name kind) (store_shape kvs.store) (view_in kvs.store).lacking before after old new

@@ -2,7 +2,7 @@
 
 use folder_disk::FolderDisk;
 use per_base::PerError;
-use per_system::{Access, Content, HostSystem};
+use per_system::{Access, DeviceKind, HostSystem};
 use std::alloc::Global;
 use std::fs::File;
 use std::rt::Files;
@@ -22,7 +22,7 @@ pub fn open_folder<'a, R: Files<File = File>>(
     let Ok(folder) = String::from_str(alloc, folder) else {
         return Err(PerError::OutOfMemory);
     };
-    let Ok(system) = HostSystem::hold(rt, alloc, folder, Content::Disk, Access::Write) else {
+    let Ok(system) = HostSystem::hold(rt, alloc, folder, DeviceKind::Disk, Access::Write) else {
         return Err(PerError::PhysicalStorageFailure);
     };
     match FolderDisk::open(alloc, system) {

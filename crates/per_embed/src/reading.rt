@@ -3,7 +3,7 @@
 ghost use Rattle.std.specs.Prelude.{◌≡◌, ◌↔◌, IfErr, IfOk, IfSome, IsErrOf, IsSomeAnd, IsTrue, None};
 ghost use Rattle.kvs_core.specs.Calls.{get_as};
 ghost use Rattle.kvs_laws.specs.Values.{HasValue, ReadsAs};
-ghost use Rattle.element_store.specs.Stores.{shape_of};
+ghost use Rattle.element_store.specs.Stores.{store_shape};
 ghost use Rattle.per_embed.specs.Owned.{IsSaved, asked_of};
 ghost use Rattle.per_base.specs.Refusals.{IsRefusal, NeedsMemory};
 
@@ -33,7 +33,7 @@ impl<D: Disk + Drop> KeyStorage<D> {
 
         // What is not pending is on the disk: it reads so.
         ensures reads { IfOk result (λ thing. IsTrue D.told → IfSome self.now.kvs (λ kvs. IsSaved kvs
-            → ReadsAs (asked_of kvs key.now T.kind) (shape_of kvs.store) (T.tree thing)
+            → ReadsAs (asked_of kvs key.now T.kind) (store_shape kvs.store) (T.tree thing)
             (D.medium self.now.disk).image)) }
     {
         values_stand();

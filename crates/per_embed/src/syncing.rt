@@ -4,7 +4,7 @@ ghost use Rattle.std.specs.Prelude.{◌≡◌, ◌⊎◌, ◌↔◌, [], true, f
 ghost use Rattle.std.specs.Prelude.{IsTrue, None, OnOk, Some};
 ghost use Rattle.per_base.specs.Causes.{Rose};
 ghost use Rattle.element_state.specs.States.{Opens, is_worn};
-ghost use Rattle.element_store.specs.Stores.{shape_of, view_in};
+ghost use Rattle.element_store.specs.Stores.{store_shape, view_in};
 ghost use Rattle.element_maps.specs.Storages.{IsStoring};
 ghost use Rattle.kvs_store.specs.Synced.{IsSynced, WritesAtMost, is_synced, synced_view};
 ghost use Rattle.per_embed.specs.Owned.{IsOpenOn, KeepsValues};
@@ -45,7 +45,7 @@ impl<D: Disk + Drop> KeyStorage<D> {
         // after, and so each value.
         ensures at_most { IfSome self.old.kvs (λ kvs. WritesAtMost kvs (D.medium self.old.disk)
             (D.medium self.new.disk)) }
-        ensures storing { IfSome self.old.kvs (λ kvs. IsStoring D.told (shape_of kvs.store)
+        ensures storing { IfSome self.old.kvs (λ kvs. IsStoring D.told (store_shape kvs.store)
             (Opens (synced_view kvs) []) (D.medium self.old.disk) (D.medium self.new.disk)) }
         ensures any_moment { IsTrue D.told → IfSome self.old.kvs (λ kvs. KeepsValues kvs (D.medium self.old.disk)
             (D.medium self.new.disk)) }
@@ -73,7 +73,7 @@ fn sync_in<D: Disk>(disk: &mut D, kvs: &mut Option<Kvs>) -> Result<(), PerError>
     ensures cause { IsErrOf result PerError.PhysicalStorageFailure → IfSome kvs.old (λ _.
         Rose (D.medium disk.old).faults (D.medium disk.new).faults) }
     ensures at_most { IfSome kvs.old (λ old. WritesAtMost old (D.medium disk.old) (D.medium disk.new)) }
-    ensures storing { IfSome kvs.old (λ old. IsStoring D.told (shape_of old.store)
+    ensures storing { IfSome kvs.old (λ old. IsStoring D.told (store_shape old.store)
         (Opens (synced_view old) []) (D.medium disk.old) (D.medium disk.new)) }
 {
     let Some(storage) = kvs.take() else {
@@ -99,7 +99,7 @@ fn synced<D: Disk>(disk: &mut D, kvs: Kvs) -> (Option<Kvs>, Result<(), PerError>
     ensures cause { IsErrOf result.1 PerError.PhysicalStorageFailure
         → Rose (D.medium disk.old).faults (D.medium disk.new).faults }
     ensures at_most { WritesAtMost kvs (D.medium disk.old) (D.medium disk.new) }
-    ensures storing { IsStoring D.told (shape_of kvs.store) (Opens (synced_view kvs) []) (D.medium disk.old)
+    ensures storing { IsStoring D.told (store_shape kvs.store) (Opens (synced_view kvs) []) (D.medium disk.old)
         (D.medium disk.new) }
 {
     match kvs.sync_to_storage(disk) {

@@ -2,7 +2,7 @@
 
 ghost use Rattle.std.specs.Prelude.{◌≡◌, ◌<◌, ◌++◌, None, OnOk, Some, string_bytes};
 ghost use Rattle.deployment_model.specs.Data.{storage_data};
-ghost use Rattle.deploy_laws.specs.Places.{root_place};
+ghost use Rattle.deploy_laws.specs.Places.{root_place, copies_of_root};
 ghost use Rattle.per_list.specs.declared.forms.Form.TheVariants.{Lines, Json};
 ghost use Rattle.per_list.specs.Listings.{absent_text, access_word, bad_head, bad_text, between, comma, config_text};
 ghost use Rattle.per_list.specs.Listings.{copy_text, held_text, list_end, listing_end, listing_head, room_members};
@@ -10,6 +10,7 @@ ghost use Rattle.per_list.specs.Listings.{root_copies, root_copy, storage_files,
 ghost use Rattle.per_list.specs.Listings.{store_kind_word, truth_word, version_facts, version_head};
 
 use crate::forms::{Form, Held};
+use deploy_laws::root_place;
 use deployment_model::StorageConfig;
 use disk_model::Place;
 use per_base::{Name, StoreKind};
@@ -172,17 +173,6 @@ fn push_root_copies(out: &mut String, form: Form, app: u32) -> Result<(), AllocE
     Ok(())
 }
 
-// The files of an application's root.
-fn root_place(app: u32) -> Place
-    requires { app < 8 }
-    ensures { result ≡ root_place app }
-{
-    Place {
-        first: 4096 * app,
-        copies: 3,
-    }
-}
-
 fn push_root_copy(
     out: &mut String,
     form: Form,
@@ -191,7 +181,7 @@ fn push_root_copy(
     copy: u32,
 ) -> Result<(), AllocError>
     requires place { place ≡ root_place app }
-    requires copy { copy < 3 }
+    requires copy { copy < copies_of_root }
     ensures { OnOk result (string_bytes out.new ≡ string_bytes out.old ++ root_copy form app copy) }
 {
     let number = copy + 1;

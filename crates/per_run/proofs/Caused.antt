@@ -18,9 +18,10 @@ use Rattle.per_base.specs.Names.{is_name}
 use Rattle.disk_model.specs.Laws.{elapses_none, reads_none, rose_before}
 use Rattle.disk_model.specs.Medium.{Medium, IsLawful}
 use Rattle.migrate_fns.specs.Rules.{Rule, Answers}
+use Rattle.command_text.specs.Reading.{is_application_digit}
 use Rattle.run_model.specs.AppLaws.{AppLaws}
 use Rattle.run_model.specs.Endings as endings
-use Rattle.run_model.specs.Endings.{Ending, Failed, HasCauseOf, ending_status}
+use Rattle.run_model.specs.Endings.{Ending, FailureCounts, HasCauseOf, ending_status}
 use Rattle.run_model.specs.Lines.{IsWellFormed}
 use Rattle.run_model.specs.Lives.{looks_none}
 use Rattle.run_model.specs.Runs as runs
@@ -33,7 +34,7 @@ use Rattle.per_run.specs.Jobs.{IsCaused, JobDone, by_disk, by_itself, by_sink, b
 use Rattle.per_run.specs.Serves.{Heard, Serves, ServesBy, served, unprepared}
 use Rattle.per_run.specs.Steps.{IsCut, IsInRange, ending_of}
 use Rattle.per_run.specs.Words.{command, dir_of, export_job, flagged, flash_of, generate_of, has_matches, import_of}
-use Rattle.per_run.specs.Words.{is_application, is_set, job_in, job_kind_in, job_of, modes, only_mode, reads_input}
+use Rattle.per_run.specs.Words.{is_set, job_in, job_kind_in, job_of, modes, only_mode, reads_input}
 use Rattle.per_run.specs.Words.{target_of, valued}
 use Rattle.per_run.proofs.Answered.{audits_none, exports_none, imports_cut}
 use Rattle.per_run.proofs.Begins.{run_short, unbegun}
@@ -47,7 +48,7 @@ use Rattle.per_run.proofs.Prepared.{earlier_start, serves_short}
 among : (status other : ℕ) (xs : List ℕ) → status ≡ other → Contains xs other → Contains xs status
 among status other xs is contains = subst (Contains xs) (sym is) contains
 
-ended_so : (ending : Ending) (status : ℕ) (b n : Failed) → status ≡ ending_status ending → HasCauseOf ending b n
+ended_so : (ending : Ending) (status : ℕ) (b n : FailureCounts) → status ≡ ending_status ending → HasCauseOf ending b n
     → IsCaused Run status b n
 ended_so endings.all_read status b n is cause = by_itself (among status 0 (statuses_of Run) is (0, omega arith, refl))
 ended_so endings.end_line status b n is cause = by_itself (among status 0 (statuses_of Run) is (0, omega arith, refl))
@@ -71,7 +72,7 @@ run_caused told rules answers status left_before left_now before now source_befo
 
 -- a run that stays
 stayed_so : (P : Type 0) (ending : Ending) (heard : List Heard) (all : List (List ℕ)) (before now : Option (List ℕ))
-    (status : ℕ) (b n : Failed) → ServesBy P ending heard all before now → status ≡ ending_status ending
+    (status : ℕ) (b n : FailureCounts) → ServesBy P ending heard all before now → status ≡ ending_status ending
     → HasCauseOf ending b n → IsCaused Serve status b n
 stayed_so P endings.all_read heard all before now status b n ends is cause =
     by_itself (among status 0 (statuses_of Serve) is (0, omega arith, refl))
@@ -89,7 +90,7 @@ stayed_so P endings.too_long heard all before now status b n ends is cause =
     by_itself (among status 7 (statuses_of Serve) is (2, omega arith, refl))
 
 -- what rose since a later count of the disk
-since_earlier : (kind : JobKind) (status earlier later source sink : ℕ) (n : Failed) → earlier ≤ later
+since_earlier : (kind : JobKind) (status earlier later source sink : ℕ) (n : FailureCounts) → earlier ≤ later
     → IsCaused kind status (record { disk = later; source = source; sink = sink }) n
     → IsCaused kind status (record { disk = earlier; source = source; sink = sink }) n
 since_earlier kind status earlier later source sink n le (by_itself has) = by_itself has
@@ -118,7 +119,7 @@ serve_caused told medium rules answers status left_before left_now before now so
     by_itself (among status 4 (statuses_of Serve) four (1, omega arith, refl))
 
 -- a job that writes once
-pub written_caused : (kind : JobKind) (status : ℕ) (b n : Failed) → statuses_of kind ≡ 0 ∷ 4 ∷ []
+pub written_caused : (kind : JobKind) (status : ℕ) (b n : FailureCounts) → statuses_of kind ≡ 0 ∷ 4 ∷ []
     → (status ≡ 0) ⊎ ((status ≡ 4) ⊎ (((status ≡ 3) × Rose b.disk n.disk) ⊎ ((status ≡ 6) × Rose b.sink n.sink)))
     → IsCaused kind status b n
 written_caused kind status b n has (inl none) = by_itself
@@ -128,7 +129,7 @@ written_caused kind status b n has (inr (inl four)) = by_itself
 written_caused kind status b n has (inr (inr (inl disk))) = by_disk disk.0 disk.1
 written_caused kind status b n has (inr (inr (inr sink))) = by_sink sink.0 sink.1
 
-pub short_caused : (kind : JobKind) (b n : Failed) → IsCaused kind 4 b n
+pub short_caused : (kind : JobKind) (b n : FailureCounts) → IsCaused kind 4 b n
 short_caused Run b n = by_itself (2, omega arith, refl)
 short_caused Serve b n = by_itself (1, omega arith, refl)
 short_caused Format b n = by_itself (1, omega arith, refl)
@@ -138,7 +139,7 @@ short_caused (Export app name) b n = by_itself (1, omega arith, refl)
 short_caused (Import app name) b n = by_itself (1, omega arith, refl)
 
 -- the output of a job that came to it, by this status where all of it was taken
-pub output_caused : (kind : JobKind) (status done : ℕ) (b n : Failed) → Contains (statuses_of kind) done
+pub output_caused : (kind : JobKind) (status done : ℕ) (b n : FailureCounts) → Contains (statuses_of kind) done
     → (status ≡ done) ⊎ ((status ≡ 4) ⊎ ((status ≡ 6) × Rose b.sink n.sink))
     → IsCaused kind status b n
 output_caused kind status done b n has (inl is) = by_itself (among status done (statuses_of kind) is has)
@@ -147,26 +148,26 @@ output_caused kind status done b n has (inr (inl four)) =
 output_caused kind status done b n has (inr (inr six)) = by_sink six.0 six.1
 
 -- an audit that was written
-pub audit_caused : (status : ℕ) (b n : Failed) → ((status ≡ 0) ⊎ (status ≡ 8))
+pub audit_caused : (status : ℕ) (b n : FailureCounts) → ((status ≡ 0) ⊎ (status ≡ 8))
     ⊎ ((status ≡ 4) ⊎ ((status ≡ 6) × Rose b.sink n.sink)) → IsCaused Audit status b n
 audit_caused status b n (inl (inl none)) = output_caused Audit status 0 b n (0, omega arith, refl) (inl none)
 audit_caused status b n (inl (inr eight)) = output_caused Audit status 8 b n (2, omega arith, refl) (inl eight)
 audit_caused status b n (inr other) = output_caused Audit status 0 b n (0, omega arith, refl) (inr other)
 
 -- an export or an import that was answered
-answered_caused : (kind : JobKind) (status : ℕ) (b n : Failed) → Contains (statuses_of kind) 0
+answered_caused : (kind : JobKind) (status : ℕ) (b n : FailureCounts) → Contains (statuses_of kind) 0
     → Contains (statuses_of kind) 9 → ((status ≡ 0) ⊎ (status ≡ 9))
     ⊎ ((status ≡ 4) ⊎ ((status ≡ 6) × Rose b.sink n.sink)) → IsCaused kind status b n
 answered_caused kind status b n has_0 has_9 (inl (inl none)) = output_caused kind status 0 b n has_0 (inl none)
 answered_caused kind status b n has_0 has_9 (inl (inr nine)) = output_caused kind status 9 b n has_9 (inl nine)
 answered_caused kind status b n has_0 has_9 (inr other) = output_caused kind status 0 b n has_0 (inr other)
 
-pub export_caused : (app : ℕ) (name : List ℕ) (status : ℕ) (b n : Failed) → ((status ≡ 0) ⊎ (status ≡ 9))
+pub export_caused : (app : ℕ) (name : List ℕ) (status : ℕ) (b n : FailureCounts) → ((status ≡ 0) ⊎ (status ≡ 9))
     ⊎ ((status ≡ 4) ⊎ ((status ≡ 6) × Rose b.sink n.sink)) → IsCaused (Export app name) status b n
 export_caused app name status b n is =
     answered_caused (Export app name) status b n (0, omega arith, refl) (2, omega arith, refl) is
 
-pub import_caused : (app : ℕ) (name : List ℕ) (status : ℕ) (b n : Failed) → ((status ≡ 0) ⊎ (status ≡ 9))
+pub import_caused : (app : ℕ) (name : List ℕ) (status : ℕ) (b n : FailureCounts) → ((status ≡ 0) ⊎ (status ≡ 9))
     ⊎ ((status ≡ 4) ⊎ (((status ≡ 3) × Rose b.disk n.disk) ⊎ ((status ≡ 6) × Rose b.sink n.sink)))
     → IsCaused (Import app name) status b n
 import_caused app name status b n (inl is) =
@@ -177,7 +178,7 @@ import_caused app name status b n (inr (inr (inl disk))) = by_disk disk.0 disk.1
 import_caused app name status b n (inr (inr (inr sink))) = by_sink sink.0 sink.1
 
 -- and one whose input was not read whole
-pub cut_caused : (app : ℕ) (name : List ℕ) (ending : parts.Ending) (status count : ℕ) (b n : Failed)
+pub cut_caused : (app : ℕ) (name : List ℕ) (ending : parts.Ending) (status count : ℕ) (b n : FailureCounts)
     → status ≡ ending_status (ending_of ending) → IsCut ending count → (ending ≡ part.Source → Rose b.source n.source)
     → IsCaused (Import app name) status b n
 cut_caused app name part.AllRead status count b n is cut rose = absurd cut
@@ -219,7 +220,7 @@ others_than_one (Import app name) = (
 has_no_one : (kind : JobKind) → Contains (statuses_of kind) 1 → ⊥
 has_no_one kind contains = no_one (statuses_of kind) (others_than_one kind) contains.0 contains.1 contains.2
 
-pub not_one : (kind : JobKind) (status : ℕ) (b n : Failed) → IsCaused kind status b n → status ≡ 1 → ⊥
+pub not_one : (kind : JobKind) (status : ℕ) (b n : FailureCounts) → IsCaused kind status b n → status ≡ 1 → ⊥
 not_one kind status b n (by_itself contains) is = has_no_one kind (subst (Contains (statuses_of kind)) is contains)
 not_one kind status b n (by_disk three rose) is = omega (arith, three, is)
 not_one kind status b n (by_source five reads rose) is = omega (arith, five, is)
@@ -229,14 +230,14 @@ not_one kind status b n (by_sink six rose) is = omega (arith, six, is)
 
 pub done_as : {D : Type 0} (told : Bool) (medium : D → Medium) (kind same : JobKind) (rules : List Rule)
     (answers : Answers) (status : ℕ)
-    (left left_now before now : Option (List ℕ)) (b n : Failed) (old new : D) → kind ≡ same
+    (left left_now before now : Option (List ℕ)) (b n : FailureCounts) (old new : D) → kind ≡ same
     → JobDone told medium same rules answers status left left_now before now b n old new
     → JobDone told medium kind rules answers status left left_now before now b n old new
 done_as told medium kind same rules answers status left left_now before now b n old new is done =
     subst (λ (k : JobKind). JobDone told medium k rules answers status left left_now before now b n old new) (sym is)
     done
 
-pub caused_as : (kind same : JobKind) (status : ℕ) (b n : Failed) → kind ≡ same → IsCaused same status b n
+pub caused_as : (kind same : JobKind) (status : ℕ) (b n : FailureCounts) → kind ≡ same → IsCaused same status b n
     → IsCaused kind status b n
 caused_as kind same status b n is caused = subst (λ (k : JobKind). IsCaused k status b n) (sym is) caused
 
@@ -306,7 +307,7 @@ complete_none o left A B C = each_is o (λ job. job.kind ≡ Run → A → B →
 
 pub completes_if : {D : Type 0} → OneLine → (told : Bool) (medium : D → Medium) (kind : JobKind) (rules : List Rule)
     (answers : Answers) (status : ℕ)
-    (left left_now before now : Option (List ℕ)) (b n : Failed) (old new : D)
+    (left left_now before now : Option (List ℕ)) (b n : FailureCounts) (old new : D)
     → b.disk ≡ (medium old).faults → n.disk ≡ (medium new).faults
     → JobDone told medium kind rules answers status left left_now before now b n old new → kind ≡ Run
     → (Rose (medium old).faults (medium new).faults → ⊥) → (Rose b.source n.source → ⊥)
@@ -370,9 +371,10 @@ target_within : (value : List ℕ) (target : ℕ × List ℕ) → target_of valu
 target_within [] target is = let bad : ◌≡◌ {A = Option (ℕ × List ℕ)} None (Some target) = is in absurd (cc)
 target_within (digit ∷ []) target is = let bad : ◌≡◌ {A = Option (ℕ × List ℕ)} None (Some target) = is in absurd (cc)
 target_within (digit ∷ colon ∷ name) target is =
-    let told : ((is_application digit && nat_eq colon 58 && is_name name) ≡ true)
+    let told : ((is_application_digit digit && nat_eq colon 58 && is_name name) ≡ true)
     × (◌≡◌ {A = ℕ × List ℕ} (digit - 48, name) target) =
-    only_some {A = ℕ × List ℕ} (is_application digit && nat_eq colon 58 && is_name name) (digit - 48, name) target is in
+    only_some {A = ℕ × List ℕ} (is_application_digit digit && nat_eq colon 58 && is_name name)
+    (digit - 48, name) target is in
     let high : digit ≤ 55 = leb-true digit 55
     (digit_within (nat_le 48 digit) (nat_le digit 55) (nat_eq colon 58) (is_name name) told.0) in
     let app : digit - 48 ≡ target.0 = ap (λ (t : ℕ × List ℕ). t.0) told.1 in

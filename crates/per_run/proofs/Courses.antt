@@ -3,6 +3,7 @@ use Rattle.std.proofs.Common.{ℕ, List, [], ◌∷◌, ◌++◌, length, take, 
 use Rattle.std.proofs.Common.{subst, le_refl, Option, Bool, IsTrue, Err, append-nil, append_assoc, codes}
 use Rattle.std.proofs.KnownBytes.{Appends-nil, Appends-trans}
 use Rattle.std.specs.Io.KnownBytes.{Appends}
+use Rattle.per_base.specs.Streams.{WroteProperPrefix}
 use Rattle.disk_model.specs.Medium.{Medium, IsLawful, Elapses}
 use Rattle.migrate_fns.specs.Rules.{Rule, Answers}
 use Rattle.command_text.specs.declared.lines.Line.TheVariants as line
@@ -21,7 +22,6 @@ use Rattle.run_model.specs.Worlds.{World}
 use Rattle.per_run.specs.declared.endings.Ending.{Ending}
 use Rattle.per_run.specs.declared.endings.Ending.TheVariants.{AllRead, EndLine, BadLine, OutOfMemory, Source, Sink}
 use Rattle.per_run.specs.declared.endings.Ending.TheVariants.{TooLong}
-use Rattle.per_run.specs.Jobs.{WroteProperPrefix}
 use Rattle.per_run.specs.Steps.{Goes, IsGoing, Handled, Course, IsLineAnswered, IsStopped, PutsOutput, IsBadLineAnswer}
 use Rattle.per_run.specs.Steps.{ending_of}
 use Rattle.per_run.proofs.Gives.{front_says, give_nothing, give_turn, has_end, text_on}
@@ -55,7 +55,7 @@ stopped_front whole front s = record {
 pub counts_whole : {Whole : Type 0} {before : ℕ} {ts : List Turn} {after : ℕ} → AreBlamed before ts after
     → CountsFailures Whole before ts after
 counts_whole {after = after} blamed = record {
-  behind = after;
+  last = after;
   blamed = blamed;
   later = le_refl after;
   passes = λ whole. refl;
@@ -227,7 +227,7 @@ module _ (told : Bool) (rules : List Rule) (answers : Answers) (start : Medium) 
     gives = handled.gives;
     ends = inl (record { others = text ∷ others; next = refl; wrote = handled.wrote });
     failures = record {
-      behind = old.faults;
+      last = old.faults;
       blamed = handled.goes.blamed;
       later = time.faults;
       passes = λ over. absurd over;

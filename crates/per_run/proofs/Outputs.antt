@@ -2,7 +2,8 @@
 use Rattle.std.proofs.Common.{ℕ, List, [], ◌≡◌, ◌⊎◌, ◌∙◌, inl, inr, refl, sym, subst, arith, Option, Bool}
 use Rattle.std.proofs.KnownBytes.{Keeps-refl}
 use Rattle.std.specs.Io.KnownBytes.{Appends}
-use Rattle.per_run.specs.Jobs.{CameToOutput, IsOutputWritten, WritesOutput, WroteProperPrefix}
+use Rattle.per_base.specs.Streams.{WroteProperPrefix}
+use Rattle.per_run.specs.Jobs.{CameToOutput, IsOutputWritten, WritesOutput}
 
 -- ---- statuses
 

@@ -18,7 +18,7 @@ use Rattle.flash_disk.specs.Standing.{IsAgreed}
 use Rattle.flash_disk.specs.Throughout.{AgreedSince, UsableSince}
 use Rattle.flash_laws.specs.Outvotes.{OutlastsSince}
 use Rattle.migrate_fns.specs.Rules.{Answers, Rule}
-use Rattle.run_model.specs.Endings.{Failed}
+use Rattle.run_model.specs.Endings.{FailureCounts}
 use Rattle.per_run.specs.declared.flash.FlashRun.{FlashRun}
 use Rattle.per_run.specs.declared.flash.FlashRun.TheVariants.{Ran, Unopened}
 use Rattle.per_run.specs.declared.words.Job.{Job}

@@ -1,5 +1,5 @@
 -- What each job promises, and by which statuses it ends.
-use Rattle.std.specs.Prelude.{◌≡◌, ◌≢◌, ◌⊎◌, ◌<◌, ◌≤◌, ℕ, List, [], ◌∷◌, ◌++◌, length, take, Option, Some, None}
+use Rattle.std.specs.Prelude.{◌≡◌, ◌≢◌, ◌⊎◌, ◌<◌, ◌≤◌, ℕ, List, [], ◌∷◌, ◌++◌, length, Option, Some, None}
 use Rattle.std.specs.Prelude.{Bool, true, false, codes, count_by, not, ◌&&◌, IsTrue, IsFalse, Result, Ok, Err, IsOk}
 use Rattle.std.specs.Prelude.{IsErr}
 use Rattle.std.specs.List.{Contains}
@@ -8,22 +8,23 @@ use Rattle.std.specs.Fmt.{decimal}
 use Rattle.std.specs.Io.KnownBytes.{Appends, Consumes, IsAtEnd, Keeps}
 use Rattle.per_base.specs.Causes.{Rose}
 use Rattle.per_base.specs.declared.errors.PerError.{PerError}
+use Rattle.per_base.specs.Streams.{WroteProperPrefix}
 use Rattle.disk_model.specs.Medium.{Medium, Quiet}
 use Rattle.migrate_fns.specs.Rules.{Rule, Answers}
 use Rattle.command_text.specs.declared.replies.Answer.{Answer}
 use Rattle.command_text.specs.declared.replies.Answer.TheVariants as answer
 use Rattle.command_text.specs.declared.replies.Reply.{Reply}
 use Rattle.command_text.specs.Generated.{generated}
-use Rattle.command_text.specs.Replies.{answer_text}
+use Rattle.command_text.specs.Replies.{answer_text, number_or_dash}
 use Rattle.deploy_laws.specs.Apps.{App, IsCleanApp}
 use Rattle.run_model.specs.Bounds.{AreBounded}
-use Rattle.run_model.specs.Endings.{Failed}
+use Rattle.run_model.specs.Endings.{FailureCounts}
 use Rattle.run_model.specs.Lines.{Give}
 use Rattle.run_model.specs.Lives.{LooksOnly}
 use Rattle.run_model.specs.Moments.{AreSoundDoubts, last_of}
 use Rattle.run_model.specs.Runs as runs
 use Rattle.run_model.specs.Runs.{IsSettled}
-use Rattle.run_model.specs.Turns.{Bytes, Turn, events_of, replies_of, worlds_of, CountsFailures, Follow}
+use Rattle.run_model.specs.Turns.{DiskBytes, Turn, events_of, replies_of, worlds_of, CountsFailures, Follow}
 use Rattle.run_model.specs.Worlds.{world_at, formatted}
 use Rattle.per_audit.specs.Audits.{elements_at, findings_at}
 use Rattle.per_audit.specs.AuditText.{audit_text}
@@ -37,10 +38,6 @@ use Rattle.per_run.specs.Serves.{Serves}
 use Rattle.per_run.specs.Words.{reads_input}
 
 -- ---- the output of a job that writes once
-
--- a proper prefix of the text was written
-abbrev pub WroteProperPrefix : (before now : Option (List ℕ)) → List ℕ → Type 0
-WroteProperPrefix before now text = (count : ℕ) × (count < length text) × Appends before now (take count text)
 
 -- the sink took all of the output: the job is done, its audit has findings, or its export or import is refused
 abbrev pub IsOutputWritten : ℕ → Type 0
@@ -99,14 +96,10 @@ abbrev pub size_given : List Reply → Option ℕ
 size_given [] = None
 size_given (r ∷ rs) = option_or (number_in r.answer) (size_given rs)
 
-abbrev pub size_or_dash : Option ℕ → List ℕ
-size_or_dash None = codes "-"
-size_or_dash (Some n) = decimal n
-
 abbrev pub summary_text : (lines done other errors : ℕ) → (size : Option ℕ) → List ℕ
 summary_text lines done other errors size = codes "lines "
     ++ (decimal lines ++ (codes " ok " ++ (decimal done ++ (codes " other " ++ (decimal other
-    ++ (codes " errors " ++ (decimal errors ++ (codes " size " ++ (size_or_dash size ++ codes "\n")))))))))
+    ++ (codes " errors " ++ (decimal errors ++ (codes " size " ++ (number_or_dash size ++ codes "\n")))))))))
 
 -- how many lines there were, how many replies of each sort, and the size
 abbrev pub summary : (lines : ℕ) → List Reply → List ℕ
@@ -122,7 +115,7 @@ pub record Generates (told : Bool) (rules : List Rule) (answers : Answers) (n st
   pub failures : CountsFailures (CameToOutput status) old.faults turns new.faults
   pub follow : IsTrue told → Follow rules answers formatted turns
   -- what each command wrote, from the bytes that the start left on
-  pub bounded : IsTrue told → (begun : Bytes) × AreBounded formatted begun turns
+  pub bounded : IsTrue told → (begun : DiskBytes) × AreBounded formatted begun turns
   pub settled : IsTrue told → CameToOutput status → IsSettled (last_of formatted (worlds_of turns)) new
   pub clean : IsTrue told → CameToOutput status → (app : ℕ) → app < 8 → AreSoundDoubts app (worlds_of turns)
       → IsCleanApp app new.image
@@ -218,7 +211,7 @@ pub record Imports (told : Bool) (app : ℕ) (name : List ℕ) (status : ℕ)
 
 abbrev pub JobDone : {D : Type 0} → (told : Bool) → (medium : D → Medium) → JobKind → List Rule → Answers → (status : ℕ)
     → (left_before left_now before now : Option (List ℕ))
-    → (old_counts new_counts : Failed) → (old new : D) → Type 0
+    → (old_counts new_counts : FailureCounts) → (old new : D) → Type 0
 JobDone told medium Run rules answers status left_before left_now before now old_counts new_counts old new =
     runs.Run told rules answers status left_before left_now before now old_counts.source new_counts.source
     old_counts.sink new_counts.sink (medium old) (medium new)
@@ -249,7 +242,7 @@ statuses_of (Export app name) = 0 ∷ 4 ∷ 9 ∷ []
 statuses_of (Import app name) = 0 ∷ 4 ∷ 7 ∷ 9 ∷ []
 
 -- the others come only by a failure in this very run: 3 of the disk, 5 of the source, 6 of the sink
-pub data IsCaused (kind : JobKind) (status : ℕ) (old new : Failed) : Type 0 where
+pub data IsCaused (kind : JobKind) (status : ℕ) (old new : FailureCounts) : Type 0 where
   by_itself : Contains (statuses_of kind) status → IsCaused kind status old new
   by_disk : status ≡ 3 → Rose old.disk new.disk → IsCaused kind status old new
   by_source : status ≡ 5 → IsTrue (reads_input kind) → Rose old.source new.source → IsCaused kind status old new

@@ -4,6 +4,7 @@ use Rattle.std.specs.Prelude.{Result, Ok, Err, IsErrOf, IfErr, count_by, ⊤}
 use Rattle.std.specs.List.{AllByRecursion, flat_map}
 use Rattle.std.specs.Io.KnownBytes.{Appends, Consumes, IsAtEnd}
 use Rattle.per_base.specs.Causes.{Rose}
+use Rattle.per_base.specs.Streams.{WroteProperPrefix}
 use Rattle.disk_model.specs.Medium.{Medium, Quiet, Elapses}
 use Rattle.migrate_fns.specs.Rules.{Rule, Answers}
 use Rattle.deploy_laws.specs.Apps.{IsCleanApp}
@@ -28,7 +29,7 @@ use Rattle.per_run.specs.declared.endings.Ending.TheVariants.{TooLong}
 use Rattle.per_run.specs.declared.tally.Tally.{Tally}
 use Rattle.per_run.specs.declared.words.JobKind.{JobKind}
 use Rattle.per_run.specs.declared.words.JobKind.TheVariants.{Generate, Export, Import}
-use Rattle.per_run.specs.Jobs.{WroteProperPrefix, IsInputTaken, is_done, is_other, is_error, size_given}
+use Rattle.per_run.specs.Jobs.{IsInputTaken, is_done, is_other, is_error, size_given}
 
 -- ---- endings
 
@@ -221,7 +222,7 @@ pub record IsServeBegun (told : Bool) (memory : Memory) (old middle new : Medium
 
 -- ---- jobs
 
--- the number of an input that is made is in its range, and so is that of an application
+-- the number of a synthetic workload is in its range, and so is that of an application
 abbrev pub IsInRange : JobKind → Type 0
 IsInRange (Generate n) = n ≤ 100000
 IsInRange (Export app name) = app < 8

@@ -1,6 +1,6 @@
 -- The words of the command line that are accepted, and the job that they say.
 use Rattle.std.specs.Prelude.{◌≡◌, ◌==◌, ◌-◌, ℕ, List, [], ◌∷◌, ◌++◌, length, fold, ⊤, Bool, true, false, ◌&&◌}
-use Rattle.std.specs.Prelude.{nat_eq, nat_le, Option, Some, None, option_map, Result, Ok, Err, codes, if◌then◌else◌}
+use Rattle.std.specs.Prelude.{nat_eq, Option, Some, None, option_map, Result, Ok, Err, codes, if◌then◌else◌}
 use Rattle.std.specs.Str.{bytes_eq}
 use Rattle.std.specs.Str.Parse.{digits_value, without_leading_plus}
 use Rattle.clap.specs.Faults.{fault_of}
@@ -11,6 +11,7 @@ use Rattle.clap.specs.declared.builder.action.ArgAction.{ArgAction}
 use Rattle.clap.specs.declared.builder.action.ArgAction.TheVariants.{Set, SetTrue}
 use Rattle.per_base.specs.Fields.{◌>>=◌, only_if}
 use Rattle.per_base.specs.Names.{is_name}
+use Rattle.command_text.specs.Reading.{is_application_digit}
 use Rattle.per_run.specs.declared.words.Job.{Job}
 use Rattle.per_run.specs.declared.words.JobKind.{JobKind}
 use Rattle.per_run.specs.declared.words.JobKind.TheVariants.{Run, Serve, Format, Generate, Audit, Export, Import}
@@ -49,18 +50,15 @@ is_set (Some value) = bytes_eq value (codes "true")
 abbrev pub number_in : (least most : ℕ) → List ℕ → Option ℕ
 number_in least most value = only_if (is_unsigned_in least most value) (digits_value 10 (without_leading_plus value))
 
--- the digit of an application
-abbrev pub is_application : ℕ → Bool
-is_application digit = nat_le 48 digit && nat_le digit 55
-
 -- an application and the name of a storage, with a colon between them
 abbrev pub target_of : List ℕ → Option (ℕ × List ℕ)
-target_of (digit ∷ colon ∷ name) = only_if (is_application digit && nat_eq colon 58 && is_name name) (digit - 48, name)
+target_of (digit ∷ colon ∷ name) = only_if (is_application_digit digit && nat_eq colon 58 && is_name name)
+    (digit - 48, name)
 target_of text = None
 
 -- the one of them, and the other
 abbrev pub application_of : List ℕ → Option ℕ
-application_of (digit ∷ []) = only_if (is_application digit) (digit - 48)
+application_of (digit ∷ []) = only_if (is_application_digit digit) (digit - 48)
 application_of text = None
 
 abbrev pub name_of : List ℕ → Option (List ℕ)

@@ -48,7 +48,7 @@ pub fn per_run<D: Disk, S: Source, K: Sink>(
     sink: &mut K,
     disk: &mut D,
 ) -> u8
-    // Refused words, and only they, give 1, unless memory ran out; and then nothing happened.
+    // Invalid arguments, and only they, give 1, unless memory ran out; and then nothing happened.
     ensures refused { result ≡ 1 → job_of (map string_bytes words.now) ≡ None }
     ensures words { job_of (map string_bytes words.now) ≡ None → (result ≡ 1) ⊎ (result ≡ 4) }
     ensures untouched { job_of (map string_bytes words.now) ≡ None

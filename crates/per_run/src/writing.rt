@@ -3,7 +3,8 @@
 ghost use Rattle.std.specs.Prelude.{◌≡◌, ◌⊎◌, ◌≤◌, ℕ, List, OnOk, OnErr, IfOk};
 ghost use Rattle.std.specs.Io.KnownBytes.{Appends};
 ghost use Rattle.per_base.specs.Causes.{HasCause, Rose};
-ghost use Rattle.per_run.specs.Jobs.{IsOutputWritten, WritesOutput, WroteProperPrefix};
+ghost use Rattle.per_base.specs.Streams.{WroteProperPrefix};
+ghost use Rattle.per_run.specs.Jobs.{IsOutputWritten, WritesOutput};
 ghost use Rattle.per_run.specs.Steps.{Blames, PutsOutput};
 
 use crate::endings::{Ending, OUT_OF_MEMORY, SINK};

@@ -17,14 +17,14 @@ pub enum Access {
 
 /// What the folder holds.
 #[derive(Clone, Copy, Debug, PartialEq, Eq)]
-pub enum Content {
+pub enum DeviceKind {
     /// A disk: its file of number `n` is the file `fn`.
     Disk,
     /// A flash: the file `flash`, whose number is 0.
     Flash,
 }
 
-impl Content {
+impl DeviceKind {
     /// Lists the number of the file of this name, if it has one.
     pub(crate) fn list(self, name: &str, numbers: &mut Vec<u32>) -> Result<(), AllocError> {
         if let Some(number) = self.number_of(name) {
@@ -35,8 +35,8 @@ impl Content {
 
     fn number_of(self, name: &str) -> Option<u32> {
         match self {
-            Content::Disk => number_of(name.strip_prefix("f")?),
-            Content::Flash => (name == "flash").then_some(0),
+            DeviceKind::Disk => number_of(name.strip_prefix("f")?),
+            DeviceKind::Flash => (name == "flash").then_some(0),
         }
     }
 
@@ -48,8 +48,8 @@ impl Content {
         number: u32,
     ) -> Result<String, AllocError> {
         match self {
-            Content::Disk => format!(in alloc; "{dir}/f{number}"),
-            Content::Flash => format!(in alloc; "{dir}/flash"),
+            DeviceKind::Disk => format!(in alloc; "{dir}/f{number}"),
+            DeviceKind::Flash => format!(in alloc; "{dir}/flash"),
         }
     }
 }
@@ -69,7 +69,7 @@ pub struct HostSystem<'a, R: Files<File = File>> {
     pub(crate) rt: &'a R,
     pub(crate) alloc: Global,
     pub(crate) dir: String,
-    pub(crate) content: Content,
+    pub(crate) kind: DeviceKind,
     pub(crate) access: Access,
     /// The folder itself, which is locked.
     pub(crate) folder: Option<File>,
@@ -81,7 +81,7 @@ impl<'a, R: Files<File = File>> HostSystem<'a, R> {
         rt: &'a R,
         alloc: Global,
         dir: String,
-        content: Content,
+        kind: DeviceKind,
         access: Access,
     ) -> Result<HostSystem<'a, R>, Failure> {
         let folder = match File::open(rt, dir.as_str()) {
@@ -96,7 +96,7 @@ impl<'a, R: Files<File = File>> HostSystem<'a, R> {
             rt,
             alloc,
             dir,
-            content,
+            kind,
             access,
             folder,
         })
@@ -131,14 +131,14 @@ pub fn holds_only_others<R: Files<File = File>>(
     rt: &R,
     alloc: Global,
     dir: &str,
-    content: Content,
+    kind: DeviceKind,
 ) -> io::Result<bool> {
     let runtime = (rt, alloc);
     let mut has_others = false;
     for entry in fs::read_dir(&runtime, dir)? {
         match entry {
             Ok(entry) => {
-                if content.number_of(entry.file_name()).is_some() {
+                if kind.number_of(entry.file_name()).is_some() {
                     return Ok(false);
                 }
                 has_others = true;

@@ -20,7 +20,7 @@ pub struct HostFile {
 impl<'a, R: Files<File = File>> System for HostSystem<'a, R> {
     ghost use Rattle.std.specs.Prelude.{false};
     ghost use Rattle.disk_model.specs.Silence.{silent_is_lawful};
-    ghost use Rattle.system_model.specs.Untold.{untold};
+    ghost use Rattle.system_model.specs.Unmodelled.{unmodelled};
 
     type File = HostFile;
 
@@ -28,7 +28,7 @@ impl<'a, R: Files<File = File>> System for HostSystem<'a, R> {
 
     ghost told = { false };
 
-    ghost medium = { λ _. untold };
+    ghost medium = { λ _. unmodelled };
 
     ghost lawful = { λ _. silent_is_lawful 0 };
 
@@ -39,7 +39,7 @@ impl<'a, R: Files<File = File>> System for HostSystem<'a, R> {
         }
         for entry in fs::read_dir(&(self.rt, alloc), self.dir.as_str())? {
             match entry {
-                Ok(entry) => self.content.list(entry.file_name(), &mut numbers)?,
+                Ok(entry) => self.kind.list(entry.file_name(), &mut numbers)?,
                 Err(error) if error.kind() == io::ErrorKind::InvalidFilename => {}
                 Err(error) => return Err(error),
             }
@@ -108,7 +108,7 @@ impl<'a, R: Files<File = File>> HostSystem<'a, R> {
     fn found(&self, number: u32) -> io::Result<Option<HostFile>>
         ensures { IfOk result (λ found. IfSome found (λ file. file.number ≡ number)) }
     {
-        let path = self.content.path_of(self.alloc, self.dir.as_str(), number)?;
+        let path = self.kind.path_of(self.alloc, self.dir.as_str(), number)?;
         if !fs::metadata(self.rt, path.as_str())?.is_file() {
             return Ok(None);
         }
@@ -123,14 +123,14 @@ impl<'a, R: Files<File = File>> HostSystem<'a, R> {
         if self.folder.is_none() {
             return Err(io::Error::from(io::ErrorKind::NotFound));
         }
-        let path = self.content.path_of(self.alloc, self.dir.as_str(), number)?;
+        let path = self.kind.path_of(self.alloc, self.dir.as_str(), number)?;
         let file = options.open(self.rt, path.as_str())?;
         Ok(HostFile { number, file })
     }
 
     /// Gives what stands in the place of a file, and cannot be opened, another name.
     fn set_aside(&self, number: u32) -> io::Result<()> {
-        let path = self.content.path_of(self.alloc, self.dir.as_str(), number)?;
+        let path = self.kind.path_of(self.alloc, self.dir.as_str(), number)?;
         let aside = format!(in self.alloc; "{path}.unreadable")?;
         self.rt.rename(path.as_str(), aside.as_str())
     }

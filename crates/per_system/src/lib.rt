@@ -12,7 +12,7 @@ mod notes;
 mod standard;
 mod streams;
 
-pub use held::{Access, Content, HostSystem, holds_only_others};
+pub use held::{Access, DeviceKind, HostSystem, holds_only_others};
 pub use host::HostFile;
 pub use notes::{Explains, Noted, NotedFlash, Notes};
 pub use standard::{StdSink, StdSource};

@@ -27,12 +27,12 @@ named_words is_value (w ∷ ws) =
 abbrev pub is_flag : List ℕ → Bool
 is_flag = is_among (codes "--format" ∷ codes "--audit" ∷ codes "--serve" ∷ [])
 
--- an option of a run with its value behind an equals sign
+-- an option of a run with its value after an equals sign
 abbrev pub has_value : List ℕ → Bool
 has_value word = list_any (λ front. starts_with nat_eq word front)
     (codes "--dir=" ∷ codes "--flash=" ∷ codes "--generate=" ∷ codes "--export=" ∷ codes "--import=" ∷ [])
 
--- the word is an option of a run, with its value behind an equals sign or not
+-- the word is an option of a run, with its value after an equals sign or not
 abbrev pub is_known : List ℕ → Bool
 is_known word = takes_value word || (is_flag word || has_value word)
 

@@ -74,7 +74,7 @@ fn takes_value(word: &[u8]) -> bool
         || is_word(word, b"--import")
 }
 
-/// Whether the word is an option of a run, with its value behind an equals sign or not.
+/// Whether the word is an option of a run, with its value after an equals sign or not.
 fn is_known(word: &[u8]) -> bool
     ensures { result ≡ is_known word.now }
 {
@@ -88,7 +88,7 @@ fn is_flag(word: &[u8]) -> bool
     is_word(word, b"--format") || is_word(word, b"--audit") || is_word(word, b"--serve")
 }
 
-/// Whether the word is an option of a run with its value behind an equals sign.
+/// Whether the word is an option of a run with its value after an equals sign.
 fn has_value(word: &[u8]) -> bool
     ensures { result ≡ has_value word.now }
 {
