@@ -29,13 +29,13 @@ use Rattle.deploy_laws.specs.Laws.{UntouchedAppLaw}
 use Rattle.deploy_rows.specs.Rows as rows
 use Rattle.deploy_rows.specs.Rows.{after}
 use Rattle.run_model.specs.Calls.{active_storages, first_open, least_open, session_at}
-use Rattle.run_model.specs.Found.{Found, storage_in}
+use Rattle.run_model.specs.Found.{FoundStorage, storage_in}
 use Rattle.run_model.specs.Runtimes.{IsUnwritten, WritesWithin, is_durable, is_refusal, only_plans}
 use Rattle.run_model.specs.Sessions.{Session}
 use Rattle.run_model.specs.Steps.{after_failure, device_storage, found_named, uses_device}
 use Rattle.run_model.specs.Worlds.{Application, none_open}
 use Rattle.run_model.specs.Worlds as worlds
-use Rattle.app_storages.specs.declared.slots.Slots.{Slots}
+use Rattle.app_storages.specs.declared.slots.OpenSlots.{OpenSlots}
 use Rattle.app_storages.specs.Slots.{AreOpenOn, IsResting, resting_with, sessions_in}
 use Rattle.deploy_laws.specs.Stands.{IsLater}
 use Rattle.app_storages.specs.Answers.{CallsTo}
@@ -291,7 +291,7 @@ on_clean P Q (Err e) is = tt
 within_itself : (copies contents index before : ℕ) → before ≤ before + copies * (contents + index + 88)
 within_itself copies contents index before = omega arith
 
-pub writes_nothing : (app : ℕ) (f : Found) (s : Session) (m : Medium) → WritesWithin app f s m m
+pub writes_nothing : (app : ℕ) (f : FoundStorage) (s : Session) (m : Medium) → WritesWithin app f s m m
 writes_nothing app f s m = record { same = λ same. refl; at_most = λ v others is. within_itself _ _ _ m.written }
 
 module _ (told : Bool) (rules : List Rule) (answers : Answers) (now : ℕ) (c : Call) (s : Running) (m : Medium)
@@ -376,7 +376,7 @@ busy_here s taken root name busy taken_is is_copied is_busy =
     first_open (sessions_in x.slots) (active_storages (root_says root))) taken_is))
 
 -- and where the disk is modelled, it is that of the application
-pub busy_least : (told : Bool) (image : Image) (app : ℕ) (root : Root) (slots : Slots) → RootInUseLaw
+pub busy_least : (told : Bool) (image : Image) (app : ℕ) (root : Root) (slots : OpenSlots) → RootInUseLaw
     → IsResting told image app root slots → (busy : Option (List ℕ))
     → busy ≡ first_open (sessions_in slots) (active_storages (root_says root)) → IsTrue told
     → busy ≡ least_open (resting_with image app slots)

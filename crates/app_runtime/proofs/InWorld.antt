@@ -31,7 +31,7 @@ use Rattle.run_model.specs.Lasting.{AreSessionsOn, IsApplication, IsSessionOn, I
 use Rattle.run_model.specs.Sessions.{Session, files, keys, seen_in, synced_in_session}
 use Rattle.run_model.specs.Worlds.{Application, none_open}
 use Rattle.run_model.specs.Worlds as worlds
-use Rattle.app_storages.specs.declared.slots.Slots.{Slots}
+use Rattle.app_storages.specs.declared.slots.OpenSlots.{OpenSlots}
 use Rattle.app_storages.specs.Slots.{AreOpenOn, IsOpenAt, IsResting, active_in, sessions_in}
 use Rattle.app_runtime.specs.declared.running.Running.{Running}
 use Rattle.app_runtime.specs.declared.running.Stage.{Stage}
@@ -162,7 +162,7 @@ module _ (numbers : NumberLaw) (told : Bool) (image : Image) (app : ℕ) (tells 
         on = session_on (session_in o) (config_in o).kind (view_in (store_in o)) here.kind here.shows;
       }
 
-  sessions_on : (says : Says) (slots : Slots) → AreOpenOn told image app says slots
+  sessions_on : (says : Says) (slots : OpenSlots) → AreOpenOn told image app says slots
       → AreSessionsOn (sessions_in slots) (active_storages says) (states_of image app says)
   sessions_on nothing slots are = all_seated slots.open.items [] (states_of image app nothing)
       (λ n o at. absurd (let e = (are.each n o at).1 in cc))
@@ -178,7 +178,7 @@ map_length : {A B : Type 0} → (f : A → B) (xs : List A) → length (map f xs
 map_length f [] = refl
 map_length f (x ∷ xs) = ap suc (map_length f xs)
 
-pub closed : (slots : Slots) → NoneOpen slots → sessions_in slots ≡ none_open
+pub closed : (slots : OpenSlots) → NoneOpen slots → sessions_in slots ≡ none_open
 closed slots none = ap (λ (xs : List (Option Open)). map (option_map session_in) xs) none
 
 pub fit_length : (ss : List StorageData) (xs : List (List Fresh)) → AllFit ss xs → length xs ≡ length ss
@@ -188,7 +188,7 @@ fit_length (s ∷ ss) [] fit = absurd fit
 fit_length (s ∷ ss) (x ∷ xs) fit = ap suc (fit_length ss xs fit.1)
 
 -- where nothing is open
-closed_so : (a : App) (stage : worlds.Stage) (slots : Slots) → NoneOpen slots
+closed_so : (a : App) (stage : worlds.Stage) (slots : OpenSlots) → NoneOpen slots
     → IsStageOn stage a.says (sessions_in slots) → IsApplication
     (record { disk = a; stage = stage; sessions = sessions_in slots })
 closed_so a stage slots none on = record {
@@ -204,7 +204,7 @@ module _ (in_use : RootInUseLaw) (numbers : NumberLaw) (told : Bool) (image : Im
       → app_at image app ≡ root_app root (states_of image app (root_says root))
   app_is root at = in_use image app root at.memory (at.disk tells)
 
-  updating_on : (s : Staged) (slots : Slots) → StagedAt told image app s → NoneOpen slots
+  updating_on : (s : Staged) (slots : OpenSlots) → StagedAt told image app s → NoneOpen slots
       → IsStageOn (worlds.updating (staged_progress s)) (root_says (staged_root s)) (sessions_in slots)
   updating_on s slots at none =
       subst (λ (previous : Option VersionText). IsStageOn (worlds.updating (staged_progress s))
@@ -216,7 +216,7 @@ module _ (in_use : RootInUseLaw) (numbers : NumberLaw) (told : Bool) (image : Im
         at.memory.within,
       )
 
-  stage_so : (slots : Slots) (stage : Stage) → IsStageAt told image app slots stage
+  stage_so : (slots : OpenSlots) (stage : Stage) → IsStageAt told image app slots stage
       → IsApplication (record { disk = app_at image app; stage = stage_in stage; sessions = sessions_in slots })
   stage_so slots ToOpen none = closed_so (app_at image app) worlds.to_open slots none (closed slots none)
   stage_so slots (AtRest root) is = subst (λ (a : App).

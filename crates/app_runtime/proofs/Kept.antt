@@ -32,7 +32,7 @@ use Rattle.open_storages.specs.declared.opens.Open.{Open}
 use Rattle.open_storages.specs.Opens.{config_in, session_in, store_in}
 use Rattle.run_model.specs.Calls.{active_storages, first_open}
 use Rattle.run_model.specs.Sessions.{Session}
-use Rattle.app_storages.specs.declared.slots.Slots.{Slots}
+use Rattle.app_storages.specs.declared.slots.OpenSlots.{OpenSlots}
 use Rattle.app_storages.specs.Slots.{AreOpenOn, IsOpenAt, IsResting, active_in, sessions_in}
 use Rattle.app_runtime.specs.declared.running.Running.{Running}
 use Rattle.app_runtime.specs.declared.running.Stage.{Stage}
@@ -134,18 +134,18 @@ storages_of (installed g active previous) v is = let same : active ≡ v =
     cc in ap (λ (x : Named). x.deployment.storages) same
 
 -- whatever the root says
-pub none_open_on : (told : Bool) (old new : Image) (app : ℕ) (says next : Says) (slots : Slots)
+pub none_open_on : (told : Bool) (old new : Image) (app : ℕ) (says next : Says) (slots : OpenSlots)
     → AreOpenOn told old app says slots
     → ((n : ℕ) (o : Open) → slice_get slots.open.items n ≡ Some (Some o) → ⊥) → AreOpenOn told new app next slots
 none_open_on told old new app says next slots are none =
     record { room = are.room; each = λ n o at. absurd (none n o at) }
 
-pub closed_by_none : (told : Bool) (image : Image) (app : ℕ) (says : Says) (slots : Slots)
+pub closed_by_none : (told : Bool) (image : Image) (app : ℕ) (says : Says) (slots : OpenSlots)
     → AreOpenOn told image app says slots → active_in says ≡ None
     → (n : ℕ) (o : Open) → slice_get slots.open.items n ≡ Some (Some o) → ⊥
 closed_by_none told image app says slots are none n o at = let e = sym none ∙ (are.each n o at).1 in cc
 
-pub closed_by_free : (told : Bool) (image : Image) (app : ℕ) (says : Says) (slots : Slots)
+pub closed_by_free : (told : Bool) (image : Image) (app : ℕ) (says : Says) (slots : OpenSlots)
     → AreOpenOn told image app says slots → first_open (sessions_in slots) (active_storages says) ≡ None
     → (n : ℕ) (o : Open) → slice_get slots.open.items n ≡ Some (Some o) → ⊥
 closed_by_free told image app says slots are free n o at =
@@ -177,7 +177,7 @@ module _ (frame : FrameLaw) (told : Bool) (app : ℕ) (old new : Image)
     placed = at.placed;
     used = record {
       memory = at.used.memory;
-      disk = λ tells. (frame (stores.shape_of (store_in o)) old new
+      disk = λ tells. (frame (stores.store_shape (store_in o)) old new
           (subst (λ (s : Shape). Spares (IsOfPlace s.place) old new) (sym at.placed)
           (spared tells v.bank n (config_in o) leb ltn))).in_use
           (store_in o).index (view_in (store_in o)) (at.used.disk tells);
@@ -186,7 +186,7 @@ module _ (frame : FrameLaw) (told : Bool) (app : ℕ) (old new : Image)
     shows = at.shows;
   }
 
-  pub same_open_on : (root : Root) (next : Says) (slots : Slots) → IsRootOf app root
+  pub same_open_on : (root : Root) (next : Says) (slots : OpenSlots) → IsRootOf app root
       → active_in next ≡ active_in (root_says root) → AreOpenOn told old app (root_says root) slots
       → AreOpenOn told new app next slots
   same_open_on root next slots of same are = record {
@@ -225,7 +225,7 @@ module _ (frame : FrameLaw) (storages : StorageFilesLaw) (roots_stay : RootFrame
   root_files : IsTrue told → Spares (IsRootFile app) old new
   root_files tells f is = let high = is.1 in spared tells f (is.0, omega (arith, high))
 
-  stage_stays : (slots : Slots) (stage : Stage) → IsStageAt told old app slots stage
+  stage_stays : (slots : OpenSlots) (stage : Stage) → IsStageAt told old app slots stage
       → IsStageAt told new app slots stage
   stage_stays slots ToOpen none = none
   stage_stays slots (AtRest root) is = record {
@@ -247,7 +247,7 @@ stays_running frame storages roots_stay staged_stays told old new r spared is = 
 
 -- ---- what stays open after each call that writes the root
 
-module _ (told : Bool) (app : ℕ) (old new : Image) (root : Root) (slots : Slots)
+module _ (told : Bool) (app : ℕ) (old new : Image) (root : Root) (slots : OpenSlots)
     (resting : IsResting told old app root slots) where
   abbrev KeptOn : Result Outcome Stop → Type 0
   KeptOn made = IfOk made (λ o. o.refused ≡ None → AreOpenOn told new app (root_says o.root) slots)
@@ -305,7 +305,7 @@ all_none [] none = refl
 all_none (None ∷ xs) none = ap (λ (ys : List (Option Open)). None ∷ ys) (all_none xs (λ n o at. none (suc n) o at))
 all_none (Some o ∷ xs) none = absurd (none 0 o refl)
 
-pub none_taken : (slots : Slots) → length slots.open.items ≡ 16
+pub none_taken : (slots : OpenSlots) → length slots.open.items ≡ 16
     → ((n : ℕ) (o : Open) → slice_get slots.open.items n ≡ Some (Some o) → ⊥) → NoneOpen slots
 none_taken slots room none = all_none slots.open.items none ∙ ap (λ (n : ℕ). replicate {A = Option Open} n None) room
 
@@ -315,7 +315,7 @@ not_there (suc count) zero o at = cc
 not_there (suc count) (suc n) o at = not_there count n o at
 
 -- and so whatever the root says
-pub open_by_none : (told : Bool) (image : Image) (app : ℕ) (says : Says) (slots : Slots) → NoneOpen slots
+pub open_by_none : (told : Bool) (image : Image) (app : ℕ) (says : Says) (slots : OpenSlots) → NoneOpen slots
     → AreOpenOn told image app says slots
 open_by_none told image app says slots none = record {
   room = ap (λ (xs : List (Option Open)). length xs) none;

@@ -23,7 +23,7 @@ use Rattle.deploy.specs.Roots.{IsRootOf, RootAt, root_app, root_says}
 use Rattle.deploy_laws.specs.Apps.{App, app_at, named_in_bank}
 use Rattle.deploy_laws.specs.Laws.{NumberLaw}
 use Rattle.deploy_laws.specs.Places.{Named}
-use Rattle.run_model.specs.Found.{Found, found_at, found_in, found_with, of_kind, storage_in}
+use Rattle.run_model.specs.Found.{FoundStorage, found_at, found_in, found_with, of_kind, storage_in}
 use Rattle.run_model.specs.Worlds.{is_to_open}
 use Rattle.app_runtime.specs.declared.running.Running.{Running}
 use Rattle.app_runtime.specs.declared.running.Stage.{Stage}
@@ -55,7 +55,7 @@ active_keeps told image r i is some = (subst (λ (root : Root). IsRootOf r.app r
 
 -- ---- a storage of a name and a kind
 
-abbrev if_agrees : (bank n : ℕ) (config : StorageData) (state : State) → Bool → Result Found PerError
+abbrev if_agrees : (bank n : ℕ) (config : StorageData) (state : State) → Bool → Result FoundStorage PerError
 if_agrees bank n config state agree = cond agree (Ok (record {
   bank = bank;
   number = n;

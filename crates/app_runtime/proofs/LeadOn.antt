@@ -24,7 +24,7 @@ use Rattle.run_model.specs.Calls.{storage_opened}
 use Rattle.run_model.specs.Calls.{progress_of, rebuild_step, concluded, status_step, sync_step, unless_busy}
 use Rattle.run_model.specs.Calls.{unless_open}
 use Rattle.run_model.specs.Calls.{with_session, with_update, without_session}
-use Rattle.run_model.specs.Found.{Found, storage_in, with_storage_state}
+use Rattle.run_model.specs.Found.{FoundStorage, storage_in, with_storage_state}
 use Rattle.run_model.specs.Laws.{StorageLaterLaw}
 use Rattle.run_model.specs.Sessions.{Session, files, in_session, keys, made_durable}
 use Rattle.run_model.specs.Worlds.{Application, update_in}
@@ -82,7 +82,7 @@ local_by r now (Some on) c = chain (λ (o : Outcome). IsLater r.disk o.1.disk) (
     (λ a. Ok (answered a.0 (with_session r f.number a.1))) (λ a. still r.disk)))
 
 module _ (storage : StorageLaterLaw) where
-  opened_on : (app : ℕ) (r : Application) (f : Found) (state : State)
+  opened_on : (app : ℕ) (r : Application) (f : FoundStorage) (state : State)
       → IsLater r.disk (storage_opened app r f state).1.disk
   opened_on app r f (Opens v others) = storage r.disk f _
   opened_on app r f (Corrupt salvage others) = still r.disk
@@ -94,14 +94,14 @@ module _ (storage : StorageLaterLaw) where
       (λ f. unless (λ (o : Outcome). IsLater r.disk o.1.disk) _ _ (Ok (storage_opened app r f f.state))
       (opened_on app r f f.state))
 
-  durable_on : (app : ℕ) (r : Application) (f : Found) (s : Session)
+  durable_on : (app : ℕ) (r : Application) (f : FoundStorage) (s : Session)
       → IfOk (durable app r f s) (λ (after : Application). IsLater r.disk after.disk)
   unfolding durable
   durable_on app r f s = chain (λ (after : Application). IsLater r.disk after.disk) (durable_state app f f.state s)
       (λ state. Ok (with_session (record r { disk = with_storage_state r.disk f state }) f.number (made_durable s)))
       (λ state. storage r.disk f state)
 
-  then_done : (app : ℕ) (r : Application) (f : Found) (s : Session)
+  then_done : (app : ℕ) (r : Application) (f : FoundStorage) (s : Session)
       → OnFrom r (durable app r f s >>= λ after. Ok (answered answer.Done after))
   then_done app r f s = chain_on (λ (after : Application). IsLater r.disk after.disk)
       (λ (o : Outcome). IsLater r.disk o.1.disk) (durable app r f s) (λ after. Ok (answered answer.Done after))
@@ -122,7 +122,7 @@ module _ (storage : StorageLaterLaw) where
       (λ s. chain (λ (o : Outcome). IsLater r.disk o.1.disk) (may_flush s h)
       (λ may. durable app r f s >>= λ after. Ok (answered answer.Done after)) (λ may. then_done app r f s)))
 
-  closing_on : (app : ℕ) (r : Application) (f : Found) (s : Session)
+  closing_on : (app : ℕ) (r : Application) (f : FoundStorage) (s : Session)
       → IfOk (closing app r f s) (λ (after : Application). IsLater r.disk after.disk)
   closing_on app r f (keys s) = still r.disk
   closing_on app r f (files s) = durable_on app r f (files s)
@@ -140,7 +140,7 @@ module _ (storage : StorageLaterLaw) where
       (closing app r f s) (λ after. Ok (answered answer.Done (without_session after f.number)))
       (closing_on app r f s) (λ after on. on))))
 
-  rebuild_on : (r : Application) (name : List ℕ) (state_of : Found → Result State PerError)
+  rebuild_on : (r : Application) (name : List ℕ) (state_of : FoundStorage → Result State PerError)
       → OnFrom r (rebuild_step r name state_of)
   rebuild_on r name state_of = chain (λ (o : Outcome). IsLater r.disk o.1.disk) (storage_in r.disk name None)
       (λ f. unless_open r f (state_of f >>= λ state. Ok (answered answer.Done

@@ -41,7 +41,7 @@ use Rattle.run_model.specs.Steps.{after_failure, device_storage, reaches_device,
 use Rattle.run_model.specs.Worlds.{Application}
 use Rattle.run_model.specs.Worlds as worlds
 use Rattle.app_storages.specs.Answers.{CallsTo}
-use Rattle.app_storages.specs.declared.slots.Slots.{Slots}
+use Rattle.app_storages.specs.declared.slots.OpenSlots.{OpenSlots}
 use Rattle.app_storages.specs.Slots.{IsResting, sessions_in}
 use Rattle.app_runtime.specs.declared.running.Running.{Running}
 use Rattle.app_runtime.specs.declared.running.Stage.{Stage}
@@ -59,7 +59,7 @@ use Rattle.app_runtime.proofs.Plain.{IsPlain}
 -- ---- the root that is in memory
 
 -- it is in use, whatever is going on
-pub root_at_in : (told : Bool) (image : Image) (app : ℕ) (slots : Slots) (stage : Stage)
+pub root_at_in : (told : Bool) (image : Image) (app : ℕ) (slots : OpenSlots) (stage : Stage)
     → worlds.is_to_open (stage_in stage) ≡ false → IsStageAt told image app slots stage
     → RootAt told image app (stage_root stage)
 root_at_in told image app slots ToOpen opened is = absurd cc
@@ -90,7 +90,7 @@ not_updating (AtRest root) opened none = refl
 not_updating (Updating s) opened none = absurd (none s refl)
 
 -- what the stage is
-pub staged_at : (told : Bool) (image : Image) (app : ℕ) (slots : Slots) (stage : Stage) (s : Staged)
+pub staged_at : (told : Bool) (image : Image) (app : ℕ) (slots : OpenSlots) (stage : Stage) (s : Staged)
     → stage ≡ Updating s → IsStageAt told image app slots stage → StagedAt told image app s × NoneOpen slots
 staged_at told image app slots stage s is at = subst (λ (x : Stage). IsStageAt told image app slots x) is at
 

@@ -16,12 +16,12 @@ use Rattle.deploy.specs.declared.roots.Root.{Root}
 use Rattle.deploy_laws.specs.Apps.{App, app_at}
 use Rattle.deploy_laws.specs.Stands.{IsLater}
 use Rattle.run_model.specs.Calls.{CallStep, Outcome, app_step, beside_update, goes_beside, session_at, concluded}
-use Rattle.run_model.specs.Found.{Found}
+use Rattle.run_model.specs.Found.{FoundStorage}
 use Rattle.run_model.specs.Runtimes.{IsUnwritten, WritesWithin, is_durable, is_refusal, only_plans}
 use Rattle.run_model.specs.Sessions.{Session}
 use Rattle.run_model.specs.Steps.{found_named, uses_device}
 use Rattle.run_model.specs.Worlds.{Application}
-use Rattle.app_storages.specs.declared.slots.Slots.{Slots}
+use Rattle.app_storages.specs.declared.slots.OpenSlots.{OpenSlots}
 use Rattle.app_storages.specs.Answers.{is_on_storage}
 use Rattle.app_storages.specs.Answers as stored
 use Rattle.app_storages.specs.Handled.{StaysInPlace}
@@ -50,7 +50,7 @@ on_each P Q (Ok x) each is = each x is
 on_each P Q (Err e) each is = tt
 
 -- what the open storages promise of the call
-pub record Stores (told : Bool) (app now : ℕ) (c : Call) (root : Root) (before after : Slots) (Untouched : Type 0)
+pub record Stores (told : Bool) (app now : ℕ) (c : Call) (root : Root) (before after : OpenSlots) (Untouched : Type 0)
     (old new : Medium) (result : Result Reply Stop) : Type 0 where
   pub memory : (IsErrOf result stop.OutOfMemory → ⊥) → IsResting told new.image app root after
   pub answered : IsTrue told → IfOk result (λ reply. stored.IsStorageCallAnswered app now c
@@ -64,7 +64,7 @@ pub record Stores (told : Bool) (app now : ℕ) (c : Call) (root : Root) (before
   pub quiet : Quiet old → OnOk result (Quiet new)
   pub idle : IsTrue told → uses_device (app_at old.image app) c ≡ false → Untouched
   pub unwritten : IfOk result (λ reply. is_refusal reply.answer ≡ true → IsUnwritten old new)
-  pub written : IsTrue told → is_durable c ≡ true → (f : Found) (s : Session)
+  pub written : IsTrue told → is_durable c ≡ true → (f : FoundStorage) (s : Session)
       → found_named (resting_with old.image app before) c ≡ Some (Ok f)
       → session_at (resting_with old.image app before) f.number ≡ Some s → WritesWithin app f s old new
   pub place : IsTrue told → StaysInPlace app c (resting_with old.image app before) old.image new.image
@@ -80,7 +80,7 @@ LeadsOn rules answers = (app now : ℕ) (c : Call) (r : Application) (o : Outcom
     → IsLater r.disk o.1.disk
 
 module _ (told : Bool) (rules : List Rule) (answers : Answers) (now : ℕ) (c : Call) (b : Running) (root : Root)
-    (slots : Slots) (Untouched : Type 0) (old new : Medium) (result : Result Reply Stop)
+    (slots : OpenSlots) (Untouched : Type 0) (old new : Medium) (result : Result Reply Stop)
     (on : IsTrue (is_on_storage c)) (leads_on : LeadsOn rules answers)
     (s : Stores told b.app now c root b.slots slots Untouched old new result) where
   abbrev r : Application

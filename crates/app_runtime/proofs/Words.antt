@@ -9,7 +9,7 @@ use Rattle.deploy_rows.specs.Laws.{FinishLaterLaw, InstallLaterLaw, RefusesAlike
 use Rattle.deploy_rows.specs.Rows.{finishing, installing, rolling_back, wiping}
 use Rattle.run_model.specs.Calls.{Outcome, app_step, done_with, least_open, concluded}
 use Rattle.run_model.specs.Worlds.{Application}
-use Rattle.app_storages.specs.declared.slots.Slots.{Slots}
+use Rattle.app_storages.specs.declared.slots.OpenSlots.{OpenSlots}
 use Rattle.app_storages.specs.Slots.{resting_with}
 use Rattle.app_runtime.proofs.Plain.{finish_plain, install_plain, rollback_plain, wipe_plain}
 use Rattle.app_runtime.proofs.Rowed.{IsWord}
@@ -18,7 +18,7 @@ done_ok : (r : Application) (row : Result App PerError) → IsOk row → is_ok (
 done_ok r (Ok b) is = refl
 done_ok r (Err e) is = is
 
-module _ (told : Bool) (rules : List Rule) (answers : Answers) (app now : ℕ) (image : Image) (slots : Slots) where
+module _ (told : Bool) (rules : List Rule) (answers : Answers) (app now : ℕ) (image : Image) (slots : OpenSlots) where
   abbrev r : Application
   r = resting_with image app slots
 

@@ -12,7 +12,7 @@ use Rattle.deploy.specs.declared.errors.Stop.{Stop}
 use Rattle.deploy.specs.declared.errors.Stop.TheVariants as stop
 use Rattle.deploy_laws.specs.Apps.{app_at}
 use Rattle.run_model.specs.Calls.{session_at}
-use Rattle.run_model.specs.Found.{Found}
+use Rattle.run_model.specs.Found.{FoundStorage}
 use Rattle.run_model.specs.Runtimes.{IsUnwritten, WritesWithin, is_durable, is_refusal, only_plans}
 use Rattle.run_model.specs.Sessions.{Session}
 use Rattle.run_model.specs.Steps.{found_named, uses_device}
@@ -37,7 +37,7 @@ pub record Promises (told : Bool) (rules : List Rule) (answers : Answers) (now :
   pub unwritten : IfOk result (λ reply. is_refusal reply.answer ≡ true → IsUnwritten old new)
   -- a call that begins an update only plans, however it ends
   pub looks : only_plans c ≡ true → IsUnwritten old new
-  pub written : IsTrue told → is_durable c ≡ true → (f : Found) (s : Session)
+  pub written : IsTrue told → is_durable c ≡ true → (f : FoundStorage) (s : Session)
       → found_named (application old.image before) c ≡ Some (Ok f)
       → session_at (application old.image before) f.number ≡ Some s → WritesWithin before.app f s old new
   -- no file changes beside those of a storage that the call names

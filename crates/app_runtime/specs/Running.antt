@@ -8,7 +8,7 @@ use Rattle.run_model.specs.Worlds as worlds
 use Rattle.run_model.specs.Worlds.{Application}
 use Rattle.run_model.specs.Runtimes as memory
 use Rattle.run_model.specs.OneApp.{as_app}
-use Rattle.app_storages.specs.declared.slots.Slots.{Slots}
+use Rattle.app_storages.specs.declared.slots.OpenSlots.{OpenSlots}
 use Rattle.app_storages.specs.Slots.{IsResting, sessions_in}
 use Rattle.app_runtime.specs.declared.running.Running.{Running}
 use Rattle.app_runtime.specs.declared.running.Stage.{Stage}
@@ -26,10 +26,10 @@ running_in r = record { stage = stage_in r.stage; sessions = sessions_in r.slots
 abbrev pub application : Image → Running → Application
 application image r = as_app (app_at image r.app) (running_in r)
 
-abbrev pub NoneOpen : Slots → Type 0
+abbrev pub NoneOpen : OpenSlots → Type 0
 NoneOpen slots = slots.open.items ≡ replicate {A = Option Open} 16 None
 
-abbrev pub IsStageAt : (told : Bool) (image : Image) (app : ℕ) → Slots → Stage → Type 0
+abbrev pub IsStageAt : (told : Bool) (image : Image) (app : ℕ) → OpenSlots → Stage → Type 0
 IsStageAt told image app slots ToOpen = NoneOpen slots
 IsStageAt told image app slots (AtRest root) = IsResting told image app root slots
 IsStageAt told image app slots (Updating staged) = StagedAt told image app staged × NoneOpen slots

@@ -19,7 +19,7 @@ use Rattle.deploy.specs.Building.{staged_root}
 use Rattle.deploy.specs.Roots.{root_says}
 use Rattle.deploy_laws.specs.Apps.{Says, nothing, absent, installed}
 use Rattle.deploy_laws.specs.Places.{Named}
-use Rattle.app_storages.specs.declared.slots.Slots.{Slots}
+use Rattle.app_storages.specs.declared.slots.OpenSlots.{OpenSlots}
 use Rattle.app_runtime.specs.declared.running.Running.{Running}
 use Rattle.app_runtime.specs.declared.running.Stage.{Stage}
 use Rattle.app_runtime.specs.declared.running.Stage.TheVariants.{ToOpen, AtRest, Updating}

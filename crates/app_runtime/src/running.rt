@@ -17,7 +17,7 @@ ghost use Rattle.deploy_laws.specs.Places.{root_place};
 ghost use Rattle.deploy_laws.specs.Stands.{IsLater};
 ghost use Rattle.run_model.specs.AppLaws.{OpensRoot};
 ghost use Rattle.run_model.specs.Calls.{beside_update, session_at};
-ghost use Rattle.run_model.specs.Found.{Found};
+ghost use Rattle.run_model.specs.Found.{FoundStorage};
 ghost use Rattle.run_model.specs.Runtimes.{IsUnwritten, WritesWithin, is_durable, is_refusal, only_plans};
 ghost use Rattle.run_model.specs.Sessions.{Session};
 ghost use Rattle.run_model.specs.Steps.{calls_device, found_named, uses_device};
@@ -29,7 +29,7 @@ ghost use Rattle.app_runtime.specs.Promises.{Promises};
 ghost use Rattle.app_runtime.specs.Running.{IsRunning, application, running_in, stage_in};
 
 use crate::asking::is_local;
-use app_storages::Slots;
+use app_storages::OpenSlots;
 use command_text::{Call, Reply};
 use deploy::{Root, Staged, Stop, open_root, roots_in_use};
 use deploy_laws::untouched_stands;
@@ -54,7 +54,7 @@ pub struct Running {
     pub(crate) alloc: Global,
     pub(crate) app: u32,
     pub(crate) stage: Stage,
-    pub(crate) slots: Slots,
+    pub(crate) slots: OpenSlots,
 }
 
 impl Running {
@@ -69,7 +69,7 @@ impl Running {
             alloc,
             app,
             stage: Stage::ToOpen,
-            slots: Slots::new(alloc)?,
+            slots: OpenSlots::new(alloc)?,
         })
     }
 
@@ -163,7 +163,7 @@ impl Running {
         ensures unwritten { IfOk result (λ reply. is_refusal reply.answer ≡ true
             → IsUnwritten (D.medium disk.old) (D.medium disk.new)) }
         ensures looks { only_plans call.now ≡ true → IsUnwritten (D.medium disk.old) (D.medium disk.new) }
-        ensures written { IsTrue D.told → is_durable call.now ≡ true → (f : Found) (s : Session)
+        ensures written { IsTrue D.told → is_durable call.now ≡ true → (f : FoundStorage) (s : Session)
             → found_named (application (D.medium disk.old).image self.old) call.now ≡ Some (Ok f)
             → session_at (application (D.medium disk.old).image self.old) f.number ≡ Some s
             → WritesWithin self.old.app f s (D.medium disk.old) (D.medium disk.new) }

@@ -105,7 +105,7 @@ impl Running {
         }
     }
 
-    /// Makes one more storage of the next version, and tells how many remain.
+    /// Makes one more storage of the next version, and says how many remain.
     pub(crate) fn next_storage<D: Disk>(
         &mut self,
         disk: &mut D,

@@ -16,6 +16,7 @@ use Rattle.element_maps.specs.Sessions.{view_once_synced}
 use Rattle.element_maps.specs.Storages.{IsStoring}
 use Rattle.element_store.specs.Stores as stores
 use Rattle.element_store.specs.Stores.{view_in}
+use Rattle.key_maps.specs.TwoMaps.{TwoMaps}
 use Rattle.file_handles.specs.Opening.{busy}
 use Rattle.kvs_store.specs.Storages.{KvsSession}
 use Rattle.file_storage.specs.FileSessions.{FilesInUse}
@@ -35,19 +36,19 @@ use Rattle.open_storages.specs.declared.opens.Open.{Open}
 use Rattle.open_storages.specs.declared.opens.Open.TheVariants.{Keys, Files}
 use Rattle.open_storages.specs.Durables.{IsClosedOrRefused, OnClosed, WritesAtMost}
 use Rattle.open_storages.specs.Opens.{config_in, keys_of, session_in, store_in}
-use Rattle.open_storages.specs.Refusals.{close_refused, durable_view, is_still, sync_refused}
+use Rattle.open_storages.specs.Refusals.{close_refused, durable_view, has_nothing_pending, sync_refused}
 use Rattle.run_model.specs.Calls.{Outcome, answered, app_step, lowest_handle, concluded, without_session}
-use Rattle.run_model.specs.Found.{Found, of_kind, storage_in, with_storage_state}
-use Rattle.run_model.specs.Sessions.{KeySession, Session, keys, seen_of, synced_in_session}
+use Rattle.run_model.specs.Found.{FoundStorage, of_kind, storage_in, with_storage_state}
+use Rattle.run_model.specs.Sessions.{Session, keys, seen_of, synced_in_session}
 use Rattle.run_model.specs.Steps.{found_named, reaches_device, uses_device}
 use Rattle.run_model.specs.Worlds.{Application, at_rest}
-use Rattle.app_storages.specs.Durables.{IsLeft, IsSet, RepliesDone}
+use Rattle.app_storages.specs.Durables.{LeavesSlot, IsSet, RepliesDone}
 use Rattle.app_storages.specs.Finding.{IsEarly, IsLocated, found_on, shape_at}
 use Rattle.app_storages.specs.Handled.{IsStorageCallHandled, MayWrite}
 use Rattle.app_storages.specs.Slots.{IsResting, resting_with, slot_at}
 use Rattle.app_storages.specs.StorageLaws.{StorageLaws}
 use Rattle.app_storages.specs.declared.finding.Located.{Located}
-use Rattle.app_storages.specs.declared.slots.Slots.{Slots}
+use Rattle.app_storages.specs.declared.slots.OpenSlots.{OpenSlots}
 use Rattle.app_storages.proofs.DurableRows.{close_keys_row, close_reaches, close_row, found_of_kind}
 use Rattle.app_storages.proofs.Durables.{at, done_handled, kind_is, may_write, none_of, opens, row_err, session_is}
 use Rattle.app_storages.proofs.Durables.{shape_in_is, shape_there, stopped_handled}
@@ -64,17 +65,17 @@ pub record Closes (told : Bool) (storage : Open) (old new : Medium) (Same : Type
   pub done : IfOk result (IsClosedOrRefused storage (close_refused storage))
   pub due : (e : PerError) → close_refused storage ≡ Some e → (result ≡ Ok (closing.Refused storage e)) × Same
   pub keys : (config_in storage).kind ≡ kinds.Keys → (result ≡ Ok closing.Done) × Same
-  pub unchanged : is_still storage ≡ true → IsOk result × Same
+  pub unchanged : has_nothing_pending storage ≡ true → IsOk result × Same
   pub opens : IsTrue told → (config_in storage).kind ≡ kinds.Files
-      → IfOk result (λ c. OnClosed c (store_at new.image (stores.shape_of (store_in storage))
+      → IfOk result (λ c. OnClosed c (store_at new.image (stores.store_shape (store_in storage))
       ≡ Opens (durable_view storage) []))
   pub quiet : Quiet old → OnOk result (Quiet new)
-  pub clean : IsTrue told → IsClean (stores.shape_of (store_in storage)) old.image
-      → OnOk result (IsClean (stores.shape_of (store_in storage)) new.image)
+  pub clean : IsTrue told → IsClean (stores.store_shape (store_in storage)) old.image
+      → OnOk result (IsClean (stores.store_shape (store_in storage)) new.image)
   pub at_most : WritesAtMost storage old new
   pub cause : IsErrOf result Device → Rose old.faults new.faults
   pub passes : OnOk result (new.faults ≡ old.faults)
-  pub storing : IsStoring told (stores.shape_of (store_in storage)) (Opens (durable_view storage) []) old new
+  pub storing : IsStoring told (stores.store_shape (store_in storage)) (Opens (durable_view storage) []) old new
 
 busy_early : (held : Option ℕ) (e : PerError) → busy held ≡ Some e → IsEarly e
 busy_early None e is = absurd cc
@@ -85,7 +86,7 @@ close_early : (w : FilesInUse) (e : PerError) → close_refused (Files w) ≡ So
 close_early w e is = first_early (busy (lowest_handle (session_in (Files w)))) (sync_refused (Files w)) e
     (busy_early (lowest_handle (session_in (Files w)))) (sync_early (Files w)) is
 
-module _ (laws : StorageLaws) (texts : TextLaw) (told : Bool) (app now : ℕ) (root : Root) (was : Slots) (old : Medium)
+module _ (laws : StorageLaws) (texts : TextLaw) (told : Bool) (app now : ℕ) (root : Root) (was : OpenSlots) (old : Medium)
     (law : IsLawful told old)
     (resting : IsResting told old.image app root was) (l : Located) (located : IsLocated app (root_says root) l)
     (name : List ℕ)
@@ -93,14 +94,14 @@ module _ (laws : StorageLaws) (texts : TextLaw) (told : Bool) (app now : ℕ) (r
   abbrev before : Application
   before = resting_with old.image app was
 
-  abbrev f : Found
+  abbrev f : FoundStorage
   f = found_on old.image l
 
   abbrev c : Call
   c = call.Close name
 
   named_so : IsTrue told → found_named before c ≡ Some (Ok f)
-  named_so tells = ap (λ (x : Result Found PerError). Some x) (named tells)
+  named_so tells = ap (λ (x : Result FoundStorage PerError). Some x) (named tells)
 
   -- ---- keys: what is pending is dropped, and nothing is called
 
@@ -109,7 +110,7 @@ module _ (laws : StorageLaws) (texts : TextLaw) (told : Bool) (app now : ℕ) (r
     dropped_row tells = close_keys_row app now before name f (keys_of k)
         (session_is laws texts told app now root was old resting l located (Keys k) there_is) (named tells)
 
-    pub dropped : (Same : Type 0) → Same → (is : Slots) → IsSet l.number None was is → (reply : Reply)
+    pub dropped : (Same : Type 0) → Same → (is : OpenSlots) → IsSet l.number None was is → (reply : Reply)
         → RepliesDone reply None
         → IsStorageCallHandled told app now root c was is old old Same (Ok reply)
     dropped Same same is emptied reply says = record {
@@ -156,7 +157,7 @@ module _ (laws : StorageLaws) (texts : TextLaw) (told : Bool) (app now : ℕ) (r
     }) l.number
 
     abbrev after : Application
-    after = after_by (stores.shape_of (store_in storage))
+    after = after_by (stores.store_shape (store_in storage))
 
     is_files : (config_in storage).kind ≡ kinds.Files
     is_files = sym (at laws texts told app now root was old resting l located storage there_is).kind
@@ -166,7 +167,7 @@ module _ (laws : StorageLaws) (texts : TextLaw) (told : Bool) (app now : ℕ) (r
         (ap (of_kind (Some kinds.Files)) (kind_is laws texts told app now root was old resting l located storage
         there_is ∙ is_files))
 
-    no_keys : (k : KeySession) → session_in storage ≡ keys k → ⊥
+    no_keys : (k : TwoMaps) → session_in storage ≡ keys k → ⊥
     no_keys k is = absurd cc
 
     closed_row : IsTrue told → app_step app before now c
@@ -190,7 +191,7 @@ module _ (laws : StorageLaws) (texts : TextLaw) (told : Bool) (app now : ℕ) (r
       written = may_write laws texts told app now root was old resting l located storage there_is c new named_so
           (λ still. ap (λ (m : Medium). m.written) (by_disk (closes.unchanged still).1)) closes.at_most
 
-      shape : stores.shape_of (store_in storage) ≡ shape_at l
+      shape : stores.store_shape (store_in storage) ≡ shape_at l
       shape = shape_there laws texts told app now root was old resting l located storage there_is
 
       storing : IsStoring told (shape_at l) (Opens (durable_view storage) []) old new
@@ -202,31 +203,31 @@ module _ (laws : StorageLaws) (texts : TextLaw) (told : Bool) (app now : ℕ) (r
           clash : result ≡ Ok (closing.Refused storage x) → ⊥
           clash ok = absurd cc
 
-      pub closed_err : (is : Slots) → IsSet l.number None was is → (e : Stop) → result ≡ Err e
+      pub closed_err : (is : OpenSlots) → IsSet l.number None was is → (e : Stop) → result ≡ Err e
           → IsStorageCallHandled told app now root c was is old new Same (Err e)
       closed_err is emptied e err = stopped_handled laws texts told app now root was old resting l located storage
           there_is c (close_refused storage) after refl refl closed_row named_so reaches
           new Same idle written storing is emptied e (none_of (close_refused storage) (never_due e err))
           (λ device. closes.cause (err ∙ ap (λ (x : Stop). Err x) device))
 
-      pub closed_ok : (left : Closing) → result ≡ Ok left → (mid is : Slots) → IsSet l.number None was mid
-          → (reply : Reply) → IsLeft l.number left mid is reply
+      pub closed_ok : (left : Closing) → result ≡ Ok left → (mid is : OpenSlots) → IsSet l.number None was mid
+          → (reply : Reply) → LeavesSlot l.number left mid is reply
           → IsStorageCallHandled told app now root c was is old new Same (Ok reply)
       closed_ok closing.Done ok mid is emptied reply (same, says) =
           let none : close_refused storage ≡ None = subst (λ (r : Result Closing Stop).
           IfOk r (IsClosedOrRefused storage (close_refused storage))) ok closes.done in
-          let set = ap (λ (s : Slots). s.open.items) same ∙ emptied in
+          let set = ap (λ (s : OpenSlots). s.open.items) same ∙ emptied in
           done_handled laws texts told app now root was old resting l located storage there_is c (close_refused storage)
           after refl refl closed_row named_so reaches new Same idle written storing is reply none says
           (resting_after laws app root l located told old.image new.image storing.elsewhere was is None resting set
           (λ o some. absurd cc))
           (λ tells. ap (store_at new.image) (sym shape)
           ∙ subst (λ (r : Result Closing Stop). IfOk r (λ x.
-          OnClosed x (store_at new.image (stores.shape_of (store_in storage))
+          OnClosed x (store_at new.image (stores.store_shape (store_in storage))
           ≡ Opens (durable_view storage) []))) ok (closes.opens tells is_files))
           (sessions_set was is l.number None set)
           (λ tells clean. subst (λ (sh : Shape). IsClean sh new.image) shape
-          (on_done (IsClean (stores.shape_of (store_in storage)) new.image)
+          (on_done (IsClean (stores.store_shape (store_in storage)) new.image)
           (closes.clean tells (subst (λ (sh : Shape). IsClean sh old.image) (sym shape) clean))))
           (λ quiet. on_done (Quiet new) (closes.quiet quiet)) (on_done (new.faults ≡ old.faults) closes.passes)
         where
@@ -251,7 +252,7 @@ module _ (laws : StorageLaws) (texts : TextLaw) (told : Bool) (app now : ℕ) (r
 
   module _ (new : Medium) (Same : Type 0) (by_disk : Same → new ≡ old) (result : Result Closing Stop) where
     pub close_err : (storage : Open) → slot_at was l.number ≡ Some storage → Closes told storage old new Same result
-        → (is : Slots) → IsSet l.number None was is → (e : Stop) → result ≡ Err e
+        → (is : OpenSlots) → IsSet l.number None was is → (e : Stop) → result ≡ Err e
         → IsStorageCallHandled told app now root c was is old new Same (Err e)
     close_err (Keys k) there_is closes is emptied e err =
         absurd (clash (closes.keys (sym (at laws texts told app now root was old resting l located (Keys k)
@@ -263,15 +264,15 @@ module _ (laws : StorageLaws) (texts : TextLaw) (told : Bool) (app now : ℕ) (r
         closed_err w there_is new Same by_disk result closes is emptied e err
 
     pub close_ok : (storage : Open) → slot_at was l.number ≡ Some storage → Closes told storage old new Same result
-        → (left : Closing) → result ≡ Ok left → (mid is : Slots)
-        → IsSet l.number None was mid → (reply : Reply) → IsLeft l.number left mid is reply
+        → (left : Closing) → result ≡ Ok left → (mid is : OpenSlots)
+        → IsSet l.number None was mid → (reply : Reply) → LeavesSlot l.number left mid is reply
         → IsStorageCallHandled told app now root c was is old new Same (Ok reply)
     close_ok (Keys k) there_is closes closing.Done ok mid is emptied reply (same, says) =
         let untouched = closes.keys (sym (at laws texts told app now root was old resting l located (Keys k)
         there_is).kind) in
         subst (λ (m : Medium). IsStorageCallHandled told app now root c was is old m Same (Ok reply))
         (sym (by_disk untouched.1))
-        (dropped k there_is Same untouched.1 is (ap (λ (s : Slots). s.open.items) same ∙ emptied) reply says)
+        (dropped k there_is Same untouched.1 is (ap (λ (s : OpenSlots). s.open.items) same ∙ emptied) reply says)
     close_ok (Keys k) there_is closes (closing.Refused same e) ok mid is emptied reply left_so =
         absurd (clash (closes.keys (sym (at laws texts told app now root was old resting l located (Keys k)
         there_is).kind)).0)

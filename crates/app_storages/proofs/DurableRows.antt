@@ -13,6 +13,7 @@ use Rattle.deployment_model.specs.Lookups.{storage_number}
 use Rattle.element_state.specs.declared.shapes.View.{View}
 use Rattle.element_state.specs.States.{State, Opens, is_worn}
 use Rattle.element_maps.specs.Sessions.{same_map, view_once_synced}
+use Rattle.key_maps.specs.TwoMaps.{TwoMaps}
 use Rattle.file_handles.specs.Opening.{busy, when}
 use Rattle.command_text.specs.declared.calls.Call.{Call}
 use Rattle.command_text.specs.declared.calls.Call.TheVariants as call
@@ -25,10 +26,10 @@ use Rattle.open_storages.specs.Refusals.{error_of}
 use Rattle.run_model.specs.Calls.{Outcome, answered, app_step, beside_update, closing, durable, durable_state, found_or}
 use Rattle.run_model.specs.Calls.{lowest_handle, may_flush, opened_session, session_at, unless_busy, unless_open}
 use Rattle.run_model.specs.Calls.{with_session, without_session}
-use Rattle.run_model.specs.Found.{Found, found_at, found_in, found_with, of_kind, shape_in, storage_in}
+use Rattle.run_model.specs.Found.{FoundStorage, found_at, found_in, found_with, of_kind, shape_in, storage_in}
 use Rattle.run_model.specs.Found.{with_storage_state}
 use Rattle.run_model.specs.LastingCalls.{set_twice}
-use Rattle.run_model.specs.Sessions.{Session, KeySession, keys, files, made_durable, seen_of, synced_in_session}
+use Rattle.run_model.specs.Sessions.{Session, keys, files, made_durable, seen_of, synced_in_session}
 use Rattle.run_model.specs.Steps.{passes_refusals, reaches_device, uses_device}
 use Rattle.run_model.specs.Worlds.{Application, Stage, at_rest, update_in}
 
@@ -54,12 +55,12 @@ refuse_is false e rest = refl
 -- ---- what a call names
 
 -- a storage that is found is found where one of its kind is asked for
-pub found_of_kind : (a : App) (name : List ℕ) (kind : StoreKind) (f : Found) → storage_in a name None ≡ Ok f
+pub found_of_kind : (a : App) (name : List ℕ) (kind : StoreKind) (f : FoundStorage) → storage_in a name None ≡ Ok f
     → of_kind (Some kind) f.config.kind ≡ true
     → storage_in a name (Some kind) ≡ Ok f
 found_of_kind a name kind f found of = by a.says found
   where
-    config_or : StorageData → Result Found PerError → StorageData
+    config_or : StorageData → Result FoundStorage PerError → StorageData
     config_or c (Ok g) = g.config
     config_or c (Err e) = c
 
@@ -101,8 +102,8 @@ module _ (app now : ℕ) (r : Application) (name : List ℕ) where
       → IsTrue (reaches_device app r now (call.Flush name h))
   flush_reaches h x rests row = reaches (call.Flush name h) refl rests (ap is_ok row)
 
-  pub close_reaches : (f : Found) (x : Outcome) → storage_in r.disk name (Some kinds.Files) ≡ Ok f → r.stage ≡ at_rest
-      → app_step app r now (call.Close name) ≡ Ok x
+  pub close_reaches : (f : FoundStorage) (x : Outcome) → storage_in r.disk name (Some kinds.Files) ≡ Ok f
+      → r.stage ≡ at_rest → app_step app r now (call.Close name) ≡ Ok x
       → IsTrue (reaches_device app r now (call.Close name))
   close_reaches f x found rests row = reaches (call.Close name) (ap is_ok found) rests (ap is_ok row)
 
@@ -123,7 +124,7 @@ module _ (app now : ℕ) (r : Application) (name : List ℕ) where
   unfolding app_step
   close_not_found e is = after_err _ (storage_in r.disk name None) e is
 
-  module _ (f : Found) where
+  module _ (f : FoundStorage) where
     not_open : session_at r f.number ≡ None → opened_session r f ≡ Err error.NotOpen
     not_open none = ap (λ (s : Option Session). found_or s error.NotOpen) none
 
@@ -147,7 +148,7 @@ module _ (app now : ℕ) (r : Application) (name : List ℕ) where
 
   -- ---- an open storage
 
-  module _ (f : Found) (s : Session) (v : View) (open_there : session_at r f.number ≡ Some s)
+  module _ (f : FoundStorage) (s : Session) (v : View) (open_there : session_at r f.number ≡ Some s)
       (opens : f.state ≡ Opens v []) where
     opened_is : opened_session r f ≡ Ok s
     opened_is = ap (λ (o : Option Session). found_or o error.NotOpen) open_there
@@ -220,7 +221,7 @@ module _ (app now : ℕ) (r : Application) (name : List ℕ) where
         ∙ (after_refusal (λ (after : Application). Ok (answered answer.Done (without_session after f.number))) due made
         ∙ ap (λ (a : Application). refused_by due (Ok (answered answer.Done a))) ended_is)
 
-    pub close_row : storage_in r.disk name None ≡ Ok f → ((k : KeySession) → s ≡ keys k → ⊥)
+    pub close_row : storage_in r.disk name None ≡ Ok f → ((k : TwoMaps) → s ≡ keys k → ⊥)
         → app_step app r now (call.Close name) ≡ refused_by (or_next (busy (lowest_handle s)) due)
         (Ok (answered answer.Done ended))
     unfolding app_step
@@ -230,12 +231,12 @@ module _ (app now : ℕ) (r : Application) (name : List ℕ) where
         (row >>= λ after. Ok (answered answer.Done (without_session after f.number)))) (closing_is s no_keys)
         ∙ held_row (lowest_handle s)))
       where
-        closing_is : (t : Session) → ((k : KeySession) → t ≡ keys k → ⊥) → closing app r f t ≡ durable app r f t
+        closing_is : (t : Session) → ((k : TwoMaps) → t ≡ keys k → ⊥) → closing app r f t ≡ durable app r f t
         closing_is (keys k) none = absurd (none k refl)
         closing_is (files w) none = refl
 
   -- what is pending of keys is dropped
-  pub close_keys_row : (f : Found) (k : KeySession) → session_at r f.number ≡ Some (keys k)
+  pub close_keys_row : (f : FoundStorage) (k : TwoMaps) → session_at r f.number ≡ Some (keys k)
       → storage_in r.disk name None ≡ Ok f
       → app_step app r now (call.Close name) ≡ Ok (answered answer.Done (without_session r f.number))
   unfolding app_step
@@ -254,7 +255,7 @@ module _ (app now : ℕ) (r : Application) (name : List ℕ) where
   unfolding app_step
   reset_not_found e is = after_err _ (storage_in r.disk name None) e is
 
-  module _ (f : Found) (found : storage_in r.disk name None ≡ Ok f) where
+  module _ (f : FoundStorage) (found : storage_in r.disk name None ≡ Ok f) where
     taken : {A : Type 0} (rest : Result A PerError) (s : Session) → session_at r f.number ≡ Some s
         → unless_open r f rest ≡ Err (error.ResourceBusy (holder.Storage f.config.name))
     taken {A} rest s open_there = ap (λ (o : Option Session).

@@ -37,9 +37,9 @@ use Rattle.open_storages.specs.declared.syncing.Durable.{Durable}
 use Rattle.open_storages.specs.declared.syncing.Durable.TheVariants as made
 use Rattle.open_storages.specs.Durables.{IsDurableOrRefused, WritesAtMost}
 use Rattle.open_storages.specs.Opens.{config_in, session_in, store_in}
-use Rattle.open_storages.specs.Refusals.{durable_view, is_still}
+use Rattle.open_storages.specs.Refusals.{durable_view, has_nothing_pending}
 use Rattle.run_model.specs.Calls.{Outcome, answered, app_step, session_at, concluded}
-use Rattle.run_model.specs.Found.{Found, of_kind, shape_in, with_storage_state}
+use Rattle.run_model.specs.Found.{FoundStorage, of_kind, shape_in, with_storage_state}
 use Rattle.run_model.specs.Runtimes.{WritesWithin, is_refusal}
 use Rattle.run_model.specs.Sessions.{Session, seen_of, synced_in_session}
 use Rattle.run_model.specs.Steps.{found_named, reaches_device, uses_device}
@@ -51,7 +51,7 @@ use Rattle.app_storages.specs.Handled.{IsStorageCallHandled, MayWrite, StaysInPl
 use Rattle.app_storages.specs.Slots.{IsOpenAt, IsResting, resting_with, sessions_in, slot_at}
 use Rattle.app_storages.specs.StorageLaws.{StorageLaws}
 use Rattle.app_storages.specs.declared.finding.Located.{Located}
-use Rattle.app_storages.specs.declared.slots.Slots.{Slots}
+use Rattle.app_storages.specs.declared.slots.OpenSlots.{OpenSlots}
 use Rattle.app_storages.proofs.Ended.{TextLaw, answered_so, lost, placed, stopped}
 use Rattle.app_storages.proofs.SlotLaws.{none_there, session_slot, set_again, set_same}
 use Rattle.app_storages.proofs.Storing.{open_there}
@@ -66,7 +66,7 @@ of_keys kinds.Files is = absurd cc
 -- ---- slots
 
 -- an empty slot that was emptied
-pub emptied_again : (told : Bool) (image : Image) (app : ℕ) (root : Root) (was is : Slots) (l : Located)
+pub emptied_again : (told : Bool) (image : Image) (app : ℕ) (root : Root) (was is : OpenSlots) (l : Located)
     → IsResting told image app root was → IsLocated app (root_says root) l
     → slot_at was l.number ≡ None → IsSet l.number None was is → is.open.items ≡ was.open.items
 emptied_again told image app root was is l resting located none set =
@@ -74,7 +74,7 @@ emptied_again told image app root was is l resting located none set =
     set ∙ set_same was.open.items l.number None (none_there was l.number (omega (arith, room, within)) none)
 
 -- a slot set after it was emptied
-pub set_over : (n : ℕ) (x : Option Open) (was mid is : Slots) → IsSet n None was mid → IsSet n x mid is
+pub set_over : (n : ℕ) (x : Option Open) (was mid is : OpenSlots) → IsSet n None was mid → IsSet n x mid is
     → IsSet n x was is
 set_over n x was mid is emptied set = set ∙ (ap (λ (xs : List (Option Open)). slice_set xs n x) emptied
     ∙ set_again was.open.items n None x)
@@ -85,14 +85,14 @@ pub record Makes (told : Bool) (storage : Open) (refused : Option PerError) (old
     (result : Result Durable Stop) : Type 0 where
   pub done : IfOk result (IsDurableOrRefused told new.image storage refused)
   pub due : (e : PerError) → refused ≡ Some e → (result ≡ Ok (made.Refused storage e)) × Same
-  pub unchanged : is_still storage ≡ true → IsOk result × Same
+  pub unchanged : has_nothing_pending storage ≡ true → IsOk result × Same
   pub quiet : Quiet old → OnOk result (Quiet new)
-  pub clean : IsTrue told → IsClean (stores.shape_of (store_in storage)) old.image
-      → OnOk result (IsClean (stores.shape_of (store_in storage)) new.image)
+  pub clean : IsTrue told → IsClean (stores.store_shape (store_in storage)) old.image
+      → OnOk result (IsClean (stores.store_shape (store_in storage)) new.image)
   pub at_most : WritesAtMost storage old new
   pub cause : IsErrOf result Device → Rose old.faults new.faults
   pub passes : OnOk result (new.faults ≡ old.faults)
-  pub storing : IsStoring told (stores.shape_of (store_in storage)) (Opens (durable_view storage) []) old new
+  pub storing : IsStoring told (stores.store_shape (store_in storage)) (Opens (durable_view storage) []) old new
 
 pub none_of : {A : Type 0} (x : Option A) → ((a : A) → x ≡ Some a → ⊥) → x ≡ None
 none_of None never = refl
@@ -108,13 +108,13 @@ pub err_not_due : (told : Bool) (storage : Open) (refused : Option PerError) (ol
 err_not_due told storage refused old new Same result e makes err =
     none_of refused (λ f is. ok_err result (made.Refused storage f) e (makes.due f is).0 err)
 
-module _ (laws : StorageLaws) (texts : TextLaw) (told : Bool) (app now : ℕ) (root : Root) (was : Slots) (old : Medium)
+module _ (laws : StorageLaws) (texts : TextLaw) (told : Bool) (app now : ℕ) (root : Root) (was : OpenSlots) (old : Medium)
     (resting : IsResting told old.image app root was) (l : Located) (located : IsLocated app (root_says root) l)
     (storage : Open) (there_is : slot_at was l.number ≡ Some storage) where
   abbrev before : Application
   before = resting_with old.image app was
 
-  abbrev f : Found
+  abbrev f : FoundStorage
   f = found_on old.image l
 
   abbrev s : Session
@@ -129,7 +129,7 @@ module _ (laws : StorageLaws) (texts : TextLaw) (told : Bool) (app now : ℕ) (r
   config_is : config_in storage ≡ config_of l
   config_is = (open_there laws app root l located told old.image was storage resting there_is).0
 
-  pub shape_there : stores.shape_of (store_in storage) ≡ shape_at l
+  pub shape_there : stores.store_shape (store_in storage) ≡ shape_at l
   shape_there = (open_there laws app root l located told old.image was storage resting there_is).1
 
   pub at : IsOpenAt told old.image app located.version l.number storage
@@ -138,7 +138,7 @@ module _ (laws : StorageLaws) (texts : TextLaw) (told : Bool) (app now : ℕ) (r
   pub used : stores.IsUsed told old.image (store_in storage)
   used = at.used
 
-  pub shape_in_is : shape_in app f ≡ stores.shape_of (store_in storage)
+  pub shape_in_is : shape_in app f ≡ stores.store_shape (store_in storage)
   shape_in_is = ap (λ (a : ℕ). places.storage_shape a l.bank l.number (config_of l)) (sym located.app_is)
       ∙ sym shape_there
 
@@ -154,7 +154,7 @@ module _ (laws : StorageLaws) (texts : TextLaw) (told : Bool) (app now : ℕ) (r
   -- ---- what may be written
 
   module _ (c : Call) (new : Medium) (named : IsTrue told → found_named before c ≡ Some (Ok f))
-      (still : is_still storage ≡ true → new.written ≡ old.written)
+      (still : has_nothing_pending storage ≡ true → new.written ≡ old.written)
       (at_most : WritesAtMost storage old new) where
     bound : (w : View) → w ≡ v → IsWithin (shape_in app f).place.copies
         (map_cost f.config.kind (synced_in_session s) (seen_of s))
@@ -171,14 +171,14 @@ module _ (laws : StorageLaws) (texts : TextLaw) (told : Bool) (app now : ℕ) (r
         (index_length f.config.kind (view_once_synced shape v (synced_in_session s) (seen_of s)).entries) old.written
         new.written)
         (sym shape_in_is)
-        (subst (λ (d : StorageData). IsWithin (stores.shape_of (store_in storage)).place.copies
+        (subst (λ (d : StorageData). IsWithin (stores.store_shape (store_in storage)).place.copies
         (map_cost d.kind (synced_in_session s) (seen_of s))
         (index_length d.kind (durable_view storage).entries) old.written new.written) config_is at_most))
 
     same_view : (w : View) (others : List View) → Opens v [] ≡ Opens w others → w ≡ v
     same_view w others is = cc
 
-    same_found : (named_is : Option (Result Found PerError)) (g : Found) → named_is ≡ Some (Ok f)
+    same_found : (named_is : Option (Result FoundStorage PerError)) (g : FoundStorage) → named_is ≡ Some (Ok f)
         → named_is ≡ Some (Ok g) → g ≡ f
     same_found named_is g one other = cc
 
@@ -189,8 +189,8 @@ module _ (laws : StorageLaws) (texts : TextLaw) (told : Bool) (app now : ℕ) (r
     may_write tells durable g t found there =
         let of_found : g ≡ f = same_found (found_named before c) g (named tells) found in
         let of_session : t ≡ s = same_session t (sym session_is
-        ∙ (ap (λ (h : Found). session_at before h.number) (sym of_found) ∙ there)) in
-        subst (λ (h : Found). WritesWithin app h t old new) (sym of_found)
+        ∙ (ap (λ (h : FoundStorage). session_at before h.number) (sym of_found) ∙ there)) in
+        subst (λ (h : FoundStorage). WritesWithin app h t old new) (sym of_found)
         (subst (λ (u : Session). WritesWithin app f u old new) (sym of_session)
         (record { same = still; at_most = λ w others is. bound w (same_view w others (sym (opens tells) ∙ is)) }))
 
@@ -226,7 +226,7 @@ module _ (laws : StorageLaws) (texts : TextLaw) (told : Bool) (app now : ℕ) (r
       in_place tells = placed laws told app now root c was was old new l located resting next storing tells named
 
       -- memory ran out, or the device failed
-      pub stopped_handled : (is : Slots) → IsSet l.number None was is → (e : Stop) → refused ≡ None
+      pub stopped_handled : (is : OpenSlots) → IsSet l.number None was is → (e : Stop) → refused ≡ None
           → (e ≡ Device → Rose old.faults new.faults)
           → IsStorageCallHandled told app now root c was is old new Same (Err e)
       stopped_handled is emptied Device none cause = record {
@@ -247,7 +247,7 @@ module _ (laws : StorageLaws) (texts : TextLaw) (told : Bool) (app now : ℕ) (r
       }
 
       -- it is done
-      pub done_handled : (is : Slots) (reply : Reply) → refused ≡ None → RepliesDone reply None
+      pub done_handled : (is : OpenSlots) (reply : Reply) → refused ≡ None → RepliesDone reply None
           → IsResting told new.image app root is → (IsTrue told → store_at new.image (shape_at l) ≡ next)
           → sessions_in is ≡ after.sessions → (IsTrue told → IsClean (shape_at l) old.image
           → IsClean (shape_at l) new.image) → (Quiet old → Quiet new) → new.faults ≡ old.faults

@@ -22,7 +22,7 @@ use Rattle.deploy.specs.Roots.{root_says}
 use Rattle.open_storages.specs.declared.opens.Open.{Open}
 use Rattle.open_storages.specs.Opens.{session_in}
 use Rattle.run_model.specs.Calls.{app_step, concluded}
-use Rattle.run_model.specs.Found.{Found, with_storage_state}
+use Rattle.run_model.specs.Found.{FoundStorage, with_storage_state}
 use Rattle.run_model.specs.Sessions.{Session}
 use Rattle.run_model.specs.Steps.{after_failure, found_named, reaches_device}
 use Rattle.run_model.specs.Worlds.{Application, Stage, at_rest}
@@ -33,7 +33,7 @@ use Rattle.app_storages.specs.Handled.{IsLost, IsStorageCallHandled, StaysInPlac
 use Rattle.app_storages.specs.Slots.{IsResting, resting_with, sessions_in}
 use Rattle.app_storages.specs.StorageLaws.{StorageLaws}
 use Rattle.app_storages.specs.declared.finding.Located.{Located}
-use Rattle.app_storages.specs.declared.slots.Slots.{Slots}
+use Rattle.app_storages.specs.declared.slots.OpenSlots.{OpenSlots}
 use Rattle.app_storages.proofs.Handled.{none_written, refused_row}
 use Rattle.app_storages.proofs.SlotLaws.{sessions_set}
 use Rattle.app_storages.proofs.Storing.{clean_at, idle_calls, resting_after, stored_app, storing_calls}
@@ -47,11 +47,11 @@ same_error e f same = cc
 
 -- ---- nothing was called
 
-module _ (laws : StorageLaws) (told : Bool) (app now : ℕ) (root : Root) (c : Call) (was : Slots) (m : Medium)
+module _ (laws : StorageLaws) (told : Bool) (app now : ℕ) (root : Root) (c : Call) (was : OpenSlots) (m : Medium)
     (Same : Type 0) (same : Same) (law : IsLawful told m)
     (resting : IsResting told m.image app root was) where
   -- it was refused
-  pub early_handled : TextLaw → (is : Slots) → is.open.items ≡ was.open.items → (e : PerError) → IsEarly e
+  pub early_handled : TextLaw → (is : OpenSlots) → is.open.items ≡ was.open.items → (e : PerError) → IsEarly e
       → (reply : Reply) → RepliesDone reply (Some e)
       → (IsTrue told → app_step app (resting_with m.image app was) now c ≡ Err e)
       → IsStorageCallHandled told app now root c was is m m Same (Ok reply)
@@ -93,7 +93,7 @@ module _ (laws : StorageLaws) (told : Bool) (app now : ℕ) (root : Root) (c : C
   }
 
   -- memory ran out
-  pub starved_handled : (is : Slots) → IsStorageCallHandled told app now root c was is m m Same (Err OutOfMemory)
+  pub starved_handled : (is : OpenSlots) → IsStorageCallHandled told app now root c was is m m Same (Err OutOfMemory)
   starved_handled is = record {
     ends = λ tells. record {
       next = app_at m.image app;
@@ -109,14 +109,14 @@ module _ (laws : StorageLaws) (told : Bool) (app now : ℕ) (root : Root) (c : C
 
 -- ---- a storage was on its way to its next state
 
-module _ (laws : StorageLaws) (told : Bool) (app now : ℕ) (root : Root) (c : Call) (was is : Slots) (old new : Medium)
+module _ (laws : StorageLaws) (told : Bool) (app now : ℕ) (root : Root) (c : Call) (was is : OpenSlots) (old new : Medium)
     (l : Located)
     (located : IsLocated app (root_says root) l) (resting : IsResting told old.image app root was) (next : State)
     (storing : IsStoring told (shape_at l) next old new) where
   abbrev before : Application
   before = resting_with old.image app was
 
-  abbrev f : Found
+  abbrev f : FoundStorage
   f = found_on old.image l
 
   abbrev next_app : App
@@ -149,7 +149,7 @@ module _ (laws : StorageLaws) (told : Bool) (app now : ℕ) (root : Root) (c : C
     cause = rose;
   }
 
-  same_found : (x : Option (Result Found PerError)) (g h : Found) → x ≡ Some (Ok g) → x ≡ Some (Ok h) → h ≡ g
+  same_found : (x : Option (Result FoundStorage PerError)) (g h : FoundStorage) → x ≡ Some (Ok g) → x ≡ Some (Ok h) → h ≡ g
   same_found x g h one other = cc
 
   -- no file changes beside those of its place
@@ -159,7 +159,7 @@ module _ (laws : StorageLaws) (told : Bool) (app now : ℕ) (root : Root) (c : C
       (laws.beside l.app l.bank l.number file (config_of l) located.within.below located.within.in_bank
       located.within.in_slots
       (subst (λ (k : ℕ). IsBeside k l.bank l.number file) (sym located.app_is)
-      (subst (λ (h : Found). IsBeside app h.bank h.number file)
+      (subst (λ (h : FoundStorage). IsBeside app h.bank h.number file)
       (same_found (found_named before c) f g (named tells) is) beside)))
 
   pub stopped : (IsTrue told → StorageCallMayLead app now c before next_app) → IsTrue told

@@ -26,11 +26,11 @@ use Rattle.run_model.specs.Worlds.{Application}
 use Rattle.app_storages.specs.Answers.{CallsTo, HasStorageCallFailed, HasStorageCallStopped, IsStorageCallAnswered}
 use Rattle.app_storages.specs.Handled.{IsStorageCallHandled, MayWrite}
 use Rattle.app_storages.specs.Slots.{IsResting, resting_with}
-use Rattle.app_storages.specs.declared.slots.Slots.{Slots}
+use Rattle.app_storages.specs.declared.slots.OpenSlots.{OpenSlots}
 
 -- ---- each promise
 
-module _ {told : Bool} {app now : ℕ} {root : Root} {c : Call} {was is : Slots} {old new : Medium} {Same : Type 0} where
+module _ {told : Bool} {app now : ℕ} {root : Root} {c : Call} {was is : OpenSlots} {old new : Medium} {Same : Type 0} where
   pub answered_of : (result : Result Reply Stop) → IsStorageCallHandled told app now root c was is old new Same result
       → IsTrue told
       → IfOk result (λ reply. IsStorageCallAnswered app now c (resting_with old.image app was)
@@ -133,7 +133,7 @@ plain : (e : PerError) → is_refusal (answer.Error e) ≡ true → answer.Error
 plain e plainly same = absurd (true≢false (sym plainly ∙ ap is_refusal same))
 
 -- It was refused, and nothing was called.
-pub refused_handled : UntouchedAppLaw → (told : Bool) (app now : ℕ) (root : Root) (c : Call) (slots : Slots)
+pub refused_handled : UntouchedAppLaw → (told : Bool) (app now : ℕ) (root : Root) (c : Call) (slots : OpenSlots)
     (m : Medium) (Same : Type 0) → IsLawful told m
     → IsResting told m.image app root slots → Same → (e : PerError) (reply : Reply)
     → reply ≡ record { reports = []; answer = answer.Error e }

@@ -37,7 +37,7 @@ use Rattle.app_storages.specs.Openings.{TellsRefusal, TellsAnswer}
 use Rattle.app_storages.specs.Slots.{IsOpenAt, IsResting, resting_with, sessions_in, slot_at}
 use Rattle.app_storages.specs.StorageLaws.{StorageLaws}
 use Rattle.app_storages.specs.declared.finding.Located.{Located}
-use Rattle.app_storages.specs.declared.slots.Slots.{Slots}
+use Rattle.app_storages.specs.declared.slots.OpenSlots.{OpenSlots}
 use Rattle.app_storages.proofs.Ended.{TextLaw, starved_handled}
 use Rattle.app_storages.proofs.Handled.{none_written, refused_row}
 use Rattle.app_storages.proofs.LocalRows.{answers_plainly, is_error, local_answered, local_refused}
@@ -45,7 +45,7 @@ use Rattle.app_storages.proofs.SlotLaws.{none_there, session_slot, sessions_set,
 use Rattle.app_storages.proofs.Storing.{idle_calls, open_there, resting_after}
 
 -- it was answered in memory, whatever was answered
-pub idle_handled : StorageLaws → (told : Bool) (app now : ℕ) (root : Root) (c : Call) (was is : Slots) (m : Medium)
+pub idle_handled : StorageLaws → (told : Bool) (app now : ℕ) (root : Root) (c : Call) (was is : OpenSlots) (m : Medium)
     (Same : Type 0) → Same → IsLawful told m
     → IsResting told m.image app root was → IsResting told m.image app root is → (reply : Reply)
     → (IsTrue told → (reply, resting_with m.image app is)
@@ -80,7 +80,7 @@ not_failed : (a : Answer) → is_error a ≡ false → a ≢ answer.Error error.
 not_failed a plain same = absurd (true≢false (sym (ap is_error same) ∙ plain))
 
 -- the same slots, in another vector
-resting_same : (told : Bool) (image : Image) (app : ℕ) (root : Root) (was is : Slots) → is.open.items ≡ was.open.items
+resting_same : (told : Bool) (image : Image) (app : ℕ) (root : Root) (was is : OpenSlots) → is.open.items ≡ was.open.items
     → IsResting told image app root was → IsResting told image app root is
 resting_same told image app root was is same rest = record {
   below = rest.below;
@@ -92,7 +92,7 @@ resting_same told image app root was is same rest = record {
 }
 
 -- it was refused before its storage was asked, and the slots are as they were
-pub refused_before : StorageLaws → TextLaw → (told : Bool) (app now : ℕ) (root : Root) (c : Call) (was is : Slots)
+pub refused_before : StorageLaws → TextLaw → (told : Bool) (app now : ℕ) (root : Root) (c : Call) (was is : OpenSlots)
     (m : Medium) (Same : Type 0) → Same → IsLawful told m
     → IsResting told m.image app root was → is.open.items ≡ was.open.items → (e : PerError) → IsEarly e
     → (reply : Reply) → reply ≡ record { reports = []; answer = answer.Error e }
@@ -116,7 +116,7 @@ refused_before laws texts told app now root c was is m Same same law resting bac
     (subst (λ (r : Reply). HasText r.answer) (sym says) (texts e early.no_want))
 
 -- an empty slot, emptied
-pub emptied_same : (was is : Slots) (n : ℕ) → n < length was.open.items → slot_at was n ≡ None
+pub emptied_same : (was is : OpenSlots) (n : ℕ) → n < length was.open.items → slot_at was n ≡ None
     → is.open.items ≡ slice_set was.open.items n None → is.open.items ≡ was.open.items
 emptied_same was is n lt none set = set ∙ set_same was.open.items n None (none_there was n lt none)
 
@@ -124,7 +124,7 @@ pub is_early_closed : IsEarly error.NotOpen
 is_early_closed = record { no_failure = λ e. absurd cc; no_want = λ e. absurd cc }
 
 module _ (laws : StorageLaws) (texts : TextLaw) (told : Bool) (app now : ℕ) (root : Root) (c : Call) (name : List ℕ)
-    (kind : Option StoreKind) (was is : Slots) (m : Medium)
+    (kind : Option StoreKind) (was is : OpenSlots) (m : Medium)
     (Same : Type 0) (same : Same) (law : IsLawful told m) (resting : IsResting told m.image app root was)
     (on : local_on c ≡ Some (name, kind))
     (l : Located) (located : IsLocated app (root_says root) l)
@@ -145,7 +145,7 @@ module _ (laws : StorageLaws) (texts : TextLaw) (told : Bool) (app now : ℕ) (r
   later_open : IsOpenAt told m.image app located.version l.number later
   later_open = let was_open = (open_there laws app root l located told m.image was o resting there_is).2 in record {
     configured = was_open.configured ∙ ap (λ (s : StorageData). Some s) (sym config);
-    placed = ap stores.shape_of store ∙ was_open.placed ∙ ap (storage_shape app located.version.bank l.number)
+    placed = ap stores.store_shape store ∙ was_open.placed ∙ ap (storage_shape app located.version.bank l.number)
         (sym config);
     used = subst (λ (s : Store). IsUsed told m.image s) (sym store) was_open.used;
     kind = shown.kind;

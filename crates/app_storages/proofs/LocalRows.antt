@@ -6,6 +6,7 @@ use Rattle.per_base.specs.declared.elements.StoreKind.{StoreKind}
 use Rattle.per_base.specs.declared.errors.PerError.{PerError}
 use Rattle.per_base.specs.declared.errors.PerError.TheVariants as error
 use Rattle.deployment_model.specs.Data.{StorageData}
+use Rattle.key_maps.specs.TwoMaps.{TwoMaps}
 use Rattle.command_text.specs.declared.calls.Call.{Call}
 use Rattle.command_text.specs.declared.calls.Call.TheVariants as call
 use Rattle.command_text.specs.declared.replies.Answer.{Answer}
@@ -13,8 +14,8 @@ use Rattle.command_text.specs.declared.replies.Answer.TheVariants as answer
 use Rattle.deploy_rows.specs.Rows.{◌>>=◌}
 use Rattle.run_model.specs.Calls.{answered, app_step, found_or, local_on, local_step, opened_session, session_at}
 use Rattle.run_model.specs.Calls.{with_session}
-use Rattle.run_model.specs.Found.{Found, storage_in}
-use Rattle.run_model.specs.Sessions.{Answered, KeySession, Session, Working, changes, files, in_session, keys, moves}
+use Rattle.run_model.specs.Found.{FoundStorage, storage_in}
+use Rattle.run_model.specs.Sessions.{Answered, Session, Working, changes, files, in_session, keys, moves}
 use Rattle.run_model.specs.Sessions.{on_keys, on_working, sees, shows, works}
 use Rattle.run_model.specs.Runtimes.{is_durable}
 use Rattle.run_model.specs.Worlds.{Application}
@@ -59,14 +60,14 @@ module _ (app now : ℕ) (r : Application) (c : Call) (name : List ℕ) (kind : 
       ∙ ap (λ (o : Option (List ℕ × Option StoreKind)). local_step r now o c) on
 
   pub local_not_found : (e : PerError) → storage_in r.disk name kind ≡ Err e → app_step app r now c ≡ Err e
-  local_not_found e is = local_row ∙ ap (λ (row : Result Found PerError). row >>= λ f. opened_session r f >>= λ s.
+  local_not_found e is = local_row ∙ ap (λ (row : Result FoundStorage PerError). row >>= λ f. opened_session r f >>= λ s.
       in_session f.config now s c >>= λ a.
       Ok (answered a.0 (with_session r f.number a.1))) is
 
-  module _ (f : Found) (found : storage_in r.disk name kind ≡ Ok f) where
+  module _ (f : FoundStorage) (found : storage_in r.disk name kind ≡ Ok f) where
     local_found : app_step app r now c ≡ (opened_session r f >>= λ s. in_session f.config now s c >>= λ a.
         Ok (answered a.0 (with_session r f.number a.1)))
-    local_found = local_row ∙ ap (λ (row : Result Found PerError). row >>= λ g. opened_session r g >>= λ s.
+    local_found = local_row ∙ ap (λ (row : Result FoundStorage PerError). row >>= λ g. opened_session r g >>= λ s.
         in_session g.config now s c >>= λ a.
         Ok (answered a.0 (with_session r g.number a.1))) found
 
@@ -108,12 +109,12 @@ plain_at : {S : Type 0} (row : Answered S) (a : Answer) (s : S) → Plain row �
 plain_at (Ok x) a s is e = ap is_error (sym (ap (answer_or a) e)) ∙ is
 plain_at (Err x) a s is e = absurd cc
 
-plain_shows : (s : KeySession) {A : Type 0} (form : A → Answer) (row : Result A PerError)
+plain_shows : (s : TwoMaps) {A : Type 0} (form : A → Answer) (row : Result A PerError)
     → ((x : A) → is_error (form x) ≡ false) → Plain (shows s {A = A} form row)
 plain_shows s form (Ok x) is = is x
 plain_shows s form (Err e) is = tt
 
-plain_changes : (s : KeySession) (row : Result Map PerError) → Plain (changes s row)
+plain_changes : (s : TwoMaps) (row : Result Map PerError) → Plain (changes s row)
 plain_changes s (Ok x) = refl
 plain_changes s (Err e) = tt
 
@@ -131,7 +132,7 @@ plain_works : (row : Result Working PerError) → Plain (works row)
 plain_works (Ok x) = refl
 plain_works (Err e) = tt
 
-plain_keys : (c : StorageData) (s : KeySession) (l : Call) → Plain (on_keys c s l)
+plain_keys : (c : StorageData) (s : TwoMaps) (l : Call) → Plain (on_keys c s l)
 unfolding on_keys
 plain_keys c s (call.Size n) = refl
 plain_keys c s (call.Keys n) = refl

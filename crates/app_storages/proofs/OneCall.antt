@@ -7,9 +7,9 @@ use Rattle.command_text.specs.declared.replies.Reply.{Reply}
 use Rattle.deploy.specs.declared.errors.Stop.{Stop}
 use Rattle.deploy.specs.declared.roots.Root.{Root}
 use Rattle.app_storages.specs.Handled.{IsStorageCallHandled}
-use Rattle.app_storages.specs.declared.slots.Slots.{Slots}
+use Rattle.app_storages.specs.declared.slots.OpenSlots.{OpenSlots}
 
-pub handled_as : {told : Bool} {app now : ℕ} {root : Root} {was is : Slots} {old new : Medium} {Same : Type 0}
+pub handled_as : {told : Bool} {app now : ℕ} {root : Root} {was is : OpenSlots} {old new : Medium} {Same : Type 0}
     {result : Result Reply Stop} (c k : Call) → k ≡ c
     → IsStorageCallHandled told app now root k was is old new Same result
     → IsStorageCallHandled told app now root c was is old new Same result

@@ -35,7 +35,7 @@ use Rattle.command_text.specs.Replies.{HasText}
 use Rattle.run_model.specs.Calls.{app_step, storage_opened, session_at, concluded}
 use Rattle.run_model.specs.Runtimes.{is_refusal}
 use Rattle.run_model.specs.Steps.{found_named, uses_device}
-use Rattle.run_model.specs.Found.{Found, shape_in, storage_in, with_storage_state}
+use Rattle.run_model.specs.Found.{FoundStorage, shape_in, storage_in, with_storage_state}
 use Rattle.run_model.specs.Sessions.{Session, session_of}
 use Rattle.run_model.specs.Worlds.{Application, at_rest}
 use Rattle.app_storages.specs.Durables.{IsSet, IsShown}
@@ -45,7 +45,7 @@ use Rattle.app_storages.specs.Openings.{corrupt_reply, open_call}
 use Rattle.app_storages.specs.Slots.{IsOpenAt, IsResting, resting_with, slot_at}
 use Rattle.app_storages.specs.StorageLaws.{StorageLaws}
 use Rattle.app_storages.specs.declared.finding.Located.{Located}
-use Rattle.app_storages.specs.declared.slots.Slots.{Slots}
+use Rattle.app_storages.specs.declared.slots.OpenSlots.{OpenSlots}
 use Rattle.app_storages.proofs.Ended.{answered_so, lost, placed, stopped}
 use Rattle.app_storages.proofs.OpenRows.{open_named, open_not_durable, open_reaches, open_row, open_uses}
 use Rattle.app_storages.proofs.SlotLaws.{none_there, session_slot, sessions_set, set_same}
@@ -73,7 +73,7 @@ none_of None is = refl
 none_of (Some x) is = absurd (true≢false is)
 
 -- whether its slot is taken, whether its session is open
-pub session_there : (image : Image) (app : ℕ) (slots : Slots) (n : ℕ)
+pub session_there : (image : Image) (app : ℕ) (slots : OpenSlots) (n : ℕ)
     → is_some (session_at (resting_with image app slots) n) ≡ is_some (slot_at slots n)
 session_there image app slots n = ap is_some (session_slot image app slots n) ∙ is_some_map session_in (slot_at slots n)
 
@@ -81,7 +81,7 @@ session_there image app slots n = ap is_some (session_slot image app slots n) �
 pub is_early_busy : (name : List ℕ) → IsEarly (error.ResourceBusy (holder.Storage name))
 is_early_busy name = record { no_failure = λ e. absurd cc; no_want = λ e. absurd cc }
 
-module _ (laws : StorageLaws) (told : Bool) (app now : ℕ) (root : Root) (kind : StoreKind) (name : List ℕ) (was : Slots)
+module _ (laws : StorageLaws) (told : Bool) (app now : ℕ) (root : Root) (kind : StoreKind) (name : List ℕ) (was : OpenSlots)
     (old : Medium) (l : Located)
     (located : IsLocated app (root_says root) l) (resting : IsResting told old.image app root was)
     (found : (image : Image) → IsRootOn image app root → storage_in (app_at image app) name (Some kind)
@@ -92,7 +92,7 @@ module _ (laws : StorageLaws) (told : Bool) (app now : ℕ) (root : Root) (kind 
   abbrev before : Application
   before = resting_with old.image app was
 
-  abbrev f : Found
+  abbrev f : FoundStorage
   f = found_on old.image l
 
   found_here : IsTrue told → storage_in before.disk name (Some kind) ≡ Ok f
@@ -116,7 +116,7 @@ module _ (laws : StorageLaws) (told : Bool) (app now : ℕ) (root : Root) (kind 
     never_idle tells idle = absurd (true≢false (sym (open_uses (app_at old.image app) kind name) ∙ idle))
 
     named_so : IsTrue told → found_named before (open_call kind name) ≡ Some (Ok f)
-    named_so tells = open_named before kind name ∙ ap (λ (x : Result Found PerError). Some x)
+    named_so tells = open_named before kind name ∙ ap (λ (x : Result FoundStorage PerError). Some x)
         (named old.image (resting.root_at.disk tells))
 
     in_place : IsTrue told → StaysInPlace app (open_call kind name) before old.image new.image
@@ -186,7 +186,7 @@ module _ (laws : StorageLaws) (told : Bool) (app now : ℕ) (root : Root) (kind 
     }
 
     -- it is open
-    pub open_opened : (o : Open) (reported : Vec Report Global) (is : Slots)
+    pub open_opened : (o : Open) (reported : Vec Report Global) (is : OpenSlots)
         → IsWhereConfigured (shape_at l) (config_of l) o
         → IsUsed told new.image (store_in o) → IsShown o → Quiet new
         → new.faults ≡ old.faults → IsSet l.number (Some o) was is → (IsTrue told → IsClean (shape_at l) old.image

@@ -10,7 +10,7 @@ use Rattle.per_base.specs.Refusals.{refuse}
 use Rattle.deploy_laws.specs.Apps.{App}
 use Rattle.deploy_rows.specs.Rows.{◌>>=◌}
 use Rattle.run_model.specs.Calls.{Outcome, app_step, beside_update, open_step, session_at, storage_opened, unless_open}
-use Rattle.run_model.specs.Found.{Found, storage_in}
+use Rattle.run_model.specs.Found.{FoundStorage, storage_in}
 use Rattle.run_model.specs.Runtimes.{is_durable}
 use Rattle.run_model.specs.Steps.{found_named, passes_refusals, reaches_device, uses_device}
 use Rattle.run_model.specs.Worlds.{Application, Stage, at_rest, update_in}
@@ -47,12 +47,12 @@ module _ (app now : ℕ) (r : Application) (kind : StoreKind) (name : List ℕ) 
       → app_step app r now (open_call kind name) ≡ Err e
   unfolding open_step
   open_not_found e is = open_is app now r kind name ∙ ap
-      (λ (row : Result Found PerError). row >>= λ f. unless_open r f (Ok (storage_opened app r f f.state))) is
+      (λ (row : Result FoundStorage PerError). row >>= λ f. unless_open r f (Ok (storage_opened app r f f.state))) is
 
-  module _ (f : Found) (found : storage_in r.disk name (Some kind) ≡ Ok f) where
+  module _ (f : FoundStorage) (found : storage_in r.disk name (Some kind) ≡ Ok f) where
     open_found : app_step app r now (open_call kind name) ≡ unless_open r f (Ok (storage_opened app r f f.state))
     unfolding open_step
-    open_found = open_is app now r kind name ∙ ap (λ (row : Result Found PerError). row >>= λ g.
+    open_found = open_is app now r kind name ∙ ap (λ (row : Result FoundStorage PerError). row >>= λ g.
         unless_open r g (Ok (storage_opened app r g g.state))) found
 
     pub open_busy : is_some (session_at r f.number) ≡ true

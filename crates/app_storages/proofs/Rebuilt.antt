@@ -39,7 +39,7 @@ use Rattle.deploy.specs.declared.errors.Stop.TheVariants.{Device, OutOfMemory}
 use Rattle.deploy.specs.declared.roots.Root.{Root}
 use Rattle.deploy.specs.Roots.{root_says}
 use Rattle.run_model.specs.Calls.{Outcome, answered, app_step, rebuild_step, session_at, concluded, unless_open}
-use Rattle.run_model.specs.Found.{Found, storage_in, with_storage_state}
+use Rattle.run_model.specs.Found.{FoundStorage, storage_in, with_storage_state}
 use Rattle.run_model.specs.Runtimes.{IsUnwritten, is_durable, is_refusal}
 use Rattle.run_model.specs.Steps.{found_named, reaches_device, uses_device}
 use Rattle.run_model.specs.Worlds.{Application}
@@ -52,7 +52,7 @@ use Rattle.app_storages.specs.Handled.{IsStorageCallHandled, MayWrite, StaysInPl
 use Rattle.app_storages.specs.Slots.{IsResting, resting_with, slot_at}
 use Rattle.app_storages.specs.StorageLaws.{StorageLaws}
 use Rattle.app_storages.specs.declared.finding.Located.{Located}
-use Rattle.app_storages.specs.declared.slots.Slots.{Slots}
+use Rattle.app_storages.specs.declared.slots.OpenSlots.{OpenSlots}
 use Rattle.app_storages.proofs.DurableRows.{recover_reaches, recover_row, reset_reaches, reset_row}
 use Rattle.app_storages.proofs.Ended.{TextLaw, answered_so, lost, placed, stopped}
 use Rattle.app_storages.proofs.SlotLaws.{none_there, session_slot, set_same}
@@ -125,14 +125,14 @@ resetting_early s now state e is = rebuilding_early (initial_contents s cause.Re
 
 -- ---- the call
 
-module _ (laws : StorageLaws) (texts : TextLaw) (told : Bool) (app now : ℕ) (root : Root) (was : Slots) (old : Medium)
+module _ (laws : StorageLaws) (texts : TextLaw) (told : Bool) (app now : ℕ) (root : Root) (was : OpenSlots) (old : Medium)
     (resting : IsResting told old.image app root was) (l : Located) (located : IsLocated app (root_says root) l)
     (none : slot_at was l.number ≡ None)
     (c : Call) (row : State → Result State PerError) where
   abbrev before : Application
   before = resting_with old.image app was
 
-  abbrev f : Found
+  abbrev f : FoundStorage
   f = found_on old.image l
 
   abbrev next : State
@@ -320,9 +320,9 @@ pub reset_is : (app now : ℕ) (r : Application) (name : List ℕ)
 unfolding app_step
 reset_is app now r name = refl
 
-pub none_closed : (r : Application) (name : List ℕ) (state_of : Found → Result State PerError) (e : PerError)
+pub none_closed : (r : Application) (name : List ℕ) (state_of : FoundStorage → Result State PerError) (e : PerError)
     → storage_in r.disk name None ≡ Err e → rebuild_step r name state_of ≡ Err e
-none_closed r name state_of e is = ap (λ (x : Result Found PerError). x >>= λ f.
+none_closed r name state_of e is = ap (λ (x : Result FoundStorage PerError). x >>= λ f.
     unless_open r f (state_of f >>= λ state.
     Ok (answered answer.Done (record r { disk = with_storage_state r.disk f state })))) is
 
@@ -334,13 +334,13 @@ pub none_is : {A : Type 0} (o : Option A) → is_some o ≡ false → o ≡ None
 none_is None is = refl
 none_is (Some x) is = absurd cc
 
-pub busy_closed : (image : Image) (app : ℕ) (slots : Slots) (name : List ℕ) (state_of : Found → Result State PerError)
-    (f : Found) → storage_in (app_at image app) name None ≡ Ok f
+pub busy_closed : (image : Image) (app : ℕ) (slots : OpenSlots) (name : List ℕ)
+    (state_of : FoundStorage → Result State PerError) (f : FoundStorage) → storage_in (app_at image app) name None ≡ Ok f
     → is_some (slot_at slots f.number) ≡ true → rebuild_step (resting_with image app slots) name state_of
     ≡ Err (error.ResourceBusy (holder.Storage f.config.name))
 busy_closed image app slots name state_of f found there =
-    ap (λ (x : Result Found PerError). x >>= λ g. unless_open (resting_with image app slots) g (state_of g >>= λ state.
-    Ok (answered answer.Done (record (resting_with image app slots)
+    ap (λ (x : Result FoundStorage PerError). x >>= λ g. unless_open (resting_with image app slots) g
+    (state_of g >>= λ state. Ok (answered answer.Done (record (resting_with image app slots)
     { disk = with_storage_state (app_at image app) g state }))))
     found
     ∙ ap (λ (b : Bool). refuse b (error.ResourceBusy (holder.Storage f.config.name)) (state_of f >>= λ state.
@@ -353,7 +353,7 @@ busy_early name = record { no_failure = λ is. absurd cc; no_want = λ is. absur
 
 -- ---- the two calls
 
-module _ (told : Bool) (app now : ℕ) (root : Root) (was : Slots) (old : Medium) (l : Located) (name : List ℕ)
+module _ (told : Bool) (app now : ℕ) (root : Root) (was : OpenSlots) (old : Medium) (l : Located) (name : List ℕ)
     (named : IsTrue told → storage_in (app_at old.image app) name None ≡ Ok (found_on old.image l))
     (none : slot_at was l.number ≡ None) where
   no_session : session_at (resting_with old.image app was) l.number ≡ None

@@ -12,7 +12,7 @@ use Rattle.open_storages.specs.declared.opens.Open.{Open}
 use Rattle.open_storages.specs.Opens.{session_in}
 use Rattle.run_model.specs.Calls.{first_open, if_open, session_at}
 use Rattle.run_model.specs.Worlds.{Sessions}
-use Rattle.app_storages.specs.declared.slots.Slots.{Slots}
+use Rattle.app_storages.specs.declared.slots.OpenSlots.{OpenSlots}
 use Rattle.app_storages.specs.Slots.{if_there, resting_with, sessions_in, slot_at}
 
 -- ---- places of a list
@@ -81,7 +81,7 @@ if_there_at : {A : Type 0} (o : Option (Option A)) (x : A) → if_there o ≡ So
 if_there_at None x is = absurd cc
 if_there_at (Some o) x is = ap (λ y. Some y) is
 
-pub there : (slots : Slots) (n : ℕ) (o : Open) → slot_at slots n ≡ Some o → slice_get slots.open.items n ≡ Some (Some o)
+pub there : (slots : OpenSlots) (n : ℕ) (o : Open) → slot_at slots n ≡ Some o → slice_get slots.open.items n ≡ Some (Some o)
 there slots n o is = if_there_at (slice_get slots.open.items n) o is
 
 none_there_at : {A : Type 0} (xs : List (Option A)) (n : ℕ) → n < length xs → if_there (slice_get xs n) ≡ None
@@ -90,7 +90,7 @@ none_there_at [] n lt is = absurd (omega (arith, lt))
 none_there_at (x ∷ xs) zero lt is = ap (λ y. Some y) is
 none_there_at (x ∷ xs) (suc n) lt is = none_there_at xs n (omega (arith, lt)) is
 
-pub none_there : (slots : Slots) (n : ℕ) → n < length slots.open.items → slot_at slots n ≡ None
+pub none_there : (slots : OpenSlots) (n : ℕ) → n < length slots.open.items → slot_at slots n ≡ None
     → slice_get slots.open.items n ≡ Some None
 none_there slots n lt is = none_there_at slots.open.items n lt is
 
@@ -103,23 +103,23 @@ seen_slot (Some None) = refl
 seen_slot (Some (Some o)) = refl
 
 -- the session at a number is that of the storage in its slot
-pub session_slot : (image : Image) (app : ℕ) (slots : Slots) (n : ℕ)
+pub session_slot : (image : Image) (app : ℕ) (slots : OpenSlots) (n : ℕ)
     → session_at (resting_with image app slots) n ≡ option_map session_in (slot_at slots n)
 session_slot image app slots n = ap if_open (slice_get-map (option_map session_in) slots.open.items n)
     ∙ seen_slot (slice_get slots.open.items n)
 
 -- what is read at the place of a number is in its slot
-pub slot_read : (slots : Slots) (n : ℕ) (x : Option Open) → n < length slots.open.items
+pub slot_read : (slots : OpenSlots) (n : ℕ) (x : Option Open) → n < length slots.open.items
     → x ≡ slice_index_or slots.open.items n x → slot_at slots n ≡ x
 slot_read slots n x lt is = ap if_there (slice_get_read slots.open.items (length slots.open.items) n x refl lt is)
 
 -- and one changed slot changes one session
-pub sessions_set : (was is : Slots) (n : ℕ) (x : Option Open) → is.open.items ≡ slice_set was.open.items n x
+pub sessions_set : (was is : OpenSlots) (n : ℕ) (x : Option Open) → is.open.items ≡ slice_set was.open.items n x
     → sessions_in is ≡ slice_set (sessions_in was) n (option_map session_in x)
 sessions_set was is n x e = ap (map (option_map session_in)) e ∙ map-set (option_map session_in) was.open.items n x
 
 -- a storage that was taken out and put back
-pub put_back : (was is : Slots) (n : ℕ) (o : Open) → slot_at was n ≡ Some o
+pub put_back : (was is : OpenSlots) (n : ℕ) (o : Open) → slot_at was n ≡ Some o
     → is.open.items ≡ slice_set (slice_set was.open.items n None) n (Some o) → is.open.items ≡ was.open.items
 put_back was is n o at e = e ∙ set_again was.open.items n None (Some o)
     ∙ set_same was.open.items n (Some o) (there was n o at)
@@ -171,7 +171,7 @@ get_or_again : {A : Type 0} (xs : List A) (n : ℕ) (d : A) → n < length xs
 get_or_again xs n d lt = sym (get_or_from_slice_get xs n (slice_index_or xs n d) (slice_index_or xs n d)
     (slice_get-get_or xs n d lt))
 
-pub first_taken : (slots : Slots) (storages : List StorageConfig) (n : ℕ) (d : StorageConfig)
+pub first_taken : (slots : OpenSlots) (storages : List StorageConfig) (n : ℕ) (d : StorageConfig)
     → ((k : ℕ) → k < n → slot_at slots k ≡ None) → is_some (slot_at slots n) ≡ true
     → n < length storages → first_open (sessions_in slots) (map storage_data storages)
     ≡ Some (slice_index_or storages n d).name
@@ -179,7 +179,7 @@ first_taken slots storages n d below is lt = let o = some_of (slot_at slots n) i
     first_at slots.open.items (map storage_data storages) n o.0 (storage_data (slice_index_or storages n d)) below o.1
     (config_there storages storages n (slice_index_or storages n d) refl lt (get_or_again storages n d lt))
 
-pub first_none : (slots : Slots) (storages : List StorageConfig) (n : ℕ) → ((k : ℕ) → k < n → slot_at slots k ≡ None)
+pub first_none : (slots : OpenSlots) (storages : List StorageConfig) (n : ℕ) → ((k : ℕ) → k < n → slot_at slots k ≡ None)
     → length storages ≤ n
     → first_open (sessions_in slots) (map storage_data storages) ≡ None
 first_none slots storages n below past = all_closed slots.open.items (map storage_data storages)

@@ -1,5 +1,5 @@
--- One storage of an application changes: what its files tell of the application, at the end and at every moment, and
--- what stays in use.
+-- One storage of an application changes: what reads of its files give of the application, at the end and at every
+-- moment, and what stays in use.
 use Rattle.std.proofs.Common.{◌≡◌, ◌≢◌, ℕ, ◌+◌, ◌<◌, ◌≤◌, List, ◌++◌, length, map, Bool, IsTrue, Option, Some}
 use Rattle.std.proofs.Common.{option_map, slice_get, slice_set, refl, sym, ap, ◌∙◌, subst, inl, inr, ⊎_elim, arith}
 use Rattle.std.proofs.lemmas.Bool.{cases_eq, cases_lt}
@@ -29,7 +29,7 @@ use Rattle.open_storages.specs.declared.opens.Open.{Open}
 use Rattle.open_storages.specs.Opens.{config_in, store_in}
 use Rattle.run_model.specs.Found.{with_storage_state}
 use Rattle.app_storages.specs.declared.finding.Located.{Located}
-use Rattle.app_storages.specs.declared.slots.Slots.{Slots}
+use Rattle.app_storages.specs.declared.slots.OpenSlots.{OpenSlots}
 use Rattle.app_storages.specs.Answers.{CallsTo}
 use Rattle.app_storages.specs.Finding.{IsLocated, config_of, found_on, shape_at}
 use Rattle.app_storages.specs.Slots.{IsOpenAt, IsResting, active_in, slot_at}
@@ -168,7 +168,7 @@ module _ (laws : StorageLaws) (app : ℕ) (lt : app < 8) (g : ℕ) (v : Named) (
       shows = is.shows;
     }
 
-    module _ (root : Root) (says : root_says root ≡ installed g v previous) (was is : Slots) (x : Option Open)
+    module _ (root : Root) (says : root_says root ≡ installed g v previous) (was is : OpenSlots) (x : Option Open)
         (rest : IsResting told old app root was)
         (set : is.open.items ≡ slice_set was.open.items number x)
         (newly : (o : Open) → x ≡ Some o → IsOpenAt told new app v number o) where
@@ -307,7 +307,7 @@ module _ (laws : StorageLaws) (app : ℕ) (root : Root) (l : Located) (located :
   -- the application at rest with this slot set or emptied, after files of this storage alone changed
   pub resting_after : (told : Bool) (old new : Image) → (IsTrue told
       → Spares (IsOutside (shape_at l).place) old new)
-      → (was is : Slots) (x : Option Open) → IsResting told old app root was
+      → (was is : OpenSlots) (x : Option Open) → IsResting told old app root was
       → is.open.items ≡ slice_set was.open.items l.number x
       → ((o : Open) → x ≡ Some o → IsOpenAt told new app located.version l.number o) → IsResting told new app root is
   resting_after told old new spared was is x rest set newly = let i =
@@ -317,9 +317,9 @@ module _ (laws : StorageLaws) (app : ℕ) (root : Root) (l : Located) (located :
       root i.2 was is x rest set newly
 
   -- what is open in its slot is this storage
-  pub open_there : (told : Bool) (image : Image) (was : Slots) (o : Open) → IsResting told image app root was
+  pub open_there : (told : Bool) (image : Image) (was : OpenSlots) (o : Open) → IsResting told image app root was
       → slot_at was l.number ≡ Some o
-      → (config_in o ≡ config_of l) × (stores.shape_of (store_in o) ≡ shape_at l)
+      → (config_in o ≡ config_of l) × (stores.store_shape (store_in o) ≡ shape_at l)
       × IsOpenAt told image app located.version l.number o
   open_there told image was o rest at =
       let found = rest.open_on.each l.number o (there was l.number o at) in

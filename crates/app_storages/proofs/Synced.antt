@@ -38,7 +38,7 @@ use Rattle.open_storages.specs.Durables.{IsDurableOrRefused, IsMadeDurable}
 use Rattle.open_storages.specs.Opens.{session_in, store_in}
 use Rattle.open_storages.specs.Refusals.{durable_view, error_of, flush_refused, sync_refused}
 use Rattle.run_model.specs.Calls.{Outcome, answered, app_step, may_flush, with_session}
-use Rattle.run_model.specs.Found.{Found, shape_in, storage_in, with_storage_state}
+use Rattle.run_model.specs.Found.{FoundStorage, shape_in, storage_in, with_storage_state}
 use Rattle.run_model.specs.Sessions.{Session, keys, files, made_durable, seen_of, synced_in_session}
 use Rattle.run_model.specs.Steps.{found_named, reaches_device, uses_device}
 use Rattle.run_model.specs.Worlds.{Application}
@@ -48,7 +48,7 @@ use Rattle.app_storages.specs.Handled.{IsStorageCallHandled, MayWrite}
 use Rattle.app_storages.specs.Slots.{IsOpenAt, IsResting, resting_with, sessions_in, slot_at}
 use Rattle.app_storages.specs.StorageLaws.{StorageLaws}
 use Rattle.app_storages.specs.declared.finding.Located.{Located}
-use Rattle.app_storages.specs.declared.slots.Slots.{Slots}
+use Rattle.app_storages.specs.declared.slots.OpenSlots.{OpenSlots}
 use Rattle.app_storages.proofs.DurableRows.{flush_row, sync_row}
 use Rattle.app_storages.proofs.Durables.{Makes, at, done_handled, err_not_due, may_write, opens, row_err, session_is}
 use Rattle.app_storages.proofs.Durables.{set_over, shape_in_is, shape_there, stopped_handled}
@@ -109,14 +109,14 @@ flush_early storage h e is = first_early (error_of (may_flush (session_in storag
 
 -- ---- the calls
 
-module _ (laws : StorageLaws) (texts : TextLaw) (told : Bool) (app now : ℕ) (root : Root) (was : Slots) (old : Medium)
+module _ (laws : StorageLaws) (texts : TextLaw) (told : Bool) (app now : ℕ) (root : Root) (was : OpenSlots) (old : Medium)
     (law : IsLawful told old)
     (resting : IsResting told old.image app root was) (l : Located) (located : IsLocated app (root_says root) l)
     (storage : Open) (there_is : slot_at was l.number ≡ Some storage) where
   abbrev before : Application
   before = resting_with old.image app was
 
-  abbrev f : Found
+  abbrev f : FoundStorage
   f = found_on old.image l
 
   abbrev after_by : Shape → Application
@@ -127,7 +127,7 @@ module _ (laws : StorageLaws) (texts : TextLaw) (told : Bool) (app now : ℕ) (r
   }) l.number (made_durable (session_in storage))
 
   abbrev after : Application
-  after = after_by (stores.shape_of (store_in storage))
+  after = after_by (stores.store_shape (store_in storage))
 
   shaped : (refused : Option PerError) → refused_by {A = Outcome} refused
       (Ok (answered answer.Done (after_by (shape_in app f)))) ≡ refused_by refused (Ok (answered answer.Done after))
@@ -154,7 +154,7 @@ module _ (laws : StorageLaws) (texts : TextLaw) (told : Bool) (app now : ℕ) (r
         (shape_there laws texts told app now root was old resting l located storage there_is) makes.storing
 
     -- it stopped
-    pub made_err : (is : Slots) → IsSet l.number None was is → (e : Stop) → result ≡ Err e
+    pub made_err : (is : OpenSlots) → IsSet l.number None was is → (e : Stop) → result ≡ Err e
         → IsStorageCallHandled told app now root c was is old new Same (Err e)
     made_err is emptied e err = stopped_handled laws texts told app now root was old resting l located storage there_is
         c refused after refl refl row named reaches
@@ -162,7 +162,7 @@ module _ (laws : StorageLaws) (texts : TextLaw) (told : Bool) (app now : ℕ) (r
         (λ device. makes.cause (err ∙ ap (λ (x : Stop). Err x) device))
 
     -- it was answered
-    pub made_ok : (made : Durable) → result ≡ Ok made → (mid is : Slots) → IsSet l.number None was mid → (reply : Reply)
+    pub made_ok : (made : Durable) → result ≡ Ok made → (mid is : OpenSlots) → IsSet l.number None was mid → (reply : Reply)
         → IsPutBack l.number made mid is reply
         → IsStorageCallHandled told app now root c was is old new Same (Ok reply)
     made_ok (made.Done later) ok mid is emptied reply (shown, set, says) =
@@ -190,7 +190,7 @@ module _ (laws : StorageLaws) (texts : TextLaw) (told : Bool) (app now : ℕ) (r
         (sessions_set was is l.number (Some later) set_there
         ∙ ap (λ (t : Session). slice_set (sessions_in was) l.number (Some t)) durable.1.session)
         (λ tells clean. subst (λ (sh : Shape). IsClean sh new.image) shape
-        (on_made (made.Done later) ok (IsClean (stores.shape_of (store_in storage)) new.image)
+        (on_made (made.Done later) ok (IsClean (stores.store_shape (store_in storage)) new.image)
         (makes.clean tells (subst (λ (sh : Shape). IsClean sh old.image) (sym shape) clean))))
         (λ quiet. on_made (made.Done later) ok (Quiet new) (makes.quiet quiet))
         (on_made (made.Done later) ok (new.faults ≡ old.faults) makes.passes)

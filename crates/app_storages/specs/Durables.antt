@@ -12,7 +12,7 @@ use Rattle.open_storages.specs.declared.syncing.Durable.{Durable}
 use Rattle.open_storages.specs.declared.syncing.Durable.TheVariants as made
 use Rattle.open_storages.specs.Opens.{config_in, session_in, session_kind, store_in}
 use Rattle.run_model.specs.Sessions.{seen_in, synced_in_session}
-use Rattle.app_storages.specs.declared.slots.Slots.{Slots}
+use Rattle.app_storages.specs.declared.slots.OpenSlots.{OpenSlots}
 
 -- done, or why it is refused
 abbrev pub done_or : Option PerError → Answer
@@ -29,17 +29,17 @@ pub record IsShown (o : Open) : Type 0 where
   pub shows : synced_in_session (session_in o) ≡ seen_in (config_in o).kind (view_in (store_in o))
 
 -- the slot of this number has this storage, or none
-abbrev pub IsSet : ℕ → Option Open → (was is : Slots) → Type 0
+abbrev pub IsSet : ℕ → Option Open → (was is : OpenSlots) → Type 0
 IsSet number storage was is = is.open.items ≡ slice_set was.open.items number storage
 
-abbrev pub IsPutBack : ℕ → Durable → (was is : Slots) → Reply → Type 0
+abbrev pub IsPutBack : ℕ → Durable → (was is : OpenSlots) → Reply → Type 0
 IsPutBack number (made.Done later) was is reply = IsShown later × IsSet number (Some later) was is
     × RepliesDone reply None
 IsPutBack number (made.Refused same error) was is reply = IsSet number (Some same) was is
     × RepliesDone reply (Some error)
 
 -- a storage that was closed leaves its slot as it is
-abbrev pub IsLeft : ℕ → Closing → (was is : Slots) → Reply → Type 0
-IsLeft number closing.Done was is reply = (is ≡ was) × RepliesDone reply None
-IsLeft number (closing.Refused same error) was is reply = IsSet number (Some same) was is
+abbrev pub LeavesSlot : ℕ → Closing → (was is : OpenSlots) → Reply → Type 0
+LeavesSlot number closing.Done was is reply = (is ≡ was) × RepliesDone reply None
+LeavesSlot number (closing.Refused same error) was is reply = IsSet number (Some same) was is
     × RepliesDone reply (Some error)

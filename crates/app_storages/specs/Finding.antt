@@ -10,7 +10,7 @@ use Rattle.element_state.specs.declared.shapes.Shape.{Shape}
 use Rattle.element_state.specs.States.{State, store_at}
 use Rattle.deploy_laws.specs.Places.{Named, storage_shape}
 use Rattle.deploy_laws.specs.Apps.{Says}
-use Rattle.run_model.specs.Found.{Found, found_in}
+use Rattle.run_model.specs.Found.{FoundStorage, found_in}
 use Rattle.app_storages.specs.Slots.{active_in}
 use Rattle.app_storages.specs.declared.finding.Located.{Located}
 
@@ -23,10 +23,10 @@ abbrev pub shape_at : Located → Shape
 shape_at l = storage_shape l.app l.bank l.number (config_of l)
 
 -- in this state, and as it is found on an image
-abbrev pub found_as : Located → State → Found
+abbrev pub found_as : Located → State → FoundStorage
 found_as l state = record { bank = l.bank; number = l.number; config = config_of l; state = state }
 
-abbrev pub found_on : Image → Located → Found
+abbrev pub found_on : Image → Located → FoundStorage
 found_on image l = found_as l (store_at image (shape_at l))
 
 -- its numbers are those of a storage of an application

@@ -7,21 +7,21 @@ use Rattle.deploy_laws.specs.Apps.{app_at}
 use Rattle.deploy.specs.declared.roots.Root.{Root}
 use Rattle.deploy.specs.Roots.{IsRootOn, root_says}
 use Rattle.run_model.specs.Calls.{rebuild_step}
-use Rattle.run_model.specs.Found.{Found, storage_in}
+use Rattle.run_model.specs.Found.{FoundStorage, storage_in}
 use Rattle.app_storages.specs.Finding.{IsEarly, IsLocated, found_on}
 use Rattle.app_storages.specs.Slots.{resting_with, slot_at}
 use Rattle.app_storages.specs.declared.finding.Located.{Located}
-use Rattle.app_storages.specs.declared.slots.Slots.{Slots}
+use Rattle.app_storages.specs.declared.slots.OpenSlots.{OpenSlots}
 
 -- a storage of the active version of this name, which is not open
-pub record IsClosed (app : ℕ) (root : Root) (name : List ℕ) (slots : Slots) (l : Located) : Type 0 where
+pub record IsClosed (app : ℕ) (root : Root) (name : List ℕ) (slots : OpenSlots) (l : Located) : Type 0 where
   pub located : IsLocated app (root_says root) l
   pub named : (image : Image) → IsRootOn image app root
       → storage_in (app_at image app) name None ≡ Ok (found_on image l)
   pub free : slot_at slots l.number ≡ None
 
 -- whatever is to be made of it, this is the refusal
-pub record IsNoneClosed (app : ℕ) (root : Root) (name : List ℕ) (slots : Slots) (e : PerError) : Type 0 where
+pub record IsNoneClosed (app : ℕ) (root : Root) (name : List ℕ) (slots : OpenSlots) (e : PerError) : Type 0 where
   pub early : IsEarly e
-  pub row : (image : Image) → IsRootOn image app root → (state_of : Found → Result State PerError)
+  pub row : (image : Image) → IsRootOn image app root → (state_of : FoundStorage → Result State PerError)
       → rebuild_step (resting_with image app slots) name state_of ≡ Err e

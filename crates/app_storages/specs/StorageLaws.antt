@@ -4,14 +4,14 @@ use Rattle.disk_model.specs.Frame.{Spares}
 use Rattle.disk_model.specs.Image.{Image}
 use Rattle.element_laws.specs.Phases.{IsOfPlace}
 use Rattle.element_store.specs.declared.store.Store.{Store}
-use Rattle.element_store.specs.Stores.{IsUsed, shape_of}
+use Rattle.element_store.specs.Stores.{IsUsed, store_shape}
 use Rattle.deploy_laws.specs.Laws.{BesideLaw, NumberLaw, StorageFilesLaw, StoredLaw, StoringLaw, UntouchedAppLaw}
 use Rattle.deploy.specs.Laws.{RootFrameLaw, RootInUseLaw}
 
 -- a storage in use stays so where the files of its place are as they were
 abbrev pub UsedFrameLaw : Type 0
 UsedFrameLaw = (told : Bool) (store : Store) (old new : Image)
-    → (IsTrue told → Spares (IsOfPlace (shape_of store).place) old new)
+    → (IsTrue told → Spares (IsOfPlace (store_shape store).place) old new)
     → IsUsed told old store → IsUsed told new store
 
 pub record StorageLaws : Type 0 where

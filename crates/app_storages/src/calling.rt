@@ -7,7 +7,7 @@ ghost use Rattle.disk_model.specs.Medium.{Elapses, Quiet};
 ghost use Rattle.command_text.specs.Replies.{HasText};
 ghost use Rattle.deploy_laws.specs.Apps.{app_at};
 ghost use Rattle.run_model.specs.Calls.{session_at};
-ghost use Rattle.run_model.specs.Found.{Found};
+ghost use Rattle.run_model.specs.Found.{FoundStorage};
 ghost use Rattle.run_model.specs.Runtimes.{IsUnwritten, WritesWithin, is_durable, is_refusal};
 ghost use Rattle.run_model.specs.Sessions.{Session};
 ghost use Rattle.run_model.specs.Steps.{found_named, uses_device};
@@ -16,14 +16,14 @@ ghost use Rattle.app_storages.specs.Answers.{is_on_storage};
 ghost use Rattle.app_storages.specs.Handled.{IsStorageCallHandled, StaysInPlace};
 ghost use Rattle.app_storages.specs.Slots.{IsResting, resting_with};
 
-use crate::slots::Slots;
+use crate::slots::OpenSlots;
 use command_text::{Answer, Call, Reply};
 use deploy::{Root, Stop};
 use disk_model::Disk;
 use per_base::{PerError, StoreKind};
 use std::alloc::Global;
 
-impl Slots {
+impl OpenSlots {
     /// Answers a call that names a storage of an application at rest, at a moment in seconds.
     ///
     /// # Errors
@@ -66,7 +66,7 @@ impl Slots {
 
         // However a call ends that is to make an open storage durable: nothing where nothing differs, and never more
         // than what does.
-        ensures written { IsTrue D.told → is_durable call.now ≡ true → (f : Found) (s : Session)
+        ensures written { IsTrue D.told → is_durable call.now ≡ true → (f : FoundStorage) (s : Session)
             → found_named (resting_with (D.medium disk.old).image app self.old) call.now ≡ Some (Ok f)
             → session_at (resting_with (D.medium disk.old).image app self.old) f.number ≡ Some s
             → WritesWithin app f s (D.medium disk.old) (D.medium disk.new) }

@@ -2,14 +2,14 @@
 
 ghost use Rattle.std.specs.Prelude.{◌≡◌, ◌<◌, ℕ, length};
 ghost use Rattle.command_text.specs.declared.calls.Call.{Call};
-ghost use Rattle.app_storages.specs.Durables.{IsLeft};
+ghost use Rattle.app_storages.specs.Durables.{LeavesSlot};
 ghost use Rattle.app_storages.specs.Handled.{IsStorageCallHandled};
 ghost use Rattle.app_storages.specs.Slots.{IsResting};
 
 use crate::finding::find;
 use crate::laws::storages_stand;
 use crate::replying::{answered, refusal};
-use crate::slots::Slots;
+use crate::slots::OpenSlots;
 use command_text::{Answer, Reply, errors_have_texts};
 use deploy::{Root, Stop};
 use disk_model::Disk;
@@ -17,7 +17,7 @@ use open_storages::Closing;
 use per_base::{Name, PerError};
 use std::alloc::Global;
 
-impl Slots {
+impl OpenSlots {
     /// Closes an open storage of an application at rest: what is pending of keys is dropped, and the working files are
     /// made durable.
     ///
@@ -58,7 +58,7 @@ impl Slots {
     /// Leaves the slot of a closed storage empty, or puts back one that stays open, and says which.
     fn leave(&mut self, alloc: Global, number: u32, closing: Closing) -> Reply
         requires { number < length self.old.open.items }
-        ensures { IsLeft number closing self.old self.new result }
+        ensures { LeavesSlot number closing self.old self.new result }
     {
         match closing {
             Closing::Done => answered(alloc, Answer::Done),

@@ -1,10 +1,10 @@
 //! The open storages of one application, and every call that names one: opened, read and changed in memory, made
 //! durable, closed, recovered and reset.
 //!
-//! [`Slots`] has room for sixteen storages, each in the slot of its number in the active version. [`Slots::call`]
-//! answers a call that names a storage as its row says, every refusal in its order with what it carries. A stop at any
-//! moment leaves the application as it was, or as the call leads to, and no file of another application changes. Where
-//! the device failed the storage that the call names is closed, and all else stays in use.
+//! [`OpenSlots`] has room for sixteen storages, each in the slot of its number in the active version.
+//! [`OpenSlots::call`] answers a call that names a storage as its row says, every refusal in its order with what it
+//! carries. A stop at any moment leaves the application as it was, or as the call leads to, and no file of another
+//! application changes. Where the device failed the storage that the call names is closed, and all else stays in use.
 #![tactic(auto)]
 
 mod calling;
@@ -18,4 +18,4 @@ mod replying;
 mod slots;
 mod syncing;
 
-pub use slots::Slots;
+pub use slots::OpenSlots;

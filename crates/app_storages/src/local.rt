@@ -10,14 +10,14 @@ ghost use Rattle.app_storages.specs.Slots.{IsResting};
 use crate::finding::find;
 use crate::laws::storages_stand;
 use crate::replying::{answered, refusal};
-use crate::slots::Slots;
+use crate::slots::OpenSlots;
 use command_text::{Answer, Call, Reply, errors_have_texts};
 use deploy::{Root, Stop};
 use disk_model::Disk;
 use per_base::{Name, PerError, StoreKind};
 use std::alloc::Global;
 
-impl Slots {
+impl OpenSlots {
     /// Answers a call on an open storage that touches no disk, at a moment in seconds, of an application at rest.
     ///
     /// Refusals, the first that holds: `IntegrityCorrupted` with the root where it is bad; `NotInstalled`;

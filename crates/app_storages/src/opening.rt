@@ -8,7 +8,7 @@ ghost use Rattle.app_storages.specs.Slots.{IsResting};
 use crate::finding::find;
 use crate::laws::storages_stand;
 use crate::replying::refusal;
-use crate::slots::Slots;
+use crate::slots::OpenSlots;
 use command_text::{Answer, Reply, errors_have_texts};
 use deploy::{Root, Stop};
 use disk_model::Disk;
@@ -16,7 +16,7 @@ use open_storages::{Opening, open_storage};
 use per_base::{Holder, Name, PerError, Report, Sequence, StoreKind, Unit};
 use std::alloc::{AllocError, Global};
 
-impl Slots {
+impl OpenSlots {
     /// Opens a closed storage of this kind, of an application at rest: what was lacking or could not be read is
     /// reported.
     ///

@@ -11,14 +11,14 @@ ghost use Rattle.app_storages.specs.Slots.{IsResting};
 use crate::finding::{Located, find};
 use crate::laws::storages_stand;
 use crate::replying::{done_or, refusal};
-use crate::slots::Slots;
+use crate::slots::OpenSlots;
 use command_text::{Reply, errors_have_texts};
 use deploy::{Root, Stop, recover_storage, reset_storage};
 use disk_model::Disk;
 use per_base::{Holder, Name, PerError};
 use std::alloc::{AllocError, Global};
 
-impl Slots {
+impl OpenSlots {
     /// Rebuilds a closed storage of an application at rest from its readable contents, at a moment in seconds.
     ///
     /// Refusals, the first that holds: `IntegrityCorrupted` with the root where it is bad; `NotInstalled`;
@@ -99,7 +99,7 @@ impl Slots {
     ///
     /// # Errors
     ///
-    /// Want of memory, for the name of a storage that is open.
+    /// `OutOfMemory`, for the name of a storage that is open.
     fn closed<'a>(
         &self,
         app: u32,

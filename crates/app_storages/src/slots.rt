@@ -16,23 +16,23 @@ use std::alloc::{AllocError, Global};
 
 /// The open storages of an application: the one with number n of the active version is in slot n of sixteen.
 #[derive(Drop)]
-pub struct Slots {
+pub struct OpenSlots {
     pub(crate) open: Vec<Option<Open>>,
 }
 
-impl Slots {
+impl OpenSlots {
     /// Sixteen slots, and nothing in them.
-    pub fn new(alloc: Global) -> Result<Slots, AllocError>
+    pub fn new(alloc: Global) -> Result<OpenSlots, AllocError>
         ensures { IfOk result (λ slots. slots.open.items ≡ replicate {A = Option Open} 16 None) }
     {
         let mut open = Vec::new(alloc);
         for _ in 0..16usize {
             open.push(None)?;
         }
-        Ok(Slots { open })
+        Ok(OpenSlots { open })
     }
 
-    /// Lets all go: what is pending in them is lost. Does not allocate.
+    /// Drops all of them, with what is pending in them. Does not allocate.
     pub fn clear(&mut self)
         requires room { length self.old.open.items ≡ 16 }
         ensures { self.new.open.items ≡ replicate {A = Option Open} 16 None }

@@ -9,7 +9,7 @@ ghost use Rattle.app_storages.specs.Slots.{IsResting};
 use crate::finding::find;
 use crate::laws::storages_stand;
 use crate::replying::{answered, refusal};
-use crate::slots::Slots;
+use crate::slots::OpenSlots;
 use command_text::{Answer, Reply, errors_have_texts};
 use deploy::{Root, Stop};
 use disk_model::Disk;
@@ -17,7 +17,7 @@ use open_storages::Durable;
 use per_base::{Name, PerError, StoreKind};
 use std::alloc::Global;
 
-impl Slots {
+impl OpenSlots {
     /// Makes what the calls see of an open storage of keys durable, of an application at rest.
     ///
     /// Refusals, the first that holds: `IntegrityCorrupted` with the root where it is bad; `NotInstalled`;

@@ -29,7 +29,7 @@ struct Course<'a> {
     word: &'a str,
     before: &'a str,
     after: &'a str,
-    /// What else may be found on the way, `*` standing for any text; nothing where it is empty.
+    /// What else may be found on the way, `*` matching any text; nothing where it is empty.
     between: &'a str,
 }
 

@@ -2,7 +2,7 @@
 
 ghost use Rattle.std.specs.Prelude.{IfOk};
 ghost use Rattle.element_state.specs.Conditions.{IsShape, AreCommittable};
-ghost use Rattle.element_store.specs.Stores.{shape_of, view_in};
+ghost use Rattle.element_store.specs.Stores.{store_shape, view_in};
 ghost use Rattle.base_tests.specs.Usage.{IsKeptStore, IsStoreInUse};
 
 use crate::elements::{alone, element_of, takes};
@@ -126,7 +126,7 @@ impl InUse {
     // The change alone, where the storage can take it.
     fn single(&self, alloc: Global, change: Change) -> Result<Vec<Change>, Trouble>
         requires { IsStoreInUse self.now }
-        ensures { IfOk result (λ changes. AreCommittable (shape_of self.now.store)
+        ensures { IfOk result (λ changes. AreCommittable (store_shape self.now.store)
             (view_in self.now.store) changes.items) }
     {
         if self.store.generation() == u64::MAX || self.store.entries().len() >= 1024 {

@@ -14,7 +14,7 @@ use std::num::ParseIntError;
 /// Why nothing came of a line.
 #[derive(Clone, Copy, Debug, PartialEq, Eq)]
 pub enum Trouble {
-    /// It is no case.
+    /// It is not a test case.
     NoCase,
     /// Memory ran out.
     OutOfMemory,

@@ -15,13 +15,14 @@ use Rattle.per_base.specs.declared.opening.OpenMode.{OpenMode}
 use Rattle.per_base.specs.Modes.{bits_of}
 use Rattle.per_base.specs.Names.{IsName, is_name}
 use Rattle.per_base.specs.Fields.{◌>>=◌}
+use Rattle.per_base.specs.Maps.{first_row}
 use Rattle.value_text.specs.Texts.{hex_text, hex_byte_text}
 use Rattle.value_text.specs.Whole.{unsigned_in, signed_in, bytes_in}
 use Rattle.value_text.specs.lemmas.Steps.{bind_some, if_some, else_some, chosen, branch_some, some_is}
 use Rattle.value_text.specs.lemmas.WholeLaws.{unsigned_in_takes, unsigned_in_again, signed_in_takes, signed_in_again}
 use Rattle.value_text.specs.lemmas.WholeLaws.{bytes_in_takes, bytes_in_again}
 use Rattle.command_text.specs.Grammar.{has_feed, kind_text, origin_text, mode_text}
-use Rattle.command_text.specs.Reading.{split, name_in, octet_in, the_one, manifest_in, first_row, kind_words}
+use Rattle.command_text.specs.Reading.{split, name_in, octet_in, the_one, manifest_in, kind_words}
 use Rattle.command_text.specs.Reading.{kind_word_in, origin_words, origin_in, mode_of, appending_modes, other_modes}
 use Rattle.command_text.specs.Reading.{mode_in, mode_end_in, element_in, handle_in, element_front, handle_front}
 use Rattle.command_text.specs.Reading.{opening_in, distance_in}

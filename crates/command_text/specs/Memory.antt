@@ -1,4 +1,4 @@
--- Which lines take memory to be read.
+-- Which lines allocate when they are read.
 use Rattle.std.specs.Prelude.{◌≢◌, ◌≤◌, ℕ, List, length, None}
 use Rattle.command_text.specs.Reading.{parts_in}
 

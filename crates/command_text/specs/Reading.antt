@@ -1,6 +1,6 @@
 -- Reading a line: its words at the spaces, the call of its word, and each argument from the whole of its text.
 use Rattle.std.specs.Prelude.{◌≡◌, ◌-◌, ◌^◌, ⊤, ℕ, ℤ, List, [], ◌∷◌, length, ◌&&◌, nat_le, nat_eq, if◌then◌else◌}
-use Rattle.std.specs.Prelude.{Option, Some, None, Result, Ok, Err, codes}
+use Rattle.std.specs.Prelude.{Bool, Option, Some, None, Result, Ok, Err, codes}
 use Rattle.std.specs.Str.{bytes_eq}
 use Rattle.per_base.specs.declared.opening.OpenKind.{OpenKind}
 use Rattle.per_base.specs.declared.opening.OpenKind.TheVariants as kind
@@ -10,6 +10,7 @@ use Rattle.per_base.specs.declared.opening.OpenMode.{OpenMode}
 use Rattle.per_base.specs.Names.{is_name}
 use Rattle.per_base.specs.Fields.{◌>>=◌}
 use Rattle.per_base.specs.FieldLoops.{with_front}
+use Rattle.per_base.specs.Maps.{first_row}
 use Rattle.value_text.specs.Readers.{branch}
 use Rattle.value_text.specs.Parsing.{kind_in, value_in}
 use Rattle.value_text.specs.Whole.{unsigned_in, signed_in, bytes_in}
@@ -60,11 +61,6 @@ octet_in text = bytes_in text >>= the_one
 
 abbrev pub manifest_in : List ℕ → Option (List ℕ)
 manifest_in text = if nat_eq (length text) 0 then None else (if has_feed text then None else Some text)
-
--- the row whose word the text is
-abbrev pub first_row : {A : Type 0} → List (List ℕ × A) → List ℕ → Option A
-first_row [] text = None
-first_row (row ∷ rows) text = if bytes_eq text row.0 then Some row.1 else first_row rows text
 
 abbrev pub kind_words : List (List ℕ × OpenKind)
 kind_words = (codes "r", kind.Read) ∷ (codes "w", kind.Write) ∷ (codes "rw", kind.ReadWrite) ∷ []
@@ -302,9 +298,13 @@ call_in text = branch (split text) (λ parts. manifest_call parts.0 parts.1) (ba
 
 -- ---- events and lines
 
+-- the digits of the eight applications
+abbrev pub is_application_digit : ℕ → Bool
+is_application_digit digit = nat_le 48 digit && nat_le digit 55
+
 -- one digit, 0 to 7
 abbrev pub application_in : List ℕ → Option ℕ
-application_in (d ∷ []) = if nat_le 48 d && nat_le d 55 then Some (d - 48) else None
+application_in (d ∷ []) = if is_application_digit d then Some (d - 48) else None
 application_in other = None
 
 -- the application of a line, the word of its call, and the text of the arguments

@@ -24,6 +24,11 @@ use Rattle.command_text.specs.declared.replies.AppStatus.{AppStatus}
 use Rattle.command_text.specs.declared.replies.AppStatus.TheVariants as status
 use Rattle.command_text.specs.declared.replies.Reply.{Reply}
 
+-- a number, or a dash where there is none
+abbrev pub number_or_dash : Option ℕ → List ℕ
+number_or_dash None = codes "-"
+number_or_dash (Some n) = decimal n
+
 -- ---- errors
 
 abbrev pub unit_text : Unit → List ℕ

@@ -24,7 +24,7 @@ use Rattle.deploy.proofs.Lone.{put_app, put_clean, put_outside, put_stands}
 use Rattle.deploy.proofs.LoneRows.{empty_named, none_clean}
 use Rattle.deploy.proofs.NextRoots.{format_leaves, next_cell}
 
--- the laws that tell what is written
+-- the laws that say what is written
 pub record AreLaws : Type 0 where
   pub again : AgainLaw
   pub alone : AloneLaw

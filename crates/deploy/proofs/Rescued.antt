@@ -24,7 +24,7 @@ use Rattle.index_text.specs.Rules.{has_info, max_len}
 use Rattle.value_model.specs.Kinds.{Kind}
 use Rattle.deployment_model.specs.Conditions.{IsElement, IsInitial, IsStorage, StartsAs}
 use Rattle.deployment_model.specs.Data.{ElementData, StorageData}
-use Rattle.deployment_model.specs.Lookups.{element_named, initial_of}
+use Rattle.deployment_model.specs.Lookups.{element_named, initial_content}
 use Rattle.element_state.specs.declared.shapes.Shape.{Shape}
 use Rattle.element_state.specs.declared.shapes.View.{View}
 use Rattle.element_state.specs.Read.{IsEntryOf, IsView}
@@ -80,7 +80,7 @@ judged_length test len (Bad None) h = tt
 judged_length test len (Bad (Some salvage)) h = elim (test salvage) as
     (λ b. HasLength (cond b (Bad (Some salvage)) (Bad None)) len) [ true ↦ h | false ↦ tt ]
 
-module _ (s : StorageData) (now : ℕ) (starts : (name bytes : List ℕ) → initial_of s name ≡ Some bytes
+module _ (s : StorageData) (now : ℕ) (starts : (name bytes : List ℕ) → initial_content s name ≡ Some bytes
     → length bytes ≤ max_len s.kind) where
   anew : (e : Entry) → IsTrue (has_info s.kind e.info) → (bytes : List ℕ) → length bytes ≤ max_len s.kind
       → IsRescued s.kind e.name (rescued_as s now e bytes)
@@ -101,7 +101,7 @@ module _ (s : StorageData) (now : ℕ) (starts : (name bytes : List ℕ) → ini
         record { info = has; small = as_long e.len (max_len s.kind) bytes h le };
   }
   content_rescued e has le (Bad (Some bytes)) h = anew e has bytes (as_long e.len (max_len s.kind) bytes h le)
-  content_rescued e has le (Bad None) h = from_start e has (initial_of s e.name) (starts e.name)
+  content_rescued e has le (Bad None) h = from_start e has (initial_content s e.name) (starts e.name)
 
   pub entry_rescued : (shape : Shape) → shape.kind ≡ s.kind → (e : Entry) → IsEntryOf shape e
       → Rescues s.kind e.name (rescued_entry s now e)
@@ -158,7 +158,7 @@ pub recovered_are_elements : ElementLaw → (s : StorageData) (now : ℕ) (shape
     → shape.kind ≡ s.kind → IsView shape v
     → AreElements s.kind (recovered_contents s now (Some v))
 recovered_are_elements law s now shape v is same read =
-    let starts : (name bytes : List ℕ) → initial_of s name ≡ Some bytes → length bytes ≤ max_len s.kind =
+    let starts : (name bytes : List ℕ) → initial_content s name ≡ Some bytes → length bytes ≤ max_len s.kind =
     λ name bytes begins. starts_small s.kind (element_named s name) (λ e found. law s name e is found) bytes begins in
     let rescues : (e : Entry) → IsEntryOf shape e → Rescues s.kind e.name (rescued_entry s now e) =
     entry_rescued s now starts shape same in

@@ -14,8 +14,7 @@ ghost use Rattle.deploy_rows.specs.Rows.{empty_app};
 ghost use Rattle.deploy.specs.Clauses.{IsNoRootSlot, Leaves};
 
 use crate::errors::Stop;
-use crate::shapes::root_place;
-use deploy_laws::{files_lie_apart, roots_say};
+use deploy_laws::{files_lie_apart, root_place, roots_say};
 use disk_model::Disk;
 use guarded_cell::{Cell, format_cell, held_is_lawful, stops_are_lawful};
 use root_text::{one_root, write_absent};

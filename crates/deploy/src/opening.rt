@@ -22,9 +22,10 @@ ghost use Rattle.deploy.specs.Standing.{IsSpelled};
 
 use crate::errors::Stop;
 use crate::roots::{Installed, Root};
-use crate::shapes::root_place;
 use crate::standing::{Standing, find_standing};
-use deploy_laws::{deploying_stands, files_lie_apart, others_stand, roots_say, untouched_stands};
+use deploy_laws::{
+    deploying_stands, files_lie_apart, others_stand, root_place, roots_say, untouched_stands,
+};
 use disk_model::Disk;
 use guarded_cell::{Cell, adopt_seen, held_is_lawful};
 use manifest::said_is_kept;

@@ -5,7 +5,7 @@ ghost use Rattle.deployment_model.specs.Conditions.{IsStorage};
 ghost use Rattle.deployment_model.specs.Data.{storage_data};
 ghost use Rattle.element_maps.specs.Storages.{IsConfigured};
 ghost use Rattle.element_state.specs.Conditions.{IsShape};
-ghost use Rattle.deploy_laws.specs.Places.{place_at, root_place, storage_file, storage_shape};
+ghost use Rattle.deploy_laws.specs.Places.{place_at, storage_file, storage_shape};
 
 use deployment_model::StorageConfig;
 use disk_model::Place;
@@ -49,16 +49,5 @@ fn storage_place(app: u32, bank: u32, number: u32, copies: u32) -> Place
     Place {
         first: 4096 * app + 1024 + 512 * bank + 32 * number,
         copies,
-    }
-}
-
-/// The files of an application's root.
-pub(crate) fn root_place(app: u32) -> Place
-    requires { app < 8 }
-    ensures { result ≡ root_place app }
-{
-    Place {
-        first: 4096 * app,
-        copies: 3,
     }
 }

@@ -11,7 +11,7 @@ ghost use Rattle.deploy_laws.specs.Places.{root_place};
 ghost use Rattle.deploy.specs.Standing.{IfSpelled, IsFoundAmong};
 
 use crate::errors::Stop;
-use crate::shapes::root_place;
+use deploy_laws::root_place;
 use disk_model::Disk;
 use guarded_cell::{Looked, Seen, Slots, look, standing_among};
 use root_text::{RootError, RootSays, read_root};

@@ -42,8 +42,8 @@ use root_text::{VersionText, one_root};
 use std::alloc::Global;
 use update_plan::{Contents, StorageContents, Stored, plan};
 
-/// An update in progress: the next version, the contents of its storages, and how many of them are made. To let it go
-/// costs nothing but what was made; the root is as it was.
+/// An update in progress: the next version, the contents of its storages, and how many of them are made. Dropping it
+/// leaves only storages that no root names; the root is as it was.
 #[derive(Drop)]
 pub struct Staged {
     alloc: Global,

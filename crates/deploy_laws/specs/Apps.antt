@@ -12,7 +12,7 @@ use Rattle.element_state.specs.States.{State, store_at}
 use Rattle.element_state.specs.Clean.{IsClean}
 use Rattle.root_text.specs.RootText.{Root, Version, root_of}
 use Rattle.root_text.specs.RootText as text
-use Rattle.deploy_laws.specs.Places.{Named, root_place, shapes_in, shapes_if}
+use Rattle.deploy_laws.specs.Places.{Named, root_place, shapes_in, shapes_if, copies_of_root, agreeing_of_root}
 
 -- what the root of an application says: nothing that counts; that nothing is installed; or the active version and the
 -- previous one, with the generation of its text
@@ -57,7 +57,7 @@ says_in (Some seen) = says_by seen.generation (root_of seen.text)
 
 -- what two of the three copies of a root say
 unfoldable pub says_at : Image → ℕ → Says
-says_at image app = says_in (standing image (root_place app) 2)
+says_at image app = says_in (standing image (root_place app) agreeing_of_root)
 
 -- the copies that lack the text that stands, of a root that says something
 abbrev pub root_lacking : Image → ℕ → Says → Option Seen → List ℕ
@@ -72,7 +72,7 @@ root_lacking image app (installed g active previous) (Some seen) =
 unfoldable pub app_at : Image → ℕ → App
 app_at image app = record {
   says = says_at image app;
-  lacking = root_lacking image app (says_at image app) (standing image (root_place app) 2);
+  lacking = root_lacking image app (says_at image app) (standing image (root_place app) agreeing_of_root);
   states = map (store_at image) (shapes_named app (says_at image app));
 }
 
@@ -115,7 +115,8 @@ IsFree bank (installed g active (Some previous)) = ¬ (active.bank ≡ bank) × 
 -- every text that is held in the root's place is a root's, and no two have one generation
 pub record IsCleanRoot (app : ℕ) (image : Image) : Type 0 where
   pub one_each : IsOneEach image (root_place app)
-  pub root : (copy generation : ℕ) (text : List ℕ) → copy < 3 → Holds image (root_place app) copy generation text
+  pub root : (copy generation : ℕ) (text : List ℕ) → copy < copies_of_root
+      → Holds image (root_place app) copy generation text
       → (root : Root) × (root_of text ≡ Some root)
 
 abbrev pub AreClean : Image → List Shape → Type 0

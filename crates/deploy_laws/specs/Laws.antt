@@ -3,7 +3,7 @@
 use Rattle.std.specs.Prelude.{◌≡◌, ℕ, ◌+◌, ◌<◌, ◌≤◌, List, [], map, Contains, Option, Some, slice_get, slice_set}
 use Rattle.disk_model.specs.Image.{Image}
 use Rattle.disk_model.specs.Case.{Case}
-use Rattle.disk_model.specs.Damage.{AtLeast, DecaysFor}
+use Rattle.disk_model.specs.Damage.{DecaysFor}
 use Rattle.disk_model.specs.Frame.{IsSettledOn, Spares}
 use Rattle.disk_model.specs.Place.{IsNoSlot, IsOutside}
 use Rattle.guarded_cell.specs.declared.looking.Seen.{Seen}
@@ -19,11 +19,11 @@ use Rattle.element_laws.specs.Phases.{IsOfPlace}
 use Rattle.root_text.specs.RootText.{Root, root_of}
 use Rattle.root_text.specs.RootText as text
 use Rattle.deploy_laws.specs.Places.{Named, root_place, first_file, storage_file, storage_shape, shapes_in, IsFileOf}
-use Rattle.deploy_laws.specs.Places.{IsNoFileOf, IsNoRootFile, IsBeside, IsOutsideBank}
+use Rattle.deploy_laws.specs.Places.{IsNoFileOf, IsNoRootFile, IsBeside, IsOutsideBank, agreeing_of_root}
 use Rattle.deploy_laws.specs.Apps.{Says, nothing, absent, installed, App, says_by, says_at, app_at, app_saying}
 use Rattle.deploy_laws.specs.Apps.{shapes_named, AreVersions, IsFree, AreClean, AreOn, IsCleanApp}
 use Rattle.deploy_laws.specs.Pieces.{IsSoundApp, DecaysApp}
-use Rattle.deploy_laws.specs.Stands.{Stands, StandsCase, IsRootSpared, IsLater}
+use Rattle.deploy_laws.specs.Stands.{Stands, StandsCase, IsLater, HasEnoughRoot}
 
 -- ---- what a root says
 
@@ -87,7 +87,7 @@ RootAloneLaw = (app : ℕ) (says : Says) (old new : Image) → app < 8 → AreVe
     → (map (store_at new) (shapes_named app says) ≡ map (store_at old) (shapes_named app says))
     × (AreClean old (shapes_named app says) → AreClean new (shapes_named app says))
 
--- only its own files tell what an application is
+-- what an application is depends on its own files alone
 abbrev pub AppFrameLaw : Type 0
 AppFrameLaw = (app : ℕ) (old new : Image) → app < 8 → Spares (IsFileOf app) old new
     → (app_at new app ≡ app_at old app) × (IsCleanApp app old → IsCleanApp app new)
@@ -129,7 +129,7 @@ CoveredLaw = (app : ℕ) (c : Case) (damaged : List ℕ) (image : Image) (shape 
 -- what two copies hold is spared where nothing is damaged
 abbrev pub RootStandsLaw : Type 0
 RootStandsLaw = (app : ℕ) (start : Image) → ¬ ((app_at start app).says ≡ nothing)
-    → AtLeast (IsRootSpared app [] (app_at start app).lacking) 3 2
+    → HasEnoughRoot app [] (app_at start app).lacking
 
 -- what stands with nothing damaged has clean places
 abbrev pub StandsCleanLaw : Type 0
@@ -161,7 +161,7 @@ StillAppLaw = (app : ℕ) (start : Image) (after : App) (c : Case) → app < 8 �
 -- the text of the root that stands is brought to every copy, before whatever may come of the application
 abbrev pub OpeningLaw : Type 0
 OpeningLaw = (app : ℕ) (seen : Seen) (start : Image) (after : App) (c : Case) → app < 8 → IsCleanApp app start
-    → standing start (root_place app) 2 ≡ Some seen
+    → standing start (root_place app) agreeing_of_root ≡ Some seen
     → PutStops (root_place app) seen.generation seen.text start c
     → IsLater (app_at start app) after → StandsCase app (app_at start app) after c
 

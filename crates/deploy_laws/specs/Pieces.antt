@@ -8,14 +8,14 @@ use Rattle.guarded_cell.specs.Register.{Holds}
 use Rattle.element_state.specs.declared.shapes.Shape.{Shape}
 use Rattle.element_state.specs.Clean.{IsPiece, IsSound}
 use Rattle.root_text.specs.RootText.{root_of}
-use Rattle.deploy_laws.specs.Places.{root_place}
+use Rattle.deploy_laws.specs.Places.{root_place, copies_of_root}
 use Rattle.deploy_laws.specs.Apps.{shapes_named, says_by}
 
 -- A place of the application on this image: its root's, and those of the storages that a held text of its root names,
 -- each with its own copies. Not only the text that stands counts: damage may bring up another one that is held.
 pub data IsPlaceOn (app : ℕ) (image : Image) (place : Place) : Type 0 where
   of_root : place ≡ root_place app → IsPlaceOn app image place
-  of_storage : (copy generation : ℕ) (text : List ℕ) (shape : Shape) → copy < 3
+  of_storage : (copy generation : ℕ) (text : List ℕ) (shape : Shape) → copy < copies_of_root
       → Holds image (root_place app) copy generation text
       → Contains (shapes_named app (says_by generation (root_of text))) shape → place ≡ shape.place
       → IsPlaceOn app image place

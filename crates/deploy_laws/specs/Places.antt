@@ -1,9 +1,10 @@
 -- Where the root and the storages of an application are.
-use Rattle.std.specs.Prelude.{◌⊎◌, ℕ, suc, ◌+◌, ◌*◌, ◌<◌, ◌≤◌, min, max, List, [], ◌∷◌, Option, Some, None}
+use Rattle.std.specs.Prelude.{◌⊎◌, ℕ, suc, ◌+◌, ◌*◌, ◌<◌, ◌≤◌, min, max, List, [], ◌∷◌, Option, Some, None, option_map}
 use Rattle.std.proofs.Common.{arith}
 use Rattle.disk_model.specs.declared.place.Place.{Place}
 use Rattle.element_state.specs.declared.shapes.Shape.{Shape}
-use Rattle.deployment_model.specs.Data.{DeploymentData, StorageData}
+use Rattle.deployment_model.specs.Data.{DeploymentData, StorageData, deployment_data}
+use Rattle.deployment_model.specs.declared.configs.Deployment.{Deployment}
 
 -- ---- places
 
@@ -37,8 +38,15 @@ place_at first copies = record {
 abbrev pub first_file : ℕ → ℕ
 first_file app = 4096 * app
 
+-- the copies of a root, and how many of them must agree
+abbrev pub copies_of_root : ℕ
+copies_of_root = 3
+
+abbrev pub agreeing_of_root : ℕ
+agreeing_of_root = 2
+
 abbrev pub root_place : ℕ → Place
-root_place app = place_at (first_file app) 3
+root_place app = place_at (first_file app) copies_of_root
 
 -- the first file of storage `number` of a bank
 abbrev pub storage_file : (app bank number : ℕ) → ℕ
@@ -64,6 +72,10 @@ shapes_from app bank number (s ∷ ss) = storage_shape app bank number s ∷ sha
 pub record Named : Type 0 where
   pub bank : ℕ
   pub deployment : DeploymentData
+
+-- a version in this bank, where there is one
+abbrev pub version_in_bank : (bank : ℕ) → Option Deployment → Option Named
+version_in_bank bank previous = option_map (λ d. record { bank = bank; deployment = deployment_data d }) previous
 
 abbrev pub shapes_in : ℕ → Named → List Shape
 shapes_in app v = shapes_from app v.bank 0 v.deployment.storages

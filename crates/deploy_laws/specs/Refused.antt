@@ -1,18 +1,17 @@
 -- What a stop may not leave of an application.
 use Rattle.std.specs.Prelude.{◌≡◌, ℕ, ◌≤◌, List, [], Option, Some, slice_get}
 use Rattle.disk_model.specs.Image.{Image}
-use Rattle.disk_model.specs.Damage.{AtLeast}
 use Rattle.element_state.specs.declared.shapes.Shape.{Shape}
 use Rattle.element_state.specs.declared.shapes.View.{View}
 use Rattle.element_state.specs.Kept.{Kept}
 use Rattle.element_state.specs.States.{State, Opens, Corrupt, store_at}
 use Rattle.deploy_laws.specs.Apps.{nothing, App, says_at, shapes_named}
-use Rattle.deploy_laws.specs.Stands.{Stands, IsRootSpared}
+use Rattle.deploy_laws.specs.Stands.{Stands, HasEnoughRoot}
 
 -- a root that two spared copies held became another one than the next
 abbrev pub OtherRoot : Type 0
 OtherRoot = (app : ℕ) (image : Image) (damaged : List ℕ) (before after : App) → ¬ (before.says ≡ nothing)
-    → AtLeast (IsRootSpared app damaged before.lacking) 3 2 → ¬ (says_at image app ≡ before.says)
+    → HasEnoughRoot app damaged before.lacking → ¬ (says_at image app ≡ before.says)
     → ¬ (says_at image app ≡ after.says)
     → ¬ (Stands app image damaged before after)
 

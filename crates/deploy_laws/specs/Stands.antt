@@ -7,7 +7,7 @@ use Rattle.disk_model.specs.Medium.{Medium, Quiet, EachCase}
 use Rattle.element_state.specs.declared.shapes.Shape.{Shape}
 use Rattle.element_state.specs.States.{State, store_at}
 use Rattle.element_state.specs.Kept.{Kept}
-use Rattle.deploy_laws.specs.Places.{root_place}
+use Rattle.deploy_laws.specs.Places.{root_place, copies_of_root, agreeing_of_root}
 use Rattle.deploy_laws.specs.Apps.{nothing, App, says_at, app_at, shapes_named, says_generation, IsCleanRoot}
 use Rattle.deploy_laws.specs.Apps.{IsCleanApp}
 use Rattle.deploy_laws.specs.Apps.{AreClean}
@@ -26,11 +26,15 @@ abbrev pub IsRootSpared : ℕ → (damaged lacking : List ℕ) → ℕ → Type 
 IsRootSpared app damaged lacking copy = IsUndamaged damaged (root_place app) copy
     × ¬ (Contains lacking (copy + 1))
 
+-- as many of its copies are spared as must agree
+abbrev pub HasEnoughRoot : (app : ℕ) (damaged lacking : List ℕ) → Type 0
+HasEnoughRoot app damaged lacking = AtLeast (IsRootSpared app damaged lacking) copies_of_root agreeing_of_root
+
 pub record Stands (app : ℕ) (image : Image) (damaged : List ℕ) (before after : App) : Type 0 where
   -- a root that said nothing says nothing, or what it says after
   pub bad : before.says ≡ nothing → (says_at image app ≡ nothing) ⊎ (says_at image app ≡ after.says)
   -- with two copies spared it says what it said, or what it says after
-  pub root : ¬ (before.says ≡ nothing) → AtLeast (IsRootSpared app damaged before.lacking) 3 2
+  pub root : ¬ (before.says ≡ nothing) → HasEnoughRoot app damaged before.lacking
       → (says_at image app ≡ before.says) ⊎ (says_at image app ≡ after.says)
   -- each storage that it names is kept: on the way, where the root stays the same, and else as it was under that root
   pub same : says_at image app ≡ before.says → after.says ≡ before.says

@@ -1,7 +1,6 @@
 //! The laws, for the proofs of callers: none of these functions does anything when it runs.
 
 ghost use Rattle.std.specs.Prelude.{◌≡◌, ◌<◌, ◌≤◌, ℕ, List, Some, slice_get};
-ghost use Rattle.disk_model.specs.Damage.{AtLeast};
 ghost use Rattle.disk_model.specs.Frame.{Spares};
 ghost use Rattle.disk_model.specs.Image.{Image};
 ghost use Rattle.element_state.specs.declared.shapes.Shape.{Shape};
@@ -9,7 +8,7 @@ ghost use Rattle.element_state.specs.Kept.{Kept};
 ghost use Rattle.element_state.specs.States.{State, store_at};
 ghost use Rattle.deploy_laws.specs.Places.{IsOutsideBank};
 ghost use Rattle.deploy_laws.specs.Apps.{App, IsCleanApp, IsFree, app_at, nothing, says_at, shapes_named};
-ghost use Rattle.deploy_laws.specs.Stands.{IsRootSpared, Stands};
+ghost use Rattle.deploy_laws.specs.Stands.{Stands, HasEnoughRoot};
 ghost use Rattle.deploy_laws.specs.Laws.{VersionsLaw, SaysFrameLaw, AloneFrameLaw, NumberLaw, AloneLaw, AloneCleanLaw};
 ghost use Rattle.deploy_laws.specs.Laws.{RootFilesLaw, RootSlotsLaw, StorageFilesLaw, BesideLaw, ApartLaw};
 ghost use Rattle.deploy_laws.specs.Laws.{RootAloneLaw, AppFrameLaw, StoredLaw, OtherApplicationsLaw, OthersCaseLaw};
@@ -116,7 +115,7 @@ pub fn storing_stands()
 pub fn outcomes_are_refused()
     ensures root_gone { (app : ℕ) (image : Image) (damaged : List ℕ) (before after : App)
         → ¬ (before.says ≡ nothing) → ¬ (after.says ≡ nothing)
-        → AtLeast (IsRootSpared app damaged before.lacking) 3 2
+        → HasEnoughRoot app damaged before.lacking
         → says_at image app ≡ nothing → ¬ (Stands app image damaged before after) }
     ensures other_root { OtherRoot }
     ensures root_raised { RootRaised }

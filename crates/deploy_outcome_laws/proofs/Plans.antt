@@ -16,7 +16,7 @@ use Rattle.per_base.specs.declared.errors.Unit.TheVariants as unit
 use Rattle.value_model.specs.Trees.{Tree}
 use Rattle.value_code.specs.Reading.{decoded, is_content}
 use Rattle.deployment_model.specs.Data.{StorageData}
-use Rattle.deployment_model.specs.Lookups.{initial_of}
+use Rattle.deployment_model.specs.Lookups.{initial_content}
 use Rattle.element_state.specs.States.{State, Opens, Corrupt, fresh_map, fresh_state, is_worn}
 use Rattle.element_state.specs.Views.{judged_content}
 use Rattle.migrate_fns.specs.Rules.{Rule}
@@ -84,7 +84,7 @@ abbrev rescued_of : StorageData → ℕ → Entry → Option Fresh
 rescued_of s now e = rescued s now e (judged_content (is_content s.kind) e.content)
 
 no_value : (s : StorageData) (now : ℕ) (e : Entry) (value : Option Tree) (bytes : List ℕ) → value ≡ None
-    → initial_of s e.name ≡ None → (test : List ℕ → Bool) → test bytes ≡ is_some value
+    → initial_content s e.name ≡ None → (test : List ℕ → Bool) → test bytes ≡ is_some value
     → rescued s now e (judged_content test (Good bytes)) ≡ None
 no_value s now e value bytes none nothing test is =
     let no : test bytes ≡ false = is ∙ ap (λ (v : Option Tree). is_some v) none in
@@ -92,7 +92,7 @@ no_value s now e value bytes none nothing test is =
     ∙ ap (λ (i : Option (List ℕ)). option_map (rescued_as s now e) i) nothing
 
 rescues_none : (s : StorageData) (now : ℕ) (e : Entry) (bytes : List ℕ) → s.kind ≡ Keys → e.content ≡ Good bytes
-    → decoded bytes ≡ None → initial_of s e.name ≡ None → rescued_of s now e ≡ None
+    → decoded bytes ≡ None → initial_content s e.name ≡ None → rescued_of s now e ≡ None
 rescues_none s now e bytes keys good none nothing =
     ap (λ (k : StoreKind). rescued s now e (judged_content (is_content k) e.content)) keys
     ∙ ap (λ (c : Content). rescued s now e (judged_content (is_content Keys) c)) good

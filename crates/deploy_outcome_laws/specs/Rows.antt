@@ -12,7 +12,7 @@ use Rattle.value_model.specs.Encoding.{encoding}
 use Rattle.value_model.specs.Trees.{Tree}
 use Rattle.value_code.specs.Reading.{decoded}
 use Rattle.deployment_model.specs.Data.{StorageData}
-use Rattle.deployment_model.specs.Lookups.{initial_of}
+use Rattle.deployment_model.specs.Lookups.{initial_content}
 use Rattle.per_base.specs.declared.elements.StoreKind.TheVariants.{Keys}
 use Rattle.element_state.specs.declared.shapes.View.{View}
 use Rattle.element_state.specs.States.{State, Opens, fresh_map, fresh_state}
@@ -86,5 +86,5 @@ InitialWhereConverted answers = (name : List ℕ) (value : Tree) (places : List 
 abbrev pub UnreadableKept : Type 0
 UnreadableKept = (s : StorageData) (now generation : ℕ) (view : View) (e : Entry) (bytes : List ℕ) (others : List View)
     (kept : Fresh) (next : State) → s.kind ≡ Keys → view.entries ≡ e ∷ [] → e.content ≡ Good bytes
-    → decoded bytes ≡ None → initial_of s e.name ≡ None → recovering s now (Opens view others) ≡ Ok next
+    → decoded bytes ≡ None → initial_content s e.name ≡ None → recovering s now (Opens view others) ≡ Ok next
     → ¬ (next ≡ fresh_state generation (fresh_map (kept ∷ [])))

@@ -12,7 +12,7 @@ use Rattle.deploy_rows.specs.Rows.{said_or_broken, deployment_of}
 abbrev pub IsRejected : (broken : Option ℕ) → PerError → Type 0
 IsRejected broken e = (rule : ℕ) × (broken ≡ Some rule) × (e ≡ error.ManifestRejected rule)
 
--- a text of which no rule is broken is read
+-- a text that violates no rule is read
 read_where_unbroken : (short json : Bool) (later : Option ℕ)
     → or_else (cond short (cond json None (Some 2)) (Some 1)) later ≡ None → json ≡ true
 read_where_unbroken true true later e = refl

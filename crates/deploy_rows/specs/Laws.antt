@@ -30,7 +30,7 @@ ReopenedLaterLaw = (a : App) → IsLater a (reopened a)
 
 -- ---- manifests
 
--- a manifest that is rejected breaks a rule, and is rejected with the least
+-- a manifest that is rejected violates a rule, and is rejected with the first one that it violates
 abbrev pub RejectedLaw : Type 0
 RejectedLaw = (text : List ℕ) (e : PerError) → deployment_of text ≡ Err e
     → (rule : ℕ) × (broken_rule text ≡ Some rule) × (e ≡ error.ManifestRejected rule)

@@ -12,7 +12,7 @@ use Rattle.per_base.specs.declared.errors.Limit.TheVariants as limit
 use Rattle.value_code.specs.Reading.{is_content}
 use Rattle.file_core.specs.Infos.{info_changed}
 use Rattle.deployment_model.specs.Data.{StorageData}
-use Rattle.deployment_model.specs.Lookups.{initial_of}
+use Rattle.deployment_model.specs.Lookups.{initial_content}
 use Rattle.element_state.specs.declared.shapes.View.{View}
 use Rattle.element_state.specs.States.{State, salvage_of, next_generation, is_worn, fresh_map, fresh_state}
 use Rattle.element_state.specs.Views.{judged_content}
@@ -31,7 +31,7 @@ rescued_as s now e bytes = record {
 abbrev pub rescued : StorageData → ℕ → Entry → Content → Option Fresh
 rescued s now e (Good bytes) = Some (record { name = e.name; info = e.info; bytes = bytes })
 rescued s now e (Bad (Some bytes)) = Some (rescued_as s now e bytes)
-rescued s now e (Bad None) = option_map (rescued_as s now e) (initial_of s e.name)
+rescued s now e (Bad None) = option_map (rescued_as s now e) (initial_content s e.name)
 
 -- what a storage is recovered to: all of its elements, or its initial contents where there is no view of it
 abbrev pub recovered_contents : StorageData → ℕ → Option View → List Fresh

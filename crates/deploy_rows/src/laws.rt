@@ -16,12 +16,13 @@ pub fn rows_lead_on()
     ensures open { ReopenedLaterLaw }
 {}
 
-/// A manifest that is rejected breaks a rule, and is rejected with the least.
+/// A manifest that is rejected violates a rule, and is rejected with the first one that it violates.
 pub fn manifests_are_judged()
     ensures { RejectedLaw }
 {}
 
 /// Whether a call is refused, and what the next root says, depends on what the root says alone: it is known in memory.
+/// `busy` is the name of an open storage, if one is open.
 pub fn rows_read_the_root()
     ensures install { (now : ℕ) (text : List ℕ) → RefusesAlike (installing now text) }
     ensures finish { RefusesAlike finishing }

@@ -8,8 +8,8 @@ abbrev pub element_named : StorageData → List ℕ → Option ElementData
 element_named s name = find (λ (e : ElementData). bytes_eq e.name name) s.elements
 
 -- what the element of this name starts with
-abbrev pub initial_of : StorageData → List ℕ → Option (List ℕ)
-initial_of s name = option_and_then (λ (e : ElementData). e.initial) (element_named s name)
+abbrev pub initial_content : StorageData → List ℕ → Option (List ℕ)
+initial_content s name = option_and_then (λ (e : ElementData). e.initial) (element_named s name)
 
 -- the storage of this name
 abbrev pub storage_named : DeploymentData → List ℕ → Option StorageData

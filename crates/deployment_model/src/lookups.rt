@@ -8,7 +8,7 @@ ghost use Rattle.std.specs.List.Sorted.{IsStrictlySortedBy};
 ghost use Rattle.per_base.specs.Names.{name_cmp};
 ghost use Rattle.deployment_model.specs.Data.{ElementData, StorageData, deployment_data, element_data, storage_data};
 ghost use Rattle.deployment_model.specs.Conditions.{IsDeployment, IsElement, IsStorage};
-ghost use Rattle.deployment_model.specs.Lookups.{element_named, initial_of, storage_named, storage_number};
+ghost use Rattle.deployment_model.specs.Lookups.{element_named, initial_content, storage_named, storage_number};
 
 use crate::configs::{Deployment, ElementConfig, StorageConfig};
 use per_base::{Bytes, Name};
@@ -30,7 +30,7 @@ impl StorageConfig {
     /// What the element of this name starts with.
     pub fn initial(&self, name: &Name) -> Option<&Bytes>
         requires { IsStorage (storage_data self.now) }
-        ensures { option_map (λ bytes. bytes.now) result ≡ initial_of (storage_data self.now) name.now }
+        ensures { option_map (λ bytes. bytes.now) result ≡ initial_content (storage_data self.now) name.now }
     {
         match self.element(name) {
             Some(element) => element.initial.as_ref(),

@@ -58,7 +58,7 @@ pub failed : (old new : MemDisk) → SameRecord old new → (mem_medium old).fau
     → (mem_medium new).faults ≡ raised (mem_medium old).faults → AnswersAsPlanned old new true
     → FailsByMemoryAlone old new
     → Fails old new
-failed old new same later rose answers for_want =
+failed old new same later rose answers by_memory =
     let image = image_of old.files in
     let start = start_image old.files old.start in
     let calls = old.calls.items in
@@ -80,7 +80,7 @@ failed old new same later rose answers for_want =
           (counted image start calls old.faults new.faults old.written later);
       cause = le_of_eq (sym rose);
       answers = answers;
-      for_want = for_want;
+      by_memory = by_memory;
     }
 
 -- one and then the other: no plan and no stop, and what that means

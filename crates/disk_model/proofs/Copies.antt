@@ -7,7 +7,7 @@ use Rattle.std.specs.BTreeMap.{is_at}
 use Rattle.std.specs.Ordering.{nat_cmp}
 use Rattle.std.proofs.Math.Path.{fun_ext}
 use Rattle.std.specs.declared.alloc.Global.{Global}
-use Rattle.disk_model.specs.History.{Files, bytes_or_none, image_of}
+use Rattle.disk_model.specs.History.{WrittenFiles, bytes_or_none, image_of}
 
 -- a copy of one file's bytes under its number
 abbrev pub IsCopy : ℕ × Vec ℕ Global → ℕ × Vec ℕ Global → Type 0
@@ -28,5 +28,5 @@ lookup_copy test (e ∷ es) (f ∷ fs) copies =
     [ true ↦ same | false ↦ lookup_copy test es fs others ])
 
 -- a copy holds the same bytes
-pub image_of-copy : (files copy : Files) → AllZip IsCopy files.entries copy.entries → image_of copy ≡ image_of files
+pub image_of-copy : (files copy : WrittenFiles) → AllZip IsCopy files.entries copy.entries → image_of copy ≡ image_of files
 image_of-copy files copy copies = fun_ext (λ f. lookup_copy (is_at (nat_cmp f)) files.entries copy.entries copies)

@@ -11,19 +11,19 @@ use Rattle.disk_model.specs.Case.{Case, IsSettledAt, WriteCase}
 use Rattle.disk_model.specs.Medium.{Medium}
 
 -- the files that were written
-abbrev pub Files : Type 0
-Files = BTreeMap ℕ (Vec ℕ Global)
+abbrev pub WrittenFiles : Type 0
+WrittenFiles = BTreeMap ℕ (Vec ℕ Global)
 
 abbrev pub bytes_or_none : Option (Vec ℕ Global) → List ℕ
 bytes_or_none None = []
 bytes_or_none (Some bytes) = bytes.items
 
 -- the bytes of each file
-abbrev pub image_of : Files → Image
+abbrev pub image_of : WrittenFiles → Image
 image_of files f = bytes_or_none (get nat_cmp files f)
 
 -- the image at the start of a record; no copy of it is kept before the first write
-abbrev pub start_image : Files → Option Files → Image
+abbrev pub start_image : WrittenFiles → Option WrittenFiles → Image
 start_image files None = image_of files
 start_image files (Some start) = image_of start
 

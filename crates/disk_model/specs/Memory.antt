@@ -91,7 +91,7 @@ pub record Fails (old new : MemDisk) : Type 0 where
   pub time : Elapses (mem_medium old) (mem_medium new)
   pub cause : Rose (mem_medium old).faults (mem_medium new).faults
   pub answers : AnswersAsPlanned old new true
-  pub for_want : FailsByMemoryAlone old new
+  pub by_memory : FailsByMemoryAlone old new
 
 -- ---- what parts of a call do
 
@@ -132,4 +132,4 @@ pub record RunsOut (old new : MemDisk) : Type 0 where
 pub record Passes (old new : MemDisk) : Type 0 where
   pub counts : KeepsCounts old new
   pub answers : AnswersAsPlanned old new false
-  pub for_want : FailsByMemoryAlone old new
+  pub by_memory : FailsByMemoryAlone old new

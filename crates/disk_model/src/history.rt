@@ -11,7 +11,7 @@ use std::alloc::{AllocError, Global};
 use std::collections::BTreeMap;
 
 /// The bytes of each file that was written.
-pub type Files = BTreeMap<u32, Vec<u8>>;
+pub type WrittenFiles = BTreeMap<u32, Vec<u8>>;
 
 /// A call that succeeded.
 #[derive(Drop)]
@@ -24,7 +24,7 @@ pub enum Call {
 }
 
 /// The bytes of a file.
-pub fn bytes_of(files: &Files, file: u32) -> &[u8]
+pub fn bytes_of(files: &WrittenFiles, file: u32) -> &[u8]
     ensures { result.now ≡ image_of files.now file }
 {
     match files.get(&file) {
@@ -34,7 +34,7 @@ pub fn bytes_of(files: &Files, file: u32) -> &[u8]
 }
 
 /// A copy of the files.
-pub fn copy_of(files: &Files) -> Result<Files, AllocError>
+pub fn copy_of(files: &WrittenFiles) -> Result<WrittenFiles, AllocError>
     ensures { IfOk result (λ copy. image_of copy ≡ image_of files.now) }
 {
     let copy = files.clone()?;
@@ -42,7 +42,7 @@ pub fn copy_of(files: &Files) -> Result<Files, AllocError>
 }
 
 /// The files as a record begins: the copy of them, or what they are where no copy was made.
-pub fn begun(start: Option<Files>, files: Files) -> Files
+pub fn begun(start: Option<WrittenFiles>, files: WrittenFiles) -> WrittenFiles
     ensures { image_of result ≡ start_image files start }
 {
     match start {
@@ -70,7 +70,7 @@ pub fn read_from(bytes: &[u8], at: u64, out: &mut [u8]) -> usize
 /// Writes into the files; what fails changes nothing.
 pub fn put(
     alloc: Global,
-    files: &mut Files,
+    files: &mut WrittenFiles,
     file: u32,
     at: u64,
     bytes: &[u8],
@@ -90,7 +90,12 @@ pub fn put(
 }
 
 /// Makes a file at least `len` bytes long, with zeros past its old end; what fails changes nothing.
-pub fn grow(alloc: Global, files: &mut Files, file: u32, len: usize) -> Result<(), AllocError>
+pub fn grow(
+    alloc: Global,
+    files: &mut WrittenFiles,
+    file: u32,
+    len: usize,
+) -> Result<(), AllocError>
     ensures ok { OnOk result (image_of files.new ≡ grow_image (image_of files.old) file len) }
     ensures err { OnErr result (image_of files.new ≡ image_of files.old) }
 {
@@ -106,7 +111,7 @@ pub fn grow(alloc: Global, files: &mut Files, file: u32, len: usize) -> Result<(
 }
 
 /// Sets one byte, if the file has it.
-pub fn set_byte(files: &mut Files, file: u32, at: u64, byte: u8) -> bool
+pub fn set_byte(files: &mut WrittenFiles, file: u32, at: u64, byte: u8) -> bool
     ensures within { IsTrue result ↔ (at < length (image_of files.old file)) }
     ensures set { OnTrue result ((f : ℕ) → image_of files.new f
         ≡ (if f == file then slice_set (image_of files.old f) at byte else image_of files.old f)) }
@@ -125,7 +130,7 @@ pub fn set_byte(files: &mut Files, file: u32, at: u64, byte: u8) -> bool
 }
 
 /// Makes the calls again, from the files as the record begins.
-pub fn replay(alloc: Global, files: &mut Files, calls: &[Call]) -> Result<(), AllocError>
+pub fn replay(alloc: Global, files: &mut WrittenFiles, calls: &[Call]) -> Result<(), AllocError>
     ensures { OnOk result (image_of files.new ≡ image_after calls.now (image_of files.old)) }
 {
     for call in calls {
@@ -139,7 +144,7 @@ pub fn replay(alloc: Global, files: &mut Files, calls: &[Call]) -> Result<(), Al
 /// Makes those of the writes again that the pattern lets stand; the others only lengthen their file.
 pub fn replay_torn(
     alloc: Global,
-    files: &mut Files,
+    files: &mut WrittenFiles,
     calls: &[Call],
     pattern: u64,
 ) -> Result<(), AllocError>
@@ -180,7 +185,7 @@ fn is_standing(pattern: u64, i: usize) -> bool
 // A write that stands, or one that only lengthens the file.
 fn tear(
     alloc: Global,
-    files: &mut Files,
+    files: &mut WrittenFiles,
     file: u32,
     at: u64,
     bytes: &[u8],

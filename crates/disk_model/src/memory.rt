@@ -8,12 +8,13 @@ ghost use Rattle.per_base.specs.Causes.{Rose};
 ghost use Rattle.disk_model.specs.Image.{put_image, TornImage};
 ghost use Rattle.disk_model.specs.Case.{WriteCase, WriteOrNot, Follows, Reaches};
 ghost use Rattle.disk_model.specs.Medium.{Quiet, IsOutcome, Elapses, OnlyReads, WritesNothing};
-ghost use Rattle.disk_model.specs.History.{Files, image_of, start_image, image_after, IsNoWrite};
+ghost use Rattle.disk_model.specs.History.{WrittenFiles, image_of, start_image, image_after, IsNoWrite};
 ghost use Rattle.disk_model.specs.declared.history.Call.{Call};
 
 use crate::disk::{Disk, DiskFailed};
 use crate::history::{
-    Call, Files, begun, bytes_of, copy_of, put, read_from, replay, replay_torn, set_byte, synced,
+    Call, WrittenFiles, begun, bytes_of, copy_of, put, read_from, replay, replay_torn, set_byte,
+    synced,
 };
 use crate::orders::Orders;
 use std::alloc::{AllocError, Global};
@@ -25,10 +26,10 @@ use std::collections::BTreeMap;
 pub struct MemDisk {
     alloc: Global,
     /// The files as the record begins, once a write has changed them.
-    start: Option<Files>,
+    start: Option<WrittenFiles>,
     /// The calls that succeeded.
     calls: Vec<Call>,
-    files: Files,
+    files: WrittenFiles,
     orders: Orders,
     faults: u64,
     starved: u64,
@@ -156,7 +157,7 @@ impl MemDisk {
     }
 
     // A disk that holds these files, quiet, with no record and no orders.
-    fn holding(alloc: Global, files: Files) -> MemDisk
+    fn holding(alloc: Global, files: WrittenFiles) -> MemDisk
         ensures image { (mem_medium result).image ≡ image_of files }
         ensures fresh { IsFresh result }
     {
@@ -251,7 +252,7 @@ impl MemDisk {
 
     // Keeps a copy of the files as the record begins, before the first write.
     fn keep_start(&mut self) -> Result<(), AllocError>
-        ensures start { OnOk result ((files : Files) → start_image files self.new.start
+        ensures start { OnOk result ((files : WrittenFiles) → start_image files self.new.start
             ≡ start_image self.old.files self.old.start) }
         ensures record { SameRecord self.old self.new }
         ensures rest { Succeeds self.old self.new }
@@ -286,7 +287,7 @@ impl Disk for MemDisk {
 
         // Which calls fail, and that they change nothing.
         ensures answers { AnswersAsPlanned self.old self.new (is_err result) }
-        ensures for_want { FailsByMemoryAlone self.old self.new }
+        ensures by_memory { FailsByMemoryAlone self.old self.new }
         ensures unchanged { OnErr result (IsUnchanged (mem_medium self.old) (mem_medium self.new)) }
     {
         self.enter(Call::Read)?;
@@ -315,7 +316,7 @@ impl Disk for MemDisk {
 
         // Which calls fail, and that they change nothing.
         ensures answers { AnswersAsPlanned self.old self.new (is_err result) }
-        ensures for_want { FailsByMemoryAlone self.old self.new }
+        ensures by_memory { FailsByMemoryAlone self.old self.new }
         ensures unchanged { OnErr result (IsUnchanged (mem_medium self.old) (mem_medium self.new)) }
     {
         self.begin()?;
@@ -334,7 +335,7 @@ impl Disk for MemDisk {
 
         // Which calls fail, and that they change nothing.
         ensures answers { AnswersAsPlanned self.old self.new (is_err result) }
-        ensures for_want { FailsByMemoryAlone self.old self.new }
+        ensures by_memory { FailsByMemoryAlone self.old self.new }
         ensures unchanged { OnErr result (IsUnchanged (mem_medium self.old) (mem_medium self.new)) }
     {
         self.enter(Call::Read)?;
@@ -351,7 +352,7 @@ impl Disk for MemDisk {
 
         // Which calls fail, and that they change nothing.
         ensures answers { AnswersAsPlanned self.old self.new (is_err result) }
-        ensures for_want { FailsByMemoryAlone self.old self.new }
+        ensures by_memory { FailsByMemoryAlone self.old self.new }
         ensures unchanged { OnErr result (IsUnchanged (mem_medium self.old) (mem_medium self.new)) }
     {
         self.enter(Call::Sync)?;

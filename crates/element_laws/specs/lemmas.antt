@@ -1,4 +1,4 @@
-pub mod AnewLaws
+pub mod RebuildingLaws
 pub mod Copies
 pub mod Fits
 pub mod Frames

@@ -98,7 +98,7 @@ pub fn use_is_adopted()
 /// salvage given up.
 pub fn outcomes_are_refused()
     ensures index_first { IndexFirst }
-    ensures index_first_anew { IndexFirstRebuilt }
+    ensures index_first_rebuilt { IndexFirstRebuilt }
     ensures old_overwritten { OldOverwritten }
     ensures other_value { OtherValue }
     ensures planted { Planted }

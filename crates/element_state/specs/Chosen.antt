@@ -1,4 +1,4 @@
--- The text at which a storage opens, or else the first that fits, and what reading tells of it.
+-- The text at which a storage opens, or else the first that fits, and what reading gives of it.
 use Rattle.std.specs.Prelude.{◌≡◌, ◌<◌, ◌+◌, ◌&&◌, ℕ, List, [], ◌∷◌, length, Bool, true, false, Option, Some, None}
 use Rattle.std.specs.Prelude.{find}
 use Rattle.std.specs.List.{list_all}

@@ -53,7 +53,7 @@ use Rattle.element_laws.specs.lemmas.Lists.{both_true, In-list_all, list_all-In}
 use Rattle.element_laws.specs.lemmas.Phases.{opens_pick, room}
 use Rattle.element_laws.specs.lemmas.Fits.{picked_parts}
 use Rattle.element_laws.specs.lemmas.IndexLaws.{names_it}
-use Rattle.element_laws.specs.lemmas.AnewLaws.{clean_alone}
+use Rattle.element_laws.specs.lemmas.RebuildingLaws.{clean_alone}
 use Rattle.element_store.specs.declared.jobs.Job.{Job}
 use Rattle.element_store.specs.Jobs.{HasShared, IsJobWritten}
 use Rattle.element_store.specs.Plans.{HasAll}

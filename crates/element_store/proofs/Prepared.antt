@@ -25,7 +25,7 @@ use Rattle.element_state.specs.Surveys.{IsFoundView, found_text}
 use Rattle.element_laws.specs.lemmas.Phases.{untouched, adopt as adopt_law, keep as keep_law, contents as contents_law}
 use Rattle.element_laws.specs.lemmas.Phases.{contents_done as contents_done_law, corrupt_found as corrupt_law}
 use Rattle.element_laws.specs.lemmas.IndexLaws.{index as index_law}
-use Rattle.element_laws.specs.lemmas.AnewLaws.{given_up, taken_named, anew_contents, anew_done, anew_index}
+use Rattle.element_laws.specs.lemmas.RebuildingLaws.{given_up, taken_named, rebuilt_contents, rebuilt_done, rebuilt_index}
 use Rattle.element_laws.specs.lemmas.Refusals.{opened as opened_law}
 use Rattle.element_store.specs.Plans.{HasAll}
 use Rattle.element_store.specs.Stores.{AreTaken}
@@ -42,8 +42,8 @@ module _ (shape : Shape) (is : IsShape shape) (old mid : Medium) (same : mid.ima
   pub none_ready : (set : List Bool) → IsClean shape old.image → chosen old.image shape ≡ None
       → IsGround shape old.image mid.image set 1
   none_ready set clean none = subst (λ (im : Image). IsGround shape old.image im set 1) (sym same)
-      (ready_none corrupt_law (anew_contents aside) (anew_done aside) (anew_index aside) shape old.image set is clean
-      none)
+      (ready_none corrupt_law (rebuilt_contents aside) (rebuilt_done aside) (rebuilt_index aside) shape old.image set is
+      clean none)
 
   module _ (new : Medium) where
     settled_kept_by : (opens : Bool) (seen : Seen) (index : Index) (state : State) → Elapses old mid → Elapses mid new
@@ -82,8 +82,8 @@ module _ (shape : Shape) (is : IsShape shape) (old mid : Medium) (same : mid.ima
               areas;
         }) rules takes
     settled_ready_by false seen index set clean chose fit rules takes left areas =
-        ready_salvaged shape old.image new.image set is given_up taken_named (anew_contents aside) (anew_done aside)
-        (anew_index aside) (seen, index)
+        ready_salvaged shape old.image new.image set is given_up taken_named (rebuilt_contents aside) (rebuilt_done aside)
+        (rebuilt_index aside) (seen, index)
         clean chose fit rules takes left areas
 
     module _ (found : Found) (found_is : IsFoundView shape found) (set : List Bool)

@@ -220,13 +220,13 @@ module _ (shape : Shape) (start : Image) (set : List Bool) (g : ℕ) (contents :
       (λ all. ready.done mid.image state c (keeps all.0) all.1)
       (each c past)
 
-  pub anew_kept : (new : Medium) (text : List ℕ) (index : Index) → IsTextOf shape text index
+  pub rebuilt_kept : (new : Medium) (text : List ℕ) (index : Index) → IsTextOf shape text index
       → Keeps (IsNoArea shape.place) (λ k. contains set k ≡ true) old.image mid.image
       → ShowsFresh mid.image shape.place shape.m g contents index.entries
       → EachCase (PutStops shape.place g text mid.image) mid new
       → EachCase (IsKeptCase shape start (fresh_state g (fresh_map contents))) mid new
   unfolding fresh_state
-  anew_kept new text index spelled keeps shown stops c past =
+  rebuilt_kept new text index spelled keeps shown stops c past =
       ready.index mid.image text index (fresh_view g (fresh_map contents)) [] c keeps spelled.fit refl
       (written_fresh shape mid.image g contents index.entries shown) (stops c past)
 

@@ -23,7 +23,7 @@ use Rattle.element_state.specs.States.{State, store_at, salvage_of, next_generat
 use Rattle.element_store.specs.Spelled.{ShowsFresh, IsTextOf, IsContentsCase}
 use Rattle.element_store.specs.Rebuilds.{IsGround, IsRebuilt}
 use Rattle.element_store.proofs.Around.{contents_around}
-use Rattle.element_store.proofs.Rebuilt.{contents_kept, anew_kept, rebuilt_in_use, rebuilt_opens}
+use Rattle.element_store.proofs.Rebuilt.{contents_kept, rebuilt_kept, rebuilt_in_use, rebuilt_opens}
 
 -- ---- at every moment
 
@@ -33,16 +33,16 @@ module _ (shape : Shape) (set : List Bool) (g : ℕ) (contents : List Fresh) (st
     (ready : IsClean shape start.image → IsGround shape start.image ready_at.image set g) (quiet_now : Quiet ready_at)
     (mid : Medium) (then : Elapses ready_at mid) where
   -- until the contents are there
-  pub contents_anew : (state : State) (done : Type 0) → (done
+  pub contents_rebuilt : (state : State) (done : Type 0) → (done
       → Keeps (IsNoArea shape.place) (λ k. contains set k ≡ true) ready_at.image mid.image)
       → EachCase (IsContentsCase shape.place set ready_at mid done) ready_at mid
       → KeptThroughout shape state start mid
-  contents_anew state done keeps each quiet clean = goes_on (IsKeptCase shape start.image state) before then
+  contents_rebuilt state done keeps each quiet clean = goes_on (IsKeptCase shape start.image state) before then
       (prepared state quiet clean)
       (contents_kept shape start.image set g contents ready_at mid (ready clean) quiet_now state done keeps each)
 
   -- until the index is there
-  pub index_anew : (new : Medium) (text : List ℕ) (index : Index) (done : Type 0) → Elapses mid new
+  pub index_rebuilt : (new : Medium) (text : List ℕ) (index : Index) (done : Type 0) → Elapses mid new
       → g ≡ next_generation (salvage_of (store_at start.image shape)) → IsTextOf shape text index
       → Keeps (IsNoArea shape.place) (λ k. contains set k ≡ true) ready_at.image mid.image
       → ShowsFresh mid.image shape.place shape.m g contents index.entries
@@ -50,12 +50,12 @@ module _ (shape : Shape) (set : List Bool) (g : ℕ) (contents : List Fresh) (st
       → EachCase (PutStops shape.place g text mid.image) mid new
       → KeptThroughout shape (fresh_state (next_generation (salvage_of (store_at start.image shape)))
       (fresh_map contents)) start new
-  index_anew new text index done later generation_is spelled keeps shown each stops =
+  index_rebuilt new text index done later generation_is spelled keeps shown each stops =
       subst (λ (n : ℕ). KeptThroughout shape (fresh_state n (fresh_map contents)) start new) generation_is
       (λ quiet clean. goes_on (IsKeptCase shape start.image (fresh_state g (fresh_map contents)))
       (elapses_on before then) later
-      (contents_anew (fresh_state g (fresh_map contents)) done (λ d. keeps) each quiet clean)
-      (anew_kept shape start.image set g contents ready_at mid (ready clean) quiet_now new text index spelled keeps
+      (contents_rebuilt (fresh_state g (fresh_map contents)) done (λ d. keeps) each quiet clean)
+      (rebuilt_kept shape start.image set g contents ready_at mid (ready clean) quiet_now new text index spelled keeps
       shown stops))
 
 -- ---- outside the place
@@ -91,13 +91,13 @@ module _ (place : Place) (set : List Bool) (start ready_at mid : Medium) (before
 -- ---- at its end
 
 -- the copies hold the index alone, so the storage opens at the contents
-pub anew_opens : (mid image : Image) (shape : Shape) (g : ℕ) (contents : List Fresh) (cell : Cell) (index : Index)
+pub rebuilding_opens : (mid image : Image) (shape : Shape) (g : ℕ) (contents : List Fresh) (cell : Cell) (index : Index)
     (text : List ℕ) → IsShape shape → IsCellOf shape.place g cell
     → IsTextOf shape text index → CellAt image cell text
     → Spares (IsNoSlot shape.place) mid image
     → ShowsFresh mid shape.place shape.m g contents index.entries → (n : ℕ) → g ≡ n
     → store_at image shape ≡ fresh_state n (fresh_map contents)
-anew_opens mid image shape g contents cell index text is of spelled held same shown n e =
+rebuilding_opens mid image shape g contents cell index text is of spelled held same shown n e =
     rebuilt_opens mid image shape g contents index text is spelled
     (subst (λ (h : ℕ). IsAlone image shape.place h text) of.counts
     (subst (λ (p : Place). IsAlone image p cell.generation text) of.lies held))
@@ -105,13 +105,13 @@ anew_opens mid image shape g contents cell index text is of spelled held same sh
     ∙ ap (λ (h : ℕ). fresh_state h (fresh_map contents)) e
 
 -- and is in use there
-pub anew_in_use : (mid image : Image) (shape : Shape) (g : ℕ) (contents : List Fresh) (cell : Cell) (index : Index)
+pub rebuilding_in_use : (mid image : Image) (shape : Shape) (g : ℕ) (contents : List Fresh) (cell : Cell) (index : Index)
     (text : List ℕ) → IsShape shape → IsCellOf shape.place g cell
     → IsTextOf shape text index → index.format ≡ 2 → CellAt image cell text
     → Spares (IsNoSlot shape.place) mid image
     → ShowsFresh mid shape.place shape.m g contents index.entries → (n : ℕ) → g ≡ n
     → IsRebuilt shape image (fresh_view n (fresh_map contents))
-anew_in_use mid image shape g contents cell index text is of spelled two held same shown n e = record {
+rebuilding_in_use mid image shape g contents cell index text is of spelled two held same shown n e = record {
   index = index;
   format = two;
   in_use = subst (λ (h : ℕ). IsInUse shape image index (fresh_view h (fresh_map contents))) e

@@ -20,8 +20,8 @@ use Rattle.element_store.specs.Spelled.{IsTextOf}
 use Rattle.element_store.specs.declared.store.Store.{Store}
 
 -- how it is configured
-abbrev pub shape_of : Store → Shape
-shape_of store = store.shape
+abbrev pub store_shape : Store → Shape
+store_shape store = store.shape
 
 -- its elements, ascending by name
 abbrev pub entries_of : Store → List Entry

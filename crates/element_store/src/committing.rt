@@ -16,7 +16,7 @@ ghost use Rattle.element_state.specs.Kept.{KeptThroughout};
 ghost use Rattle.element_store.specs.Changing.{IsSmallChange, KeepsOthers};
 ghost use Rattle.element_store.specs.Committing.{IsPrepared, IsReadyToPut};
 ghost use Rattle.element_store.specs.Hashing.{IsHashedAs};
-ghost use Rattle.element_store.specs.Stores.{IsStore, IsUsed, shape_of, view_in};
+ghost use Rattle.element_store.specs.Stores.{IsStore, IsUsed, store_shape, view_in};
 
 use crate::changing::{Standing, plan_changes};
 use crate::creating::fresh_entry;
@@ -76,15 +76,15 @@ impl Store {
     #[tactic(none)]
     pub fn commit<D: Disk>(self, disk: &mut D, changes: Vec<Change>) -> Result<Store, Fault<Store>>
         requires used { IsUsed D.told (D.medium disk.old).image self }
-        requires changes { AreCommittable (shape_of self) (view_in self) changes.items }
+        requires changes { AreCommittable (store_shape self) (view_in self) changes.items }
 
         ensures used { IfOk result (IsUsed D.told (D.medium disk.new).image) }
-        ensures shape { IfOk result (λ store. shape_of store ≡ shape_of self) }
+        ensures shape { IfOk result (λ store. store_shape store ≡ store_shape self) }
         ensures view { IfOk result (λ store. view_in store
-            ≡ committed_by (shape_of self) (view_in self) changes.items) }
+            ≡ committed_by (store_shape self) (view_in self) changes.items) }
         ensures quiet { OnOk result (Quiet (D.medium disk.new)) }
-        ensures clean { IsTrue D.told → IsClean (shape_of self) (D.medium disk.old).image
-            → OnOk result (IsClean (shape_of self) (D.medium disk.new).image) }
+        ensures clean { IsTrue D.told → IsClean (store_shape self) (D.medium disk.old).image
+            → OnOk result (IsClean (store_shape self) (D.medium disk.new).image) }
 
         // What no change names keeps its entry: the same blocks, length, hash, info and number of its last change.
         ensures carried { IfOk result (λ store. KeepsOthers changes.items (index_in self).entries
@@ -98,32 +98,33 @@ impl Store {
         ensures passes { OnOk result ((D.medium disk.new).faults ≡ (D.medium disk.old).faults) }
 
         // No file outside the place changes, and a stop at any moment leaves the storage of before or that of after.
-        ensures elsewhere { IsTrue D.told → Spares (IsOutside (shape_of self).place)
+        ensures elsewhere { IsTrue D.told → Spares (IsOutside (store_shape self).place)
             (D.medium disk.old).image (D.medium disk.new).image }
         ensures outside { IsTrue D.told → Quiet (D.medium disk.old)
-            → EachCase (IsSettledOn (IsOutside (shape_of self).place)
+            → EachCase (IsSettledOn (IsOutside (store_shape self).place)
             (D.medium disk.old).image)
             (D.medium disk.old) (D.medium disk.new) }
-        ensures any_moment { IsTrue D.told → KeptThroughout (shape_of self)
-            (Opens (committed_by (shape_of self) (view_in self) changes.items) []) (D.medium disk.old)
+        ensures any_moment { IsTrue D.told → KeptThroughout (store_shape self)
+            (Opens (committed_by (store_shape self) (view_in self) changes.items) []) (D.medium disk.old)
             (D.medium disk.new) }
 
         // In each copy the contents that changed, and the index; at most as much where the disk failed.
-        ensures written { IfOk result (λ store. IsWithin (shape_of self).place.copies
-            (commit_cost (shape_of self).kind (entries_of self) changes.items) (length (index_text (index_in store)))
+        ensures written { IfOk result (λ store. IsWithin (store_shape self).place.copies
+            (commit_cost (store_shape self).kind (entries_of self) changes.items) (length (index_text (index_in store)))
             (D.medium disk.old).written (D.medium disk.new).written) }
         // Where the slots' starts are blank, only the runs of the index that differ from what stands there.
         ensures differing { IsTrue D.told → IfOk result (λ store. (D.medium disk.new).written
-            ≤ (D.medium disk.old).written + (shape_of self).place.copies
-            * (commit_cost (shape_of self).kind (entries_of self) changes.items + 44)
-            + texts_cost (shape_of self).place (own (store_generation self + 1))
+            ≤ (D.medium disk.old).written + (store_shape self).place.copies
+            * (commit_cost (store_shape self).kind (entries_of self) changes.items + 44)
+            + texts_cost (store_shape self).place (own (store_generation self + 1))
             (sealed (store_generation self + 1) (index_text (index_in store))) (D.medium disk.old).image
-            (shape_of self).place.copies) }
+            (store_shape self).place.copies) }
         ensures text { IfOk result (λ store. length (index_text (index_in store))
-            ≡ index_length (shape_of self).kind (entries_of store)) }
-        ensures at_most { IsWithin (shape_of self).place.copies
-            (commit_cost (shape_of self).kind (entries_of self) changes.items)
-            (index_length (shape_of self).kind (committed_by (shape_of self) (view_in self) changes.items).entries)
+            ≡ index_length (store_shape self).kind (entries_of store)) }
+        ensures at_most { IsWithin (store_shape self).place.copies
+            (commit_cost (store_shape self).kind (entries_of self) changes.items)
+            (index_length (store_shape self).kind
+            (committed_by (store_shape self) (view_in self) changes.items).entries)
             (D.medium disk.old).written (D.medium disk.new).written }
         ensures time { Elapses (D.medium disk.old) (D.medium disk.new) }
     {
@@ -166,10 +167,10 @@ impl Store {
         Ok(Store::new(alloc, shape, cell, index, entries, used, kept))
     }
 
-    // Takes all memory, and then makes the contents durable in blocks outside those of the index.
+    // Allocates all that the commit needs, and then makes the contents durable in blocks outside those of the index.
     fn write_contents<D: Disk>(&self, disk: &mut D, changes: &[Change]) -> Result<Ready, StoreError>
         requires used { IsUsed D.told (D.medium disk.old).image self.now }
-        requires changes { AreCommittable (shape_of self.now) (view_in self.now) changes.now }
+        requires changes { AreCommittable (store_shape self.now) (view_in self.now) changes.now }
 
         ensures ready { IfOk result (λ ready. IsReadyToPut D.told self.now changes.now (D.medium disk.old)
             (D.medium disk.new)
@@ -181,21 +182,21 @@ impl Store {
         ensures hashed { IfOk result (λ ready. AllZip IsHashedAs changes.now ready.hashed.items) }
 
         ensures cost { (D.medium disk.new).written ≤ (D.medium disk.old).written
-            + (shape_of self.now).place.copies * commit_cost (shape_of self.now).kind (entries_of self.now)
+            + (store_shape self.now).place.copies * commit_cost (store_shape self.now).kind (entries_of self.now)
             changes.now }
 
         ensures memory { IsErrOf result StoreError.OutOfMemory → disk.new ≡ disk.old }
         ensures never_corrupt { ¬ (IsErrOf result StoreError.Corrupt) }
         ensures cause { IsErrOf result StoreError.Device → Rose (D.medium disk.old).faults (D.medium disk.new).faults }
         ensures passes { OnOk result ((D.medium disk.new).faults ≡ (D.medium disk.old).faults) }
-        ensures elsewhere { IsTrue D.told → Spares (IsOutside (shape_of self.now).place)
+        ensures elsewhere { IsTrue D.told → Spares (IsOutside (store_shape self.now).place)
             (D.medium disk.old).image (D.medium disk.new).image }
         ensures outside { IsTrue D.told → Quiet (D.medium disk.old)
-            → EachCase (IsSettledOn (IsOutside (shape_of self.now).place)
+            → EachCase (IsSettledOn (IsOutside (store_shape self.now).place)
             (D.medium disk.old).image)
             (D.medium disk.old) (D.medium disk.new) }
-        ensures any_moment { IsTrue D.told → KeptThroughout (shape_of self.now)
-            (Opens (committed_by (shape_of self.now) (view_in self.now) changes.now) []) (D.medium disk.old)
+        ensures any_moment { IsTrue D.told → KeptThroughout (store_shape self.now)
+            (Opens (committed_by (store_shape self.now) (view_in self.now) changes.now) []) (D.medium disk.old)
             (D.medium disk.new) }
         ensures time { Elapses (D.medium disk.old) (D.medium disk.new) }
     {
@@ -214,7 +215,7 @@ impl Store {
     // Takes all the memory of a commit.
     fn prepare<'a>(&'a self, changes: &'a [Change]) -> Result<Prepared<'a>, AllocError>
         requires store { IsStore self.now }
-        requires changes { AreCommittable (shape_of self.now) (view_in self.now) changes.now }
+        requires changes { AreCommittable (store_shape self.now) (view_in self.now) changes.now }
         ensures plan { IfOk result (λ p. IsPrepared self.now changes.now p.ready.index p.ready.text p.ready.used
             p.jobs.items) }
         ensures room { IfOk result (λ p. length p.ready.room.items ≡ header + length p.ready.text) }

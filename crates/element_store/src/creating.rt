@@ -17,7 +17,7 @@ ghost use Rattle.element_state.specs.Conditions.{IsShape};
 ghost use Rattle.element_store.specs.Committing.{index_in};
 ghost use Rattle.element_store.specs.Creates.{IsUntorn};
 ghost use Rattle.element_store.specs.Plans.{blocks_of_all};
-ghost use Rattle.element_store.specs.Stores.{IsUsed, shape_of, view_in};
+ghost use Rattle.element_store.specs.Stores.{IsUsed, store_shape, view_in};
 
 use crate::store::Store;
 use crate::taking::blocks_taken_by;
@@ -47,7 +47,7 @@ pub fn create<D: Disk>(
     ensures opens { IsTrue D.told → OnOk result (store_at (D.medium disk.new).image shape
         ≡ fresh_state 1 (fresh_map contents.items)) }
     ensures used { IfOk result (IsUsed D.told (D.medium disk.new).image) }
-    ensures shape { IfOk result (λ store. shape_of store ≡ shape) }
+    ensures shape { IfOk result (λ store. store_shape store ≡ shape) }
     ensures view { IfOk result (λ store. view_in store ≡ fresh_view 1 (fresh_map contents.items)) }
     ensures format { IfOk result (λ store. (index_in store).format ≡ 2) }
     ensures clean { IsTrue D.told → OnOk result (IsClean shape (D.medium disk.new).image) }

@@ -8,7 +8,7 @@ ghost use Rattle.disk_model.specs.Place.{IsOutside};
 ghost use Rattle.element_laws.specs.Apart.{LieApart};
 ghost use Rattle.element_laws.specs.Phases.{IsOfPlace};
 ghost use Rattle.element_store.specs.declared.store.Store.{Store};
-ghost use Rattle.element_store.specs.Stores.{IsUsed, shape_of};
+ghost use Rattle.element_store.specs.Stores.{IsUsed, store_shape};
 
 use element_laws::places_stand_apart;
 
@@ -16,10 +16,10 @@ use element_laws::places_stand_apart;
 /// that is apart from its own changed.
 pub fn use_stays()
     ensures frame { (told : Bool) (store : Store) (old new : Image)
-        → (IsTrue told → Spares (IsOfPlace (shape_of store).place) old new)
+        → (IsTrue told → Spares (IsOfPlace (store_shape store).place) old new)
         → IsUsed told old store → IsUsed told new store }
     ensures elsewhere { (told : Bool) (store : Store) (one : Place) (old new : Image)
-        → LieApart one (shape_of store).place
+        → LieApart one (store_shape store).place
         → (IsTrue told → Spares (IsOutside one) old new) → IsUsed told old store
         → IsUsed told new store }
 {

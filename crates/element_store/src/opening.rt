@@ -15,7 +15,7 @@ ghost use Rattle.element_state.specs.States.{State, store_at, mended_view};
 ghost use Rattle.element_store.specs.Opened.{IsOpeningPlan, IsFoundOn, LacksNothing, OpensBy};
 ghost use Rattle.element_store.specs.Committing.{index_in};
 ghost use Rattle.element_store.specs.Mends.{IsAsBefore};
-ghost use Rattle.element_store.specs.Stores.{IsUsed, shape_of, view_in};
+ghost use Rattle.element_store.specs.Stores.{IsUsed, store_shape, view_in};
 
 use crate::mending::{mend_durably, mended_entries};
 use crate::reporting::reports_of;
@@ -62,7 +62,7 @@ pub fn open_store<D: Disk>(
         ≡ Some o.before) }
     ensures view { IfOk result (λ o. view_in o.store ≡ mended_view shape o.before) }
     ensures used { IfOk result (λ o. IsUsed D.told (D.medium disk.new).image o.store) }
-    ensures shape { IfOk result (λ o. shape_of o.store ≡ shape) }
+    ensures shape { IfOk result (λ o. store_shape o.store ≡ shape) }
     ensures read { IfOk result (λ o. IsView shape o.before) }
     ensures shown { IfOk result (λ o. IsView shape (view_in o.store)) }
 
@@ -142,7 +142,7 @@ struct OpeningPlan {
     used: BlockSet,
 }
 
-// Reads the text at which the storage opens, and takes the memory for the rest.
+// Reads the text at which the storage opens, and allocates for the rest.
 fn prepare<D: Disk>(alloc: Global, disk: &mut D, shape: &Shape) -> Result<OpeningPlan, StoreError>
     requires { IsShape shape.now }
     ensures ready { IfOk result (IsOpeningPlan shape.now) }

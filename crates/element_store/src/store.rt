@@ -30,7 +30,7 @@ impl Store {
     ghost use Rattle.element_state.specs.Changes.{entry_by_name};
     ghost use Rattle.element_state.specs.Conditions.{size_of};
     ghost use Rattle.element_state.specs.Read.{IsView};
-    ghost use Rattle.element_store.specs.Stores.{IsStore, entries_of, shape_of, store_generation, view_in};
+    ghost use Rattle.element_store.specs.Stores.{IsStore, entries_of, store_shape, store_generation, view_in};
 
     // A storage of these parts.
     pub(crate) fn new(
@@ -68,7 +68,7 @@ impl Store {
     /// when it runs.
     pub fn invariants(&self)
         requires { IsStore self.now }
-        ensures { IsView (shape_of self.now) (view_in self.now) }
+        ensures { IsView (store_shape self.now) (view_in self.now) }
     {}
 
     /// The elements, ascending by name. Does not allocate.

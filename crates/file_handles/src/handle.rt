@@ -1,4 +1,4 @@
-//! Handles, and what their map by number tells.
+//! Handles, and what their map by number shows.
 
 ghost use Rattle.std.specs.Prelude.{◌≡◌, ◌≤◌, ◌<◌, ◌+◌, length};
 ghost use Rattle.file_handles.specs.Sessions as sessions;

@@ -6,7 +6,7 @@ use Rattle.std.specs.Str.{bytes_eq}
 use Rattle.per_base.specs.declared.elements.StoreKind.TheVariants.{Files}
 use Rattle.deployment_model.specs.Conditions.{IsElement, IsStorage, StartsAs}
 use Rattle.deployment_model.specs.Data.{ElementData, StorageData}
-use Rattle.deployment_model.specs.Lookups.{initial_of}
+use Rattle.deployment_model.specs.Lookups.{initial_content}
 
 small_start : (e : ElementData) (bytes : List ℕ) → IsElement Files e → e.initial ≡ Some bytes → length bytes ≤ 1048576
 small_start e bytes is start = by e.initial start is.initial
@@ -30,12 +30,12 @@ among name bytes (e ∷ es) all start = by (bytes_eq e.name name) (among name by
     by false later s = later s
 
 pub initial_small : (config : StorageData) (name bytes : List ℕ) → IsStorage config → config.kind ≡ Files
-    → initial_of config name ≡ Some bytes → length bytes ≤ 1048576
+    → initial_content config name ≡ Some bytes → length bytes ≤ 1048576
 initial_small config name bytes is of_files start = among name bytes config.elements
     (subst (λ k. AllByRecursion (IsElement k) config.elements) of_files is.each) start
 
 -- what is looked up is small
 pub initial_is_small : (config : StorageData) (name : List ℕ) (o : Option (List ℕ)) → IsStorage config
-    → config.kind ≡ Files → o ≡ initial_of config name → MatchOption o ⊤ (λ bytes. length bytes ≤ 1048576)
+    → config.kind ≡ Files → o ≡ initial_content config name → MatchOption o ⊤ (λ bytes. length bytes ≤ 1048576)
 initial_is_small config name None is of_files e = tt
 initial_is_small config name (Some bytes) is of_files e = initial_small config name bytes is of_files (sym e)

@@ -36,7 +36,7 @@ use Rattle.element_state.specs.Reports.{reports}
 use Rattle.element_state.specs.States.{mended_by, mended_entry, mended_view, store_at}
 use Rattle.element_state.specs.Views.{element_of, map_of}
 use Rattle.element_store.specs.declared.store.Store.{Store}
-use Rattle.element_store.specs.Stores.{entries_of, shape_of, view_in}
+use Rattle.element_store.specs.Stores.{entries_of, store_shape, view_in}
 use Rattle.element_maps.specs.Laws.{UntestedLaw}
 use Rattle.element_maps.specs.Storages.{IsConfigured, IsOpened}
 use Rattle.file_storage.specs.FileSessions.{stored_in}
@@ -147,9 +147,9 @@ opened_map shape store before view = ap map_of view ∙ mended_map before.entrie
 pub opened_is : UntestedLaw → (told : Bool) (image : Image) (shape : Shape) (store : Store) (before : View)
     (all : List Report)
     → (IsTrue told → opened_of (store_at image shape) ≡ Some before) → view_in store ≡ mended_view shape before
-    → shape_of store ≡ shape → all ≡ reports (λ bytes. true) shape before
+    → store_shape store ≡ shape → all ≡ reports (λ bytes. true) shape before
     → IsOpened told image shape (λ bytes. true) (record {
-      shape = shape_of store;
+      shape = store_shape store;
       view = view_in store;
       synced =
           stored_in store;

@@ -48,7 +48,7 @@ use Rattle.element_maps.specs.lemmas.Same.{both, same_is}
 use Rattle.element_store.specs.declared.store.Store.{Store}
 use Rattle.element_store.specs.Changing.{KeepsOthers}
 use Rattle.element_store.specs.Committing.{index_in, index_length}
-use Rattle.element_store.specs.Stores.{IsUsed, entries_of, shape_of, view_in}
+use Rattle.element_store.specs.Stores.{IsUsed, entries_of, store_shape, view_in}
 use Rattle.element_laws.specs.lemmas.Untouched.{kept_mending, none_around, none_kept}
 use Rattle.file_storage.specs.FileSessions.{AreAsStored, FilesInUse, IsOpen, storage_of, stored_in}
 use Rattle.file_storage.specs.Syncs.{IsSynced, WritesAtMost, is_synced, synced_view, worn}
@@ -62,7 +62,7 @@ pub same_view : (s : FilesInUse) → is_synced s ≡ true → synced_view s ≡ 
 same_view s is = rw is refl
 
 pub differ_view : (s : FilesInUse) → is_synced s ≡ false
-    → synced_view s ≡ committed (shape_of s.store) (view_in s.store) (stored_in s.store) s.session.files
+    → synced_view s ≡ committed (store_shape s.store) (view_in s.store) (stored_in s.store) s.session.files
 differ_view s is = rw is refl
 
 pub none_storing : UntouchedLaw → (told : Bool) (shape : Shape) (after : State) (m : Medium) → IsShape shape
@@ -92,9 +92,9 @@ within_none : (copies contents index written : ℕ) → IsWithin copies contents
 within_none copies contents index written = omega arith
 
 pub none_written : (s : FilesInUse) (m : Medium) → WritesAtMost s m m
-none_written s m = within_none (shape_of s.store).place.copies
-    (map_cost (shape_of s.store).kind (stored_in s.store) s.session.files)
-    (index_length (shape_of s.store).kind (synced_view s).entries) m.written
+none_written s m = within_none (store_shape s.store).place.copies
+    (map_cost (store_shape s.store).kind (stored_in s.store) s.session.files)
+    (index_length (store_shape s.store).kind (synced_view s).entries) m.written
 
 pub none_synced : DecidesLaw → (told : Bool) (s : FilesInUse) (m : Medium) → IsUsed told m.image s.store
     → is_synced s ≡ true → IsSynced told s s m m
@@ -108,8 +108,8 @@ none_synced decides told s m used is = record {
     durable = λ differ. absurd (cc);
     quiet = λ quiet. quiet;
     clean = λ tells clean. clean;
-    written = within_none (shape_of s.store).place.copies
-        (map_cost (shape_of s.store).kind (stored_in s.store) s.session.files) (length (index_text (index_in s.store)))
+    written = within_none (store_shape s.store).place.copies
+        (map_cost (store_shape s.store).kind (stored_in s.store) s.session.files) (length (index_text (index_in s.store)))
         m.written;
     passes = refl;
   };
@@ -132,9 +132,9 @@ held kind stored file (Bad salvage) of_files is whole unreadable = unreadable re
 
 pub is_sync : UntestedLaw → (config : StorageData) (store : Store) (files : Map) (handles : Handles)
     (changes : List Change) → IsTable (storage_of config) files handles
-    → IsConfigured kinds.Files config (shape_of store) → AreAsStored (stored_in store) files
-    → IsView (shape_of store) (view_in store) → changes ≡ walked files (stored_in store)
-    → IsSync (shape_of store) (λ bytes. true) (view_in store) (stored_in store) files changes
+    → IsConfigured kinds.Files config (store_shape store) → AreAsStored (stored_in store) files
+    → IsView (store_shape store) (view_in store) → changes ≡ walked files (stored_in store)
+    → IsSync (store_shape store) (λ bytes. true) (view_in store) (stored_in store) files changes
 is_sync untested config store files handles changes table configured unreadable view made = record {
   read = view;
   held = sym (untested (view_in store));
@@ -142,7 +142,7 @@ is_sync untested config store files handles changes table configured unreadable 
     names_ascend = table.names;
     few = table.few_files;
     small = subst (λ n. maps.size_of files ≤ n) (sym configured.allowed) table.room;
-    each = λ name file at. held (shape_of store).kind (element_at (stored_in store) name) file file.content
+    each = λ name file at. held (store_shape store).kind (element_at (stored_in store) name) file file.content
         configured.kind refl
         (subst (λ found. IsFileAt found) at (table.whole name)) (unreadable name file at);
   };
@@ -179,16 +179,16 @@ within_more copies contents more index before after le is =
     omega (arith, is, mul-le-mul_left copies each)
 
 pub stored_then : CommittedLaw → HeldLaw → UntestedLaw → (store later : Store) (files : Map) (changes : List Change)
-    → IsSync (shape_of store) (λ bytes. true) (view_in store) (stored_in store) files changes
-    → view_in later ≡ committed_by (shape_of store) (view_in store) changes → stored_in later ≡ files
+    → IsSync (store_shape store) (λ bytes. true) (view_in store) (stored_in store) files changes
+    → view_in later ≡ committed_by (store_shape store) (view_in store) changes → stored_in later ≡ files
 stored_then made held untested store later files changes sync view =
-    ap map_of (view ∙ made (shape_of store) (λ bytes. true) (view_in store) (stored_in store) files changes sync)
-    ∙ sym (untested (committed (shape_of store) (view_in store) (stored_in store) files))
-    ∙ held (shape_of store) (λ bytes. true) (view_in store) (stored_in store) files changes sync (passes files)
+    ap map_of (view ∙ made (store_shape store) (λ bytes. true) (view_in store) (stored_in store) files changes sync)
+    ∙ sym (untested (committed (store_shape store) (view_in store) (stored_in store) files))
+    ∙ held (store_shape store) (λ bytes. true) (view_in store) (stored_in store) files changes sync (passes files)
 
 -- the session over the storage after a commit
 pub open_later : (config : StorageData) (store later : Store) (storage : Storage) (files : Map)
-    → IsOpen config store storage files → shape_of later ≡ shape_of store → stored_in later ≡ files
+    → IsOpen config store storage files → store_shape later ≡ store_shape store → stored_in later ≡ files
     → IsOpen config later storage files
 open_later config store later storage files is shape stored = record {
   valid = is.valid;
@@ -198,48 +198,48 @@ open_later config store later storage files is shape stored = record {
 }
 
 view_then : CommittedLaw → (s : FilesInUse) (changes : List Change)
-    → IsSync (shape_of s.store) (λ bytes. true) (view_in s.store) (stored_in s.store) s.session.files changes
+    → IsSync (store_shape s.store) (λ bytes. true) (view_in s.store) (stored_in s.store) s.session.files changes
     → is_synced s ≡ false
-    → committed_by (shape_of s.store) (view_in s.store) changes ≡ synced_view s
+    → committed_by (store_shape s.store) (view_in s.store) changes ≡ synced_view s
 view_then made s changes sync differ =
-    made (shape_of s.store) (λ bytes. true) (view_in s.store) (stored_in s.store) s.session.files changes sync
+    made (store_shape s.store) (λ bytes. true) (view_in s.store) (stored_in s.store) s.session.files changes sync
     ∙ sym (differ_view s differ)
 
-module _ (s : FilesInUse) (changes : List Change) (sync : IsSync (shape_of s.store) (λ bytes. true) (view_in s.store)
+module _ (s : FilesInUse) (changes : List Change) (sync : IsSync (store_shape s.store) (λ bytes. true) (view_in s.store)
     (stored_in s.store) s.session.files changes)
     (differ : is_synced s ≡ false) (made : CommittedLaw) where
   abbrev pub cost_then : ℕ
-  cost_then = commit_cost (shape_of s.store).kind (entries_of s.store) changes
+  cost_then = commit_cost (store_shape s.store).kind (entries_of s.store) changes
 
   abbrev pub cost_between : ℕ
-  cost_between = map_cost (shape_of s.store).kind (stored_in s.store) s.session.files
+  cost_between = map_cost (store_shape s.store).kind (stored_in s.store) s.session.files
 
   costs : CostLaw → cost_then ≤ cost_between
-  costs cost = cost (shape_of s.store) (λ bytes. true) (view_in s.store) (stored_in s.store) s.session.files changes
+  costs cost = cost (store_shape s.store) (λ bytes. true) (view_in s.store) (stored_in s.store) s.session.files changes
       sync
 
   pub commit_at_most : CostLaw → (old new : Medium)
-      → IsWithin (shape_of s.store).place.copies cost_then
-      (index_length (shape_of s.store).kind (committed_by (shape_of s.store) (view_in s.store) changes).entries)
+      → IsWithin (store_shape s.store).place.copies cost_then
+      (index_length (store_shape s.store).kind (committed_by (store_shape s.store) (view_in s.store) changes).entries)
       old.written new.written
       → WritesAtMost s old new
   commit_at_most cost old new within = subst (λ (v : View).
-      IsWithin (shape_of s.store).place.copies cost_between (index_length (shape_of s.store).kind v.entries)
+      IsWithin (store_shape s.store).place.copies cost_between (index_length (store_shape s.store).kind v.entries)
       old.written new.written)
       (view_then made s changes sync differ)
-      (within_more (shape_of s.store).place.copies cost_then cost_between
-      (index_length (shape_of s.store).kind (committed_by (shape_of s.store) (view_in s.store) changes).entries)
+      (within_more (store_shape s.store).place.copies cost_then cost_between
+      (index_length (store_shape s.store).kind (committed_by (store_shape s.store) (view_in s.store) changes).entries)
       old.written new.written (costs cost) within)
 
   pub commit_synced : HeldLaw → UntestedLaw → CostLaw → UnchangedNamesLaw
       → (told : Bool) (later : Store) (old new : Medium)
-      → view_in later ≡ committed_by (shape_of s.store) (view_in s.store) changes → shape_of later ≡ shape_of s.store
-      → IsUsed told new.image later
-      → (IsTrue told → IsClean (shape_of s.store) old.image → IsClean (shape_of s.store) new.image) → Quiet new
-      → IsWithin (shape_of s.store).place.copies cost_then (length (index_text (index_in later))) old.written
+      → view_in later ≡ committed_by (store_shape s.store) (view_in s.store) changes
+      → store_shape later ≡ store_shape s.store → IsUsed told new.image later
+      → (IsTrue told → IsClean (store_shape s.store) old.image → IsClean (store_shape s.store) new.image) → Quiet new
+      → IsWithin (store_shape s.store).place.copies cost_then (length (index_text (index_in later))) old.written
       new.written
       → KeepsOthers changes (index_in s.store).entries (index_in later).entries → (index_in later).format ≡ 2
-      → length (index_text (index_in later)) ≡ index_length (shape_of s.store).kind (entries_of later)
+      → length (index_text (index_in later)) ≡ index_length (store_shape s.store).kind (entries_of later)
       → new.faults ≡ old.faults
       → IsSynced told s (record s { store = later }) old new
   commit_synced held untested cost others told later old new view shape used clean quiet written carried format text
@@ -253,7 +253,7 @@ module _ (s : FilesInUse) (changes : List Change) (sync : IsSync (shape_of s.sto
           durable = λ differs. quiet;
           quiet = λ before. quiet;
           clean = clean;
-          written = within_more (shape_of s.store).place.copies cost_then cost_between
+          written = within_more (store_shape s.store).place.copies cost_then cost_between
               (length (index_text (index_in later))) old.written new.written (costs cost) written;
           passes = passes;
         };
@@ -263,17 +263,17 @@ module _ (s : FilesInUse) (changes : List Change) (sync : IsSync (shape_of s.sto
       }
 
   pub commit_storing : (told : Bool) (old new : Medium)
-      → (IsTrue told → Spares (IsOutside (shape_of s.store).place) old.image
+      → (IsTrue told → Spares (IsOutside (store_shape s.store).place) old.image
       new.image)
-      → (IsTrue told → Quiet old → EachCase (IsSettledOn (IsOutside (shape_of s.store).place) old.image) old new)
-      → (IsTrue told → KeptThroughout (shape_of s.store) (Opens
-      (committed_by (shape_of s.store) (view_in s.store) changes) []) old new)
-      → Elapses old new → IsStoring told (shape_of s.store) (Opens (synced_view s) []) old new
+      → (IsTrue told → Quiet old → EachCase (IsSettledOn (IsOutside (store_shape s.store).place) old.image) old new)
+      → (IsTrue told → KeptThroughout (store_shape s.store) (Opens
+      (committed_by (store_shape s.store) (view_in s.store) changes) []) old new)
+      → Elapses old new → IsStoring told (store_shape s.store) (Opens (synced_view s) []) old new
   commit_storing told old new elsewhere outside any_moment time = record {
     elsewhere = elsewhere;
     outside = outside;
-    any_moment = λ tells. kept_mending (shape_of s.store) (Opens (synced_view s) []) old new
-        (subst (λ (v : View). KeptThroughout (shape_of s.store) (Opens v []) old new)
+    any_moment = λ tells. kept_mending (store_shape s.store) (Opens (synced_view s) []) old new
+        (subst (λ (v : View). KeptThroughout (store_shape s.store) (Opens v []) old new)
         (view_then made s changes sync differ) (any_moment tells));
     time = time;
   }

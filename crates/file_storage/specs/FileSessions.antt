@@ -11,7 +11,7 @@ use Rattle.deployment_model.specs.Conditions.{IsStorage}
 use Rattle.element_state.specs.Views.{map_of}
 use Rattle.element_maps.specs.Storages.{IsConfigured}
 use Rattle.element_store.specs.declared.store.Store.{Store}
-use Rattle.element_store.specs.Stores.{shape_of, view_in}
+use Rattle.element_store.specs.Stores.{store_shape, view_in}
 
 -- how it is configured, the storage in use below it, the working files with the handles on them, and the moment last
 -- given
@@ -36,6 +36,6 @@ AreAsStored stored files = (name : List ℕ) (file : Element) → element_at fil
 
 pub record IsOpen (config : StorageData) (store : Store) (storage : Storage) (files : Map) : Type 0 where
   pub valid : IsStorage config
-  pub configured : IsConfigured Files config (shape_of store)
+  pub configured : IsConfigured Files config (store_shape store)
   pub same_storage : storage ≡ storage_of config
   pub unreadable : AreAsStored (stored_in store) files

@@ -1,12 +1,12 @@
 -- What an opening of files gives.
-use Rattle.element_store.specs.Stores.{shape_of, view_in}
+use Rattle.element_store.specs.Stores.{store_shape, view_in}
 use Rattle.element_maps.specs.Storages.{Opened}
 use Rattle.file_storage.specs.declared.opening.OpenedFiles.{OpenedFiles}
 use Rattle.file_storage.specs.FileSessions.{stored_in}
 
 abbrev pub opened_as : OpenedFiles → Opened
 opened_as o = record {
-  shape = shape_of o.files.store;
+  shape = store_shape o.files.store;
   view = view_in o.files.store;
   synced =
       stored_in o.files.store;

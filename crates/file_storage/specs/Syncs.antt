@@ -15,7 +15,7 @@ use Rattle.element_state.specs.declared.shapes.View.{View}
 use Rattle.element_state.specs.States.{is_worn}
 use Rattle.element_state.specs.Written.{IsWithin, map_cost}
 use Rattle.element_store.specs.Committing.{index_in, index_length}
-use Rattle.element_store.specs.Stores.{IsUsed, shape_of, view_in}
+use Rattle.element_store.specs.Stores.{IsUsed, store_shape, view_in}
 use Rattle.element_maps.specs.Sessions as maps
 use Rattle.element_maps.specs.Storages.{IsDurable, KeepsEqual}
 use Rattle.file_storage.specs.FileSessions.{FilesInUse, stored_in}
@@ -43,25 +43,25 @@ close_refused s = or_next (busy (lowest s.session.handles)) (worn s)
 
 -- the view once the working files are durable: that of before where nothing differs
 abbrev pub synced_view : FilesInUse → View
-synced_view s = maps.view_once_synced (shape_of s.store) (view_in s.store) (stored_in s.store) s.session.files
+synced_view s = maps.view_once_synced (store_shape s.store) (view_in s.store) (stored_in s.store) s.session.files
 
 -- in each copy at most the contents that differ, and the next index
 abbrev pub WritesAtMost : FilesInUse → (old new : Medium) → Type 0
-WritesAtMost s old new = IsWithin (shape_of s.store).place.copies
-    (map_cost (shape_of s.store).kind (stored_in s.store) s.session.files)
-    (index_length (shape_of s.store).kind (synced_view s).entries) old.written new.written
+WritesAtMost s old new = IsWithin (store_shape s.store).place.copies
+    (map_cost (store_shape s.store).kind (stored_in s.store) s.session.files)
+    (index_length (store_shape s.store).kind (synced_view s).entries) old.written new.written
 
 -- the working files of a session are durable in a later one, and all else of it stays
 pub record IsSynced (told : Bool) (s later : FilesInUse) (old new : Medium) : Type 0 where
   pub stored : stored_in later.store ≡ s.session.files
   pub view : view_in later.store ≡ synced_view s
   pub beside : later ≡ record s { store = later.store }
-  pub shape : shape_of later.store ≡ shape_of s.store
+  pub shape : store_shape later.store ≡ store_shape s.store
   pub used : IsUsed told new.image later.store
-  pub durable : IsDurable told (shape_of s.store) (stored_in s.store) s.session.files
+  pub durable : IsDurable told (store_shape s.store) (stored_in s.store) s.session.files
       (length (index_text (index_in later.store))) old new
   -- the index: each file that does not differ as it was listed
   pub carried : KeepsEqual (stored_in s.store) s.session.files (index_in s.store).entries (index_in later.store).entries
   pub format : is_synced s ≡ false → (index_in later.store).format ≡ 2
   pub text : is_synced s ≡ false → length (index_text (index_in later.store))
-      ≡ index_length (shape_of s.store).kind (view_in later.store).entries
+      ≡ index_length (store_shape s.store).kind (view_in later.store).entries

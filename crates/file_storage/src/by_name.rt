@@ -8,7 +8,7 @@ ghost use Rattle.deployment_model.specs.Data.{storage_data};
 ghost use Rattle.per_base.specs.declared.elements.Element.{Element};
 ghost use Rattle.per_base.specs.Maps.{element_at, has, names_of, size_of};
 ghost use Rattle.per_base.specs.Refusals.{IsDue, IsRefusal};
-ghost use Rattle.deployment_model.specs.Lookups.{initial_of};
+ghost use Rattle.deployment_model.specs.Lookups.{initial_content};
 ghost use Rattle.file_handles.specs.ByName as calls;
 ghost use Rattle.file_storage.specs.FileSessions.{storage_of};
 
@@ -99,17 +99,17 @@ impl Files {
     /// `OutOfStorageSpace` where the initial content does not fit; `OutOfMemory`.
     pub fn recover_file(&mut self, name: &Name, now: u64) -> Result<(), PerError>
         ensures ok { OnOk result (calls.recover_file (storage_of self.old.config) self.old.session name.now now
-            (initial_of self.old.config name.now) ≡ Ok self.new.session) }
+            (initial_content self.old.config name.now) ≡ Ok self.new.session) }
         ensures refused { IfErr result (λ error. IsRefusal
             (calls.recover_file (storage_of self.old.config) self.old.session name.now now
-            (initial_of self.old.config name.now)) error) }
+            (initial_content self.old.config name.now)) error) }
         // `OutOfMemory` never replaces a refusal; it comes only where the initial content is taken.
         ensures memory { IfErr result (λ error. error ≡ PerError.OutOfMemory
             → IsDue (calls.recover_file (storage_of self.old.config) self.old.session name.now now
-            (initial_of self.old.config name.now))) }
+            (initial_content self.old.config name.now))) }
         ensures copies { IfErr result (λ error. error ≡ PerError.OutOfMemory → (file : Element)
             → element_at self.old.session.files name.now ≡ Some file
-            → calls.TakesInitial (initial_of self.old.config name.now) file.content) }
+            → calls.TakesInitial (initial_content self.old.config name.now) file.content) }
         ensures beside { self.new ≡ record self.old { session = self.new.session } }
         ensures unchanged { OnErr result (self.new ≡ self.old) }
     {
@@ -126,13 +126,13 @@ impl Files {
     /// `ResourceBusy` where the file has a handle; `LimitReached` with `Elements`; `OutOfStorageSpace`; `OutOfMemory`.
     pub fn reset_file(&mut self, name: &Name, now: u64) -> Result<(), PerError>
         ensures ok { OnOk result (calls.reset_file (storage_of self.old.config) self.old.session name.now now
-            (initial_of self.old.config name.now) ≡ Ok self.new.session) }
+            (initial_content self.old.config name.now) ≡ Ok self.new.session) }
         ensures refused { IfErr result (λ error. IsRefusal
             (calls.reset_file (storage_of self.old.config) self.old.session name.now now
-            (initial_of self.old.config name.now)) error) }
+            (initial_content self.old.config name.now)) error) }
         ensures memory { IfErr result (λ error. error ≡ PerError.OutOfMemory
             → IsDue (calls.reset_file (storage_of self.old.config) self.old.session name.now now
-            (initial_of self.old.config name.now))) }
+            (initial_content self.old.config name.now))) }
         ensures beside { self.new ≡ record self.old { session = self.new.session } }
         ensures unchanged { OnErr result (self.new ≡ self.old) }
     {
@@ -145,7 +145,7 @@ impl Files {
 fn initial_content<'a>(config: &'a StorageConfig, name: &Name) -> Option<&'a [u8]>
     requires valid { IsStorage (storage_data config.now) }
     requires of_files { config.now.kind ≡ kinds.Files }
-    ensures initial { option_copied result ≡ initial_of (storage_data config.now) name.now }
+    ensures initial { option_copied result ≡ initial_content (storage_data config.now) name.now }
     ensures small { MatchOption (option_copied result) ⊤ (λ bytes. length bytes ≤ 1048576) }
 {
     match config.initial(name) {

@@ -3,7 +3,7 @@
 ghost use Rattle.std.specs.Prelude.{◌≡◌, ◌≤◌, ℕ, IsTrue, ◌↔◌, length};
 ghost use Rattle.per_base.specs.declared.elements.StoreKind.TheVariants as kinds;
 ghost use Rattle.element_maps.specs.Storages.{IsConfigured};
-ghost use Rattle.element_store.specs.Stores.{shape_of};
+ghost use Rattle.element_store.specs.Stores.{store_shape};
 ghost use Rattle.file_handles.specs.Tables.{IsTable};
 ghost use Rattle.file_storage.specs.FileSessions.{AreAsStored, storage_of, stored_in};
 
@@ -51,7 +51,7 @@ impl Files {
     /// What always holds of an open storage.
     pub fn invariants(&self)
         ensures table { IsTable (storage_of self.now.config) self.now.session.files self.now.session.handles }
-        ensures configured { IsConfigured kinds.Files self.now.config (shape_of self.now.store) }
+        ensures configured { IsConfigured kinds.Files self.now.config (store_shape self.now.store) }
         ensures unreadable { AreAsStored (stored_in self.now.store) self.now.session.files }
     {
         self.table.invariants();

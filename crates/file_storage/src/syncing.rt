@@ -11,7 +11,7 @@ ghost use Rattle.element_state.specs.Views.{map_of};
 ghost use Rattle.element_maps.specs.Sessions.{IsSync};
 ghost use Rattle.element_maps.specs.Storages.{IsDurable, IsStoring, KeepsEqual};
 ghost use Rattle.element_store.specs.Committing.{index_in, index_length};
-ghost use Rattle.element_store.specs.Stores.{IsStore, IsUsed, shape_of, view_in};
+ghost use Rattle.element_store.specs.Stores.{IsStore, IsUsed, store_shape, view_in};
 ghost use Rattle.file_storage.specs.Closes.{MatchClosed, OnDone};
 ghost use Rattle.file_storage.specs.FileSessions.{stored_in};
 ghost use Rattle.file_storage.specs.Syncs.{IsSynced, WritesAtMost, close_refused, is_synced, sync_refused, synced_view};
@@ -73,12 +73,12 @@ impl Files {
         ensures stored { IfOk result (λ o. o.refused ≡ None → stored_in o.files.store ≡ self.session.files) }
         ensures view { IfOk result (λ o. o.refused ≡ None → view_in o.files.store ≡ synced_view self) }
         ensures beside { IfOk result (λ o. o.files ≡ record self { store = o.files.store }) }
-        ensures shape { IfOk result (λ o. shape_of o.files.store ≡ shape_of self.store) }
+        ensures shape { IfOk result (λ o. store_shape o.files.store ≡ store_shape self.store) }
         ensures used { IfOk result (λ o. IsUsed D.told (D.medium disk.new).image o.files.store) }
 
         // What differed is durable: in each copy the contents that do, and the index.
         ensures durable { IfOk result (λ o. o.refused ≡ None
-            → IsDurable D.told (shape_of self.store) (stored_in self.store) self.session.files
+            → IsDurable D.told (store_shape self.store) (stored_in self.store) self.session.files
             (length (index_text (index_in o.files.store))) (D.medium disk.old) (D.medium disk.new)) }
         ensures at_most { WritesAtMost self (D.medium disk.old) (D.medium disk.new) }
 
@@ -89,7 +89,7 @@ impl Files {
             (λ o. o.refused ≡ None → (index_in o.files.store).format ≡ 2) }
         ensures text { is_synced self ≡ false → IfOk result
             (λ o. o.refused ≡ None → length (index_text (index_in o.files.store))
-            ≡ index_length (shape_of self.store).kind (view_in o.files.store).entries) }
+            ≡ index_length (store_shape self.store).kind (view_in o.files.store).entries) }
 
         // Running out of memory hands the storage back, and then nothing happened. Only a disk that failed closes it.
         ensures memory { IfErr result (λ fault. HandsBack self fault (disk.new ≡ disk.old)) }
@@ -97,7 +97,7 @@ impl Files {
             → Rose (D.medium disk.old).faults (D.medium disk.new).faults) }
 
         // No file outside the place changes, and a stop at any moment leaves the storage of before or that of after.
-        ensures storing { IsStoring D.told (shape_of self.store) (Opens (synced_view self) []) (D.medium disk.old)
+        ensures storing { IsStoring D.told (store_shape self.store) (Opens (synced_view self) []) (D.medium disk.old)
             (D.medium disk.new) }
     {
         untouched_is_kept();
@@ -139,13 +139,13 @@ impl Files {
 
         // The storage then opens at the working files.
         ensures opens { IsTrue D.told → IfOk result (λ closed. OnDone closed
-            (store_at (D.medium disk.new).image (shape_of self.store) ≡ Opens (synced_view self) [])) }
+            (store_at (D.medium disk.new).image (store_shape self.store) ≡ Opens (synced_view self) [])) }
         ensures stored { IfOk result (λ closed. OnDone closed (map_of (synced_view self) ≡ self.session.files)) }
         // What differed is durable: in each copy the contents that do, and the index that stands.
         ensures durable { IfOk result (λ closed. OnDone closed ((text : List ℕ)
-            × (IsTrue D.told → IsAlone (D.medium disk.new).image (shape_of self.store).place
+            × (IsTrue D.told → IsAlone (D.medium disk.new).image (store_shape self.store).place
             (synced_view self).generation text)
-            × IsDurable D.told (shape_of self.store) (stored_in self.store) self.session.files (length text)
+            × IsDurable D.told (store_shape self.store) (stored_in self.store) self.session.files (length text)
             (D.medium disk.old) (D.medium disk.new))) }
         ensures at_most { WritesAtMost self (D.medium disk.old) (D.medium disk.new) }
 
@@ -155,7 +155,7 @@ impl Files {
             → Rose (D.medium disk.old).faults (D.medium disk.new).faults) }
 
         // No file outside the place changes, and a stop at any moment leaves the storage of before or that of after.
-        ensures storing { IsStoring D.told (shape_of self.store) (Opens (synced_view self) []) (D.medium disk.old)
+        ensures storing { IsStoring D.told (store_shape self.store) (Opens (synced_view self) []) (D.medium disk.old)
             (D.medium disk.new) }
     {
         untouched_is_kept();
@@ -178,7 +178,7 @@ impl Files {
         ensures memory { IfErr result (λ fault. HandsBack self fault (disk.new ≡ disk.old)) }
         ensures cause { IfErr result (λ fault. IsDeviceFault fault
             → Rose (D.medium disk.old).faults (D.medium disk.new).faults) }
-        ensures storing { IsStoring D.told (shape_of self.store) (Opens (synced_view self) []) (D.medium disk.old)
+        ensures storing { IsStoring D.told (store_shape self.store) (Opens (synced_view self) []) (D.medium disk.old)
             (D.medium disk.new) }
     {
         untouched_is_kept();
@@ -195,7 +195,7 @@ impl Files {
     /// Commits these changes, which make the stored files into the working ones.
     fn commit<D: Disk>(self, disk: &mut D, changes: Vec<Change>) -> Result<Files, Fault<Files>>
         requires used { IsUsed D.told (D.medium disk.old).image self.store }
-        requires changes { IsSync (shape_of self.store) (λ bytes. true) (view_in self.store) (stored_in self.store)
+        requires changes { IsSync (store_shape self.store) (λ bytes. true) (view_in self.store) (stored_in self.store)
             self.session.files changes.items }
         requires differ { is_synced self ≡ false }
         requires not_worn { (view_in self.store).generation < greatest_generation }
@@ -204,7 +204,7 @@ impl Files {
         ensures memory { IfErr result (λ fault. HandsBack self fault (disk.new ≡ disk.old)) }
         ensures cause { IfErr result (λ fault. IsDeviceFault fault
             → Rose (D.medium disk.old).faults (D.medium disk.new).faults) }
-        ensures storing { IsStoring D.told (shape_of self.store) (Opens (synced_view self) []) (D.medium disk.old)
+        ensures storing { IsStoring D.told (store_shape self.store) (Opens (synced_view self) []) (D.medium disk.old)
             (D.medium disk.new) }
     {
         changes_make_maps();
@@ -236,7 +236,7 @@ impl Files {
     /// The changes that make the stored files into the working ones.
     fn changes(&self) -> Result<Vec<Change>, AllocError>
         requires { IsStore self.now.store }
-        ensures { IfOk result (λ changes. IsSync (shape_of self.now.store) (λ bytes. true) (view_in self.now.store)
+        ensures { IfOk result (λ changes. IsSync (store_shape self.now.store) (λ bytes. true) (view_in self.now.store)
             (stored_in self.now.store) self.now.session.files changes.items) }
     {
         views_are_maps();

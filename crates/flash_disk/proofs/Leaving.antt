@@ -21,7 +21,7 @@ use Rattle.flash_disk.specs.Standing.{IsAgreed, HasRivals, IsStrayless}
 use Rattle.flash_disk.specs.FlashFiles.{byte_in, file_len}
 use Rattle.flash_disk.proofs.Learning.{same_page_is, same_page_refl}
 
--- two places that a test tells apart, or not
+-- two places that a test distinguishes, or not
 pub places_differ : (a b c d : ℕ) (ne : Bool) → ne ≡ not (nat_eq a b && nat_eq c d) → ne ≡ true → a ≡ b → c ≡ d → ⊥
 places_differ a b c d ne is holds ab cd = true≢false (sym holds ∙ (is ∙ rw (eq-eqb a b ab, eq-eqb c d cd) refl))
 

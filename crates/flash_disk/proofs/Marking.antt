@@ -11,7 +11,7 @@ use Rattle.flash_disk.specs.declared.table.Newest.{Newest}
 use Rattle.flash_disk.specs.declared.table.Table.{Table}
 use Rattle.flash_disk.specs.Known.{same_page, known, load_known}
 use Rattle.flash_disk.specs.Apart.{copy_of}
-use Rattle.flash_disk.specs.LedApart.{LeadsOnly, IsFree}
+use Rattle.flash_disk.specs.LedApart.{LeadsOnly, IsUnmarked}
 use Rattle.flash_disk.proofs.Lengths.{Entry, passed}
 
 -- an entry of the copy, or one whose block is marked
@@ -35,7 +35,7 @@ seen_more copy old new key k entry e es all is own keeps before = ⊎_elim
     before
 
 -- nothing is marked at first
-pub unmarked : (n block : ℕ) → block < n → IsFree (replicate n 0) block
+pub unmarked : (n block : ℕ) → block < n → IsUnmarked (replicate n 0) block
 unmarked n block below = let long = length-replicate {A = ℕ} n 0 in
     (omega (arith, below, long), get_or-replicate {A = ℕ} n block 0 0 below)
 
@@ -58,7 +58,7 @@ module _ (copy : ℕ) (old new : List ℕ) (block : ℕ) (long : length new ≡ 
 
   -- a block into which only entries of the copy lead is not marked for one of another
   pub own_stays : (table : Table) (k : FilePage) (e : Newest) → known table k ≡ Some e → e.place.block ≡ block
-      → copy_of k.file ≢ copy → (b : ℕ) → LeadsOnly table copy b → IsFree old b → IsFree new b
+      → copy_of k.file ≢ copy → (b : ℕ) → LeadsOnly table copy b → IsUnmarked old b → IsUnmarked new b
   own_stays table k e is at foreign b only free = ⊎_elim
       (λ same. absurd (foreign (only k e is (at ∙ sym same))))
       (λ apart. (let inside = free.0 in omega (arith, inside, long), others b apart ∙ free.1))
@@ -76,12 +76,12 @@ seen_all copy marks key entry left none seen = ⊎_elim
 
 module _ (table : Table) (marks : List ℕ) (but : ℕ) where
   abbrev pub IsBestOwn : (block best : ℕ) → Type 0
-  IsBestOwn block best = (best ≢ but → (best < table.blocks) × IsFree marks best × (load_known table best < 64))
-      × ((b : ℕ) → b < block → b ≢ but → IsFree marks b → (64 ≤ load_known table b)
+  IsBestOwn block best = (best ≢ but → (best < table.blocks) × IsUnmarked marks best × (load_known table best < 64))
+      × ((b : ℕ) → b < block → b ≢ but → IsUnmarked marks b → (64 ≤ load_known table b)
       ⊎ ((best ≢ but) × (load_known table best ≤ load_known table b)))
 
   pub better : (block best : ℕ) → block < table.blocks → IsBestOwn block best
-      → (block ≢ but) × IsFree marks block × (load_known table block < 64)
+      → (block ≢ but) × IsUnmarked marks block × (load_known table block < 64)
       × (best ≢ but → load_known table block ≤ load_known table best) → IsBestOwn (block + 1) block
   better block best within is good = (
     (λ other. (within, good.1, good.2)),
@@ -96,7 +96,7 @@ module _ (table : Table) (marks : List ℕ) (but : ℕ) where
   )
 
   pub no_better : (block best : ℕ) → IsBestOwn block best
-      → (block ≢ but → IsFree marks block → (64 ≤ load_known table block)
+      → (block ≢ but → IsUnmarked marks block → (64 ≤ load_known table block)
       ⊎ ((best ≢ but) × (load_known table best ≤ load_known table block))) → IsBestOwn (block + 1) best
   no_better block best is worse = (
     is.0,
@@ -104,6 +104,6 @@ module _ (table : Table) (marks : List ℕ) (but : ℕ) where
         (λ before. is.1 b before other free)
         (λ past. let e : block ≡ b = omega (arith, past, below) in
         subst (λ q. (64 ≤ load_known table q) ⊎ ((best ≢ but) × (load_known table best ≤ load_known table q))) e
-        (worse (λ same. other (sym e ∙ same)) (subst (IsFree marks) (sym e) free)))
+        (worse (λ same. other (sym e ∙ same)) (subst (IsUnmarked marks) (sym e) free)))
         (cases_lt b block)),
   )

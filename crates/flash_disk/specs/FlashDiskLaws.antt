@@ -11,18 +11,18 @@ use Rattle.flash_disk.specs.Standing.{IsAgreed}
 use Rattle.flash_disk.specs.Apart.{StandApart}
 use Rattle.flash_disk.specs.FlashDiskMedium.{put_announced, disk_case, still_case, files_told, flash_disk_medium}
 
-untold : {X : Type 0} → IsTrue false → X
-untold t = absurd (true≢false (sym t))
+not_modelled : {X : Type 0} → IsTrue false → X
+not_modelled t = absurd (true≢false (sym t))
 
 -- a modelled disk has the clock of its flash
 pub told_moment : (told : Bool) (n : ℕ) → IsTrue told → cond told n 0 ≡ n
 told_moment true n t = refl
-told_moment false n t = untold t
+told_moment false n t = not_modelled t
 
 -- and the files of its flash
 pub told_files : (told : Bool) (m : FlashMedium) → IsTrue told → files_told told m ≡ flash_files m.state.pages m.blocks
 told_files true m t = refl
-told_files false m t = untold t
+told_files false m t = not_modelled t
 
 -- between two calls a crash leaves what there is
 pub still_is : (s : FlashState) → IsStill s (still_case s)

@@ -47,12 +47,12 @@ IsCaseOf blocks f c = IsPlain f.before f.whole f.left × (c ≡ disk_case blocks
 abbrev pub GaveFiles : FlashMedium → ℕ → Case → Type 0
 GaveFiles m t c = (s : FlashState) × m.since t (still_case s) × (c ≡ disk_case m.blocks (still_case s))
 
--- what reads give; an untold flash says nothing of its pages, not even that a read leaves them alone
+-- what reads give; a flash that is not modelled says nothing of its pages, not even that a read leaves them alone
 abbrev pub files_told : (told : Bool) → FlashMedium → Image
 files_told told m = if told then flash_files m.state.pages m.blocks else (λ f. [])
 
--- A disk over this flash, with this count of its own faults and of the bytes that were written. An untold one has no
--- clock: that a moment counts among those since an earlier one is known of a modelled flash alone.
+-- A disk over this flash, with this count of its own faults and of the bytes that were written. One that is not
+-- modelled has no clock: that a moment counts among those since an earlier one is known of a modelled flash alone.
 abbrev pub flash_disk_medium : (told : Bool) → FlashMedium → (own written : ℕ) → Medium
 flash_disk_medium told m own written = record {
   image = files_told told m;

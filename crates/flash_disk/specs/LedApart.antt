@@ -26,5 +26,5 @@ abbrev pub HasOneEach : Table → Type 0
 HasOneEach table = IsUnique same_page table.newest
 
 -- a block is one of those that can be marked, and is not
-abbrev pub IsFree : List ℕ → ℕ → Type 0
-IsFree marks block = (block < length marks) × (slice_index marks block ≡ 0)
+abbrev pub IsUnmarked : List ℕ → ℕ → Type 0
+IsUnmarked marks block = (block < length marks) × (slice_index marks block ≡ 0)

@@ -5,7 +5,7 @@ ghost use Rattle.std.specs.Prelude.{IsFalse, Some, None, All, length, max, slice
 ghost use Rattle.std.specs.HashMap.{get, hash_map_len, spare};
 ghost use Rattle.flash_disk.specs.Known.{same_page, len_in, HasLenIn, IsLongest, IsFilledUpTo};
 ghost use Rattle.flash_disk.specs.Apart.{copy_of};
-ghost use Rattle.flash_disk.specs.LedApart.{LeadsOnly, LeadsSome, HasOneEach, IsFree};
+ghost use Rattle.flash_disk.specs.LedApart.{LeadsOnly, LeadsSome, HasOneEach, IsUnmarked};
 ghost use Rattle.flash_disk.specs.Counted.{leads_into, had_in, entries_in, IsInside, IsCountedTable};
 
 use flash_model::BLOCK_PAGES;
@@ -234,9 +234,9 @@ impl Table {
     pub fn mark_foreign(&self, file: u32, foreign: &mut [u8])
         ensures len { length foreign.new ≡ length foreign.old }
         ensures unique { HasOneEach self.now }
-        ensures own { (block : ℕ) → IsFree foreign.new block → LeadsOnly self.now (copy_of file) block }
-        ensures foreign { (block : ℕ) → LeadsOnly self.now (copy_of file) block → IsFree foreign.old block
-            → IsFree foreign.new block }
+        ensures own { (block : ℕ) → IsUnmarked foreign.new block → LeadsOnly self.now (copy_of file) block }
+        ensures foreign { (block : ℕ) → LeadsOnly self.now (copy_of file) block → IsUnmarked foreign.old block
+            → IsUnmarked foreign.new block }
     {
         for (key, newest) in self.newest.iter() {
             if key.file / 4 % 8 != file / 4 % 8 {
@@ -248,9 +248,9 @@ impl Table {
     /// The block other than this one that is not marked and whose newest records take the fewest pages to move; this
     /// one where none leaves a page.
     pub fn lightest_own(&self, foreign: &[u8], but: u32) -> u32
-        ensures own { result ≢ but → (result < self.now.blocks) × IsFree foreign.now result
+        ensures own { result ≢ but → (result < self.now.blocks) × IsUnmarked foreign.now result
             × (load_known self.now result < 64) }
-        ensures lightest { (block : ℕ) → block < self.now.blocks → block ≢ but → IsFree foreign.now block
+        ensures lightest { (block : ℕ) → block < self.now.blocks → block ≢ but → IsUnmarked foreign.now block
             → (64 ≤ load_known self.now block)
             ⊎ ((result ≢ but) × (load_known self.now result ≤ load_known self.now block)) }
     {
@@ -266,9 +266,9 @@ impl Table {
     // Whether a block that is not marked leaves a page, and is better than the best other than `but` so far or the
     // first.
     fn is_better(&self, foreign: &[u8], block: u32, best: u32, but: u32) -> bool
-        ensures good { IsTrue result → (block ≢ but) × IsFree foreign.now block × (load_known self.now block < 64)
+        ensures good { IsTrue result → (block ≢ but) × IsUnmarked foreign.now block × (load_known self.now block < 64)
             × (best ≢ but → load_known self.now block ≤ load_known self.now best) }
-        ensures worse { IsFalse result → block ≢ but → IsFree foreign.now block → (64 ≤ load_known self.now block)
+        ensures worse { IsFalse result → block ≢ but → IsUnmarked foreign.now block → (64 ≤ load_known self.now block)
             ⊎ ((best ≢ but) × (load_known self.now best ≤ load_known self.now block)) }
     {
         let load = self.load_of(block);
@@ -464,7 +464,7 @@ fn mark(foreign: &mut [u8], block: u32)
 
 // Whether a block can be marked and is not.
 fn is_free(foreign: &[u8], block: u32) -> bool
-    ensures { IsTrue result ↔ IsFree foreign.now block }
+    ensures { IsTrue result ↔ IsUnmarked foreign.now block }
 {
     match foreign.get(block as usize) {
         Some(marked) => *marked == 0,

@@ -10,7 +10,7 @@ use Rattle.flash_disk.specs.KeepsApart.{ApartSince, StandsOrLacked}
 use Rattle.flash_disk.specs.Newest.{places}
 use Rattle.flash_disk.specs.Standing.{IsAgreed}
 use Rattle.flash_disk.specs.Throughout.{AgreedSince}
-use Rattle.flash_laws.specs.Outvotes.{IsPlaced, SparesOthers, Outvotes, OutlastsLoss, OutlastsSince}
+use Rattle.flash_laws.specs.Outvotes.{IsPlaced, SparesOtherCopies, Outvotes, OutlastsLoss, OutlastsSince}
 use Rattle.flash_laws.proofs.Contents.{content_outvoted, content_stands}
 use Rattle.flash_laws.proofs.Outvoted.{outvoted, outvoted_only, stands_still}
 
@@ -19,7 +19,7 @@ files_of : (first copy k : ℕ) → first % 32 ≡ 0 → copy < 8 → k < 4 → 
 files_of first copy k at few inside = omega (arith, at, few, inside)
 
 module _ (old new : Pages) (blocks lost : ℕ) (cost : CostsOneCopy lost blocks old new) where
-  spares : SparesOthers lost (flash_files old blocks) (flash_files new blocks)
+  spares : SparesOtherCopies lost (flash_files old blocks) (flash_files new blocks)
   spares place copy k placed inside other small =
       let most = placed.copies in
       let is : copy_of (place.first + 4 * copy + k) ≡ copy =

@@ -20,9 +20,9 @@ pub record IsPlaced (place : Place) : Type 0 where
   pub copies : place.copies ≤ 8
 
 -- all files of all places but those of this copy are as they were
-abbrev pub SparesOthers : (lost : ℕ) → (old new : Image) → Type 0
-SparesOthers lost old new = (place : Place) (copy k : ℕ) → IsPlaced place → copy < place.copies → copy ≢ lost → k < 4
-    → new (place.first + 4 * copy + k) ≡ old (place.first + 4 * copy + k)
+abbrev pub SparesOtherCopies : (lost : ℕ) → (old new : Image) → Type 0
+SparesOtherCopies lost old new = (place : Place) (copy k : ℕ) → IsPlaced place → copy < place.copies → copy ≢ lost
+    → k < 4 → new (place.first + 4 * copy + k) ≡ old (place.first + 4 * copy + k)
 
 -- each copy gives the content
 abbrev pub GiveAll : Image → Place → (blocks : List ℕ) → (len : ℕ) → (hash content : List ℕ) → Type 0
@@ -30,12 +30,12 @@ GiveAll image place blocks len hash content = (copy : ℕ) → copy < place.copi
     → counting (image (area place copy)) blocks len hash ≡ Some content
 
 -- The files of one copy may be anything, and all others are as they were. Where m copies have to agree, at least 2 and
--- fewer than there are, a text that each copy holds alone stands, and no other is held by so many; and a content that
+-- fewer than there are, a text that each copy holds alone stands, and m copies hold no other; and a content that
 -- each copy gives is the vote. Where one copy is enough, the text needs that no copy gives one of a greater generation,
 -- as of a bank that was made again from generation 1; and the content, that no copy gives another under its hash.
 pub record Outvotes (old new : Image) : Type 0 where
   pub lost : ℕ
-  pub spares : SparesOthers lost old new
+  pub spares : SparesOtherCopies lost old new
   pub text : (m generation : ℕ) (text : List ℕ) (place : Place) → IsPlaced place → 2 ≤ m → m < place.copies
       → IsAlone old place generation text → IsStanding new place m generation text
   pub only : (m generation g : ℕ) (text t : List ℕ) (place : Place) → IsPlaced place → 2 ≤ m

@@ -2,12 +2,12 @@
 
 ghost use Rattle.std.specs.Prelude.{◌≡◌, ◌⊎◌, ℕ, ◌≤◌, ◌<◌, ◌+◌, ◌-◌, ◌^◌, IsTrue, IsFalse, IfOk, OnOk, OnErr, length};
 ghost use Rattle.std.specs.Prelude.{take};
-ghost use Rattle.std.specs.Prelude.{drop, min};
+ghost use Rattle.std.specs.Prelude.{[], drop, min};
 ghost use Rattle.per_base.specs.Causes.{Rose};
 ghost use Rattle.disk_model.specs.Image.{put_image, TornImage};
 ghost use Rattle.disk_model.specs.Case.{WriteCase, WriteOrNot, Follows};
 ghost use Rattle.disk_model.specs.Medium.{Quiet, Elapses, OnlyReads, WritesNothing};
-ghost use Rattle.system_model.specs.SystemMedium.{IsAbsent};
+ghost use Rattle.system_model.specs.SystemMedium.{IsAbsent, Looks};
 ghost use Rattle.folder_disk.specs.Knows.{Knows};
 ghost use Rattle.folder_disk.specs.FolderView.{counted};
 ghost use Rattle.folder_disk.specs.Writes.{PutsBytes, PutCase};
@@ -212,6 +212,7 @@ impl<S: System> Folder<S> {
         requires knows { Knows S.told (S.medium self.old.system) self.old.ranges.items self.old.is_fresh
             self.old.is_grown self.old.is_lost }
         requires lost { IsFalse self.old.is_lost }
+        requires none { IsTrue S.told → (S.medium self.old.system).disk.image file ≡ [] }
         ensures lost { IsFalse self.new.is_lost }
         ensures reads { OnlyReads (S.medium self.old.system).disk (S.medium self.new.system).disk }
         ensures time { Elapses (S.medium self.old.system).disk (S.medium self.new.system).disk }
@@ -229,6 +230,7 @@ impl<S: System> Folder<S> {
         requires knows { Knows S.told (S.medium self.old.system) self.old.ranges.items self.old.is_fresh
             self.old.is_grown self.old.is_lost }
         requires lost { IsFalse self.old.is_lost }
+        requires none { IsTrue S.told → (S.medium self.old.system).disk.image file ≡ [] }
         ensures reads { OnlyReads (S.medium self.old.system).disk (S.medium self.new.system).disk }
         ensures time { Elapses (S.medium self.old.system).disk (S.medium self.new.system).disk }
         ensures knows { Knows S.told (S.medium self.new.system) self.new.ranges.items self.new.is_fresh
@@ -245,20 +247,21 @@ impl<S: System> Folder<S> {
         }
     }
 
-    /// Writes the bytes, or some of the first of them.
-    fn put(&mut self, file: u32, at: u64, bytes: &[u8]) -> Progress
+    /// Writes the bytes, or some of the first of them. Where that is not even begun, nothing changes.
+    fn put(&mut self, file: u32, at: u64, bytes: &[u8]) -> io::Result<Progress>
         requires fits { at + length bytes.now < 2 ^ 64 }
         requires knows { Knows S.told (S.medium self.old.system) self.old.ranges.items self.old.is_fresh
             self.old.is_grown self.old.is_lost }
-        ensures count { result.done ≤ length bytes.now }
-        ensures puts { PutsBytes S.told file at bytes.now result.done (S.medium self.old.system).disk
-            (S.medium self.new.system).disk }
+        ensures count { IfOk result (λ progress. progress.done ≤ length bytes.now) }
+        ensures puts { IfOk result (λ progress. PutsBytes S.told file at bytes.now progress.done
+            (S.medium self.old.system).disk (S.medium self.new.system).disk) }
+        ensures failed { OnErr result (Looks (S.medium self.old.system) (S.medium self.new.system)) }
         ensures knows { Knows S.told (S.medium self.new.system) self.new.ranges.items self.new.is_fresh
             self.new.is_grown self.new.is_lost }
         ensures faults { self.new.faults ≡ self.old.faults }
         ensures written { self.new.written ≡ self.old.written }
     {
-        self.system.announce(file, at, bytes);
+        self.system.announce(file, at, bytes)?;
         let progress = write_all(&mut self.system, file, at, bytes);
         let range = Range {
             file,
@@ -266,10 +269,10 @@ impl<S: System> Folder<S> {
             len: progress.done as u64,
         };
         if note(&mut self.ranges, range) {
-            return progress;
+            return Ok(progress);
         }
         self.is_fresh = true;
-        progress
+        Ok(progress)
     }
 
     pub(crate) fn write_at(&mut self, file: u32, at: u64, bytes: &[u8]) -> Result<(), DiskFailed>
@@ -300,7 +303,10 @@ impl<S: System> Folder<S> {
             return Err(self.fault());
         };
         self.prepare(file, bytes)?;
-        let progress = self.put(file, at, bytes);
+        let progress = match self.put(file, at, bytes) {
+            Ok(progress) => progress,
+            Err(error) => return Err(self.failed(Asked::Write, Part::File(file), error)),
+        };
         if progress.done < bytes.len() {
             return Err(self.failed(Asked::Write, Part::File(file), reason(progress)));
         }

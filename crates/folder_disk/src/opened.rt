@@ -1,7 +1,7 @@
 //! The files that are open.
 
 ghost use Rattle.std.specs.Prelude.{◌≡◌, ◌≢◌, ◌⊎◌, ◌↔◌, ℕ, ◌≤◌, ◌+◌, IsTrue, IsFalse, IfOk, OnOk, OnErr, length, take};
-ghost use Rattle.std.specs.Prelude.{Contains};
+ghost use Rattle.std.specs.Prelude.{[], Contains};
 ghost use Rattle.disk_model.specs.Image.{put_image};
 ghost use Rattle.disk_model.specs.Case.{Case, Follows};
 ghost use Rattle.disk_model.specs.Medium.{Quiet, Elapses, OnlyReads, WritesNothing};
@@ -120,6 +120,9 @@ impl<S: System> Opened<S> {
             self.note_use(file);
             return Ok(true);
         }
+        if !self.system.is_file(file)? {
+            return Ok(false);
+        }
         match self.system.open(file)? {
             Some(found) => {
                 self.keep(file, found)?;
@@ -150,15 +153,33 @@ impl<S: System> Opened<S> {
         }
     }
 
-    /// Makes the file, which is not there, and opens it.
+    /// Makes the file, which is not there, and opens it. What stands in its place and cannot be opened is set aside.
     pub(crate) fn make(&mut self, file: u32) -> io::Result<()>
+        requires { IsTrue S.told → (S.medium self.old).disk.image file ≡ [] }
         ensures reads { OnlyReads (S.medium self.old).disk (S.medium self.new).disk }
         ensures time { Elapses (S.medium self.old).disk (S.medium self.new).disk }
         ensures free { (f i : ℕ) → (S.medium self.new).free f i ↔ (S.medium self.old).free f i }
         ensures lost { (f i : ℕ) → (S.medium self.new).lost f i → (S.medium self.old).lost f i }
     {
-        let made = self.system.make(file)?;
+        let made = self.made(file)?;
         self.keep(file, made)
+    }
+
+    fn made(&mut self, file: u32) -> io::Result<S::File>
+        requires { IsTrue S.told → (S.medium self.old).disk.image file ≡ [] }
+        ensures number { IfOk result (λ it. S.number it ≡ file) }
+        ensures reads { OnlyReads (S.medium self.old).disk (S.medium self.new).disk }
+        ensures time { Elapses (S.medium self.old).disk (S.medium self.new).disk }
+        ensures free { (f i : ℕ) → (S.medium self.new).free f i ↔ (S.medium self.old).free f i }
+        ensures lost { (f i : ℕ) → (S.medium self.new).lost f i → (S.medium self.old).lost f i }
+    {
+        match self.system.make(file) {
+            Err(error) if error.kind() == io::ErrorKind::AlreadyExists => {
+                self.system.set_aside(file)?;
+                self.system.make(file)
+            }
+            done => done,
+        }
     }
 
     /// Closes the file, if it is open.
@@ -285,30 +306,32 @@ impl<S: System> Opened<S> {
         self.system.sync_folder()
     }
 
-    pub(crate) fn announce(&mut self, file: u32, at: u64, bytes: &[u8])
+    pub(crate) fn announce(&mut self, file: u32, at: u64, bytes: &[u8]) -> io::Result<()>
         ensures image { (S.medium self.new).disk.image ≡ (S.medium self.old).disk.image }
-        ensures now { Follows (AnnounceCase file at bytes.now) (S.medium self.old).disk.now
-            (S.medium self.new).disk.now }
+        ensures now { OnOk result (Follows (AnnounceCase file at bytes.now) (S.medium self.old).disk.now
+            (S.medium self.new).disk.now) }
         ensures during { (c : Case) → (S.medium self.new).disk.since (S.medium self.old).disk.moment c
             → (S.medium self.old).disk.now c ⊎ (S.medium self.new).disk.now c }
         ensures time { Elapses (S.medium self.old).disk (S.medium self.new).disk }
         ensures named { (f : ℕ) → (S.medium self.old).named f → (S.medium self.new).named f }
         ensures free { (f i : ℕ) → (S.medium self.new).free f i ↔ (S.medium self.old).free f i }
         ensures lost { (f i : ℕ) → (S.medium self.new).lost f i → (S.medium self.old).lost f i }
+        ensures failed { OnErr result (Looks (S.medium self.old) (S.medium self.new)) }
     {
-        self.system.announce(file, at, bytes);
+        self.system.announce(file, at, bytes)
     }
 
-    pub(crate) fn settle(&mut self)
+    pub(crate) fn settle(&mut self) -> io::Result<()>
         requires { IsTrue S.told → (f : ℕ) → IsSafe (S.medium self.old).disk f }
-        ensures quiet { Quiet (S.medium self.new).disk }
+        ensures quiet { OnOk result (Quiet (S.medium self.new).disk) }
         ensures writes_nothing { WritesNothing (S.medium self.old).disk (S.medium self.new).disk }
         ensures time { Elapses (S.medium self.old).disk (S.medium self.new).disk }
         ensures named { (f : ℕ) → (S.medium self.old).named f → (S.medium self.new).named f }
         ensures free { (f i : ℕ) → (S.medium self.new).free f i ↔ (S.medium self.old).free f i }
         ensures lost { (f i : ℕ) → (S.medium self.new).lost f i → (S.medium self.old).lost f i }
+        ensures failed { OnErr result (Looks (S.medium self.old) (S.medium self.new)) }
     {
-        self.system.settle();
+        self.system.settle()
     }
 }
 

@@ -266,8 +266,10 @@ impl<S: System> Folder<S> {
             return Err(self.fault());
         }
         self.sync_all()?;
-        self.system.settle();
-        Ok(())
+        match self.system.settle() {
+            Ok(()) => Ok(()),
+            Err(error) => Err(self.failed(Asked::Sync, Part::Folder, error)),
+        }
     }
 
     /// Syncs the folder and each file, as far as they may need it.

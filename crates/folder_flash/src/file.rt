@@ -1,15 +1,18 @@
 //! The file of a flash.
 
-ghost use Rattle.std.specs.Prelude.{◌≡◌, ◌*◌, ◌+◌, IfOk, OnOk, IsTrue, vec_len};
+ghost use Rattle.std.specs.Prelude.{◌≡◌, ◌≤◌, ◌<◌, ◌*◌, ◌+◌, ◌^◌, ℕ, IfOk, OnOk, IfSome, IsTrue, length, replicate};
+ghost use Rattle.std.specs.Prelude.{slice_index, max};
 ghost use Rattle.disk_model.specs.Image.{put_image};
 ghost use Rattle.disk_model.specs.Medium.{Quiet};
 ghost use Rattle.folder_disk.specs.FolderView.{disk_seen};
+ghost use Rattle.folder_flash.specs.Bytes.{AreFlashBytes, IsSameFlash, PutsIntoFlash};
 
 use disk_model::{Disk, DiskFailed};
 use flash_model::FlashFailed;
 use folder_disk::FolderDisk;
 use std::alloc::{AllocError, Global};
 use std::io;
+use std::marker::Model;
 use system_model::{Asked, Failure, Part, System};
 
 /// How many bytes a page has.
@@ -24,7 +27,7 @@ const BLANK: u8 = 0xff;
 /// The number of the one file.
 const FILE: u32 = 0;
 
-/// The file, in a disk that has no other.
+/// The file, in a disk that has no other. Contracts see the disk.
 #[derive(Drop)]
 pub(crate) struct FlashFile<S: System> {
     disk: FolderDisk<S>,
@@ -33,6 +36,20 @@ pub(crate) struct FlashFile<S: System> {
     size: Option<u64>,
     /// Whether the last call failed because memory ran out.
     is_starved: bool,
+}
+
+impl<S: System> Model for FlashFile<S> {
+    ghost use Rattle.std.specs.Prelude.{◌≡◌, IfSome, IsTrue, length};
+    ghost use Rattle.folder_disk.specs.FolderView.{FolderView, view_code};
+
+    ghost Value = { FolderView S };
+
+    ghost coded = { view_code S.code };
+
+    ghost view = { λ file. file.disk };
+
+    ghost invariant = { λ file. IsTrue S.told → IfSome file.size (λ n.
+        n ≡ length ((S.medium file.disk.system).disk.image 0)) };
 }
 
 impl<S: System> FlashFile<S> {
@@ -59,7 +76,10 @@ impl<S: System> FlashFile<S> {
     }
 
     /// How many bytes it has.
-    pub(crate) fn size(&mut self) -> Result<u64, FlashFailed> {
+    pub(crate) fn size(&mut self) -> Result<u64, FlashFailed>
+        ensures size { IsTrue S.told → IfOk result (λ n. n ≡ length ((S.medium self.old.system).disk.image 0)) }
+        ensures image { IsTrue S.told → (S.medium self.new.system).disk.image ≡ (S.medium self.old.system).disk.image }
+    {
         if let Some(size) = self.size {
             return Ok(size);
         }
@@ -69,34 +89,51 @@ impl<S: System> FlashFile<S> {
     }
 
     /// The bytes from a place on; those that the file lacks are blank.
-    pub(crate) fn read(&mut self, at: u64, out: &mut [u8; 512]) -> Result<(), FlashFailed> {
+    pub(crate) fn read(&mut self, at: u64, out: &mut [u8; 512]) -> Result<(), FlashFailed>
+        ensures bytes { IsTrue S.told → OnOk result
+            (AreFlashBytes ((S.medium self.old.system).disk.image 0) at out.new) }
+        ensures image { IsTrue S.told → (S.medium self.new.system).disk.image ≡ (S.medium self.old.system).disk.image }
+    {
         if self.size()? <= at {
-            *out = [BLANK; 512];
+            make_blank(out, 0);
             return Ok(());
         }
         let count = self.disk.read(FILE, at, out).map_err(failed)?;
-        out[count..].fill(BLANK);
+        make_blank(out, count);
         Ok(())
     }
 
     /// Writes bytes from a place on, durably.
     pub(crate) fn write(&mut self, at: u64, bytes: &[u8]) -> Result<(), FlashFailed>
-        ensures durable { OnOk result (Quiet (disk_seen S.medium self.new.disk)) }
+        requires some { 0 < length bytes.now }
+        requires end { at + length bytes.now < 2 ^ 64 }
+        ensures puts { IsTrue S.told → OnOk result (PutsIntoFlash at bytes.now
+            ((S.medium self.old.system).disk.image 0) ((S.medium self.new.system).disk.image 0)) }
+        ensures durable { OnOk result (Quiet (disk_seen S.medium self.new)) }
     {
         self.fill_up_to(at)?;
-        self.put(at, bytes)
+        self.put(at, bytes)?;
+        Ok(())
     }
 
     /// Writes a blank block from a place on, durably.
     pub(crate) fn write_blank(&mut self, at: u64) -> Result<(), FlashFailed>
-        ensures durable { OnOk result (Quiet (disk_seen S.medium self.new.disk)) }
+        requires { at + 32768 < 2 ^ 64 }
+        ensures puts { IsTrue S.told → OnOk result (PutsIntoFlash at (replicate 32768 255)
+            ((S.medium self.old.system).disk.image 0) ((S.medium self.new.system).disk.image 0)) }
+        ensures durable { OnOk result (Quiet (disk_seen S.medium self.new)) }
     {
         let blank = self.blank_block()?;
-        self.write(at, blank.as_slice())
+        self.write(at, blank.as_slice())?;
+        Ok(())
     }
 
     /// Writes what is missing up to a place as blank, a block at a time.
-    fn fill_up_to(&mut self, at: u64) -> Result<(), FlashFailed> {
+    fn fill_up_to(&mut self, at: u64) -> Result<(), FlashFailed>
+        ensures long { IsTrue S.told → OnOk result (at ≤ length ((S.medium self.new.system).disk.image 0)) }
+        ensures same { IsTrue S.told → OnOk result (IsSameFlash ((S.medium self.old.system).disk.image 0)
+            ((S.medium self.new.system).disk.image 0)) }
+    {
         let mut size = self.size()?;
         if size >= at {
             return Ok(());
@@ -112,26 +149,56 @@ impl<S: System> FlashFile<S> {
 
     /// A write and a sync.
     fn put(&mut self, at: u64, bytes: &[u8]) -> Result<(), FlashFailed>
-        ensures image { IsTrue S.told → OnOk result ((S.medium self.new.disk.system).disk.image
-            ≡ put_image (S.medium self.old.disk.system).disk.image 0 at bytes.now) }
-        ensures durable { OnOk result (Quiet (disk_seen S.medium self.new.disk)) }
+        requires some { 0 < length bytes.now }
+        requires end { at + length bytes.now < 2 ^ 64 }
+        ensures image { IsTrue S.told → OnOk result ((S.medium self.new.system).disk.image
+            ≡ put_image (S.medium self.old.system).disk.image 0 at bytes.now) }
+        ensures durable { OnOk result (Quiet (disk_seen S.medium self.new)) }
     {
         let known = self.size.take();
-        self.disk.write_at(FILE, at, bytes).map_err(failed)?;
-        self.disk.sync().map_err(failed)?;
-        let end = at.saturating_add(bytes.len() as u64);
-        self.size = known.map(|size| size.max(end));
+        store(&mut self.disk, at, bytes)?;
+        self.size = size_after(known, at + bytes.len() as u64);
         Ok(())
     }
 
     /// A block without a byte that was written.
     fn blank_block(&mut self) -> Result<Vec<u8>, FlashFailed>
-        ensures { IfOk result (λ bytes. vec_len bytes ≡ 32768) }
+        ensures blank { IfOk result (λ bytes. bytes.items ≡ replicate 32768 255) }
+        ensures same { self.new ≡ self.old }
     {
-        let made = Vec::from_elem(self.alloc, BLANK, BLOCK_BYTES);
+        let made = blank_bytes(self.alloc);
         self.is_starved = made.is_err();
         made.map_err(|_| FlashFailed)
     }
+}
+
+/// A write of the file and a sync.
+fn store<S: System>(disk: &mut FolderDisk<S>, at: u64, bytes: &[u8]) -> Result<(), FlashFailed>
+    ensures image { IsTrue S.told → OnOk result ((S.medium disk.new.system).disk.image
+        ≡ put_image (S.medium disk.old.system).disk.image 0 at bytes.now) }
+    ensures durable { OnOk result (Quiet (disk_seen S.medium disk.new)) }
+{
+    disk.write_at(FILE, at, bytes).map_err(failed)?;
+    disk.sync().map_err(failed)?;
+    Ok(())
+}
+
+/// How many bytes the file has after a write that ended there, where that was known before.
+fn size_after(known: Option<u64>, end: u64) -> Option<u64>
+    ensures { (long : ℕ) → IfSome known (λ n. n ≡ long) → IfSome result (λ n. n ≡ max long end) }
+{
+    match known {
+        Some(size) => Some(size.max(end)),
+        None => None,
+    }
+}
+
+/// The bytes of a block without a byte that was written.
+fn blank_bytes(alloc: Global) -> Result<Vec<u8>, AllocError>
+    ensures blank { IfOk result (λ bytes. bytes.items ≡ replicate 32768 255) }
+{
+    let bytes = Vec::from_elem(alloc, BLANK, BLOCK_BYTES)?;
+    Ok(bytes)
 }
 
 /// A failure of a file of a folder that holds a flash, as one of the flash.
@@ -144,6 +211,18 @@ pub fn of_flash(failure: Failure) -> Failure {
         asked: failure.asked,
         part,
         error: failure.error,
+    }
+}
+
+/// Makes what is after the first bytes blank.
+fn make_blank(out: &mut [u8; 512], count: usize)
+    requires { count ≤ length out.old }
+    ensures kept { (j : ℕ) → j < count → slice_index out.new j ≡ slice_index out.old j }
+    ensures blank { (j : ℕ) → count ≤ j → j < length out.new → slice_index out.new j ≡ 255 }
+    ensures len { length out.new ≡ length out.old }
+{
+    for place in count..out.len() {
+        out[place] = BLANK;
     }
 }
 

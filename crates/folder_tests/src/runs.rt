@@ -1,5 +1,9 @@
 //! One run of the program over a folder in memory, with streams in memory.
 
+ghost use Rattle.std.specs.Prelude.{ℕ};
+ghost use Rattle.system_model.specs.SystemMedium.{IsWhole};
+ghost use Rattle.mem_system.specs.Memory.{mem_medium};
+
 use folder_disk::FolderDisk;
 use mem_system::MemSystem;
 use migrate_fns::Migrations;
@@ -10,7 +14,7 @@ use std::alloc::{AllocError, Global};
 /// How many bytes a stream gives or takes at once.
 const PIECE: u64 = 4096;
 
-/// The status of a run whose folder could not be opened.
+/// The status of a run whose folder could not be opened, or holds what a failed sync was to write and did not.
 const UNOPENED: u8 = 3;
 
 /// What came of a run.
@@ -64,15 +68,33 @@ pub(crate) fn run(
     let bytes = String::from_str(alloc, input)?.into_bytes();
     let mut source = MemSource::new(bytes, PIECE, Vec::new(alloc));
     let mut sink = MemSink::new(alloc, PIECE, Vec::new(alloc));
-    let (status, system) = match FolderDisk::open(alloc, system) {
-        Ok(mut disk) => {
-            let status = per_run(alloc, &words, migrations, &mut source, &mut sink, &mut disk);
-            (status, disk.into_system())
-        }
-        Err(refused) => (UNOPENED, refused.system),
+    let (status, system) = if system.is_whole() {
+        run_over(alloc, &words, migrations, &mut source, &mut sink, system)
+    } else {
+        (UNOPENED, system)
     };
     let output = String::from_utf8_lossy(alloc, sink.bytes())?;
     Ok((Ran { status, output }, system))
+}
+
+/// Runs the program over a folder of which nothing is lost.
+fn run_over(
+    alloc: Global,
+    words: &[String],
+    migrations: &Migrations,
+    source: &mut MemSource,
+    sink: &mut MemSink,
+    system: MemSystem,
+) -> (u8, MemSystem)
+    requires { (f : ℕ) → IsWhole (mem_medium system) f }
+{
+    match FolderDisk::open(alloc, system) {
+        Ok(mut disk) => {
+            let status = per_run(alloc, words, migrations, source, sink, &mut disk);
+            (status, disk.into_system())
+        }
+        Err(refused) => (UNOPENED, refused.system),
+    }
 }
 
 fn words_of(alloc: Global, text: &str) -> Result<Vec<String>, AllocError> {

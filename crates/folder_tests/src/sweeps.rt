@@ -224,7 +224,7 @@ impl<'a> Sweep<'a> {
             let found = self.found(left)?;
             if !is_among(wanted, found.as_str()) {
                 let fault = format!(in self.alloc;
-                    "power lost behind change {changes}, {seed}: {found}"
+                    "power lost after change {changes}, {seed}: {found}"
                 )?;
                 return Ok(Some(fault));
             }

@@ -10,7 +10,7 @@ use Rattle.disk_model.specs.Place.{slot, IsNoSlot}
 use Rattle.disk_model.specs.Laws.{goes_on, case_now}
 use Rattle.disk_model.specs.declared.place.Place.{Place}
 use Rattle.guarded_cell.specs.Register.{IsBlank, IsAlone, own}
-use Rattle.guarded_cell.specs.Fronts.{IsChosen, FrontsPut, FrontsCase, IsFrontsCase}
+use Rattle.guarded_cell.specs.Starts.{IsChosen, StartsPut, StartsCase, IsStartsCase}
 use Rattle.guarded_cell.specs.Stops.{FormatStops}
 use Rattle.guarded_cell.proofs.Texts.{put_verifies, put_only, put_blank}
 use Rattle.guarded_cell.proofs.Known.{IsKnown, IsKnownCase, known_same, known_puts, case_settled, case_same, case_step}
@@ -35,14 +35,14 @@ module _ (place : Place) (few : place.copies ≤ 8) (text : List ℕ) (start : I
   pub format_still : (c : Case) → IsSettledAt start c → FormatStops place 1 text start c
   format_still c settled = blank_stops c (case_same place NoText (IsNoSlot place) start c settled)
 
-  blank_step : (parity : ℕ) → parity < 2 → (d c : Case) → FrontsCase place parity all zeros d c
+  blank_step : (parity : ℕ) → parity < 2 → (d c : Case) → StartsCase place parity all zeros d c
       → IsKnownCase place NoText NoSlots start d → IsKnownCase place NoText NoSlots start c
   blank_step parity small d c fronts known = case_step place NoText NoSlots start parity all zeros d c
       fronts zeros_only
       (λ f is_not. no_slot_apart place parity all small f is_not) known
 
-  module _ (even blank : Image) (put_even : FrontsPut place 0 all zeros start even)
-      (put_odd : FrontsPut place 1 all zeros even blank) where
+  module _ (even blank : Image) (put_even : StartsPut place 0 all zeros start even)
+      (put_odd : StartsPut place 1 all zeros even blank) where
     is_blank : (copy parity : ℕ) → copy < place.copies → parity < 2 → IsBlank (blank (slot place copy parity))
     is_blank copy parity lt small g t v = ⊎_elim
         (λ e. put_blank (start (slot place copy 0)) g t
@@ -97,14 +97,14 @@ module _ (place : Place) (few : place.copies ≤ 8) (text : List ℕ) (start : I
       }
 
       -- while the text is written
-      pub text_pass : (d c : Case) → IsSettledAt blank d → FrontsCase place 1 all bytes d c
+      pub text_pass : (d c : Case) → IsSettledAt blank d → StartsCase place 1 all bytes d c
           → FormatStops place 1 text start c
       text_pass d c settled fronts = text_stops c (case_step place Extra NoSlots blank 1 all bytes d c
           fronts sealed_only
           (λ f is_not. no_slot_apart place 1 all (omega arith) f is_not)
           (case_same place Extra NoSlots blank d settled))
 
-      module _ (new : Image) (put : FrontsPut place 1 all bytes blank new) where
+      module _ (new : Image) (put : StartsPut place 1 all bytes blank new) where
         pub text_elsewhere : Spares (IsNoSlot place) start new
         text_elsewhere f is_not = put.some.others f (no_slot_apart place 1 all (omega arith) f is_not)
             ∙ blank_elsewhere f is_not
@@ -130,7 +130,7 @@ module _ (place : Place) (few : place.copies ≤ 8) (text : List ℕ) (start : I
 
 module _ (place : Place) (few : place.copies ≤ 8) (text : List ℕ) (told : Bool) (old even blank new : Medium)
     (quiet : Quiet old)
-    (during : Follows (FrontsCase place 0 all zeros) old.now (even.since old.moment)) where
+    (during : Follows (StartsCase place 0 all zeros) old.now (even.since old.moment)) where
   pub format_first : EachCase (FormatStops place 1 text old.image) old even
   format_first c past =
       let (d, now, fronts) = during c past in
@@ -139,9 +139,9 @@ module _ (place : Place) (few : place.copies ≤ 8) (text : List ℕ) (told : Bo
       (case_same place NoText (IsNoSlot place) old.image d (quiet d now)))
 
   pub format_second : (done : Type 0) → IsLawful told even → Elapses old even → Elapses even blank
-      → (done → FrontsPut place 0 all zeros old.image even.image)
-      → (done → FrontsPut place 1 all zeros even.image blank.image)
-      → EachCase (IsFrontsCase place 1 all zeros even blank done) even blank
+      → (done → StartsPut place 0 all zeros old.image even.image)
+      → (done → StartsPut place 1 all zeros even.image blank.image)
+      → EachCase (IsStartsCase place 1 all zeros even blank done) even blank
       → EachCase (FormatStops place 1 text old.image) old blank
   format_second done law time next put blanked cases = goes_on (FormatStops place 1 text old.image) time next
       format_first
@@ -156,10 +156,10 @@ module _ (place : Place) (few : place.copies ≤ 8) (text : List ℕ) (told : Bo
       (cases c past)))
 
   pub format_third : (done : Type 0) → length text ≤ max_body → (bytes : List ℕ) → bytes ≡ sealed 1 text → Quiet blank
-      → FrontsPut place 0 all zeros old.image even.image
-      → FrontsPut place 1 all zeros even.image blank.image
-      → (done → FrontsPut place 1 all bytes blank.image new.image)
-      → EachCase (IsFrontsCase place 1 all bytes blank new done) blank new
+      → StartsPut place 0 all zeros old.image even.image
+      → StartsPut place 1 all zeros even.image blank.image
+      → (done → StartsPut place 1 all bytes blank.image new.image)
+      → EachCase (IsStartsCase place 1 all bytes blank new done) blank new
       → EachCase (FormatStops place 1 text old.image) blank new
   format_third done short bytes are_sealed calm put blanked written cases c past = ⊎_elim
       (λ before. text_pass place few text old.image even.image blank.image put blanked short bytes are_sealed

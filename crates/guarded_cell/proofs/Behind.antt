@@ -14,7 +14,7 @@ use Rattle.disk_model.specs.declared.place.Place.{Place}
 use Rattle.changed_runs.specs.Changed.{run_of, run_cost, first_cost, changed_len}
 use Rattle.changed_runs.specs.lemmas.RunLaws.{held_costs, other_costs, cost_within, length-run}
 use Rattle.guarded_cell.specs.Register.{own, other}
-use Rattle.guarded_cell.specs.Fronts.{FrontsPut}
+use Rattle.guarded_cell.specs.Starts.{StartsPut}
 use Rattle.guarded_cell.specs.Differing.{front_is_blank, front_cost, texts_cost, PutsOver, IsOver}
 use Rattle.hash_guard.specs.SealedText.{sealed}
 use Rattle.std.proofs.Math.Nat.{suc-mul}
@@ -124,8 +124,8 @@ module _ (w x bytes : List ℕ) where
 -- ---- which bytes stand where after a text was put
 
 pub over : (place : Place) (generation : ℕ) (lacking stale : List Bool) (bytes : List ℕ) (old mid new : Image)
-    → FrontsPut place (own generation) lacking bytes old mid
-    → FrontsPut place (other generation) stale zeros mid new
+    → StartsPut place (own generation) lacking bytes old mid
+    → StartsPut place (other generation) stale zeros mid new
     → PutsOver place generation lacking stale bytes old new
 over place generation lacking stale bytes old mid new put blanked = record {
   own_slots = λ copy lt flag. blanked.some.others (slot place copy (own generation))

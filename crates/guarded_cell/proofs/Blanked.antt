@@ -13,7 +13,7 @@ use Rattle.disk_model.specs.declared.place.Place.{Place}
 use Rattle.guarded_cell.specs.Register.{Holds, IsBlank, IsKeptAlone, own, other}
 use Rattle.guarded_cell.specs.Slots.{Tells, Picks, HasNoOther}
 use Rattle.guarded_cell.specs.declared.slots.Pick.TheVariants.{Others, Verifying}
-use Rattle.guarded_cell.specs.Fronts.{IsChosen, FrontsPut, FrontsCase, IsFrontsCase}
+use Rattle.guarded_cell.specs.Starts.{IsChosen, StartsPut, StartsCase, IsStartsCase}
 use Rattle.guarded_cell.specs.Stops.{KeepStops}
 use Rattle.guarded_cell.proofs.Texts.{put_blank}
 use Rattle.guarded_cell.proofs.Known.{IsKnownCase, known_same, known_puts, case_settled, case_same, case_step}
@@ -87,20 +87,20 @@ module _ (place : Place) (generation : ℕ) (text : List ℕ) (start : Image) wh
         (subst (IsChosen place (other generation) stale) mine.is is))
         keep
 
-    first_case : (d c : Case) → IsSettledAt start d → FrontsCase place (own generation) others zeros d c
+    first_case : (d c : Case) → IsSettledAt start d → StartsCase place (own generation) others zeros d c
         → IsKnownCase place NoText Kept start c
     first_case d c settled fronts = case_step place NoText Kept start (own generation) others zeros d c
         fronts zeros_only own_apart
         (case_same place NoText Kept start d settled)
 
     second_case : (d c : Case) → IsKnownCase place NoText Kept start d
-        → FrontsCase place (other generation) stale zeros d c
+        → StartsCase place (other generation) stale zeros d c
         → IsKnownCase place NoText Kept start c
     second_case d c known fronts = case_step place NoText Kept start (other generation) stale zeros d c
         fronts zeros_only stale_apart known
 
-    module _ (mid new : Image) (put : FrontsPut place (own generation) others zeros start mid)
-        (blanked : FrontsPut place (other generation) stale zeros mid new) where
+    module _ (mid new : Image) (put : StartsPut place (own generation) others zeros start mid)
+        (blanked : StartsPut place (other generation) stale zeros mid new) where
       new_kept : Spares Kept start new
       new_kept f keep = blanked.some.others f (stale_apart f keep) ∙ put.some.others f (own_apart f keep)
 
@@ -166,7 +166,7 @@ module _ (place : Place) (generation : ℕ) (text : List ℕ) (told : Bool) (old
     (picks : Picks Others others old.image place (own generation) generation text)
     (stales : Picks Verifying stale old.image place (other generation) generation text)
     (quiet : Quiet old)
-    (during : Follows (FrontsCase place (own generation) others zeros) old.now (mid.since old.moment)) where
+    (during : Follows (StartsCase place (own generation) others zeros) old.now (mid.since old.moment)) where
   pub keep_first : EachCase (KeepStops place generation text old.image) old mid
   keep_first c past =
       let (d, now, fronts) = during c past in
@@ -174,9 +174,9 @@ module _ (place : Place) (generation : ℕ) (text : List ℕ) (told : Bool) (old
       (first_case place generation text old.image others stale picks stales d c (quiet d now) fronts)
 
   pub keep_second : (done : Type 0) → IsLawful told mid → Elapses old mid → Elapses mid new
-      → (done → FrontsPut place (own generation) others zeros old.image mid.image)
-      → (done → FrontsPut place (other generation) stale zeros mid.image new.image)
-      → EachCase (IsFrontsCase place (other generation) stale zeros mid new done) mid new
+      → (done → StartsPut place (own generation) others zeros old.image mid.image)
+      → (done → StartsPut place (other generation) stale zeros mid.image new.image)
+      → EachCase (IsStartsCase place (other generation) stale zeros mid new done) mid new
       → EachCase (KeepStops place generation text old.image) old new
   keep_second done law time next put blanked cases = goes_on (KeepStops place generation text old.image) time
       next keep_first

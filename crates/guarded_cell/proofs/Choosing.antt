@@ -52,7 +52,7 @@ is_front bytes g t v =
     let short = body_short bytes g t v in
     verifies-take front bytes g t (omega (arith, short)) v
 
--- the start of a slot tells what the slot holds
+-- the start of a slot says what the slot holds
 pub front_tells : (found : Found) (bytes : List ℕ) (generation : ℕ) (text : List ℕ)
     → IsFoundInSlot found (take front bytes) generation text → IsFoundInSlot found bytes generation text
 front_tells Nothing bytes generation text blank = λ g t v. blank g t (is_front bytes g t v)

@@ -9,7 +9,7 @@ use Rattle.disk_model.specs.Place.{slot}
 use Rattle.disk_model.specs.declared.place.Place.{Place}
 use Rattle.guarded_cell.specs.Register.{Holds, own}
 use Rattle.guarded_cell.specs.Stops.{SlotText, IsSlotPiece}
-use Rattle.guarded_cell.specs.Fronts.{IsChosen, PutsSome, FrontsCase}
+use Rattle.guarded_cell.specs.Starts.{IsChosen, PutsSome, StartsCase}
 use Rattle.guarded_cell.specs.Differing.{IsSlotMidway, TextsCase}
 
 -- a slot of the place holds a text that it held at the start, or one of some others
@@ -65,7 +65,7 @@ module _ (place : Place) (Extra : ℕ → List ℕ → Type 0) where
     case_same c settled = case_settled start c settled (known_same start) (λ f keep. refl)
 
     pub case_step : (parity : ℕ) (chosen : List Bool) (bytes : List ℕ) (d c : Case)
-        → FrontsCase place parity chosen bytes d c
+        → StartsCase place parity chosen bytes d c
         → ((old : List ℕ) (h : ℕ) (t : List ℕ) → VerifiesAs (put_bytes old 0 bytes) h t → Extra h t)
         → ((f : ℕ) → Kept f → ¬ (IsChosen place parity chosen f))
         → IsKnownCase place Extra Kept start d → IsKnownCase place Extra Kept start c

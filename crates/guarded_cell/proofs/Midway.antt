@@ -36,7 +36,7 @@ blank_reads slot blank i small =
     (λ past. get_or_past slot i 0 past)
     (cases_lt i (length slot))
 
--- what a look at the start tells
+-- what a look at the start says
 pub look_tells : (slot out : List ℕ) (count : ℕ) (blank : Bool)
     → blank ≡ bytes_eq (take count out) (take count (replicate 44 0)) → count ≡ min 44 (length slot - 0)
     → take count out ≡ take count slot → blank ≡ front_is_blank slot

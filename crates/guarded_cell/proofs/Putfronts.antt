@@ -29,7 +29,7 @@ use Rattle.disk_model.specs.Place.{slot}
 use Rattle.disk_model.specs.Laws.{elapses_none, elapses_on, cases_on, case_now}
 use Rattle.disk_model.specs.declared.place.Place.{Place}
 use Rattle.changed_runs.specs.Parts.{HasNoFailedWrite}
-use Rattle.guarded_cell.specs.Fronts.{IsChosen, IsNone, PutsSome, FrontsPut}
+use Rattle.guarded_cell.specs.Starts.{IsChosen, IsNone, PutsSome, StartsPut}
 use Rattle.guarded_cell.specs.Differing.{front_cost, texts_cost, IsSlotMidway, FrontCase, TextsCase, IsTextsCase}
 use Rattle.guarded_cell.proofs.Writing.{puts_none, put_again, puts_step, more_times, times_within}
 
@@ -268,7 +268,7 @@ module _ (place : Place) (parity : ℕ) (chosen : List Bool) (bytes : List ℕ) 
     within' : k ≤ place.copies
     within' = omega arith
 
-    pub all_put : IsTrue told → FrontsPut place parity chosen bytes start.image new.image
+    pub all_put : IsTrue told → StartsPut place parity chosen bytes start.image new.image
     all_put tells = record {
       some = puts_more (Below k) (IsChosen place parity chosen) (to_chosen k within') bytes start.image new.image
           (w.some tells);

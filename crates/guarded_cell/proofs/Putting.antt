@@ -13,7 +13,7 @@ use Rattle.disk_model.specs.declared.place.Place.{Place}
 use Rattle.guarded_cell.specs.Register.{Holds, IsBlank, IsAlone, own, other}
 use Rattle.guarded_cell.specs.Slots.{Tells, Picks}
 use Rattle.guarded_cell.specs.declared.slots.Pick.TheVariants.{Lacking, Verifying}
-use Rattle.guarded_cell.specs.Fronts.{IsChosen, FrontsPut, FrontsCase, IsFrontsCase}
+use Rattle.guarded_cell.specs.Starts.{IsChosen, StartsPut, StartsCase, IsStartsCase}
 use Rattle.guarded_cell.specs.Stops.{PutStops}
 use Rattle.guarded_cell.proofs.Texts.{put_verifies, put_only, put_blank}
 use Rattle.guarded_cell.proofs.Known.{IsKnown, IsKnownCase, known_same, known_puts, case_settled, case_same, case_step}
@@ -170,7 +170,7 @@ module _ (place : Place) (generation : ℕ) (text : List ℕ) (start : Image) wh
         (case_texts place Extra Kept start (own generation) lacking bytes d c fronts sealed_only apart
         (case_same place Extra Kept start d settled))
 
-    module _ (mid : Image) (put : FrontsPut place (own generation) lacking bytes start mid) where
+    module _ (mid : Image) (put : StartsPut place (own generation) lacking bytes start mid) where
       mid_known : IsKnown place Extra start mid
       mid_known = known_puts place Extra (IsChosen place (own generation) lacking) bytes start start mid
           put.some sealed_only
@@ -210,7 +210,7 @@ module _ (place : Place) (generation : ℕ) (text : List ℕ) (start : Image) wh
           (omega arith) (λ e. omega (arith, e))
 
       -- while the stale slots are blanked
-      pub second_pass : (d c : Case) → IsSettledAt mid d → FrontsCase place (other generation) stale zeros d c
+      pub second_pass : (d c : Case) → IsSettledAt mid d → StartsCase place (other generation) stale zeros d c
           → PutStops place generation text start c
       second_pass d c settled fronts = second_stops c
           (case_step place Extra (IsNoSlot place) start (other generation) stale zeros d c fronts
@@ -221,7 +221,7 @@ module _ (place : Place) (generation : ℕ) (text : List ℕ) (start : Image) wh
           ∙ ap (λ (im : Image). im (slot place copy (own generation))) settled.left))
           (mid_holds copy lt))
 
-      module _ (new : Image) (blanked : FrontsPut place (other generation) stale zeros mid new) where
+      module _ (new : Image) (blanked : StartsPut place (other generation) stale zeros mid new) where
         new_holds : (copy : ℕ) → copy < place.copies → Holds new place copy generation text
         new_holds copy lt = subst (λ (s : List ℕ). VerifiesAs s generation text)
             (sym (blanked.some.others (slot place copy (own generation)) (own_apart copy))) (mid_holds copy lt)
@@ -262,7 +262,7 @@ module _ (place : Place) (generation : ℕ) (text : List ℕ) (old mid new : Med
     (lacks : Picks Lacking lacking old.image place (own generation) generation text)
     (stales : Picks Verifying stale old.image place (other generation) generation text) where
   pub first_moment : (done : Type 0) → Quiet old → (done
-      → FrontsPut place (own generation) lacking bytes old.image mid.image)
+      → StartsPut place (own generation) lacking bytes old.image mid.image)
       → EachCase (IsTextsCase place (own generation) lacking bytes old mid done) old mid
       → EachCase (PutStops place generation text old.image) old mid
   first_moment done quiet put cases c past = ⊎_elim
@@ -274,10 +274,10 @@ module _ (place : Place) (generation : ℕ) (text : List ℕ) (old mid new : Med
       mid.image (put after.0) c after.1)
       (cases c past)
 
-  pub second_moment : (done : Type 0) → Quiet mid → FrontsPut place (own generation) lacking bytes old.image
+  pub second_moment : (done : Type 0) → Quiet mid → StartsPut place (own generation) lacking bytes old.image
       mid.image
-      → (done → FrontsPut place (other generation) stale zeros mid.image new.image)
-      → EachCase (IsFrontsCase place (other generation) stale zeros mid new done) mid new
+      → (done → StartsPut place (other generation) stale zeros mid.image new.image)
+      → EachCase (IsStartsCase place (other generation) stale zeros mid new done) mid new
       → EachCase (PutStops place generation text old.image) mid new
   second_moment done quiet put blanked cases c past = ⊎_elim
       (λ before. second_pass place generation text old.image positive fits short lacking stale bytes are_sealed

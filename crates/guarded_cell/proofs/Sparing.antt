@@ -10,7 +10,7 @@ use Rattle.guarded_cell.specs.Register.{IsAlone, own, other}
 use Rattle.guarded_cell.specs.Slots.{Tells, Picks, IsNotPicked}
 use Rattle.guarded_cell.specs.declared.slots.Pick.{Pick}
 use Rattle.guarded_cell.specs.declared.slots.Pick.TheVariants.{Lacking, Verifying, Others}
-use Rattle.guarded_cell.specs.Fronts.{IsChosen, IsNone}
+use Rattle.guarded_cell.specs.Starts.{IsChosen, IsNone}
 use Rattle.guarded_cell.specs.Rights.{IsRight, IsRightFor, IsClear}
 
 -- a slot that a pass spares is not chosen by it

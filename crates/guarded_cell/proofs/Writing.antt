@@ -11,7 +11,7 @@ use Rattle.disk_model.specs.Frame.{Spares}
 use Rattle.disk_model.specs.Place.{slot}
 use Rattle.disk_model.specs.Laws.{elapses_none, elapses_on, cases_on, case_now}
 use Rattle.disk_model.specs.declared.place.Place.{Place}
-use Rattle.guarded_cell.specs.Fronts.{IsChosen, IsNone, PutsSome, FrontsPut, FrontsCase, IsFrontsCase}
+use Rattle.guarded_cell.specs.Starts.{IsChosen, IsNone, PutsSome, StartsPut, StartsCase, IsStartsCase}
 use Rattle.guarded_cell.proofs.Texts.{put_twice}
 
 pub more_times : (k n : ℕ) → (k + 1) * n ≡ k * n + n
@@ -51,7 +51,7 @@ pub record IsWriting (place : Place) (parity k : ℕ) (chosen : List Bool) (byte
   pub some : IsTrue told → PutsSome (IsChosen place parity chosen) bytes start.image now.image
   pub put : IsTrue told → (copy : ℕ) → copy < k → get_or chosen copy false ≡ true
       → now.image (slot place copy parity) ≡ put_bytes (start.image (slot place copy parity)) 0 bytes
-  pub during : Follows (FrontsCase place parity chosen bytes) start.now (now.since start.moment)
+  pub during : Follows (StartsCase place parity chosen bytes) start.now (now.since start.moment)
   pub written : now.written ≤ start.written + k * length bytes
   pub none : IsNone place.copies chosen → now.written ≡ start.written
   pub time : Elapses start now
@@ -62,9 +62,9 @@ module _ (place : Place) (parity : ℕ) (chosen : List Bool) (bytes : List ℕ) 
   Chosen = IsChosen place parity chosen
 
   abbrev Step : Case → Case → Type 0
-  Step = FrontsCase place parity chosen bytes
+  Step = StartsCase place parity chosen bytes
 
-  pub fronts_none : (c : Case) → FrontsCase place parity chosen bytes c c
+  pub fronts_none : (c : Case) → StartsCase place parity chosen bytes c c
   fronts_none c = record { base = refl; full = puts_none Chosen bytes c.full; left = λ f not. refl }
 
   fronts_step : (file : ℕ) → Chosen file → (a d c : Case) → Step a d → WriteCase file 0 bytes d c → Step a c
@@ -77,9 +77,9 @@ module _ (place : Place) (parity : ℕ) (chosen : List Bool) (bytes : List ℕ) 
 
   pub during_step : {told : Bool} {start mid new : Medium} (file : ℕ) → IsChosen place parity chosen file
       → IsLawful told mid → Elapses start mid → Elapses mid new
-      → Follows (FrontsCase place parity chosen bytes) start.now (mid.since start.moment)
+      → Follows (StartsCase place parity chosen bytes) start.now (mid.since start.moment)
       → Follows (WriteOrNot file 0 bytes) mid.now (new.since mid.moment)
-      → Follows (FrontsCase place parity chosen bytes) start.now (new.since start.moment)
+      → Follows (StartsCase place parity chosen bytes) start.now (new.since start.moment)
   during_step {told} {start} {mid} {new} file is law time next was write c past = ⊎_elim
       (was c)
       (λ later.
@@ -168,7 +168,7 @@ module _ (place : Place) (parity : ℕ) (chosen : List Bool) (bytes : List ℕ) 
       → IsLawful told mid
       → IsWriting place parity k chosen bytes told start mid
       → Follows (WriteOrNot (slot place k parity) 0 bytes) mid.now (new.since mid.moment) → Elapses mid new
-      → Follows (FrontsCase place parity chosen bytes) start.now (new.since start.moment)
+      → Follows (StartsCase place parity chosen bytes) start.now (new.since start.moment)
   cut_during k lt is_set law w cases next =
       let is : Chosen (slot place k parity) = record { copy = k; within = lt; flag = is_set; is = refl } in
       during_step (slot place k parity) is law w.time next w.during cases
@@ -195,15 +195,15 @@ module _ (place : Place) (parity : ℕ) (chosen : List Bool) (bytes : List ℕ) 
   -- all turns are made
   pub all_put : {told : Bool} {start new : Medium} (k : ℕ) → place.copies ≤ k
       → IsWriting place parity k chosen bytes told start new
-      → IsTrue told → FrontsPut place parity chosen bytes start.image new.image
+      → IsTrue told → StartsPut place parity chosen bytes start.image new.image
   all_put k le w tells = record { some = w.some tells; put = λ copy lt flag. w.put tells copy (le_trans lt le) flag }
 
   -- a sync after the writes
   pub synced_case : {told : Bool} {old mid new : Medium} (done : Type 0) → IsLawful told mid → Elapses old mid
       → Elapses mid new
-      → Follows (FrontsCase place parity chosen bytes) old.now (mid.since old.moment) → WritesNothing mid new
+      → Follows (StartsCase place parity chosen bytes) old.now (mid.since old.moment) → WritesNothing mid new
       → ((c : Case) → new.now c → mid.now c ⊎ (done × IsSettledAt new.image c))
-      → EachCase (IsFrontsCase place parity chosen bytes old new done) old new
+      → EachCase (IsStartsCase place parity chosen bytes old new done) old new
   synced_case done law time next was sync after c past = ⊎_elim
       (λ before. inl (was c before))
       (λ later. ⊎_elim

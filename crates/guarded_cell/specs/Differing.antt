@@ -26,7 +26,7 @@ use Rattle.disk_model.specs.Place.{slot}
 use Rattle.disk_model.specs.declared.place.Place.{Place}
 use Rattle.changed_runs.specs.Changed.{changed_len}
 use Rattle.guarded_cell.specs.Register.{IsBlank, own, other}
-use Rattle.guarded_cell.specs.Fronts.{IsChosen}
+use Rattle.guarded_cell.specs.Starts.{IsChosen}
 
 -- zeros stand where a text has its header, as far as the slot goes
 abbrev pub front_is_blank : List ℕ → Bool

@@ -5,7 +5,7 @@ pub mod Stands
 pub mod Cells
 pub mod Slots
 pub mod Rights
-pub mod Fronts
+pub mod Starts
 pub mod Seens
 pub mod Opens
 pub mod Changes

@@ -10,8 +10,8 @@ ghost use Rattle.guarded_cell.specs.Faults.{DiskFaults, CellFaults};
 
 use crate::cell::Cell;
 use crate::errors::CellError;
-use crate::fronts::{write_durably, write_fronts};
 use crate::slots::MAX_COPIES;
+use crate::starts::{write_durably, write_starts};
 use disk_model::{Disk, DiskFailed, Place};
 use hash_guard::{BLANK, seal};
 use std::alloc::Global;
@@ -63,7 +63,7 @@ fn format_in<D: Disk>(
     ensures faults { DiskFaults result (D.medium disk.old) (D.medium disk.new) }
 {
     let all = [true; MAX_COPIES];
-    write_fronts(disk, place, 0, &all, &BLANK)?;
+    write_starts(disk, place, 0, &all, &BLANK)?;
     write_durably(disk, place, 1, &all, &BLANK)?;
     write_durably(disk, place, 1, &all, sealed_text)?;
     Ok(())

@@ -9,8 +9,8 @@ ghost use Rattle.guarded_cell.specs.Changes.{Clears};
 ghost use Rattle.guarded_cell.specs.Faults.{DiskFaults, CellFaults};
 
 use crate::errors::CellError;
-use crate::fronts::{write_durably, write_fronts};
 use crate::slots::{Pick, choose, front_room};
+use crate::starts::{write_durably, write_starts};
 use disk_model::{Disk, DiskFailed, Place};
 use hash_guard::BLANK;
 use std::alloc::Global;
@@ -101,7 +101,7 @@ fn blank_both<D: Disk>(
     ensures faults { DiskFaults result (D.medium disk.old) (D.medium disk.new) }
 {
     let parity = (generation % 2) as u32;
-    write_fronts(disk, place, parity, others, &BLANK)?;
+    write_starts(disk, place, parity, others, &BLANK)?;
     write_durably(disk, place, 1 - parity, stale, &BLANK)?;
     Ok(())
 }

@@ -19,13 +19,13 @@ mod adopting;
 mod cell;
 mod errors;
 mod formatting;
-mod fronts;
 mod keeping;
 mod laws;
 mod looking;
 mod opening;
 mod replacing;
 mod slots;
+mod starts;
 
 pub use adopting::{adopt, adopt_seen};
 pub use cell::Cell;

@@ -10,7 +10,7 @@ ghost use Rattle.guarded_cell.specs.Changes.{Brings};
 ghost use Rattle.guarded_cell.specs.Differing.{PutsOver};
 ghost use Rattle.guarded_cell.specs.Faults.{DiskFaults};
 
-use crate::fronts::{put_durably, write_durably};
+use crate::starts::{put_durably, write_durably};
 use disk_model::{Disk, DiskFailed, Place};
 use hash_guard::BLANK;
 

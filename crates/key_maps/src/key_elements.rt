@@ -9,7 +9,7 @@ ghost use Rattle.key_maps.specs.KeyElements.{IsKey, IsKeyEntry, entry_element, j
 ghost use Rattle.key_maps.specs.KeyElements.{judged_salvage, key_of};
 ghost use Rattle.key_maps.specs.Shown.{content_shown, good_bytes, salvage_in};
 
-use crate::stored::Stored;
+use crate::stored::StoredValue;
 use per_base::{Bytes, Content, Entry};
 use std::alloc::{AllocError, Global};
 use std::marker::Model;
@@ -19,9 +19,9 @@ use value_model::DecodeError;
 #[derive(Drop)]
 pub enum KeyContent {
     /// The value.
-    Good(Stored),
+    Good(StoredValue),
     /// Unreadable; the salvage, where there is one that encodes a value.
-    Bad(Option<Stored>),
+    Bad(Option<StoredValue>),
 }
 
 /// A key: its content, and the length of its encoding in bytes. Contracts see it as an element without an info.
@@ -47,7 +47,7 @@ impl Model for KeyElement {
 
 impl KeyElement {
     /// The readable key with this value.
-    pub fn new(stored: Stored) -> KeyElement
+    pub fn new(stored: StoredValue) -> KeyElement
         ensures { result ≡ key_of stored }
     {
         KeyElement {
@@ -84,7 +84,7 @@ impl KeyElement {
     }
 
     /// The value of a readable key.
-    pub fn stored(&self) -> Option<&Stored>
+    pub fn stored(&self) -> Option<&StoredValue>
         ensures { option_copied result ≡ good_bytes self.now.content }
     {
         match &self.content {
@@ -111,7 +111,7 @@ impl KeyElement {
     }
 
     /// The salvage of an unreadable key.
-    pub fn salvage(&self) -> Option<&Stored>
+    pub fn salvage(&self) -> Option<&StoredValue>
         ensures salvage { option_copied result ≡ salvage_in self.now.content }
         ensures len { IfSome result (λ salvage. length salvage.now ≡ self.now.len) }
     {
@@ -137,10 +137,10 @@ fn judge_content(alloc: Global, content: &Content) -> Result<KeyContent, AllocEr
 }
 
 /// The value that the bytes encode, where there is one.
-fn read(alloc: Global, bytes: &[u8]) -> Result<Option<Stored>, AllocError>
+fn read(alloc: Global, bytes: &[u8]) -> Result<Option<StoredValue>, AllocError>
     ensures { IfOk result (λ stored. stored ≡ judged_salvage (Some bytes.now)) }
 {
-    match Stored::read(alloc, bytes) {
+    match StoredValue::read(alloc, bytes) {
         Ok(stored) => Ok(Some(stored)),
         Err(DecodeError::NotAValue) => Ok(None),
         Err(DecodeError::OutOfMemory) => Err(AllocError),
@@ -162,7 +162,7 @@ fn same_content(here: &KeyContent, there: &KeyContent) -> bool
     }
 }
 
-fn same_salvage(here: &Option<Stored>, there: &Option<Stored>) -> bool
+fn same_salvage(here: &Option<StoredValue>, there: &Option<StoredValue>) -> bool
     ensures { result ≡ contents.same_salvage here.now there.now }
 {
     match here {

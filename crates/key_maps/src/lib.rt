@@ -4,9 +4,10 @@
 //! so that discarding all pending changes, removing all keys and marking all as synchronised do not allocate. The
 //! number and the size of the visible keys are kept, never recounted.
 //!
-//! A map holds encodings, each beside the value that it encodes ([`Stored`]): a value is decoded once, when it comes
-//! from the disk, and encoded once, when it is put. What comes from the disk is judged: bytes that encode no value are
-//! unreadable, and no salvage. What a sync hands down ([`KeyMaps::changes`]) is exactly what differs between the maps.
+//! A map holds encodings, each beside the value that it encodes ([`StoredValue`]): a value is decoded once, when it
+//! comes from the disk, and encoded once, when it is put. What comes from the disk is judged: bytes that encode no
+//! value are unreadable, and no salvage. What a sync hands down ([`KeyMaps::changes`]) is exactly what differs between
+//! the maps.
 #![tactic(auto)]
 
 mod extents;
@@ -18,4 +19,4 @@ mod stored;
 
 pub use key_elements::{KeyContent, KeyElement};
 pub use maps::{KEYS, KeyMaps, STORAGE_BYTES};
-pub use stored::Stored;
+pub use stored::StoredValue;

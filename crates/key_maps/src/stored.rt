@@ -13,12 +13,12 @@ use value_model::{DecodeError, Value};
 
 /// A value and its encoding, which contracts see.
 #[derive(Drop)]
-pub struct Stored {
+pub struct StoredValue {
     bytes: Bytes,
     value: Value,
 }
 
-impl Model for Stored {
+impl Model for StoredValue {
     ghost use Rattle.std.specs.Prelude.{ℕ, List};
     ghost use Rattle.key_maps.specs.KeyElements.{IsStoredValue};
 
@@ -29,15 +29,15 @@ impl Model for Stored {
     ghost invariant = { λ s. IsStoredValue s.bytes s.value };
 }
 
-impl Stored {
+impl StoredValue {
     /// The value with its encoding.
-    pub fn new(alloc: Global, value: Value) -> Result<Stored, AllocError>
+    pub fn new(alloc: Global, value: Value) -> Result<StoredValue, AllocError>
         ensures { IfOk result (λ stored. stored ≡ encoding value) }
     {
         let _valid = value.node();
         decoded_is_exact();
         let bytes = encode(alloc, &value)?;
-        Ok(Stored {
+        Ok(StoredValue {
             bytes: Bytes::new(bytes),
             value,
         })
@@ -48,14 +48,14 @@ impl Stored {
     /// # Errors
     ///
     /// `NotAValue` exactly where no value encodes to the bytes; `OutOfMemory`.
-    pub fn read(alloc: Global, bytes: &[u8]) -> Result<Stored, DecodeError>
+    pub fn read(alloc: Global, bytes: &[u8]) -> Result<StoredValue, DecodeError>
         ensures bytes { IfOk result (λ stored. stored ≡ bytes.now) }
         ensures readable { OnOk result (IsTrue (is_encoding bytes.now)) }
         ensures only { result ≡ Err DecodeError.NotAValue → decoded bytes.now ≡ None }
     {
         let value = decode(alloc, bytes)?;
         let copy = Vec::from_slice(alloc, bytes)?;
-        Ok(Stored {
+        Ok(StoredValue {
             bytes: Bytes::new(copy),
             value,
         })
@@ -96,10 +96,10 @@ impl Stored {
     }
 
     /// A copy that is equal.
-    pub fn copy(&self, alloc: Global) -> Result<Stored, AllocError>
+    pub fn copy(&self, alloc: Global) -> Result<StoredValue, AllocError>
         ensures { IfOk result (λ copy. copy ≡ self.now) }
     {
-        match Stored::read(alloc, self.as_slice()) {
+        match StoredValue::read(alloc, self.as_slice()) {
             Ok(copy) => Ok(copy),
             Err(_) => Err(AllocError),
         }

@@ -16,7 +16,7 @@ use Rattle.value_model.specs.Trees.{Tree, type_of}
 use Rattle.value_code.specs.Reading.{decoded}
 use Rattle.value_text.specs.Texts.{mismatch}
 use Rattle.deployment_model.specs.Data.{StorageData}
-use Rattle.deployment_model.specs.Lookups.{initial_of}
+use Rattle.deployment_model.specs.Lookups.{initial_content}
 use Rattle.key_maps.specs.KeyElements.{key_of}
 use Rattle.key_maps.specs.Shown.{good_bytes}
 use Rattle.kvs_core.specs.Calls.{as_kind, get_any, get_as, read_key, reset_key, stored_kind, takes_any, with_placed}
@@ -104,7 +104,7 @@ takes_place c m name asked passes place = subst (λ (due : Result Map PerError).
 
 -- what a reset needs memory for, where there is an initial value and a place for it
 pub reset_there : (c : StorageData) (m : Map) (name bytes : List ℕ) (full : Bool) → c.read_only ≡ false
-    → initial_of c name ≡ Some bytes → full ≡ (not (has m name) && nat_le 1024 (length m)) → full ≡ false
+    → initial_content c name ≡ Some bytes → full ≡ (not (has m name) && nat_le 1024 (length m)) → full ≡ false
     → NeedsMemory (with_room c (with_element m name (key_of bytes))) → NeedsMemory (reset_key c m name)
 reset_there c m name bytes full writes is fills empty needs =
     rw (writes, is, placed_there c m name bytes bytes full fills empty refl) needs

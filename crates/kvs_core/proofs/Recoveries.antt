@@ -18,7 +18,7 @@ use Rattle.value_model.specs.Validity.{IsValue, max_depth, max_length}
 use Rattle.key_maps.specs.TwoMaps.{TwoMaps}
 use Rattle.kvs_core.specs.Sessions.{HasRoom}
 use Rattle.deployment_model.specs.Data.{StorageData}
-use Rattle.deployment_model.specs.Lookups.{initial_of}
+use Rattle.deployment_model.specs.Lookups.{initial_content}
 use Rattle.key_maps.specs.KeyElements.{key_of}
 use Rattle.key_maps.specs.Shown.{salvage_in}
 use Rattle.key_maps.specs.lemmas.Both.{size_gone, size_set, without_absent}
@@ -36,7 +36,7 @@ recovers_salvage c m name (Bad None) salvage is = absurd (cc)
 recovers_salvage c m name (Bad (Some there)) salvage is = let same : there ≡ salvage = cc in rw same refl
 
 pub recovers_other : (c : StorageData) (m : Map) (name : List ℕ) (content : Content) → is_readable content ≡ false
-    → None ≡ salvage_in content → recovered c m name content ≡ restored c m name (initial_of c name)
+    → None ≡ salvage_in content → recovered c m name content ≡ restored c m name (initial_content c name)
 recovers_other c m name (Good bytes) is none = absurd (cc)
 recovers_other c m name (Bad None) is none = refl
 recovers_other c m name (Bad (Some there)) is none = absurd (cc)

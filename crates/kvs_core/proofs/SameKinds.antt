@@ -9,7 +9,7 @@ use Rattle.value_model.specs.Kinds.{Kind, kind_fits, same_kind}
 use Rattle.value_model.specs.Encoding.{encoding}
 use Rattle.deployment_model.specs.Conditions.{HasTypeFor, IsElement, IsStorage, StartsAs}
 use Rattle.deployment_model.specs.Data.{ElementData, StorageData}
-use Rattle.deployment_model.specs.Lookups.{element_named, initial_of}
+use Rattle.deployment_model.specs.Lookups.{element_named, initial_content}
 use Rattle.value_text.specs.lemmas.LimitLaws.{same_kind-true, same_kind-self}
 
 pub has_kind : (answer : Bool) (j k : Kind) → (IsTrue answer ↔ (j ≡ k)) → answer ≡ same_kind j k
@@ -64,7 +64,7 @@ short_start (Some k) (Some there) bytes is starts =
     rw (← same, starts.encoded) short
 
 pub initial_short : (s : StorageData) (name bytes : List ℕ) → IsStorage s → s.kind ≡ Keys
-    → Some bytes ≡ initial_of s name → length bytes ≤ 65536
+    → Some bytes ≡ initial_content s name → length bytes ≤ 65536
 initial_short s name bytes storage keys is = by (element_named s name) refl
   where
     by : (found : Option ElementData) → element_named s name ≡ found → length bytes ≤ 65536

@@ -19,7 +19,7 @@ use Rattle.value_model.specs.Validity.{max_depth, max_length}
 use Rattle.value_code.specs.Reading.{decoded}
 use Rattle.value_text.specs.Texts.{mismatch}
 use Rattle.deployment_model.specs.Data.{ElementData, StorageData}
-use Rattle.deployment_model.specs.Lookups.{element_named, initial_of}
+use Rattle.deployment_model.specs.Lookups.{element_named, initial_content}
 use Rattle.key_maps.specs.KeyElements.{key_of}
 
 -- what a call gives for the key of a name, or that there is none
@@ -131,7 +131,7 @@ TakesCopy (Some bytes) (Bad None) = Unit {0}
 abbrev pub recovered : StorageData → Map → List ℕ → Content → Result Map PerError
 recovered c m name (Good bytes) = Ok m
 recovered c m name (Bad (Some salvage)) = Ok (with_element m name (key_of salvage))
-recovered c m name (Bad None) = restored c m name (initial_of c name)
+recovered c m name (Bad None) = restored c m name (initial_content c name)
 
 abbrev pub recover_key : StorageData → Map → List ℕ → Result Map PerError
 recover_key c m name = refuse c.read_only IllegalWriteAccess
@@ -139,4 +139,4 @@ recover_key c m name = refuse c.read_only IllegalWriteAccess
 
 abbrev pub reset_key : StorageData → Map → List ℕ → Result Map PerError
 reset_key c m name = refuse c.read_only IllegalWriteAccess
-    (with_initial (initial_of c name) (λ bytes. with_placed c m name bytes))
+    (with_initial (initial_content c name) (λ bytes. with_placed c m name bytes))

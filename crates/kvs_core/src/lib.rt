@@ -17,5 +17,5 @@ mod syncing;
 mod typing;
 mod writing;
 
-pub use key_maps::{KEYS, KeyElement, KeyMaps, STORAGE_BYTES, Stored};
+pub use key_maps::{KEYS, KeyElement, KeyMaps, STORAGE_BYTES, StoredValue};
 pub use session::KeySession;

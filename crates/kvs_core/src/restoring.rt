@@ -4,12 +4,12 @@ ghost use Rattle.std.specs.Prelude.{◌≡◌, ◌≤◌, IfErr, IfOk, IsSome, I
 ghost use Rattle.per_base.specs.declared.elements.Element.{Element};
 ghost use Rattle.per_base.specs.Maps.{element_at, has, size_of, with_element};
 ghost use Rattle.per_base.specs.Refusals.{IsRefusal, NeedsMemory};
-ghost use Rattle.deployment_model.specs.Lookups.{initial_of};
+ghost use Rattle.deployment_model.specs.Lookups.{initial_content};
 ghost use Rattle.key_maps.specs.KeyElements.{key_of};
 ghost use Rattle.kvs_core.specs.Calls as calls;
 
 use crate::session::KeySession;
-use key_maps::{KeyElement, Stored};
+use key_maps::{KeyElement, StoredValue};
 use per_base::{Limit, Name, PerError};
 
 impl KeySession {
@@ -29,7 +29,7 @@ impl KeySession {
             → NeedsMemory (calls.recover_key self.old.config self.old.visible name.now)) }
         ensures copies { IfErr result (λ error. error ≡ PerError.OutOfMemory → (key : Element)
             → element_at self.old.visible name.now ≡ Some key
-            → calls.TakesCopy (initial_of self.old.config name.now) key.content) }
+            → calls.TakesCopy (initial_content self.old.config name.now) key.content) }
         ensures beside { self.new ≡ record self.old { visible = self.new.visible } }
         ensures unchanged { OnErr result (self.new ≡ self.old) }
     {
@@ -56,14 +56,15 @@ impl KeySession {
     fn restore(&mut self, name: &Name) -> Result<(), PerError>
         requires { IsTrue (has self.old.visible name.now) }
         ensures ok { OnOk result (calls.restored self.old.config self.old.visible name.now
-            (initial_of self.old.config name.now) ≡ Ok self.new.visible) }
+            (initial_content self.old.config name.now) ≡ Ok self.new.visible) }
         ensures refused { IfErr result (λ error. IsRefusal
-            (calls.restored self.old.config self.old.visible name.now (initial_of self.old.config name.now)) error) }
+            (calls.restored self.old.config self.old.visible name.now (initial_content self.old.config name.now))
+            error) }
         ensures memory { IfErr result (λ error. error ≡ PerError.OutOfMemory
             → NeedsMemory (calls.restored self.old.config self.old.visible name.now
-            (initial_of self.old.config name.now))) }
+            (initial_content self.old.config name.now))) }
         ensures copies { IfErr result (λ error. error ≡ PerError.OutOfMemory
-            → IsSome (initial_of self.old.config name.now)) }
+            → IsSome (initial_content self.old.config name.now)) }
         ensures beside { self.new ≡ record self.old { visible = self.new.visible } }
         ensures unchanged { OnErr result (self.new ≡ self.old) }
     {
@@ -76,7 +77,7 @@ impl KeySession {
     }
 
     /// A copy of the initial value of a key, where there is room for it under this name.
-    fn start(&self, name: &Name, initial: &[u8]) -> Result<Stored, PerError>
+    fn start(&self, name: &Name, initial: &[u8]) -> Result<StoredValue, PerError>
         requires { length initial.now ≤ 65536 }
         ensures ok { IfOk result (λ stored. stored ≡ initial.now) }
         ensures room { IfOk result (λ stored. size_of (with_element self.now.visible name.now (key_of stored))
@@ -88,7 +89,7 @@ impl KeySession {
             (key_of initial.now)))) }
     {
         self.has_room(name, initial.len() as u32)?;
-        match Stored::read(self.alloc, initial) {
+        match StoredValue::read(self.alloc, initial) {
             Ok(stored) => Ok(stored),
             Err(_) => Err(PerError::OutOfMemory),
         }
@@ -103,6 +104,7 @@ impl KeySession {
     #[tactic(auto, using(crate::proofs::Contents::few_without, crate::proofs::Contents::placed_there, crate::proofs::Contents::reset_there))]
     pub fn reset_key(&mut self, name: &Name) -> Result<(), PerError>
         ensures ok { OnOk result (calls.reset_key self.old.config self.old.visible name.now ≡ Ok self.new.visible) }
+        // The refusal that is due, or `OutOfMemory`.
         ensures refused { IfErr result (λ error. IsRefusal (calls.reset_key self.old.config self.old.visible name.now)
             error) }
         // `OutOfMemory` never replaces a refusal.

@@ -13,7 +13,7 @@ ghost use Rattle.key_maps.specs.KeyElements.{key_of};
 ghost use Rattle.kvs_core.specs.Calls as calls;
 
 use crate::session::KeySession;
-use key_maps::{KEYS, KeyElement, Stored};
+use key_maps::{KEYS, KeyElement, StoredValue};
 use per_base::{Limit, Name, PerError};
 use per_value::PerValue;
 use std::mem;
@@ -133,7 +133,7 @@ impl KeySession {
                 which: Limit::Elements,
             });
         }
-        match Stored::new(self.alloc, value) {
+        match StoredValue::new(self.alloc, value) {
             Ok(stored) => self.fit(name, stored),
             Err(_) => Err(PerError::OutOfMemory),
         }
@@ -147,7 +147,7 @@ impl KeySession {
     }
 
     /// Puts an encoding under a name that has a place, where there is room for it.
-    pub(crate) fn fit(&mut self, name: &Name, stored: Stored) -> Result<(), PerError>
+    pub(crate) fn fit(&mut self, name: &Name, stored: StoredValue) -> Result<(), PerError>
         requires { element_at self.old.visible name.now ≡ None → length self.old.visible < KEYS }
         ensures ok { OnOk result (calls.with_room self.old.config
             (with_element self.old.visible name.now (key_of stored)) ≡ Ok self.new.visible) }

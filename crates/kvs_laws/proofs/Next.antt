@@ -23,7 +23,7 @@ use Rattle.element_maps.specs.Laws.{DecidesLaw, SameLaw}
 use Rattle.element_maps.specs.Sessions.{same_map, view_once_synced}
 use Rattle.key_maps.specs.KeyElements.{is_encoding}
 use Rattle.kvs_store.specs.Storages.{keys_in}
-use Rattle.kvs_laws.specs.Values.{Asked, HasValue}
+use Rattle.kvs_laws.specs.Values.{AskedKey, HasValue}
 use Rattle.kvs_laws.proofs.Stops.{IsWhole, keys_of, readable}
 
 abbrev AreMended : List Entry → Type 0
@@ -153,7 +153,7 @@ module _ (generation : ℕ) (entries : List Entry) (synced : Map) where
 
 -- ---- the view after a sync
 
-committed_has : SameLaw → (asked : Asked) (shape : Shape) (v : View) (synced new : Map) (after : Tree)
+committed_has : SameLaw → (asked : AskedKey) (shape : Shape) (v : View) (synced new : Map) (after : Tree)
     → synced ≡ keys_in v → HasValue asked new after → HasValue asked (keys_in (committed shape v synced new)) after
 unfolding committed
 committed_has law asked shape v synced new after held has =
@@ -168,7 +168,7 @@ whole_committed : (shape : Shape) (v : View) (synced new : Map) → AreMended v.
 unfolding committed
 whole_committed shape v synced new mended = committed_mended (v.generation + 1) v.entries synced new mended
 
-pub synced_whole : DecidesLaw → SameLaw → (asked : Asked) (shape : Shape) (v : View) (synced new : Map) (after : Tree)
+pub synced_whole : DecidesLaw → SameLaw → (asked : AskedKey) (shape : Shape) (v : View) (synced new : Map) (after : Tree)
     → synced ≡ keys_in v → AreMended v.entries → HasValue asked new after
     → IsWhole asked (view_once_synced shape v synced new) after
 synced_whole decides law asked shape v synced new after held mended has = by (same_map synced new) refl

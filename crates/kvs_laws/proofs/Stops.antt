@@ -25,7 +25,7 @@ use Rattle.element_state.specs.Views.{element_of, judged_content, judged_entry}
 use Rattle.key_maps.specs.KeyElements.{is_encoding}
 use Rattle.kvs_core.specs.Calls.{as_kind, get_as, read_key}
 use Rattle.kvs_store.specs.Storages.{keys_in}
-use Rattle.kvs_laws.specs.Values.{Asked, HasValue, ReadsAs}
+use Rattle.kvs_laws.specs.Values.{AskedKey, HasValue, ReadsAs}
 
 -- ---- copies
 
@@ -145,7 +145,7 @@ module _ (shape : Shape) (damaged : List ℕ) (enough : HasEnough shape damaged 
 
 -- ---- what is left of a storage
 
-view_left : (asked : Asked) (shape : Shape) (damaged lacking : List ℕ) (w v : View) (value : Tree)
+view_left : (asked : AskedKey) (shape : Shape) (damaged lacking : List ℕ) (w v : View) (value : Tree)
     → SameHeadings w v → KeepsGood shape damaged w v
     → AllByRecursion (λ (e : Entry). IsMended e.content e.lacking) v.entries → HasEnough shape damaged lacking
     → HasValue asked (keys_in v) value → HasValue asked (keys_in w) value
@@ -158,11 +158,11 @@ view_left asked shape damaged lacking w v value same good mended enough has =
     rw here has
 
 -- a view whose good elements lack nothing, in which the key has this value
-pub record IsWhole (asked : Asked) (v : View) (value : Tree) : Type 0 where
+pub record IsWhole (asked : AskedKey) (v : View) (value : Tree) : Type 0 where
   pub mended : AllByRecursion (λ (e : Entry). IsMended e.content e.lacking) v.entries
   pub has : HasValue asked (keys_in v) value
 
-stays_left : (asked : Asked) (shape : Shape) (damaged : List ℕ) (image : Image) (v next : View) (before after : Tree)
+stays_left : (asked : AskedKey) (shape : Shape) (damaged : List ℕ) (image : Image) (v next : View) (before after : Tree)
     → IsWhole asked v before → IsWhole asked next after
     → StaysOpen shape damaged (store_at image shape) (Opens v []) (Opens next []) → HasEnough shape damaged v.lacking
     → ReadsAs asked shape before image ⊎ ReadsAs asked shape after image
@@ -185,7 +185,7 @@ stays_left asked shape damaged image v next before after old new stays enough =
       })
     ]
 
-pub kept_left : (asked : Asked) (shape : Shape) (damaged : List ℕ) (start image : Image) (v next : View)
+pub kept_left : (asked : AskedKey) (shape : Shape) (damaged : List ℕ) (start image : Image) (v next : View)
     (before after : Tree) → store_at start shape ≡ Opens v [] → IsWhole asked v before → IsWhole asked next after
     → IsKeptOn shape damaged start image (Opens next []) → HasEnough shape damaged v.lacking
     → ReadsAs asked shape before image ⊎ ReadsAs asked shape after image

@@ -9,11 +9,11 @@ use Rattle.deployment_model.specs.Data.{StorageData}
 use Rattle.element_state.specs.Clean.{IsClean}
 use Rattle.element_state.specs.Kept.{IsKeptMending}
 use Rattle.element_state.specs.States.{Opens}
-use Rattle.element_store.specs.Stores.{IsUsed, shape_of, view_in}
+use Rattle.element_store.specs.Stores.{IsUsed, store_shape, view_in}
 use Rattle.kvs_core.specs.Calls.{get_as, set_value}
 use Rattle.kvs_store.specs.Storages.{KvsSession, keys_in}
 use Rattle.kvs_store.specs.Synced.{synced_view}
-use Rattle.kvs_laws.specs.Values.{Asked, HasValue, LeavesValue, ReadsAs}
+use Rattle.kvs_laws.specs.Values.{AskedKey, HasValue, LeavesValue, ReadsAs}
 
 -- what was set is what is got
 abbrev pub SetLaw : Type 0
@@ -21,7 +21,7 @@ SetLaw = (config : StorageData) (m new : Map) (name : List ℕ) (value : Tree) �
     → set_value config m name value ≡ Ok new → get_as config new name (type_of value) ≡ Ok value
 
 -- an open storage in use on an image, on which the key has this value
-pub record OpensWithValue (asked : Asked) (image : Image) (kvs : KvsSession) (value : Tree) : Type 0 where
+pub record OpensWithValue (asked : AskedKey) (image : Image) (kvs : KvsSession) (value : Tree) : Type 0 where
   pub told : Bool
   pub tells : IsTrue told
   pub used : IsUsed told image kvs.store
@@ -30,18 +30,18 @@ pub record OpensWithValue (asked : Asked) (image : Image) (kvs : KvsSession) (va
 
 -- it reads so on the disk
 abbrev pub ReadsLaw : Type 0
-ReadsLaw = (asked : Asked) (image : Image) (kvs : KvsSession) (value : Tree) → OpensWithValue asked image kvs value
-    → ReadsAs asked (shape_of kvs.store) value image
+ReadsLaw = (asked : AskedKey) (image : Image) (kvs : KvsSession) (value : Tree) → OpensWithValue asked image kvs value
+    → ReadsAs asked (store_shape kvs.store) value image
 
 -- where a sync keeps the storage, a stop leaves the value that was synchronised or the one that the calls see
 abbrev pub SyncLaw : Type 0
-SyncLaw = (asked : Asked) (start : Image) (kvs : KvsSession) (before after : Tree) (c : Case)
+SyncLaw = (asked : AskedKey) (start : Image) (kvs : KvsSession) (before after : Tree) (c : Case)
     → OpensWithValue asked start kvs before → HasValue asked kvs.session.visible after
-    → IsKeptMending (shape_of kvs.store) start (Opens (synced_view kvs) []) c
-    → LeavesValue asked (shape_of kvs.store) (view_in kvs.store).lacking before after c
+    → IsKeptMending (store_shape kvs.store) start (Opens (synced_view kvs) []) c
+    → LeavesValue asked (store_shape kvs.store) (view_in kvs.store).lacking before after c
 
 -- and so it does where nothing is pending
 abbrev pub StillLaw : Type 0
-StillLaw = (asked : Asked) (start : Image) (kvs : KvsSession) (before after : Tree) (c : Case)
-    → OpensWithValue asked start kvs before → IsClean (shape_of kvs.store) start → IsSettledAt start c
-    → LeavesValue asked (shape_of kvs.store) (view_in kvs.store).lacking before after c
+StillLaw = (asked : AskedKey) (start : Image) (kvs : KvsSession) (before after : Tree) (c : Case)
+    → OpensWithValue asked start kvs before → IsClean (store_shape kvs.store) start → IsSettledAt start c
+    → LeavesValue asked (store_shape kvs.store) (view_in kvs.store).lacking before after c

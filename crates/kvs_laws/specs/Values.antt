@@ -17,17 +17,17 @@ use Rattle.kvs_core.specs.Calls.{get_as}
 use Rattle.kvs_store.specs.Storages.{keys_in}
 
 -- which key of which storage, and the type by which it is asked for
-pub record Asked : Type 0 where
+pub record AskedKey : Type 0 where
   pub config : StorageData
   pub name : List ℕ
   pub kind : Kind
 
 -- in this map the key has this value
-abbrev pub HasValue : Asked → Map → Tree → Type 0
+abbrev pub HasValue : AskedKey → Map → Tree → Type 0
 HasValue asked m value = get_as asked.config m asked.name asked.kind ≡ Ok value
 
 -- on this image the storage opens, and the key has this value
-pub record ReadsAs (asked : Asked) (shape : Shape) (value : Tree) (image : Image) : Type 0 where
+pub record ReadsAs (asked : AskedKey) (shape : Shape) (value : Tree) (image : Image) : Type 0 where
   pub view : View
   pub others : List View
   pub opens : store_at image shape ≡ Opens view others
@@ -35,12 +35,12 @@ pub record ReadsAs (asked : Asked) (shape : Shape) (value : Tree) (image : Image
 
 -- a stop in this case, and then damage that spares as many copies as must agree, of those that lacked nothing, leaves
 -- the value of before or that of after
-abbrev pub LeavesValue : Asked → Shape → (lacking : List ℕ) → (before after : Tree) → Case → Type 0
+abbrev pub LeavesValue : AskedKey → Shape → (lacking : List ℕ) → (before after : Tree) → Case → Type 0
 LeavesValue asked shape lacking before after c = IsSound shape.place c → (damaged : List ℕ) (image : Image)
     → DecaysFor (IsPiece shape.place) damaged c.left image → HasEnough shape damaged lacking
     → ReadsAs asked shape before image ⊎ ReadsAs asked shape after image
 
 -- so it is at every moment since a start at which the place was clean
-abbrev pub ValueThroughout : Asked → Shape → (lacking : List ℕ) → (before after : Tree) → (old new : Medium) → Type 0
+abbrev pub ValueThroughout : AskedKey → Shape → (lacking : List ℕ) → (before after : Tree) → (old new : Medium) → Type 0
 ValueThroughout asked shape lacking before after old new = IsClean shape old.image
     → EachCase (LeavesValue asked shape lacking before after) old new

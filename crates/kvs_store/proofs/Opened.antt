@@ -50,7 +50,7 @@ abbrev pub read_session : StorageData → List Entry → Session
 read_session config entries = record { config = config; synced = judged_map entries; visible = judged_map entries }
 
 pub opened_is_open : (shape : Shape) (config : StorageData) (store : Store) (entries : List Entry) (session : Session)
-    → IsConfigured Keys config shape → stores.shape_of store ≡ shape
+    → IsConfigured Keys config shape → stores.store_shape store ≡ shape
     → entries ≡ stores.entries_of store → session ≡ read_session config entries → IsOpen store session
 opened_is_open shape config store entries session lies placed shown is = record {
   configured = subst (λ (s : Shape). IsConfigured Keys session.config s) (sym placed)
@@ -61,12 +61,12 @@ opened_is_open shape config store entries session lies placed shown is = record 
 pub opened_is : (told : Bool) (image : Image) (shape : Shape) (entries : List Entry) (before : View) (copy : Shape)
     (seen : View) (store : Store) (synced visible : Map) (all : List Report)
     → (IsTrue told → opened_of (store_at image shape) ≡ Some before) → stores.view_in store ≡ mended_view shape before
-    → stores.shape_of store ≡ shape → IsView shape before
+    → stores.store_shape store ≡ shape → IsView shape before
     → entries ≡ stores.entries_of store → synced ≡ judged_map entries → visible ≡ judged_map entries → copy ≡ shape
     → seen ≡ shown_view visible before
     → all ≡ reports (λ bytes. true) copy seen
     → IsOpened told image shape is_encoding (record {
-      shape = stores.shape_of store;
+      shape = stores.store_shape store;
       view =
           stores.view_in store;
       synced = synced;

@@ -33,7 +33,7 @@ use Rattle.element_maps.specs.Storages.{IsConfigured, IsDurable, IsStoring}
 use Rattle.element_store.specs.declared.store.Store.{Store}
 use Rattle.element_store.specs.Changing.{KeepsOthers}
 use Rattle.element_store.specs.Committing.{index_in, index_length}
-use Rattle.element_store.specs.Stores.{IsUsed, entries_of, shape_of, view_in}
+use Rattle.element_store.specs.Stores.{IsUsed, entries_of, store_shape, view_in}
 use Rattle.element_laws.specs.lemmas.Untouched.{kept_mending, none_around, none_kept}
 use Rattle.key_maps.specs.KeyElements.{Encodes, IsKey, is_encoding}
 use Rattle.key_maps.specs.TwoMaps.{AreTwoMaps}
@@ -73,9 +73,9 @@ pub within_none : (copies contents index written : ℕ) → IsWithin copies cont
 within_none copies contents index written = omega arith
 
 pub none_written : (kvs : KvsSession) (m : Medium) → WritesAtMost kvs m m
-none_written kvs m = within_none (shape_of kvs.store).place.copies
-    (map_cost (shape_of kvs.store).kind kvs.session.synced kvs.session.visible)
-    (index_length (shape_of kvs.store).kind (synced_view kvs).entries) m.written
+none_written kvs m = within_none (store_shape kvs.store).place.copies
+    (map_cost (store_shape kvs.store).kind kvs.session.synced kvs.session.visible)
+    (index_length (store_shape kvs.store).kind (synced_view kvs).entries) m.written
 
 -- both maps are then as they were
 pub none_marked : (kvs : KvsSession) → kvs.session.synced ≡ kvs.session.visible
@@ -84,13 +84,13 @@ none_marked kvs same = ap (λ (m : Map). let later : KvsSession =
     record kvs { session = record kvs.session { synced = m } } in later) same
 
 pub none_durable : (told : Bool) (kvs : KvsSession) (index : ℕ) (m : Medium) → is_synced kvs ≡ true
-    → IsDurable told (shape_of kvs.store) kvs.session.synced kvs.session.visible index m m
+    → IsDurable told (store_shape kvs.store) kvs.session.synced kvs.session.visible index m m
 none_durable told kvs index m same = record {
   durable = λ differ. absurd (cc);
   quiet = λ quiet. quiet;
   clean = λ tells clean. clean;
-  written = within_none (shape_of kvs.store).place.copies
-      (map_cost (shape_of kvs.store).kind kvs.session.synced kvs.session.visible) index m.written;
+  written = within_none (store_shape kvs.store).place.copies
+      (map_cost (store_shape kvs.store).kind kvs.session.synced kvs.session.visible) index m.written;
   passes = refl;
 }
 
@@ -120,20 +120,20 @@ held_as kind keys synced key (Good bytes) p is unreadable = writable kind keys k
 held_as kind keys synced key (Bad salvage) p is unreadable = unreadable refl
 
 module _ (kvs : KvsSession) (is : IsOpen kvs.store (kvs_session kvs))
-    (read : IsView (shape_of kvs.store) (view_in kvs.store)) (maps : AreTwoMaps kvs.session)
+    (read : IsView (store_shape kvs.store) (view_in kvs.store)) (maps : AreTwoMaps kvs.session)
     (room : HasRoom kvs.config kvs.session) (changes : List Change)
     (made : MakeInto changes kvs.session.synced kvs.session.visible) where
-  next_map : IsNext (shape_of kvs.store) kvs.session.synced kvs.session.visible
+  next_map : IsNext (store_shape kvs.store) kvs.session.synced kvs.session.visible
   next_map = record {
     names_ascend = maps.visible.ordered;
     few = maps.visible.few;
     small = omega (arith, room.visible, is.configured.allowed);
-    each = λ name key at. held_as (shape_of kvs.store).kind is.configured.kind (element_at kvs.session.synced name) key
+    each = λ name key at. held_as (store_shape kvs.store).kind is.configured.kind (element_at kvs.session.synced name) key
         key.content refl
         (maps.visible.keys name key at) (maps.unreadable name key at);
   }
 
-  pub is_sync : IsSync (shape_of kvs.store) is_encoding (view_in kvs.store) kvs.session.synced kvs.session.visible
+  pub is_sync : IsSync (store_shape kvs.store) is_encoding (view_in kvs.store) kvs.session.synced kvs.session.visible
       changes
   is_sync = record { read = read; held = is.synced; next = next_map; made = made }
 
@@ -141,25 +141,25 @@ module _ (kvs : KvsSession) (is : IsOpen kvs.store (kvs_session kvs))
   visible_passes name key bytes at good = (subst (λ (c : Content). Encodes c key.len) good
       (maps.visible.keys name key at).measured).0
 
-  next_keys : HeldLaw → keys_in (committed (shape_of kvs.store) (view_in kvs.store) kvs.session.synced
+  next_keys : HeldLaw → keys_in (committed (store_shape kvs.store) (view_in kvs.store) kvs.session.synced
       kvs.session.visible) ≡ kvs.session.visible
-  next_keys held = held (shape_of kvs.store) is_encoding (view_in kvs.store) kvs.session.synced kvs.session.visible
+  next_keys held = held (store_shape kvs.store) is_encoding (view_in kvs.store) kvs.session.synced kvs.session.visible
       changes is_sync visible_passes
 
   -- the storage after the commit keeps what always holds
-  pub open_later : CommittedLaw → HeldLaw → (later : Store) → shape_of later ≡ shape_of kvs.store
-      → view_in later ≡ committed_by (shape_of kvs.store) (view_in kvs.store) changes
+  pub open_later : CommittedLaw → HeldLaw → (later : Store) → store_shape later ≡ store_shape kvs.store
+      → view_in later ≡ committed_by (store_shape kvs.store) (view_in kvs.store) changes
       → IsOpen later (record (kvs_session kvs) { synced = kvs.session.visible })
   open_later law held later shape view = record {
     configured = subst (λ (s : Shape). IsConfigured Keys kvs.config s) (sym shape) is.configured;
-    synced = sym (ap keys_in (view ∙ law (shape_of kvs.store) is_encoding (view_in kvs.store) kvs.session.synced
+    synced = sym (ap keys_in (view ∙ law (store_shape kvs.store) is_encoding (view_in kvs.store) kvs.session.synced
         kvs.session.visible changes is_sync) ∙ next_keys held);
   }
 
 -- ---- what a commit makes
 
 differ_view : (kvs : KvsSession) → is_synced kvs ≡ false
-    → synced_view kvs ≡ committed (shape_of kvs.store) (view_in kvs.store) kvs.session.synced kvs.session.visible
+    → synced_view kvs ≡ committed (store_shape kvs.store) (view_in kvs.store) kvs.session.synced kvs.session.visible
 differ_view kvs differ = rw differ refl
 
 within_more : (copies contents more index before after : ℕ) → contents ≤ more
@@ -169,44 +169,44 @@ within_more copies contents more index before after less within =
     mul-le-mul_left copies (omega arith) in
     omega (arith, within, grows)
 
-module _ (kvs : KvsSession) (changes : List Change) (sync : IsSync (shape_of kvs.store) is_encoding (view_in kvs.store)
+module _ (kvs : KvsSession) (changes : List Change) (sync : IsSync (store_shape kvs.store) is_encoding (view_in kvs.store)
     kvs.session.synced kvs.session.visible changes)
     (differ : is_synced kvs ≡ false) (law : CommittedLaw) where
-  view_then : committed_by (shape_of kvs.store) (view_in kvs.store) changes ≡ synced_view kvs
-  view_then = law (shape_of kvs.store) is_encoding (view_in kvs.store) kvs.session.synced kvs.session.visible changes
+  view_then : committed_by (store_shape kvs.store) (view_in kvs.store) changes ≡ synced_view kvs
+  view_then = law (store_shape kvs.store) is_encoding (view_in kvs.store) kvs.session.synced kvs.session.visible changes
       sync ∙ sym (differ_view kvs differ)
 
   abbrev pub cost_then : ℕ
-  cost_then = commit_cost (shape_of kvs.store).kind (entries_of kvs.store) changes
+  cost_then = commit_cost (store_shape kvs.store).kind (entries_of kvs.store) changes
 
   abbrev pub cost_between : ℕ
-  cost_between = map_cost (shape_of kvs.store).kind kvs.session.synced kvs.session.visible
+  cost_between = map_cost (store_shape kvs.store).kind kvs.session.synced kvs.session.visible
 
   costs : CostLaw → cost_then ≤ cost_between
-  costs cost = cost (shape_of kvs.store) is_encoding (view_in kvs.store) kvs.session.synced kvs.session.visible changes
+  costs cost = cost (store_shape kvs.store) is_encoding (view_in kvs.store) kvs.session.synced kvs.session.visible changes
       sync
 
   pub commit_at_most : CostLaw → (old new : Medium)
-      → IsWithin (shape_of kvs.store).place.copies cost_then
-      (index_length (shape_of kvs.store).kind (committed_by (shape_of kvs.store) (view_in kvs.store)
+      → IsWithin (store_shape kvs.store).place.copies cost_then
+      (index_length (store_shape kvs.store).kind (committed_by (store_shape kvs.store) (view_in kvs.store)
       changes).entries) old.written new.written
       → WritesAtMost kvs old new
   commit_at_most cost old new within = subst (λ (v : View).
-      IsWithin (shape_of kvs.store).place.copies cost_between (index_length (shape_of kvs.store).kind v.entries)
+      IsWithin (store_shape kvs.store).place.copies cost_between (index_length (store_shape kvs.store).kind v.entries)
       old.written new.written) view_then
-      (within_more (shape_of kvs.store).place.copies cost_then cost_between
-      (index_length (shape_of kvs.store).kind (committed_by (shape_of kvs.store) (view_in kvs.store)
+      (within_more (store_shape kvs.store).place.copies cost_then cost_between
+      (index_length (store_shape kvs.store).kind (committed_by (store_shape kvs.store) (view_in kvs.store)
       changes).entries)
       old.written new.written (costs cost) within)
 
   pub commit_synced : CostLaw → UnchangedNamesLaw → (told : Bool) (later : Store) (old new : Medium)
-      → view_in later ≡ committed_by (shape_of kvs.store) (view_in kvs.store) changes
-      → shape_of later ≡ shape_of kvs.store → IsUsed told new.image later
-      → (IsTrue told → IsClean (shape_of kvs.store) old.image → IsClean (shape_of kvs.store) new.image) → Quiet new
-      → IsWithin (shape_of kvs.store).place.copies cost_then (length (index_text (index_in later))) old.written
+      → view_in later ≡ committed_by (store_shape kvs.store) (view_in kvs.store) changes
+      → store_shape later ≡ store_shape kvs.store → IsUsed told new.image later
+      → (IsTrue told → IsClean (store_shape kvs.store) old.image → IsClean (store_shape kvs.store) new.image) → Quiet new
+      → IsWithin (store_shape kvs.store).place.copies cost_then (length (index_text (index_in later))) old.written
       new.written
       → KeepsOthers changes (index_in kvs.store).entries (index_in later).entries → (index_in later).format ≡ 2
-      → length (index_text (index_in later)) ≡ index_length (shape_of kvs.store).kind (entries_of later)
+      → length (index_text (index_in later)) ≡ index_length (store_shape kvs.store).kind (entries_of later)
       → new.faults ≡ old.faults
       → IsSynced told kvs (record kvs { store = later; session = marked_synced kvs.session }) old new
   commit_synced cost others told later old new view shape used clean quiet written carried format text passes = record {
@@ -218,7 +218,7 @@ module _ (kvs : KvsSession) (changes : List Change) (sync : IsSync (shape_of kvs
       durable = λ differs. quiet;
       quiet = λ before. quiet;
       clean = clean;
-      written = within_more (shape_of kvs.store).place.copies cost_then cost_between
+      written = within_more (store_shape kvs.store).place.copies cost_then cost_between
           (length (index_text (index_in later))) old.written new.written (costs cost) written;
       passes = passes;
     };
@@ -228,16 +228,16 @@ module _ (kvs : KvsSession) (changes : List Change) (sync : IsSync (shape_of kvs
   }
 
   pub commit_storing : (told : Bool) (old new : Medium)
-      → (IsTrue told → Spares (IsOutside (shape_of kvs.store).place) old.image
+      → (IsTrue told → Spares (IsOutside (store_shape kvs.store).place) old.image
       new.image)
-      → (IsTrue told → Quiet old → EachCase (IsSettledOn (IsOutside (shape_of kvs.store).place) old.image) old new)
-      → (IsTrue told → KeptThroughout (shape_of kvs.store)
-      (Opens (committed_by (shape_of kvs.store) (view_in kvs.store) changes) []) old new)
-      → Elapses old new → IsStoring told (shape_of kvs.store) (Opens (synced_view kvs) []) old new
+      → (IsTrue told → Quiet old → EachCase (IsSettledOn (IsOutside (store_shape kvs.store).place) old.image) old new)
+      → (IsTrue told → KeptThroughout (store_shape kvs.store)
+      (Opens (committed_by (store_shape kvs.store) (view_in kvs.store) changes) []) old new)
+      → Elapses old new → IsStoring told (store_shape kvs.store) (Opens (synced_view kvs) []) old new
   commit_storing told old new elsewhere outside any_moment time = record {
     elsewhere = elsewhere;
     outside = outside;
-    any_moment = λ tells. kept_mending (shape_of kvs.store) (Opens (synced_view kvs) []) old new
-        (subst (λ (v : View). KeptThroughout (shape_of kvs.store) (Opens v []) old new) view_then (any_moment tells));
+    any_moment = λ tells. kept_mending (store_shape kvs.store) (Opens (synced_view kvs) []) old new
+        (subst (λ (v : View). KeptThroughout (store_shape kvs.store) (Opens v []) old new) view_then (any_moment tells));
     time = time;
   }

@@ -1,11 +1,11 @@
 -- What an opening of keys gives.
-use Rattle.element_store.specs.Stores.{shape_of, view_in}
+use Rattle.element_store.specs.Stores.{store_shape, view_in}
 use Rattle.element_maps.specs.Storages.{Opened}
 use Rattle.kvs_store.specs.declared.opening.OpenedKvs.{OpenedKvs}
 
 abbrev pub opened_as : OpenedKvs → Opened
 opened_as o = record {
-  shape = shape_of o.kvs.store;
+  shape = store_shape o.kvs.store;
   view = view_in o.kvs.store;
   synced = o.kvs.session.synced;
   reports =

@@ -5,7 +5,7 @@ use Rattle.per_base.specs.Maps.{Map}
 use Rattle.deployment_model.specs.Data.{StorageData}
 use Rattle.element_state.specs.declared.shapes.View.{View}
 use Rattle.element_store.specs.declared.store.Store.{Store}
-use Rattle.element_store.specs.Stores.{shape_of, view_in}
+use Rattle.element_store.specs.Stores.{store_shape, view_in}
 use Rattle.element_maps.specs.Sessions.{synchronised}
 use Rattle.element_maps.specs.Storages.{IsConfigured}
 use Rattle.key_maps.specs.KeyElements.{is_encoding}
@@ -32,5 +32,5 @@ keys_in v = synchronised is_encoding v
 
 -- the session of a storage of keys that is as it is configured; what is synchronised is what the storage shows
 pub record IsOpen (store : Store) (session : Session) : Type 0 where
-  pub configured : IsConfigured Keys session.config (shape_of store)
+  pub configured : IsConfigured Keys session.config (store_shape store)
   pub synced : session.synced ≡ keys_in (view_in store)

@@ -5,7 +5,7 @@ use Rattle.index_text.specs.Spelling.{index_text}
 use Rattle.element_state.specs.declared.shapes.View.{View}
 use Rattle.element_state.specs.Written.{IsWithin, map_cost}
 use Rattle.element_store.specs.Committing.{index_in, index_length}
-use Rattle.element_store.specs.Stores.{IsUsed, shape_of, view_in}
+use Rattle.element_store.specs.Stores.{IsUsed, store_shape, view_in}
 use Rattle.element_maps.specs.Sessions as maps
 use Rattle.element_maps.specs.Storages.{IsDurable, KeepsEqual}
 use Rattle.key_maps.specs.TwoMaps.{TwoMaps}
@@ -23,28 +23,29 @@ marked_synced session = record session { synced = session.visible }
 
 -- the view after a sync: that of before where nothing differs
 abbrev pub synced_view : KvsSession → View
-synced_view kvs = maps.view_once_synced (shape_of kvs.store) (view_in kvs.store) kvs.session.synced kvs.session.visible
+synced_view kvs = maps.view_once_synced (store_shape kvs.store) (view_in kvs.store) kvs.session.synced
+    kvs.session.visible
 
 -- in each copy at most the keys that differ, and the next index
 abbrev pub WritesAtMost : KvsSession → (old new : Medium) → Type 0
-WritesAtMost kvs old new = IsWithin (shape_of kvs.store).place.copies
-    (map_cost (shape_of kvs.store).kind kvs.session.synced kvs.session.visible)
-    (index_length (shape_of kvs.store).kind (synced_view kvs).entries) old.written new.written
+WritesAtMost kvs old new = IsWithin (store_shape kvs.store).place.copies
+    (map_cost (store_shape kvs.store).kind kvs.session.synced kvs.session.visible)
+    (index_length (store_shape kvs.store).kind (synced_view kvs).entries) old.written new.written
 
 -- what the calls see is durable in a later storage, and all else of it stays
 pub record IsSynced (told : Bool) (kvs later : KvsSession) (old new : Medium) : Type 0 where
   pub session : later ≡ record kvs { store = later.store; session = marked_synced kvs.session }
-  pub shape : shape_of later.store ≡ shape_of kvs.store
+  pub shape : store_shape later.store ≡ store_shape kvs.store
   pub view : view_in later.store ≡ synced_view kvs
   pub used : IsUsed told new.image later.store
-  pub durable : IsDurable told (shape_of kvs.store) kvs.session.synced kvs.session.visible
+  pub durable : IsDurable told (store_shape kvs.store) kvs.session.synced kvs.session.visible
       (length (index_text (index_in later.store))) old new
   -- its index
   pub carried : KeepsEqual kvs.session.synced kvs.session.visible (index_in kvs.store).entries
       (index_in later.store).entries
   pub format : is_synced kvs ≡ false → (index_in later.store).format ≡ 2
   pub text : is_synced kvs ≡ false → length (index_text (index_in later.store))
-      ≡ index_length (shape_of kvs.store).kind (view_in later.store).entries
+      ≡ index_length (store_shape kvs.store).kind (view_in later.store).entries
 
 -- all but a failure of the device hands the storage back, and then this holds
 abbrev pub HandsBack : KvsSession → SyncFault → Type 0 → Type 0

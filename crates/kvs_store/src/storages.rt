@@ -3,7 +3,7 @@
 ghost use Rattle.std.specs.Prelude.{◌≡◌};
 ghost use Rattle.per_base.specs.declared.elements.StoreKind.TheVariants.{Keys};
 ghost use Rattle.element_maps.specs.Storages.{IsConfigured};
-ghost use Rattle.element_store.specs.Stores.{shape_of, view_in};
+ghost use Rattle.element_store.specs.Stores.{store_shape, view_in};
 ghost use Rattle.key_maps.specs.TwoMaps.{AreTwoMaps};
 ghost use Rattle.kvs_core.specs.Sessions.{HasRoom};
 ghost use Rattle.kvs_store.specs.Storages.{keys_in};
@@ -50,7 +50,7 @@ impl Kvs {
     pub fn invariants(&self)
         ensures maps { AreTwoMaps self.now.session }
         ensures room { HasRoom self.now.config self.now.session }
-        ensures configured { IsConfigured Keys self.now.config (shape_of self.now.store) }
+        ensures configured { IsConfigured Keys self.now.config (store_shape self.now.store) }
         ensures synced { self.now.session.synced ≡ keys_in (view_in self.now.store) }
     {
         self.session.invariants();

@@ -5,7 +5,7 @@ ghost use Rattle.per_base.specs.Causes.{Rose};
 ghost use Rattle.index_text.specs.Spelling.{index_text};
 ghost use Rattle.element_state.specs.States.{Opens, greatest_generation, is_worn};
 ghost use Rattle.element_store.specs.Committing.{index_in, index_length};
-ghost use Rattle.element_store.specs.Stores.{IsUsed, shape_of, view_in};
+ghost use Rattle.element_store.specs.Stores.{IsUsed, store_shape, view_in};
 ghost use Rattle.element_maps.specs.Differences.{MakeInto};
 ghost use Rattle.element_maps.specs.Storages.{IsDurable, IsStoring, KeepsEqual};
 ghost use Rattle.kvs_store.specs.Synced.{HandsBack, IsDeviceFault, IsSynced, WritesAtMost, is_synced};
@@ -44,7 +44,7 @@ impl Kvs {
         // What the calls see is then what is synchronised and what the storage shows, and all else stays.
         ensures session { IfOk result (λ kvs. kvs
             ≡ record self { store = kvs.store; session = marked_synced self.session }) }
-        ensures shape { IfOk result (λ kvs. shape_of kvs.store ≡ shape_of self.store) }
+        ensures shape { IfOk result (λ kvs. store_shape kvs.store ≡ store_shape self.store) }
         ensures view { IfOk result (λ kvs. view_in kvs.store ≡ synced_view self) }
         ensures used { IfOk result (λ kvs. IsUsed D.told (D.medium disk.new).image kvs.store) }
 
@@ -59,7 +59,7 @@ impl Kvs {
             → Rose (D.medium disk.old).faults (D.medium disk.new).faults) }
 
         // What differed is durable: in each copy the keys that do, and the index.
-        ensures durable { IfOk result (λ kvs. IsDurable D.told (shape_of self.store) self.session.synced
+        ensures durable { IfOk result (λ kvs. IsDurable D.told (store_shape self.store) self.session.synced
             self.session.visible
             (length (index_text (index_in kvs.store))) (D.medium disk.old) (D.medium disk.new)) }
         ensures at_most { WritesAtMost self (D.medium disk.old) (D.medium disk.new) }
@@ -69,10 +69,10 @@ impl Kvs {
             (index_in self.store).entries (index_in kvs.store).entries) }
         ensures format { is_synced self ≡ false → IfOk result (λ kvs. (index_in kvs.store).format ≡ 2) }
         ensures text { is_synced self ≡ false → IfOk result (λ kvs. length (index_text (index_in kvs.store))
-            ≡ index_length (shape_of self.store).kind (view_in kvs.store).entries) }
+            ≡ index_length (store_shape self.store).kind (view_in kvs.store).entries) }
 
         // No file outside the place changes, and a stop at any moment leaves the storage of before or that of after.
-        ensures storing { IsStoring D.told (shape_of self.store) (Opens (synced_view self) []) (D.medium disk.old)
+        ensures storing { IsStoring D.told (store_shape self.store) (Opens (synced_view self) []) (D.medium disk.old)
             (D.medium disk.new) }
     {
         untouched_is_kept();
@@ -117,7 +117,7 @@ impl Kvs {
         ensures cause { IfErr result (λ fault. IsDeviceFault fault
             → Rose (D.medium disk.old).faults (D.medium disk.new).faults) }
         ensures at_most { WritesAtMost self (D.medium disk.old) (D.medium disk.new) }
-        ensures storing { IsStoring D.told (shape_of self.store) (Opens (synced_view self) []) (D.medium disk.old)
+        ensures storing { IsStoring D.told (store_shape self.store) (Opens (synced_view self) []) (D.medium disk.old)
             (D.medium disk.new) }
     {
         changes_make_maps();

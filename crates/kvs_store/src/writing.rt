@@ -6,7 +6,7 @@ ghost use Rattle.per_base.specs.Maps.{element_at};
 ghost use Rattle.per_base.specs.Refusals.{IsRefusal, NeedsMemory};
 ghost use Rattle.value_model.specs.Trees.{type_of};
 ghost use Rattle.per_value.specs.Memory.{Allocates};
-ghost use Rattle.deployment_model.specs.Lookups.{initial_of};
+ghost use Rattle.deployment_model.specs.Lookups.{initial_content};
 ghost use Rattle.kvs_core.specs.Calls as calls;
 ghost use Rattle.kvs_store.specs.Storages.{kvs_session, showing};
 
@@ -110,7 +110,7 @@ impl Kvs {
             → NeedsMemory (calls.recover_key (kvs_session self.old).config (kvs_session self.old).visible name.now)) }
         ensures copies { IfErr result (λ error. error ≡ PerError.OutOfMemory → (key : Element)
             → element_at (kvs_session self.old).visible name.now ≡ Some key
-            → calls.TakesCopy (initial_of (kvs_session self.old).config name.now) key.content) }
+            → calls.TakesCopy (initial_content (kvs_session self.old).config name.now) key.content) }
         ensures beside { self.new ≡ showing self.old (kvs_session self.new).visible }
         ensures unchanged { OnErr result (self.new ≡ self.old) }
     {
@@ -126,6 +126,7 @@ impl Kvs {
     pub fn reset_key(&mut self, name: &Name) -> Result<(), PerError>
         ensures ok { OnOk result (calls.reset_key (kvs_session self.old).config (kvs_session self.old).visible name.now
             ≡ Ok (kvs_session self.new).visible) }
+        // The refusal that is due, or `OutOfMemory`.
         ensures refused { IfErr result (λ error.
             IsRefusal (calls.reset_key (kvs_session self.old).config (kvs_session self.old).visible name.now) error) }
         // `OutOfMemory` never replaces a refusal.

@@ -17,15 +17,15 @@ use Rattle.std.proofs.lemmas.Map.Keys.{IsDistinct-cons, IsDistinct-from_sorted, 
 use Rattle.std.proofs.lemmas.Map.Made.{IsDistinct-from_count, distinct_count-from_IsDistinct, length-from_keys}
 use Rattle.std.proofs.lemmas.Map.Text.{is_eq-slice_cmp}
 use Rattle.per_base.specs.Names.{name_cmp}
-use Rattle.manifest.specs.Parts.{Listed, NamedParts, name_in, named, with_named}
+use Rattle.manifest.specs.Parts.{ListedThing, NamedParts, name_in, named, with_named}
 use Rattle.manifest.specs.Rules.{all_differ, names_differ}
 use Rattle.manifest.proofs.ByName.{Entry, equal_names, keys_sorted}
 
 abbrev same : List ℕ → List ℕ → Bool
 same a b = is_eq (name_cmp a b)
 
-abbrev names : List Listed → List (List ℕ)
-names ls = map (λ (l : Listed). name_in l.1) ls
+abbrev names : List ListedThing → List (List ℕ)
+names ls = map (λ (l : ListedThing). name_in l.1) ls
 
 -- ---- which names there are
 
@@ -47,7 +47,7 @@ or_nothing : (b : Bool) → b ≡ (b || false)
 or_nothing true = refl
 or_nothing false = refl
 
-any_at : (o : Ordering) (q k : List ℕ) (v : Listed) (e : Entry) (es more : NamedParts) → name_cmp k e.0 ≡ o
+any_at : (o : Ordering) (q k : List ℕ) (v : ListedThing) (e : Entry) (es more : NamedParts) → name_cmp k e.0 ≡ o
     → list_any (same q) (keys_of more) ≡ (same q k || list_any (same q) (keys_of es))
     → list_any (same q) (keys_of (match_ordering o ((k, v) ∷ e ∷ es) ((e.0, v) ∷ es) (e ∷ more)))
     ≡ (same q k || list_any (same q) (keys_of (e ∷ es)))
@@ -59,12 +59,12 @@ any_at Equal q k v e es more is rest =
 any_at Greater q k v e es more is rest = ap (λ b. same q e.0 || b) rest
     ∙ swapped (same q e.0) (same q k) (list_any (same q) (keys_of es))
 
-any_inserted : (q k : List ℕ) (v : Listed) (es : NamedParts)
+any_inserted : (q k : List ℕ) (v : ListedThing) (es : NamedParts)
     → list_any (same q) (keys_of (insert_entry name_cmp es k v)) ≡ (same q k || list_any (same q) (keys_of es))
 any_inserted q k v [] = refl
 any_inserted q k v (e ∷ es) = any_at (name_cmp k e.0) q k v e es _ refl (any_inserted q k v es)
 
-any_from : (q : List ℕ) (ls : List Listed) (m : NamedParts)
+any_from : (q : List ℕ) (ls : List ListedThing) (m : NamedParts)
     → list_any (same q) (keys_of (fold with_named m ls))
     ≡ (list_any (same q) (keys_of m) || list_any (same q) (names ls))
 any_from q [] m = or_nothing (list_any (same q) (keys_of m))
@@ -72,7 +72,7 @@ any_from q (l ∷ ls) m =
     any_from q ls (with_named m l) ∙ ap (λ b. b || list_any (same q) (names ls)) (any_inserted q (name_in l.1) l m)
     ∙ shifted (same q (name_in l.1)) (list_any (same q) (keys_of m)) (list_any (same q) (names ls))
 
-any_named : (q : List ℕ) (ls : List Listed) → list_any (same q) (keys_of (named ls)) ≡ list_any (same q) (names ls)
+any_named : (q : List ℕ) (ls : List ListedThing) → list_any (same q) (keys_of (named ls)) ≡ list_any (same q) (names ls)
 unfolding named
 any_named q ls = any_from q ls []
 
@@ -80,11 +80,11 @@ length-keys : (m : NamedParts) → length (keys_of m) ≡ length m
 length-keys [] = refl
 length-keys (e ∷ m) = ap suc (length-keys m)
 
-length-names : (ls : List Listed) → length (names ls) ≡ length ls
+length-names : (ls : List ListedThing) → length (names ls) ≡ length ls
 length-names [] = refl
 length-names (l ∷ ls) = ap suc (length-names ls)
 
-as_many : (ls : List Listed) → length (named ls) ≡ distinct_count same (names ls)
+as_many : (ls : List ListedThing) → length (named ls) ≡ distinct_count same (names ls)
 as_many ls =
     sym (length-keys (named ls))
     ∙ length-from_keys (eq_by_cmp_equiv nat_list_cmp_total) (keys_of (named ls)) (names ls)
@@ -125,7 +125,7 @@ decided false m n same back = unequal (nat_eq m n) (λ h. back ((Decides-eqb m n
     unequal true h = sym (h refl)
     unequal false h = refl
 
-pub counted : (ls : List Listed) → nat_eq (length (named ls)) (length ls) ≡ names_differ ls
+pub counted : (ls : List ListedThing) → nat_eq (length (named ls)) (length ls) ≡ names_differ ls
 unfolding names_differ
 counted ls =
     let laws = eq_by_cmp_equiv nat_list_cmp_total in

@@ -27,10 +27,10 @@ use Rattle.deployment_model.specs.Data.{deployment_data, ElementData, StorageDat
 use Rattle.deployment_model.specs.Conditions.{HasTypeFor, IsEncodingOf, IsInitial, StartsAs, IsElement, IsStorage}
 use Rattle.deployment_model.specs.Conditions.{IsDeployment, initial_size as start_of, overwrites}
 use Rattle.manifest.specs.Values.{is_in_range, may_be, whole_in}
-use Rattle.manifest.specs.Parts.{Listed, storages, elements, all_elements, name_in, maximum_in, redundancy_in}
+use Rattle.manifest.specs.Parts.{ListedThing, storages, elements, all_elements, name_in, maximum_in, redundancy_in}
 use Rattle.manifest.specs.Parts.{agreeing_in, copies_in, version_in, strategy_in, type_in, type_for, encoding_as}
 use Rattle.manifest.specs.Parts.{key_bytes, file_bytes, if_short, is_lower_digit, ok_of, bytes_said, initial_in}
-use Rattle.manifest.specs.Rules.{first_broken, or_else, whole_rules, storage_rules, element_rules, least_broken}
+use Rattle.manifest.specs.Rules.{first_broken, or_else, whole_rules, storage_rules, element_rules, first_violated}
 use Rattle.manifest.specs.Rules.{has_version, has_few_storages, are_named, is_named, sizes_are_in_range, has_size}
 use Rattle.manifest.specs.Rules.{has_sizes, minimums_are_below, has_minimum_below, maximums_fit_together}
 use Rattle.manifest.specs.Rules.{redundancies_have_counts, are_counts, says_counts, has_counts, elements_are_few}
@@ -78,7 +78,7 @@ within_range low high default (Some n) h = let both = and_parts _ _ h in (leb-tr
 
 -- ---- an element
 
-typed : (e : Listed) → has_type e ≡ true → HasTypeFor e.0 (type_for e)
+typed : (e : ListedThing) → has_type e ≡ true → HasTypeFor e.0 (type_for e)
 unfolding has_type
 typed (Keys, d) h = has_a_type d (type_in d) refl h
 typed (Files, d) h = refl
@@ -118,7 +118,7 @@ file_starts : (text bytes : List ℕ) → file_bytes text ≡ Some bytes → len
 unfolding file_bytes
 file_starts text bytes e = file_read (list_all is_lower_digit text) (ok_of (decode_of text)) bytes e
 
-starts_at : (e : Listed) (o : Option (List ℕ)) → initial_in e ≡ o → StartsAs e.0 (type_for e) o
+starts_at : (e : ListedThing) (o : Option (List ℕ)) → initial_in e ≡ o → StartsAs e.0 (type_for e) o
 unfolding initial_in
 starts_at e None is = tt
 starts_at (Keys, d) (Some bytes) is = let said = then_some (bytes_said (Keys, d)) _ bytes is in
@@ -126,7 +126,7 @@ starts_at (Keys, d) (Some bytes) is = let said = then_some (bytes_said (Keys, d)
 starts_at (Files, d) (Some bytes) is = let said = then_some (bytes_said (Files, d)) _ bytes is in
     file_starts said.0 bytes said.2
 
-starts : (e : Listed) → StartsAs e.0 (type_for e) (initial_in e)
+starts : (e : ListedThing) → StartsAs e.0 (type_for e) (initial_in e)
 starts e = starts_at e (initial_in e) refl
 
 -- what is overwritten has an initial content that was read
@@ -140,13 +140,13 @@ not_absent : {A : Type 0} (o : Option A) → is_none o ≡ not (is_some o)
 not_absent None = refl
 not_absent (Some a) = refl
 
-record KeepsRules (e : Listed) : Type 0 where
+record KeepsRules (e : ListedThing) : Type 0 where
   named : is_named e ≡ true
   has_type : has_type e ≡ true
   read : may_start e ≡ true
   strategy : has_strategy e ≡ true
 
-element_keeps : (kind : StoreKind) (e : Listed) → (e.0 ≡ kind) × KeepsRules e → IsElement kind (element_said e)
+element_keeps : (kind : StoreKind) (e : ListedThing) → (e.0 ≡ kind) × KeepsRules e → IsElement kind (element_said e)
 unfolding element_said is_named may_start has_strategy
 element_keeps kind e (is, rules) =
     let strategy = and_parts _ _ rules.strategy in
@@ -165,7 +165,7 @@ maximum_kept : (o : Option Data) → may_be (has_size 1) o ≡ true
 maximum_kept None h = (lit≤ tt, lit≤ tt)
 maximum_kept (Some d) h = within_range 1 4194304 1048576 (whole_in (Some d)) h
 
-maximum_range : (s : Listed) → has_sizes s ≡ true → (1 ≤ maximum_in s.1) × (maximum_in s.1 ≤ 4194304)
+maximum_range : (s : ListedThing) → has_sizes s ≡ true → (1 ≤ maximum_in s.1) × (maximum_in s.1 ≤ 4194304)
 unfolding maximum_in has_sizes
 maximum_range s h = maximum_kept (get (codes "maximumAllowedSize") s.1) (and_parts _ _ h).1
 
@@ -184,12 +184,12 @@ counts_kept : (o : Option Data) → may_be says_counts o ≡ true
 counts_kept None h = (lit≤ tt, lit≤ tt, lit≤ tt)
 counts_kept (Some r) h = pair_kept (agreeing_in r) (copies_in r) h
 
-elements_kind : (kind : StoreKind) (ds : List Data) → AllByRecursion (λ (e : Listed). e.0 ≡ kind)
+elements_kind : (kind : StoreKind) (ds : List Data) → AllByRecursion (λ (e : ListedThing). e.0 ≡ kind)
     (map (λ d. (kind, d)) ds)
 elements_kind kind [] = tt
 elements_kind kind (d ∷ ds) = (refl, elements_kind kind ds)
 
-of_the_kind : (s : Listed) → AllByRecursion (λ (e : Listed). e.0 ≡ s.0) (elements s)
+of_the_kind : (s : ListedThing) → AllByRecursion (λ (e : ListedThing). e.0 ≡ s.0) (elements s)
 unfolding elements
 of_the_kind s = elements_kind s.0 _
 
@@ -205,26 +205,26 @@ sum-map : {A B : Type 0} (f : B → ℕ) (g : A → B) (xs : List A) → sum_by 
 sum-map f g [] = refl
 sum-map f g (x ∷ xs) = omega (arith, sum_by-cons f (g x) (map g xs), sum_by-cons (λ y. f (g y)) x xs, sum-map f g xs)
 
-names_of_elements : (ls : List Listed) → map (λ (e : ElementData). e.name) (map element_said ls)
-    ≡ map (λ (l : Listed). name_in l.1) ls
+names_of_elements : (ls : List ListedThing) → map (λ (e : ElementData). e.name) (map element_said ls)
+    ≡ map (λ (l : ListedThing). name_in l.1) ls
 unfolding element_said
 names_of_elements ls = map-map (λ (e : ElementData). e.name) element_said ls
 
-names_of_storages : (ls : List Listed) → map (λ (s : StorageData). s.name) (map storage_said ls)
-    ≡ map (λ (l : Listed). name_in l.1) ls
+names_of_storages : (ls : List ListedThing) → map (λ (s : StorageData). s.name) (map storage_said ls)
+    ≡ map (λ (l : ListedThing). name_in l.1) ls
 unfolding storage_said
 names_of_storages ls = map-map (λ (s : StorageData). s.name) storage_said ls
 
-sizes_of_elements : (ls : List Listed) → sum_by start_of (map element_said ls) ≡ sum_by initial_size ls
+sizes_of_elements : (ls : List ListedThing) → sum_by start_of (map element_said ls) ≡ sum_by initial_size ls
 unfolding element_said initial_size
 sizes_of_elements ls = sum-map start_of element_said ls
 
-sizes_of_storages : (ls : List Listed) → sum_by (λ (s : StorageData). s.maximum) (map storage_said ls)
-    ≡ sum_by (λ (l : Listed). maximum_in l.1) ls
+sizes_of_storages : (ls : List ListedThing) → sum_by (λ (s : StorageData). s.maximum) (map storage_said ls)
+    ≡ sum_by (λ (l : ListedThing). maximum_in l.1) ls
 unfolding storage_said
 sizes_of_storages ls = sum-map (λ (s : StorageData). s.maximum) storage_said ls
 
-record StorageRules (s : Listed) : Type 0 where
+record StorageRules (s : ListedThing) : Type 0 where
   named : is_named s ≡ true
   sizes : has_sizes s ≡ true
   minimum : has_minimum_below s ≡ true
@@ -233,7 +233,7 @@ record StorageRules (s : Listed) : Type 0 where
   elements : AllByRecursion KeepsRules (elements s)
   room : has_room s ≡ true
 
-storage_keeps : (s : Listed) → StorageRules s → IsStorage (storage_said s)
+storage_keeps : (s : ListedThing) → StorageRules s → IsStorage (storage_said s)
 unfolding storage_said is_named has_minimum_below has_counts has_few_elements has_room
 storage_keeps s rules =
     let ordered = by_name (elements s) in
@@ -241,8 +241,8 @@ storage_keeps s rules =
     let counts = counts_kept (redundancy_in s.1) rules.counts in
     let few : length (elements s) ≤ 1024 = leb-true _ _ (and_parts _ _ rules.few).1 in
     let room : sum_by initial_size (elements s) ≤ maximum_in s.1 = leb-true _ _ rules.room in
-    let kept = all_by_name (λ (e : Listed). (e.0 ≡ s.0) × KeepsRules e) (elements s)
-    (both_all (λ (e : Listed). e.0 ≡ s.0) KeepsRules (elements s) (of_the_kind s) rules.elements) in
+    let kept = all_by_name (λ (e : ListedThing). (e.0 ≡ s.0) × KeepsRules e) (elements s)
+    (both_all (λ (e : ListedThing). e.0 ≡ s.0) KeepsRules (elements s) (of_the_kind s) rules.elements) in
     record {
       name = rules.named;
       minimum = leb-true _ _ rules.minimum;
@@ -253,14 +253,14 @@ storage_keeps s rules =
       copies = counts.2;
       few = omega (arith, length_map element_said ordered, length_by_name (elements s), few);
       ascends = subst (IsStrictlySortedBy name_cmp) (sym (names_of_elements ordered)) (sorted_by_name (elements s));
-      each = all_map (λ (e : Listed). (e.0 ≡ s.0) × KeepsRules e) (IsElement s.0) element_said (element_keeps s.0)
+      each = all_map (λ (e : ListedThing). (e.0 ≡ s.0) × KeepsRules e) (IsElement s.0) element_said (element_keeps s.0)
           ordered kept;
       fits = omega (arith, sizes_of_elements ordered, sum_by_name initial_size (elements s), room);
     }
 
 -- ---- the whole
 
-gathered_elements : (es : List Listed) → AllByRecursion (λ e. is_named e ≡ true) es
+gathered_elements : (es : List ListedThing) → AllByRecursion (λ e. is_named e ≡ true) es
     → AllByRecursion (λ e. has_type e ≡ true) es → AllByRecursion (λ e. may_start e ≡ true) es
     → AllByRecursion (λ e. has_strategy e ≡ true) es
     → AllByRecursion KeepsRules es
@@ -270,7 +270,8 @@ gathered_elements (e ∷ es) n t r s = (
   gathered_elements es n.1 t.1 r.1 s.1,
 )
 
-gathered : (ss : List Listed) → AllByRecursion (λ s. is_named s ≡ true) ss → AllByRecursion (λ s. has_sizes s ≡ true) ss
+gathered : (ss : List ListedThing) → AllByRecursion (λ s. is_named s ≡ true) ss
+    → AllByRecursion (λ s. has_sizes s ≡ true) ss
     → AllByRecursion (λ s. has_minimum_below s ≡ true) ss → AllByRecursion (λ s. has_counts s ≡ true) ss
     → AllByRecursion (λ s. has_few_elements s ≡ true) ss
     → AllByRecursion (λ s. AllByRecursion KeepsRules (elements s)) ss → AllByRecursion (λ s. has_room s ≡ true) ss
@@ -290,7 +291,7 @@ gathered (s ∷ ss) n z m c f e r = (
   gathered ss n.1 z.1 m.1 c.1 f.1 e.1 r.1,
 )
 
-zipped : (ss : List Listed) → are_named ss ≡ true → sizes_are_in_range ss ≡ true → minimums_are_below ss ≡ true
+zipped : (ss : List ListedThing) → are_named ss ≡ true → sizes_are_in_range ss ≡ true → minimums_are_below ss ≡ true
     → redundancies_have_counts ss ≡ true → elements_are_few ss ≡ true
     → are_named (all_elements ss) ≡ true → keys_have_types (all_elements ss) ≡ true
     → initials_are_read (all_elements ss) ≡ true → elements_have_strategies (all_elements ss) ≡ true
@@ -327,13 +328,13 @@ storages_few : (d : Data) → has_few_storages d ≡ true → length (storages d
 unfolding has_few_storages
 storages_few d h = leb-true _ _ h
 
-maximums_few : (ss : List Listed) → maximums_fit_together ss ≡ true
-    → sum_by (λ (s : Listed). maximum_in s.1) ss ≤ 16777216
+maximums_few : (ss : List ListedThing) → maximums_fit_together ss ≡ true
+    → sum_by (λ (s : ListedThing). maximum_in s.1) ss ≤ 16777216
 unfolding maximums_fit_together
 maximums_few ss h = leb-true _ _ h
 
-pub keeps : (d : Data) → least_broken d ≡ None → IsDeployment (deployment_said d)
-unfolding least_broken deployment_said
+pub keeps : (d : Data) → first_violated d ≡ None → IsDeployment (deployment_said d)
+unfolding first_violated deployment_said
 keeps d h =
     let ss = storages d in
     let first = neither _ _ h in
@@ -355,7 +356,7 @@ keeps d h =
       room = omega (
         arith,
         sizes_of_storages ordered,
-        sum_by_name (λ (s : Listed). maximum_in s.1) ss,
+        sum_by_name (λ (s : ListedThing). maximum_in s.1) ss,
         maximums_few ss (of_storages.1.1.1.1.1.0),
       );
     }

@@ -11,7 +11,7 @@ use Rattle.serde_json.specs.View.{view}
 use Rattle.manifest.specs.Parts.{name_in}
 use Rattle.manifest.specs.Parts.{NamedParts, with_named}
 use Rattle.per_base.specs.Names.{name_cmp}
-use Rattle.manifest.specs.declared.parts.Listed.{Listed as Part}
+use Rattle.manifest.specs.declared.parts.ListedThing.{ListedThing as Part}
 use Rattle.manifest.specs.Views.{listed_view, listed_views, named_views}
 
 abbrev pub text_cmp : Bor (List ℕ) → Bor (List ℕ) → Ordering

@@ -4,11 +4,12 @@ use Rattle.serde_json.specs.Data.{Data}
 use Rattle.per_base.specs.declared.elements.Scope.TheVariants as scope
 use Rattle.deployment_model.specs.declared.configs.CollectionStrategy.TheVariants as collection
 use Rattle.deployment_model.specs.Data.{ElementData, StorageData, DeploymentData}
-use Rattle.manifest.specs.Parts.{Listed, by_name, storages, elements, name_in, minimum_in, maximum_in, collection_in}
+use Rattle.manifest.specs.Parts.{ListedThing, by_name, storages, elements, name_in, minimum_in, maximum_in}
+use Rattle.manifest.specs.Parts.{collection_in}
 use Rattle.manifest.specs.Parts.{read_only_in, redundancy_in, agreeing_in, copies_in, scope_in, version_in, strategy_in}
 use Rattle.manifest.specs.Parts.{type_for, initial_in}
 
-unfoldable pub element_said : Listed → ElementData
+unfoldable pub element_said : ListedThing → ElementData
 element_said e = record {
   name = name_in e.1;
   value_type = type_for e;
@@ -17,7 +18,7 @@ element_said e = record {
       strategy_in e.1;
 }
 
-unfoldable pub storage_said : Listed → StorageData
+unfoldable pub storage_said : ListedThing → StorageData
 storage_said s = record {
   name = name_in s.1;
   kind = s.0;

@@ -13,6 +13,7 @@ use Rattle.per_base.specs.declared.elements.StoreKind.{StoreKind}
 use Rattle.per_base.specs.declared.elements.StoreKind.TheVariants.{Keys, Files}
 use Rattle.per_base.specs.declared.elements.Scope.{Scope}
 use Rattle.per_base.specs.declared.elements.Scope.TheVariants as scope
+use Rattle.per_base.specs.Maps.{first_row}
 use Rattle.value_model.specs.Kinds.{Kind}
 use Rattle.value_model.specs.Trees.{Tree, type_of}
 use Rattle.value_model.specs.Encoding.{encoding}
@@ -25,14 +26,14 @@ use Rattle.deployment_model.specs.declared.configs.ElementStrategy.TheVariants a
 use Rattle.manifest.specs.Values.{small_in, text_in, things_in, whole_in}
 
 -- a storage as it is listed, or one of its elements: its kind, and what is said of it
-abbrev pub Listed : Type 0
-Listed = StoreKind × Data
+abbrev pub ListedThing : Type 0
+ListedThing = StoreKind × Data
 
-abbrev pub things_of_kind : StoreKind → List Data → List Listed
+abbrev pub things_of_kind : StoreKind → List Data → List ListedThing
 things_of_kind kind things = map (λ d. (kind, d)) things
 
 -- the storages of keys, and then those of files
-unfoldable pub storages : Data → List Listed
+unfoldable pub storages : Data → List ListedThing
 storages d = things_of_kind Keys (things_in (get (codes "keyValueStorages") d))
     ++ things_of_kind Files (things_in (get (codes "fileStorages") d))
 
@@ -40,10 +41,10 @@ abbrev pub elements_word : StoreKind → List ℕ
 elements_word Keys = codes "keyValuePairs"
 elements_word Files = codes "files"
 
-unfoldable pub elements : Listed → List Listed
+unfoldable pub elements : ListedThing → List ListedThing
 elements s = things_of_kind s.0 (things_in (get (elements_word s.0) s.1))
 
-abbrev pub all_elements : List Listed → List Listed
+abbrev pub all_elements : List ListedThing → List ListedThing
 all_elements ss = flat_map elements ss
 
 -- a name that is missing is no name
@@ -52,16 +53,16 @@ name_in d = unwrap_or (text_in (get (codes "name") d)) []
 
 -- things by their names, in the order of the names
 abbrev pub NamedParts : Type 0
-NamedParts = List (List ℕ × Listed)
+NamedParts = List (List ℕ × ListedThing)
 
-abbrev pub with_named : NamedParts → Listed → NamedParts
+abbrev pub with_named : NamedParts → ListedThing → NamedParts
 with_named found l = insert_entry name_cmp found (name_in l.1) l
 
-unfoldable pub named : List Listed → NamedParts
+unfoldable pub named : List ListedThing → NamedParts
 named ls = fold with_named [] ls
 
-abbrev pub by_name : List Listed → List Listed
-by_name ls = map (λ (e : List ℕ × Listed). e.1) (named ls)
+abbrev pub by_name : List ListedThing → List ListedThing
+by_name ls = map (λ (e : List ℕ × ListedThing). e.1) (named ls)
 
 -- ---- what is said of the manifest as a whole
 
@@ -76,20 +77,15 @@ minimum_in d = unwrap_or (whole_in (get (codes "minimumSustainedSize") d)) 0
 unfoldable pub maximum_in : Data → ℕ
 maximum_in d = unwrap_or (whole_in (get (codes "maximumAllowedSize") d)) 1048576
 
--- what the text says, by the rows of a table
-abbrev pub word_in : {A : Type 0} → List (List ℕ × A) → List ℕ → Option A
-word_in [] word = None
-word_in (row ∷ rows) word = if bytes_eq word row.0 then Some row.1 else word_in rows word
-
 unfoldable pub collection_said : List ℕ → Option CollectionStrategy
-collection_said word = word_in ((codes "keepExisting", collection.KeepExisting) ∷ (codes "delete", collection.Delete)
+collection_said word = first_row ((codes "keepExisting", collection.KeepExisting) ∷ (codes "delete", collection.Delete)
     ∷ []) word
 
 unfoldable pub scope_said : List ℕ → Option Scope
-scope_said word = word_in ((codes "element", scope.Element) ∷ (codes "storage", scope.Storage) ∷ []) word
+scope_said word = first_row ((codes "element", scope.Element) ∷ (codes "storage", scope.Storage) ∷ []) word
 
 unfoldable pub strategy_said : List ℕ → Option ElementStrategy
-strategy_said word = word_in ((codes "keepExisting", element.KeepExisting) ∷ (codes "overwrite", element.Overwrite)
+strategy_said word = first_row ((codes "keepExisting", element.KeepExisting) ∷ (codes "overwrite", element.Overwrite)
     ∷ (codes "delete", element.Delete) ∷ []) word
 
 unfoldable pub collection_in : Data → Option CollectionStrategy
@@ -118,7 +114,7 @@ strategy_in d = option_and_then strategy_said (text_in (get (codes "updateStrate
 unfoldable pub type_in : Data → Option Kind
 type_in d = option_and_then kind_in (text_in (get (codes "type") d))
 
-abbrev pub type_for : Listed → Option Kind
+abbrev pub type_for : ListedThing → Option Kind
 type_for (Keys, d) = type_in d
 type_for (Files, d) = None
 
@@ -153,10 +149,10 @@ if_short bytes = if nat_le (length bytes) file_limit then Some bytes else None
 unfoldable pub file_bytes : List ℕ → Option (List ℕ)
 file_bytes text = if list_all is_lower_digit text then option_and_then if_short (ok_of (decode_of text)) else None
 
-abbrev pub bytes_said : Listed → List ℕ → Option (List ℕ)
+abbrev pub bytes_said : ListedThing → List ℕ → Option (List ℕ)
 bytes_said (Keys, d) text = key_bytes (type_in d) text
 bytes_said (Files, d) text = file_bytes text
 
 -- what the element starts with
-unfoldable pub initial_in : Listed → Option (List ℕ)
+unfoldable pub initial_in : ListedThing → Option (List ℕ)
 initial_in e = option_and_then (bytes_said e) (text_in (get (codes "initial") e.1))

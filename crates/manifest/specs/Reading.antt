@@ -9,7 +9,7 @@ use Rattle.serde_json.specs.declared.value.Value.{Value}
 use Rattle.deployment_model.specs.Data.{DeploymentData}
 use Rattle.manifest.specs.declared.errors.ManifestError.{ManifestError}
 use Rattle.manifest.specs.declared.errors.ManifestError.TheVariants.{Rejected, OutOfMemory}
-use Rattle.manifest.specs.Rules.{first_broken, least_broken, or_else}
+use Rattle.manifest.specs.Rules.{first_broken, first_violated, or_else}
 use Rattle.manifest.specs.Contents.{deployment_said}
 
 -- the value that the text is, where it is UTF-8 and JSON
@@ -32,7 +32,7 @@ text_rules = (1, is_short) ∷ (2, is_json) ∷ []
 
 abbrev pub broken_in : Option Data → Option ℕ
 broken_in None = None
-broken_in (Some d) = least_broken d
+broken_in (Some d) = first_violated d
 
 -- the first rule that the text violates
 unfoldable pub broken_rule : List ℕ → Option ℕ
@@ -51,7 +51,7 @@ abbrev pub RefusesManifest : Option ℕ → ManifestError → Type 0
 RefusesManifest broken (Rejected rule) = broken ≡ Some rule
 RefusesManifest broken OutOfMemory = ⊤
 
--- a check of rules passed where none is broken
+-- a check of rules passed where none is violated
 abbrev pub Judges : {A : Type 0} → Result A ManifestError → Option ℕ → Type 0
 Judges (Ok a) broken = broken ≡ None
 Judges (Err e) broken = RefusesManifest broken e

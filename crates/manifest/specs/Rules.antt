@@ -10,7 +10,7 @@ use Rattle.per_base.specs.declared.elements.StoreKind.TheVariants.{Keys, Files}
 use Rattle.per_base.specs.Names.{is_name}
 use Rattle.deployment_model.specs.Conditions.{overwrites, start_size}
 use Rattle.manifest.specs.Values.{has_only, is_in_range, is_list_of_objects, is_object, may_be, whole_in}
-use Rattle.manifest.specs.Parts.{Listed, storages, elements, elements_word, all_elements, name_in, minimum_in}
+use Rattle.manifest.specs.Parts.{ListedThing, storages, elements, elements_word, all_elements, name_in, minimum_in}
 use Rattle.manifest.specs.Parts.{maximum_in, collection_said, scope_said, strategy_said, redundancy_in, agreeing_in}
 use Rattle.manifest.specs.Parts.{copies_in, version_in, strategy_in, type_in, initial_in}
 
@@ -38,16 +38,16 @@ abbrev pub storage_words : StoreKind → List (List ℕ)
 storage_words kind = codes "name" ∷ codes "minimumSustainedSize" ∷ codes "maximumAllowedSize" ∷ codes "updateStrategy"
     ∷ codes "readOnly" ∷ codes "redundancy" ∷ elements_word kind ∷ []
 
-unfoldable pub has_storage_members : Listed → Bool
+unfoldable pub has_storage_members : ListedThing → Bool
 has_storage_members s = has_only (storage_words s.0) s.1
 
-unfoldable pub storages_have_known_members : List Listed → Bool
+unfoldable pub storages_have_known_members : List ListedThing → Bool
 storages_have_known_members ss = list_all has_storage_members ss
 
-unfoldable pub is_named : Listed → Bool
+unfoldable pub is_named : ListedThing → Bool
 is_named l = is_name (name_in l.1)
 
-unfoldable pub are_named : List Listed → Bool
+unfoldable pub are_named : List ListedThing → Bool
 are_named ls = list_all is_named ls
 
 -- no name stands again after its place
@@ -55,44 +55,44 @@ abbrev pub all_differ : List (List ℕ) → Bool
 all_differ [] = true
 all_differ (name ∷ names) = not (list_any (bytes_eq name) names) && all_differ names
 
-unfoldable pub names_differ : List Listed → Bool
-names_differ ls = all_differ (map (λ (l : Listed). name_in l.1) ls)
+unfoldable pub names_differ : List ListedThing → Bool
+names_differ ls = all_differ (map (λ (l : ListedThing). name_in l.1) ls)
 
 abbrev pub has_size : ℕ → Data → Bool
 has_size least d = is_in_range least 4194304 (whole_in (Some d))
 
-unfoldable pub has_sizes : Listed → Bool
+unfoldable pub has_sizes : ListedThing → Bool
 has_sizes s = may_be (has_size 0) (get (codes "minimumSustainedSize") s.1)
     && may_be (has_size 1) (get (codes "maximumAllowedSize") s.1)
 
-unfoldable pub sizes_are_in_range : List Listed → Bool
+unfoldable pub sizes_are_in_range : List ListedThing → Bool
 sizes_are_in_range ss = list_all has_sizes ss
 
-unfoldable pub has_minimum_below : Listed → Bool
+unfoldable pub has_minimum_below : ListedThing → Bool
 has_minimum_below s = nat_le (minimum_in s.1) (maximum_in s.1)
 
-unfoldable pub minimums_are_below : List Listed → Bool
+unfoldable pub minimums_are_below : List ListedThing → Bool
 minimums_are_below ss = list_all has_minimum_below ss
 
-unfoldable pub maximums_fit_together : List Listed → Bool
-maximums_fit_together ss = nat_le (sum_by (λ (s : Listed). maximum_in s.1) ss) 16777216
+unfoldable pub maximums_fit_together : List ListedThing → Bool
+maximums_fit_together ss = nat_le (sum_by (λ (s : ListedThing). maximum_in s.1) ss) 16777216
 
 abbrev pub says_collection : Data → Bool
 says_collection d = is_some (option_and_then collection_said (as_str d))
 
-unfoldable pub has_collection_strategy : Listed → Bool
+unfoldable pub has_collection_strategy : ListedThing → Bool
 has_collection_strategy s = may_be says_collection (get (codes "updateStrategy") s.1)
 
-unfoldable pub collections_have_strategies : List Listed → Bool
+unfoldable pub collections_have_strategies : List ListedThing → Bool
 collections_have_strategies ss = list_all has_collection_strategy ss
 
 abbrev pub is_bool : Data → Bool
 is_bool d = is_some (as_bool d)
 
-unfoldable pub says_read_only : Listed → Bool
+unfoldable pub says_read_only : ListedThing → Bool
 says_read_only s = may_be is_bool (get (codes "readOnly") s.1)
 
-unfoldable pub read_only_is_said : List Listed → Bool
+unfoldable pub read_only_is_said : List ListedThing → Bool
 read_only_is_said ss = list_all says_read_only ss
 
 abbrev pub says_scope : Data → Bool
@@ -102,10 +102,10 @@ abbrev pub is_redundancy : Data → Bool
 is_redundancy r = is_object r && has_only (codes "m" ∷ codes "n" ∷ codes "scope" ∷ []) r
     && may_be says_scope (get (codes "scope") r)
 
-unfoldable pub has_redundancy : Listed → Bool
+unfoldable pub has_redundancy : ListedThing → Bool
 has_redundancy s = may_be is_redundancy (redundancy_in s.1)
 
-unfoldable pub redundancies_are_objects : List Listed → Bool
+unfoldable pub redundancies_are_objects : List ListedThing → Bool
 redundancies_are_objects ss = list_all has_redundancy ss
 
 -- at least one copy has to agree, no more than there are, and there are at most 7
@@ -116,72 +116,72 @@ are_counts m n = false
 abbrev pub says_counts : Data → Bool
 says_counts r = are_counts (agreeing_in r) (copies_in r)
 
-unfoldable pub has_counts : Listed → Bool
+unfoldable pub has_counts : ListedThing → Bool
 has_counts s = may_be says_counts (redundancy_in s.1)
 
-unfoldable pub redundancies_have_counts : List Listed → Bool
+unfoldable pub redundancies_have_counts : List ListedThing → Bool
 redundancies_have_counts ss = list_all has_counts ss
 
 -- ---- of the elements
 
-unfoldable pub has_few_elements : Listed → Bool
+unfoldable pub has_few_elements : ListedThing → Bool
 has_few_elements s = may_be is_list_of_objects (get (elements_word s.0) s.1) && nat_le (length (elements s)) 1024
 
-unfoldable pub elements_are_few : List Listed → Bool
+unfoldable pub elements_are_few : List ListedThing → Bool
 elements_are_few ss = list_all has_few_elements ss
 
 abbrev pub element_words : StoreKind → List (List ℕ)
 element_words Keys = codes "name" ∷ codes "type" ∷ codes "initial" ∷ codes "updateStrategy" ∷ []
 element_words Files = codes "name" ∷ codes "initial" ∷ codes "updateStrategy" ∷ []
 
-unfoldable pub has_element_members : Listed → Bool
+unfoldable pub has_element_members : ListedThing → Bool
 has_element_members e = has_only (element_words e.0) e.1
 
-unfoldable pub elements_have_known_members : List Listed → Bool
+unfoldable pub elements_have_known_members : List ListedThing → Bool
 elements_have_known_members es = list_all has_element_members es
 
 -- no two elements of a storage have the same name
-unfoldable pub has_different_elements : Listed → Bool
+unfoldable pub has_different_elements : ListedThing → Bool
 has_different_elements s = names_differ (elements s)
 
-unfoldable pub elements_differ : List Listed → Bool
+unfoldable pub elements_differ : List ListedThing → Bool
 elements_differ ss = list_all has_different_elements ss
 
 -- every element has a name, and no two of a storage have the same
-abbrev pub elements_are_named : List Listed → Bool
+abbrev pub elements_are_named : List ListedThing → Bool
 elements_are_named ss = are_named (all_elements ss) && elements_differ ss
 
-unfoldable pub has_type : Listed → Bool
+unfoldable pub has_type : ListedThing → Bool
 has_type (Keys, d) = is_some (type_in d)
 has_type (Files, d) = true
 
-unfoldable pub keys_have_types : List Listed → Bool
+unfoldable pub keys_have_types : List ListedThing → Bool
 keys_have_types es = list_all has_type es
 
-unfoldable pub may_start : Listed → Bool
+unfoldable pub may_start : ListedThing → Bool
 may_start e = is_none (get (codes "initial") e.1) || is_some (initial_in e)
 
-unfoldable pub initials_are_read : List Listed → Bool
+unfoldable pub initials_are_read : List ListedThing → Bool
 initials_are_read es = list_all may_start es
 
 abbrev pub says_strategy : Data → Bool
 says_strategy d = is_some (option_and_then strategy_said (as_str d))
 
-unfoldable pub has_strategy : Listed → Bool
+unfoldable pub has_strategy : ListedThing → Bool
 has_strategy e = may_be says_strategy (get (codes "updateStrategy") e.1)
     && (not (overwrites (strategy_in e.1)) || is_some (get (codes "initial") e.1))
 
-unfoldable pub elements_have_strategies : List Listed → Bool
+unfoldable pub elements_have_strategies : List ListedThing → Bool
 elements_have_strategies es = list_all has_strategy es
 
-unfoldable pub initial_size : Listed → ℕ
+unfoldable pub initial_size : ListedThing → ℕ
 initial_size e = start_size (name_in e.1) (initial_in e)
 
 -- every element with an initial content counts, whatever an update does with it
-unfoldable pub has_room : Listed → Bool
+unfoldable pub has_room : ListedThing → Bool
 has_room s = nat_le (sum_by initial_size (elements s)) (maximum_in s.1)
 
-unfoldable pub initials_fit : List Listed → Bool
+unfoldable pub initials_fit : List ListedThing → Bool
 initials_fit ss = list_all has_room ss
 
 -- ---- in order
@@ -199,7 +199,7 @@ whole_rules = (3, is_an_object)
     ∷ (7, has_few_storages)
     ∷ []
 
-abbrev pub storage_rules : List (ℕ × (List Listed → Bool))
+abbrev pub storage_rules : List (ℕ × (List ListedThing → Bool))
 storage_rules = (8, storages_have_known_members)
     ∷ (9, are_named)
     ∷ (10, names_differ)
@@ -213,7 +213,7 @@ storage_rules = (8, storages_have_known_members)
     ∷ (18, elements_are_few)
     ∷ []
 
-abbrev pub element_rules : List (ℕ × (List Listed → Bool))
+abbrev pub element_rules : List (ℕ × (List ListedThing → Bool))
 element_rules = (19, λ ss. elements_have_known_members (all_elements ss))
     ∷ (20, elements_are_named)
     ∷ (21, λ ss. keys_have_types (all_elements ss))
@@ -227,6 +227,6 @@ or_else None later = later
 or_else (Some rule) later = Some rule
 
 -- the first rule that a value violates
-unfoldable pub least_broken : Data → Option ℕ
-least_broken d = or_else (first_broken whole_rules d) (or_else (first_broken storage_rules (storages d))
+unfoldable pub first_violated : Data → Option ℕ
+first_violated d = or_else (first_broken whole_rules d) (or_else (first_broken storage_rules (storages d))
     (first_broken element_rules (storages d)))

@@ -2,15 +2,15 @@
 use Rattle.std.specs.Prelude.{ℕ, List, map}
 use denote.Ref.{Bor}
 use Rattle.serde_json.specs.View.{view}
-use Rattle.manifest.specs.declared.parts.Listed.{Listed as Part}
-use Rattle.manifest.specs.Parts.{Listed}
+use Rattle.manifest.specs.declared.parts.ListedThing.{ListedThing as Part}
+use Rattle.manifest.specs.Parts.{ListedThing}
 
-abbrev pub listed_view : Part → Listed
+abbrev pub listed_view : Part → ListedThing
 listed_view p = (p.kind, view p.value.now)
 
-abbrev pub listed_views : List Part → List Listed
+abbrev pub listed_views : List Part → List ListedThing
 listed_views ps = map listed_view ps
 
 -- things by their names
-abbrev pub named_views : List (Bor (List ℕ) × Part) → List (List ℕ × Listed)
+abbrev pub named_views : List (Bor (List ℕ) × Part) → List (List ℕ × ListedThing)
 named_views es = map (λ e. (e.0.now, listed_view e.1)) es

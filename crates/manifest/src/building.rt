@@ -12,7 +12,7 @@ ghost use Rattle.manifest.specs.Views.{listed_view, listed_views};
 use crate::initials::initial_of;
 use crate::names::named;
 use crate::parts::{
-    Listed, agreeing_of, collection_of, copies_of, listed_elements, maximum_of, minimum_of,
+    ListedThing, agreeing_of, collection_of, copies_of, listed_elements, maximum_of, minimum_of,
     name_of, read_only_of, redundancy_of, scope_of, strategy_of, type_of, version_of,
 };
 use deployment_model::{CollectionStrategy, Deployment, ElementConfig, StorageConfig};
@@ -27,7 +27,7 @@ use value_model::ValueType;
 pub(crate) fn deployment_said(
     alloc: Global,
     manifest: &Value,
-    listed: &[Listed<'_>],
+    listed: &[ListedThing<'_>],
 ) -> Result<Deployment, AllocError>
     requires { listed_views listed.now ≡ storages (view manifest.now) }
     ensures { IfOk result (λ d. deployment_data d ≡ deployment_said (view manifest.now)) }
@@ -40,7 +40,10 @@ pub(crate) fn deployment_said(
     })
 }
 
-fn storage_configs(alloc: Global, storages: &[Listed<'_>]) -> Result<Vec<StorageConfig>, AllocError>
+fn storage_configs(
+    alloc: Global,
+    storages: &[ListedThing<'_>],
+) -> Result<Vec<StorageConfig>, AllocError>
     ensures { IfOk result (λ configs. map storage_data configs.items ≡ map storage_said (listed_views storages.now)) }
 {
     let mut configs = Vec::new(alloc);
@@ -51,7 +54,7 @@ fn storage_configs(alloc: Global, storages: &[Listed<'_>]) -> Result<Vec<Storage
 }
 
 #[tactic(auto, unfolding(crate::specs::Contents::storage_said))]
-fn storage_said(alloc: Global, storage: Listed<'_>) -> Result<StorageConfig, AllocError>
+fn storage_said(alloc: Global, storage: ListedThing<'_>) -> Result<StorageConfig, AllocError>
     ensures { IfOk result (λ config. storage_data config ≡ storage_said (listed_view storage.entry)) }
 {
     let value = storage.value;
@@ -83,7 +86,7 @@ fn checked_name(alloc: Global, text: &str) -> Result<Name, AllocError>
     }
 }
 
-fn elements_said(alloc: Global, storage: Listed<'_>) -> Result<Vec<ElementConfig>, AllocError>
+fn elements_said(alloc: Global, storage: ListedThing<'_>) -> Result<Vec<ElementConfig>, AllocError>
     ensures { IfOk result (λ configs. map element_data configs.items
         ≡ map element_said (by_name (elements (listed_view storage.entry)))) }
 {
@@ -92,7 +95,10 @@ fn elements_said(alloc: Global, storage: Listed<'_>) -> Result<Vec<ElementConfig
     element_configs(alloc, ordered.as_slice())
 }
 
-fn element_configs(alloc: Global, elements: &[Listed<'_>]) -> Result<Vec<ElementConfig>, AllocError>
+fn element_configs(
+    alloc: Global,
+    elements: &[ListedThing<'_>],
+) -> Result<Vec<ElementConfig>, AllocError>
     ensures { IfOk result (λ configs. map element_data configs.items ≡ map element_said (listed_views elements.now)) }
 {
     let mut configs = Vec::new(alloc);
@@ -103,7 +109,7 @@ fn element_configs(alloc: Global, elements: &[Listed<'_>]) -> Result<Vec<Element
 }
 
 #[tactic(auto, unfolding(crate::specs::Contents::element_said))]
-fn element_said(alloc: Global, element: Listed<'_>) -> Result<ElementConfig, AllocError>
+fn element_said(alloc: Global, element: ListedThing<'_>) -> Result<ElementConfig, AllocError>
     ensures { IfOk result (λ config. element_data config ≡ element_said (listed_view element.entry)) }
 {
     let name = checked_name(alloc, name_of(element.value))?;
@@ -118,7 +124,7 @@ fn element_said(alloc: Global, element: Listed<'_>) -> Result<ElementConfig, All
 }
 
 /// The type of a key, and none for a file.
-fn type_for(alloc: Global, element: Listed<'_>) -> Result<Option<ValueType>, AllocError>
+fn type_for(alloc: Global, element: ListedThing<'_>) -> Result<Option<ValueType>, AllocError>
     ensures { IfOk result (λ t. option_map kind_of t ≡ type_for (listed_view element.entry)) }
 {
     match element.kind {
@@ -128,7 +134,10 @@ fn type_for(alloc: Global, element: Listed<'_>) -> Result<Option<ValueType>, All
 }
 
 /// The things in the order of their names.
-fn by_name<'a>(alloc: Global, things: &[Listed<'a>]) -> Result<Vec<Listed<'a>>, AllocError>
+fn by_name<'a>(
+    alloc: Global,
+    things: &[ListedThing<'a>],
+) -> Result<Vec<ListedThing<'a>>, AllocError>
     ensures { IfOk result (λ ordered. listed_views ordered.items ≡ by_name (listed_views things.now)) }
 {
     let found = named(alloc, things)?;
@@ -138,8 +147,8 @@ fn by_name<'a>(alloc: Global, things: &[Listed<'a>]) -> Result<Vec<Listed<'a>>, 
 
 fn in_order<'a>(
     alloc: Global,
-    found: BTreeMap<&'a str, Listed<'a>>,
-) -> Result<Vec<Listed<'a>>, AllocError>
+    found: BTreeMap<&'a str, ListedThing<'a>>,
+) -> Result<Vec<ListedThing<'a>>, AllocError>
     ensures { IfOk result (λ ordered. ordered.items ≡ values found.entry) }
 {
     found.into_values().collect(alloc)

@@ -18,7 +18,8 @@ use crate::errors::ManifestError;
 use crate::initials::initial_of;
 use crate::names::{are_named, names_differ};
 use crate::parts::{
-    Listed, elements_of, listed_elements, maximum_of, name_of, strategy_of, strategy_said, type_of,
+    ListedThing, elements_of, listed_elements, maximum_of, name_of, strategy_of, strategy_said,
+    type_of,
 };
 use crate::words::has_element_members;
 use deployment_model::ElementStrategy;
@@ -26,8 +27,11 @@ use per_base::StoreKind;
 use serde_json::Value;
 use std::alloc::{AllocError, Global};
 
-/// Keeps rules 19 to 24, or gives the first that is broken.
-pub(crate) fn check_elements(alloc: Global, storages: &[Listed<'_>]) -> Result<(), ManifestError>
+/// Checks rules 19 to 24, and gives the first that is violated.
+pub(crate) fn check_elements(
+    alloc: Global,
+    storages: &[ListedThing<'_>],
+) -> Result<(), ManifestError>
     ensures { Judges result (first_broken element_rules (listed_views storages.now)) }
 {
     let elements = elements_of(alloc, storages)?;
@@ -55,7 +59,7 @@ pub(crate) fn check_elements(alloc: Global, storages: &[Listed<'_>]) -> Result<(
 
 /// Rule 19: no element has a member that is not for its kind.
 #[tactic(auto, unfolding(crate::specs::Rules::elements_have_known_members))]
-fn elements_have_known_members(elements: &[Listed<'_>]) -> bool
+fn elements_have_known_members(elements: &[ListedThing<'_>]) -> bool
     ensures { result ≡ elements_have_known_members (listed_views elements.now) }
 {
     elements.iter().all(|element| has_element_members(*element))
@@ -64,8 +68,8 @@ fn elements_have_known_members(elements: &[Listed<'_>]) -> bool
 /// Rule 20: every element has a name, and no two of a storage have the same.
 fn elements_are_named(
     alloc: Global,
-    storages: &[Listed<'_>],
-    elements: &[Listed<'_>],
+    storages: &[ListedThing<'_>],
+    elements: &[ListedThing<'_>],
 ) -> Result<bool, AllocError>
     requires { listed_views elements.now ≡ all_elements (listed_views storages.now) }
     ensures { IfOk result (λ named. named ≡ elements_are_named (listed_views storages.now)) }
@@ -77,7 +81,7 @@ fn elements_are_named(
 }
 
 #[tactic(auto, unfolding(crate::specs::Rules::elements_differ))]
-fn elements_differ(alloc: Global, storages: &[Listed<'_>]) -> Result<bool, AllocError>
+fn elements_differ(alloc: Global, storages: &[ListedThing<'_>]) -> Result<bool, AllocError>
     ensures { IfOk result (λ differ. differ ≡ elements_differ (listed_views storages.now)) }
 {
     for storage in storages {
@@ -89,7 +93,7 @@ fn elements_differ(alloc: Global, storages: &[Listed<'_>]) -> Result<bool, Alloc
 }
 
 #[tactic(auto, unfolding(crate::specs::Rules::has_different_elements))]
-fn has_different_elements(alloc: Global, storage: Listed<'_>) -> Result<bool, AllocError>
+fn has_different_elements(alloc: Global, storage: ListedThing<'_>) -> Result<bool, AllocError>
     ensures { IfOk result (λ differ. differ ≡ has_different_elements (listed_view storage.entry)) }
 {
     let elements = listed_elements(alloc, storage)?;
@@ -98,7 +102,7 @@ fn has_different_elements(alloc: Global, storage: Listed<'_>) -> Result<bool, Al
 
 /// Rule 21: every key has a type, of depth at most 8.
 #[tactic(auto, unfolding(crate::specs::Rules::keys_have_types))]
-fn keys_have_types(alloc: Global, elements: &[Listed<'_>]) -> Result<bool, AllocError>
+fn keys_have_types(alloc: Global, elements: &[ListedThing<'_>]) -> Result<bool, AllocError>
     ensures { IfOk result (λ typed. typed ≡ keys_have_types (listed_views elements.now)) }
 {
     for element in elements {
@@ -110,7 +114,7 @@ fn keys_have_types(alloc: Global, elements: &[Listed<'_>]) -> Result<bool, Alloc
 }
 
 #[tactic(auto, unfolding(crate::specs::Rules::has_type))]
-fn has_type(alloc: Global, element: Listed<'_>) -> Result<bool, AllocError>
+fn has_type(alloc: Global, element: ListedThing<'_>) -> Result<bool, AllocError>
     ensures { IfOk result (λ typed. typed ≡ has_type (listed_view element.entry)) }
 {
     match element.kind {
@@ -121,7 +125,7 @@ fn has_type(alloc: Global, element: Listed<'_>) -> Result<bool, AllocError>
 
 /// Rule 22: an initial content is the text of a value of the key's type, or hexadecimal digits for a file.
 #[tactic(auto, unfolding(crate::specs::Rules::initials_are_read))]
-fn initials_are_read(alloc: Global, elements: &[Listed<'_>]) -> Result<bool, AllocError>
+fn initials_are_read(alloc: Global, elements: &[ListedThing<'_>]) -> Result<bool, AllocError>
     ensures { IfOk result (λ read. read ≡ initials_are_read (listed_views elements.now)) }
 {
     for element in elements {
@@ -133,7 +137,7 @@ fn initials_are_read(alloc: Global, elements: &[Listed<'_>]) -> Result<bool, All
 }
 
 #[tactic(auto, unfolding(crate::specs::Rules::may_start))]
-fn may_start(alloc: Global, element: Listed<'_>) -> Result<bool, AllocError>
+fn may_start(alloc: Global, element: ListedThing<'_>) -> Result<bool, AllocError>
     ensures { IfOk result (λ read. read ≡ may_start (listed_view element.entry)) }
 {
     if element.value.get("initial").is_none() {
@@ -145,14 +149,14 @@ fn may_start(alloc: Global, element: Listed<'_>) -> Result<bool, AllocError>
 /// Rule 23: the update strategy of an element is one of its three words, and what is overwritten has an initial
 /// content.
 #[tactic(auto, unfolding(crate::specs::Rules::elements_have_strategies))]
-fn elements_have_strategies(elements: &[Listed<'_>]) -> bool
+fn elements_have_strategies(elements: &[ListedThing<'_>]) -> bool
     ensures { result ≡ elements_have_strategies (listed_views elements.now) }
 {
     elements.iter().all(|element| has_strategy(*element))
 }
 
 #[tactic(auto, unfolding(crate::specs::Rules::has_strategy))]
-fn has_strategy(element: Listed<'_>) -> bool
+fn has_strategy(element: ListedThing<'_>) -> bool
     ensures { result ≡ has_strategy (listed_view element.entry) }
 {
     may_say_strategy(element.value) && may_be_overwritten(element.value)
@@ -190,7 +194,7 @@ fn may_be_overwritten(element: &Value) -> bool
 
 /// Rule 24: in each storage the sizes of the elements with an initial content sum to at most the maximum.
 #[tactic(auto, unfolding(crate::specs::Rules::initials_fit))]
-fn initials_fit(alloc: Global, storages: &[Listed<'_>]) -> Result<bool, AllocError>
+fn initials_fit(alloc: Global, storages: &[ListedThing<'_>]) -> Result<bool, AllocError>
     ensures { IfOk result (λ fit. fit ≡ initials_fit (listed_views storages.now)) }
 {
     for storage in storages {
@@ -202,14 +206,14 @@ fn initials_fit(alloc: Global, storages: &[Listed<'_>]) -> Result<bool, AllocErr
 }
 
 #[tactic(auto, unfolding(crate::specs::Rules::has_room))]
-fn has_room(alloc: Global, storage: Listed<'_>) -> Result<bool, AllocError>
+fn has_room(alloc: Global, storage: ListedThing<'_>) -> Result<bool, AllocError>
     ensures { IfOk result (λ fits. fits ≡ has_room (listed_view storage.entry)) }
 {
     let elements = listed_elements(alloc, storage)?;
     fit_in(alloc, elements.as_slice(), maximum_of(storage.value))
 }
 
-fn fit_in(alloc: Global, elements: &[Listed<'_>], maximum: u64) -> Result<bool, AllocError>
+fn fit_in(alloc: Global, elements: &[ListedThing<'_>], maximum: u64) -> Result<bool, AllocError>
     ensures { IfOk result (λ fit. fit ≡ nat_le (sum_by initial_size (listed_views elements.now)) maximum) }
 {
     let mut room = maximum;
@@ -224,7 +228,7 @@ fn fit_in(alloc: Global, elements: &[Listed<'_>], maximum: u64) -> Result<bool, 
 }
 
 #[tactic(auto, unfolding(crate::specs::Rules::initial_size))]
-fn initial_size(alloc: Global, element: Listed<'_>) -> Result<u64, AllocError>
+fn initial_size(alloc: Global, element: ListedThing<'_>) -> Result<u64, AllocError>
     ensures { IfOk result (λ size. size ≡ initial_size (listed_view element.entry)) }
 {
     let name = name_of(element.value);

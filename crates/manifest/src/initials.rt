@@ -9,7 +9,7 @@ ghost use Rattle.value_model.specs.Validity.{IsValue};
 ghost use Rattle.value_text.specs.Types.{IsType};
 ghost use Rattle.manifest.specs.Views.{listed_view};
 
-use crate::parts::{Listed, type_of};
+use crate::parts::{ListedThing, type_of};
 use crate::values::text;
 use hex::FromHexError;
 use per_base::{Bytes, StoreKind};
@@ -25,7 +25,10 @@ const MAX_FILE_BYTES: usize = 1_048_576;
 /// What the element starts with: the encoding of a value, or the content of a file; none where nothing that can be read
 /// is said.
 #[tactic(auto, unfolding(crate::specs::Parts::initial_in))]
-pub(crate) fn initial_of(alloc: Global, element: Listed<'_>) -> Result<Option<Bytes>, AllocError>
+pub(crate) fn initial_of(
+    alloc: Global,
+    element: ListedThing<'_>,
+) -> Result<Option<Bytes>, AllocError>
     ensures { IfOk result (λ bytes. bytes ≡ initial_in (listed_view element.entry)) }
 {
     let Some(text) = text(element.value, "initial") else {

@@ -1,7 +1,7 @@
 //! The manifest: a JSON text that says which storages an application is to have.
 //!
-//! [`read_manifest`] gives the deployment that a text says, or the least of the twenty-four rules that it breaks. The
-//! rules stand in `specs/Rules` in their order, each a test of the value as `serde_json` reads it, and each has a
+//! [`read_manifest`] gives the deployment that a text says, or the first of the twenty-four rules that it violates.
+//! The rules stand in `specs/Rules` in their order, each a test of the value as `serde_json` reads it, and each has a
 //! function of its own here: of the whole in `whole_rules`, of the storages in `storage_rules`, of the elements in
 //! `element_rules`. A rule is looked at only where those before it are kept, over all storages at once.
 //!

@@ -5,14 +5,14 @@ ghost use Rattle.manifest.specs.Parts.{named};
 ghost use Rattle.manifest.specs.Rules.{are_named, is_named, names_differ};
 ghost use Rattle.manifest.specs.Views.{listed_view, listed_views, named_views};
 
-use crate::parts::{Listed, name_of};
+use crate::parts::{ListedThing, name_of};
 use per_base::{Name, PerError};
 use std::alloc::{AllocError, Global};
 use std::collections::BTreeMap;
 
 /// Whether each has a name in the grammar of names.
 #[tactic(auto, unfolding(crate::specs::Rules::are_named))]
-pub(crate) fn are_named(alloc: Global, things: &[Listed<'_>]) -> Result<bool, AllocError>
+pub(crate) fn are_named(alloc: Global, things: &[ListedThing<'_>]) -> Result<bool, AllocError>
     ensures { IfOk result (λ named. named ≡ are_named (listed_views things.now)) }
 {
     for thing in things {
@@ -24,7 +24,7 @@ pub(crate) fn are_named(alloc: Global, things: &[Listed<'_>]) -> Result<bool, Al
 }
 
 #[tactic(auto, unfolding(crate::specs::Rules::is_named))]
-fn is_named(alloc: Global, thing: Listed<'_>) -> Result<bool, AllocError>
+fn is_named(alloc: Global, thing: ListedThing<'_>) -> Result<bool, AllocError>
     ensures { IfOk result (λ named. named ≡ is_named (listed_view thing.entry)) }
 {
     match Name::new(alloc, name_of(thing.value)) {
@@ -36,7 +36,7 @@ fn is_named(alloc: Global, thing: Listed<'_>) -> Result<bool, AllocError>
 
 /// Whether no two have the same name.
 #[tactic(auto, unfolding(crate::specs::Rules::names_differ))]
-pub(crate) fn names_differ(alloc: Global, things: &[Listed<'_>]) -> Result<bool, AllocError>
+pub(crate) fn names_differ(alloc: Global, things: &[ListedThing<'_>]) -> Result<bool, AllocError>
     ensures { IfOk result (λ differ. differ ≡ names_differ (listed_views things.now)) }
 {
     let found = named(alloc, things)?;
@@ -47,8 +47,8 @@ pub(crate) fn names_differ(alloc: Global, things: &[Listed<'_>]) -> Result<bool,
 #[tactic(auto, unfolding(crate::specs::Parts::named))]
 pub(crate) fn named<'a>(
     alloc: Global,
-    things: &[Listed<'a>],
-) -> Result<BTreeMap<&'a str, Listed<'a>>, AllocError>
+    things: &[ListedThing<'a>],
+) -> Result<BTreeMap<&'a str, ListedThing<'a>>, AllocError>
     ensures { IfOk result (λ found. named_views found.entries ≡ named (listed_views things.now)) }
 {
     let mut found = BTreeMap::new(alloc);

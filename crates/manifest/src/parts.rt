@@ -23,14 +23,17 @@ const DEFAULT_MAXIMUM: u64 = 1_048_576;
 
 /// A storage as it is listed, or one of its elements.
 #[derive(Clone, Copy)]
-pub(crate) struct Listed<'a> {
+pub(crate) struct ListedThing<'a> {
     pub kind: StoreKind,
     pub value: &'a Value,
 }
 
 /// The storages of keys, and then those of files.
 #[tactic(auto, unfolding(crate::specs::Parts::storages))]
-pub(crate) fn storages_of(alloc: Global, manifest: &Value) -> Result<Vec<Listed<'_>>, AllocError>
+pub(crate) fn storages_of(
+    alloc: Global,
+    manifest: &Value,
+) -> Result<Vec<ListedThing<'_>>, AllocError>
     ensures { IfOk result (λ found. listed_views found.items ≡ storages (view manifest.now)) }
 {
     let mut found = Vec::new(alloc);
@@ -50,8 +53,8 @@ pub(crate) fn storages_of(alloc: Global, manifest: &Value) -> Result<Vec<Listed<
 /// The elements of a storage.
 pub(crate) fn listed_elements<'a>(
     alloc: Global,
-    storage: Listed<'a>,
-) -> Result<Vec<Listed<'a>>, AllocError>
+    storage: ListedThing<'a>,
+) -> Result<Vec<ListedThing<'a>>, AllocError>
     ensures { IfOk result (λ found. listed_views found.items ≡ elements (listed_view storage.entry)) }
 {
     let mut found = Vec::new(alloc);
@@ -62,8 +65,8 @@ pub(crate) fn listed_elements<'a>(
 /// The elements of all storages, one storage after another.
 pub(crate) fn elements_of<'a>(
     alloc: Global,
-    storages: &[Listed<'a>],
-) -> Result<Vec<Listed<'a>>, AllocError>
+    storages: &[ListedThing<'a>],
+) -> Result<Vec<ListedThing<'a>>, AllocError>
     ensures { IfOk result (λ found. listed_views found.items ≡ all_elements (listed_views storages.now)) }
 {
     let mut found = Vec::new(alloc);
@@ -76,13 +79,13 @@ pub(crate) fn elements_of<'a>(
 fn push_listed<'a>(
     kind: StoreKind,
     things: &'a [Value],
-    found: &mut Vec<Listed<'a>>,
+    found: &mut Vec<ListedThing<'a>>,
 ) -> Result<(), AllocError>
     ensures { IfOk result (λ _. listed_views found.new.items
         ≡ listed_views found.old.items ++ things_of_kind kind (map view things.now)) }
 {
     for value in things {
-        found.push(Listed { kind, value })?;
+        found.push(ListedThing { kind, value })?;
     }
     Ok(())
 }
@@ -99,7 +102,7 @@ pub(crate) fn elements_word(kind: StoreKind) -> &'static str
 
 /// What is listed as the elements of a storage.
 #[tactic(auto, unfolding(crate::specs::Parts::elements))]
-pub(crate) fn element_list(storage: Listed<'_>) -> &[Value]
+pub(crate) fn element_list(storage: ListedThing<'_>) -> &[Value]
     ensures { things_of_kind storage.entry.kind (map view result.now) ≡ elements (listed_view storage.entry) }
 {
     things(storage.value, elements_word(storage.kind))

@@ -7,7 +7,7 @@ ghost use Rattle.deployment_model.specs.Data.{deployment_data};
 ghost use Rattle.manifest.specs.Contents.{deployment_said};
 ghost use Rattle.manifest.specs.Reading.{Judges, ReadsValue, RefusesManifest, broken_rule, deployment_in, is_short};
 ghost use Rattle.manifest.specs.Reading.{value_of};
-ghost use Rattle.manifest.specs.Rules.{least_broken};
+ghost use Rattle.manifest.specs.Rules.{first_violated};
 
 use crate::building::deployment_said;
 use crate::element_rules::check_elements;
@@ -75,9 +75,9 @@ fn value_of(alloc: Global, bytes: &[u8]) -> Result<Value, ManifestError>
     }
 }
 
-#[tactic(auto, unfolding(crate::specs::Rules::least_broken))]
+#[tactic(auto, unfolding(crate::specs::Rules::first_violated))]
 fn deployment_of(alloc: Global, manifest: &Value) -> Result<Deployment, ManifestError>
-    ensures judged { Judges result (least_broken (view manifest.now)) }
+    ensures judged { Judges result (first_violated (view manifest.now)) }
     ensures said { IfOk result (λ d. deployment_data d ≡ deployment_said (view manifest.now)) }
 {
     check_whole(manifest)?;

@@ -18,7 +18,7 @@ ghost use Rattle.manifest.specs.Views.{listed_view, listed_views};
 use crate::errors::ManifestError;
 use crate::names::{are_named, names_differ};
 use crate::parts::{
-    Listed, agreeing_of, collection_said, copies_of, element_list, elements_word, maximum_of,
+    ListedThing, agreeing_of, collection_said, copies_of, element_list, elements_word, maximum_of,
     minimum_of, redundancy_of, scope_said,
 };
 use crate::values::may_list_objects;
@@ -38,8 +38,11 @@ const MAX_COPIES: u32 = 7;
 /// The most elements of a storage.
 const MAX_ELEMENTS: usize = 1024;
 
-/// Keeps rules 8 to 18, or gives the first that is broken.
-pub(crate) fn check_storages(alloc: Global, storages: &[Listed<'_>]) -> Result<(), ManifestError>
+/// Checks rules 8 to 18, and gives the first that is violated.
+pub(crate) fn check_storages(
+    alloc: Global,
+    storages: &[ListedThing<'_>],
+) -> Result<(), ManifestError>
     ensures { Judges result (first_broken storage_rules (listed_views storages.now)) }
 {
     if !storages_have_known_members(storages) {
@@ -80,7 +83,7 @@ pub(crate) fn check_storages(alloc: Global, storages: &[Listed<'_>]) -> Result<(
 
 /// Rule 8: no storage has a member that is not for its kind.
 #[tactic(auto, unfolding(crate::specs::Rules::storages_have_known_members))]
-fn storages_have_known_members(storages: &[Listed<'_>]) -> bool
+fn storages_have_known_members(storages: &[ListedThing<'_>]) -> bool
     ensures { result ≡ storages_have_known_members (listed_views storages.now) }
 {
     storages.iter().all(|storage| has_storage_members(*storage))
@@ -88,14 +91,14 @@ fn storages_have_known_members(storages: &[Listed<'_>]) -> bool
 
 /// Rule 11: the minimum is a whole number up to 4,194,304, and the maximum one from 1 to 4,194,304.
 #[tactic(auto, unfolding(crate::specs::Rules::sizes_are_in_range))]
-fn sizes_are_in_range(storages: &[Listed<'_>]) -> bool
+fn sizes_are_in_range(storages: &[ListedThing<'_>]) -> bool
     ensures { result ≡ sizes_are_in_range (listed_views storages.now) }
 {
     storages.iter().all(|storage| has_sizes(*storage))
 }
 
 #[tactic(auto, unfolding(crate::specs::Rules::has_sizes))]
-fn has_sizes(storage: Listed<'_>) -> bool
+fn has_sizes(storage: ListedThing<'_>) -> bool
     ensures { result ≡ has_sizes (listed_view storage.entry) }
 {
     let minimum = storage.value.get("minimumSustainedSize");
@@ -123,14 +126,14 @@ fn is_size(size: &Value, least: u64) -> bool
 
 /// Rule 12: the minimum of a storage is at most its maximum, defaults included.
 #[tactic(auto, unfolding(crate::specs::Rules::minimums_are_below))]
-fn minimums_are_below(storages: &[Listed<'_>]) -> bool
+fn minimums_are_below(storages: &[ListedThing<'_>]) -> bool
     ensures { result ≡ minimums_are_below (listed_views storages.now) }
 {
     storages.iter().all(|storage| has_minimum_below(*storage))
 }
 
 #[tactic(auto, unfolding(crate::specs::Rules::has_minimum_below))]
-fn has_minimum_below(storage: Listed<'_>) -> bool
+fn has_minimum_below(storage: ListedThing<'_>) -> bool
     ensures { result ≡ has_minimum_below (listed_view storage.entry) }
 {
     minimum_of(storage.value) <= maximum_of(storage.value)
@@ -138,7 +141,7 @@ fn has_minimum_below(storage: Listed<'_>) -> bool
 
 /// Rule 13: the maximums, defaults included, sum to at most 16,777,216.
 #[tactic(auto, unfolding(crate::specs::Rules::maximums_fit_together))]
-fn maximums_fit_together(storages: &[Listed<'_>]) -> bool
+fn maximums_fit_together(storages: &[ListedThing<'_>]) -> bool
     ensures { result ≡ maximums_fit_together (listed_views storages.now) }
 {
     let mut room = MAX_SUM;
@@ -154,7 +157,7 @@ fn maximums_fit_together(storages: &[Listed<'_>]) -> bool
 
 /// Rule 14: the update strategy of a storage is one of its two words.
 #[tactic(auto, unfolding(crate::specs::Rules::collections_have_strategies))]
-fn collections_have_strategies(storages: &[Listed<'_>]) -> bool
+fn collections_have_strategies(storages: &[ListedThing<'_>]) -> bool
     ensures { result ≡ collections_have_strategies (listed_views storages.now) }
 {
     storages
@@ -163,7 +166,7 @@ fn collections_have_strategies(storages: &[Listed<'_>]) -> bool
 }
 
 #[tactic(auto, unfolding(crate::specs::Rules::has_collection_strategy))]
-fn has_collection_strategy(storage: Listed<'_>) -> bool
+fn has_collection_strategy(storage: ListedThing<'_>) -> bool
     ensures { result ≡ has_collection_strategy (listed_view storage.entry) }
 {
     match storage.value.get("updateStrategy") {
@@ -183,14 +186,14 @@ fn says_collection(word: &Value) -> bool
 
 /// Rule 15: whether a storage is read-only is said by true or false.
 #[tactic(auto, unfolding(crate::specs::Rules::read_only_is_said))]
-fn read_only_is_said(storages: &[Listed<'_>]) -> bool
+fn read_only_is_said(storages: &[ListedThing<'_>]) -> bool
     ensures { result ≡ read_only_is_said (listed_views storages.now) }
 {
     storages.iter().all(|storage| says_read_only(*storage))
 }
 
 #[tactic(auto, unfolding(crate::specs::Rules::says_read_only))]
-fn says_read_only(storage: Listed<'_>) -> bool
+fn says_read_only(storage: ListedThing<'_>) -> bool
     ensures { result ≡ says_read_only (listed_view storage.entry) }
 {
     match storage.value.get("readOnly") {
@@ -201,14 +204,14 @@ fn says_read_only(storage: Listed<'_>) -> bool
 
 /// Rule 16: a redundancy is an object without unknown members, and its scope is one of its two words.
 #[tactic(auto, unfolding(crate::specs::Rules::redundancies_are_objects))]
-fn redundancies_are_objects(storages: &[Listed<'_>]) -> bool
+fn redundancies_are_objects(storages: &[ListedThing<'_>]) -> bool
     ensures { result ≡ redundancies_are_objects (listed_views storages.now) }
 {
     storages.iter().all(|storage| has_redundancy(*storage))
 }
 
 #[tactic(auto, unfolding(crate::specs::Rules::has_redundancy))]
-fn has_redundancy(storage: Listed<'_>) -> bool
+fn has_redundancy(storage: ListedThing<'_>) -> bool
     ensures { result ≡ has_redundancy (listed_view storage.entry) }
 {
     match redundancy_of(storage.value) {
@@ -243,14 +246,14 @@ fn says_scope(word: &Value) -> bool
 
 /// Rule 17: the counts of a redundancy are there, and 1 <= m <= n <= 7.
 #[tactic(auto, unfolding(crate::specs::Rules::redundancies_have_counts))]
-fn redundancies_have_counts(storages: &[Listed<'_>]) -> bool
+fn redundancies_have_counts(storages: &[ListedThing<'_>]) -> bool
     ensures { result ≡ redundancies_have_counts (listed_views storages.now) }
 {
     storages.iter().all(|storage| has_counts(*storage))
 }
 
 #[tactic(auto, unfolding(crate::specs::Rules::has_counts))]
-fn has_counts(storage: Listed<'_>) -> bool
+fn has_counts(storage: ListedThing<'_>) -> bool
     ensures { result ≡ has_counts (listed_view storage.entry) }
 {
     match redundancy_of(storage.value) {
@@ -273,14 +276,14 @@ fn says_counts(redundancy: &Value) -> bool
 
 /// Rule 18: the elements of a storage are a list of at most 1,024 objects.
 #[tactic(auto, unfolding(crate::specs::Rules::elements_are_few))]
-fn elements_are_few(storages: &[Listed<'_>]) -> bool
+fn elements_are_few(storages: &[ListedThing<'_>]) -> bool
     ensures { result ≡ elements_are_few (listed_views storages.now) }
 {
     storages.iter().all(|storage| has_few_elements(*storage))
 }
 
 #[tactic(auto, unfolding(crate::specs::Rules::has_few_elements, crate::specs::Parts::elements))]
-fn has_few_elements(storage: Listed<'_>) -> bool
+fn has_few_elements(storage: ListedThing<'_>) -> bool
     ensures { result ≡ has_few_elements (listed_view storage.entry) }
 {
     may_list_objects(storage.value, elements_word(storage.kind))

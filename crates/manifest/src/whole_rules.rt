@@ -16,7 +16,7 @@ use serde_json::Value;
 /// The most storages of an application.
 const MAX_STORAGES: usize = 16;
 
-/// Keeps rules 3 to 7, or gives the first that is broken.
+/// Checks rules 3 to 7, and gives the first that is violated.
 pub(crate) fn check_whole(manifest: &Value) -> Result<(), ManifestError>
     ensures { Judges result (first_broken whole_rules (view manifest.now)) }
 {

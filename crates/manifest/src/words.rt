@@ -6,7 +6,7 @@ ghost use Rattle.manifest.specs.Rules.{element_words, has_element_members, has_s
 ghost use Rattle.manifest.specs.Values.{has_only, one_of};
 ghost use Rattle.manifest.specs.Views.{listed_view};
 
-use crate::parts::{Listed, elements_word};
+use crate::parts::{ListedThing, elements_word};
 use per_base::StoreKind;
 use serde_json::Value;
 
@@ -29,7 +29,7 @@ fn is_manifest_word(word: &str) -> bool
 
 /// Whether a storage has no other members than one of its kind may have.
 #[tactic(auto, unfolding(crate::specs::Rules::has_storage_members))]
-pub(crate) fn has_storage_members(storage: Listed<'_>) -> bool
+pub(crate) fn has_storage_members(storage: ListedThing<'_>) -> bool
     ensures { result ≡ has_storage_members (listed_view storage.entry) }
 {
     match storage.value.as_object() {
@@ -70,7 +70,7 @@ fn is_redundancy_word(word: &str) -> bool
 
 /// Whether an element has no other members than one of its kind may have.
 #[tactic(auto, unfolding(crate::specs::Rules::has_element_members))]
-pub(crate) fn has_element_members(element: Listed<'_>) -> bool
+pub(crate) fn has_element_members(element: ListedThing<'_>) -> bool
     ensures { result ≡ has_element_members (listed_view element.entry) }
 {
     match element.value.as_object() {

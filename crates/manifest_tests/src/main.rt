@@ -3,7 +3,7 @@
 //! | row | what is printed |
 //! |---|---|
 //! | `rule MANIFEST` | the first violated rule, and 0 where none is |
-//! | `fronts MANIFEST` | the same of each proper prefix of the manifest, from the empty one on |
+//! | `prefixes MANIFEST` | the same of each proper prefix of the manifest, from the empty one on |
 //! | `read MANIFEST` | the deployment |
 //! | `copy MANIFEST` | a copy of the deployment |
 //! | `storage NAME MANIFEST` | the number of the storage of this name, and the storage |
@@ -33,7 +33,7 @@ fn shown(alloc: Global, row: &str) -> Result<String, RowError> {
     let (word, rest) = row.split_once(' ').unwrap_or((row, ""));
     match word {
         "rule" => rules::rule(alloc, rest),
-        "fronts" => rules::fronts(alloc, rest),
+        "prefixes" => rules::prefixes(alloc, rest),
         "read" => lookups::read(alloc, rest),
         "copy" => lookups::copy(alloc, rest),
         "storage" => lookups::storage(alloc, rest),

@@ -12,7 +12,7 @@ pub(crate) fn rule(alloc: Global, row: &str) -> Result<String, RowError> {
 }
 
 /// The same of each of its proper prefixes.
-pub(crate) fn fronts(alloc: Global, row: &str) -> Result<String, RowError> {
+pub(crate) fn prefixes(alloc: Global, row: &str) -> Result<String, RowError> {
     let text = spelled_bytes(alloc, row)?;
     let bytes = text.as_slice();
     let mut rules = String::new(alloc);

@@ -1,7 +1,12 @@
 //! A system in memory.
 
+ghost use Rattle.std.specs.Prelude.{◌≡◌, IfOk, OnOk, OnErr, IsTrue, Vec, ℕ, []};
+ghost use Rattle.disk_model.specs.History.{image_of};
+ghost use Rattle.mem_system.specs.History.{state_after, IsNoWrite, DropNothing};
+ghost use Rattle.mem_system.specs.declared.record.Call.{Call};
+
 use crate::device::Device;
-use crate::files::{Files, bytes_of, put, read_from};
+use crate::files::{Files, add, bytes_of, copy_of, has, numbers_of, put, read_from};
 use crate::record::Call;
 use crate::trouble::{Calls, Course, Trouble};
 use crate::unreadable::{Stretch, readable_from, unreadable_from, zeros_from};
@@ -25,19 +30,23 @@ pub struct MemSystem {
     alloc: Global,
     /// The files as the record begins; all of them durable.
     start: Files,
-    record: Vec<Call>,
+    history: Vec<Call>,
     files: Files,
     unreadable: Vec<Stretch>,
     calls: Calls,
+    ghost tied: { image_of files ≡ (state_after (image_of start) history.items).image },
 }
 
 impl MemSystem {
+    ghost use Rattle.mem_system.specs.Memory.{mem_medium, SameRecord, AddsCall};
+    ghost use Rattle.system_model.specs.SystemMedium.{IsWhole, Looks};
+
     /// An empty folder.
     pub fn new(alloc: Global) -> MemSystem {
         MemSystem {
             alloc,
             start: BTreeMap::new(alloc),
-            record: Vec::new(alloc),
+            history: Vec::new(alloc),
             files: BTreeMap::new(alloc),
             unreadable: Vec::new(alloc),
             calls: Calls::new(Trouble::Nothing),
@@ -61,7 +70,7 @@ impl MemSystem {
 
     /// How many calls changed or noted something, since the folder was made or power was lost.
     pub fn changes(&self) -> usize {
-        self.record.len()
+        self.history.len()
     }
 
     /// The bytes of a file.
@@ -74,40 +83,36 @@ impl MemSystem {
         self.files == other.files
     }
 
+    /// Whether nothing is lost that a failed sync was to write: no sync of a file failed since the folder was made or
+    /// power was lost.
+    pub fn is_whole(&self) -> bool
+        ensures { IsTrue result → (f : ℕ) → IsWhole (mem_medium self.now) f }
+    {
+        drops_nothing(self.history.as_slice())
+    }
+
     /// That many bytes of a file, as far as it has them, cannot be read until they are written. They are zeros to any
     /// who reads over them. Nothing of the folder may be pending: what is counts as durable from here on.
     pub fn spoil(&mut self, file: u32, at: u64, len: u64) -> Result<(), AllocError> {
-        let there = (bytes_of(&self.files, file).len() as u64).saturating_sub(at);
+        let there = (self.bytes(file).len() as u64).saturating_sub(at);
         let stretch = Stretch {
             file,
             at,
             len: len.min(there),
         };
+        let mut files = copy_of(&self.files)?;
+        blank(&mut files, stretch);
+        let start = copy_of(&files)?;
         self.unreadable.push(stretch)?;
-        if let Some(bytes) = self.files.get_mut(&file) {
-            for byte in bytes
-                .iter_mut()
-                .skip(at as usize)
-                .take(stretch.len as usize)
-            {
-                *byte = 0;
-            }
-        }
-        self.start = self.files.clone()?;
-        self.record.clear();
+        self.start = start;
+        self.history.clear();
+        self.files = files;
         Ok(())
     }
 
     /// The same folder in a new process, with nothing pending. It is to be so: what is pending counts as durable.
     pub fn restarted(&self) -> Result<MemSystem, AllocError> {
-        Ok(MemSystem {
-            alloc: self.alloc,
-            start: self.files.clone()?,
-            record: Vec::new(self.alloc),
-            files: self.files.clone()?,
-            unreadable: self.unreadable.clone()?,
-            calls: Calls::new(Trouble::Nothing),
-        })
+        MemSystem::holding(self.alloc, copy_of(&self.files)?, self.unreadable.clone()?)
     }
 
     /// The folder after a power loss after the first of the changes. Of each write that was not synced there, two bits
@@ -115,96 +120,158 @@ impl MemSystem {
     /// or the second; of each name that was not, whether it is. What a sync failed to write is lost.
     pub fn power_loss(&self, changes: usize, seed: u64) -> Result<MemSystem, AllocError> {
         let mut device = Device::new(self.alloc, &self.start)?;
-        device.replay(self.record.get(..changes).unwrap_or(&self.record))?;
-        let files = device.left(seed)?;
+        device.replay(self.history.get(..changes).unwrap_or(&self.history))?;
+        MemSystem::holding(self.alloc, device.left(seed)?, self.unreadable.clone()?)
+    }
+
+    /// A folder of these files, with nothing pending.
+    fn holding(
+        alloc: Global,
+        files: Files,
+        unreadable: Vec<Stretch>,
+    ) -> Result<MemSystem, AllocError> {
         Ok(MemSystem {
-            alloc: self.alloc,
-            start: files.clone()?,
-            record: Vec::new(self.alloc),
+            alloc,
+            start: copy_of(&files)?,
+            history: Vec::new(alloc),
             files,
-            unreadable: self.unreadable.clone()?,
+            unreadable,
             calls: Calls::new(Trouble::Nothing),
         })
     }
 
     /// Counts a call, and fails where it is to.
-    fn enter(&mut self) -> io::Result<()> {
+    fn enter(&mut self) -> io::Result<()>
+        ensures same { SameRecord self.old self.new }
+        ensures looks { Looks (mem_medium self.old) (mem_medium self.new) }
+    {
         match self.calls.next() {
             Course::Passes => Ok(()),
             Course::Fails | Course::IsOver => Err(device_error()),
         }
     }
 
+    /// Notes a call that changes no byte.
+    fn note(&mut self, call: Call) -> io::Result<()>
+        requires { IsNoWrite call }
+        ensures ok { OnOk result (AddsCall call self.old self.new) }
+        ensures err { OnErr result (SameRecord self.old self.new) }
+        ensures looks { OnErr result (Looks (mem_medium self.old) (mem_medium self.new)) }
+    {
+        match self.history.push(call) {
+            Ok(()) => Ok(()),
+            Err(_) => Err(no_memory()),
+        }
+    }
+
     /// Writes, and notes it; what fails changes nothing.
-    fn put(&mut self, file: u32, at: u64, bytes: &[u8]) -> Result<(), AllocError> {
-        let copy = Vec::from_slice(self.alloc, bytes)?;
-        self.record.push(Call::Write(file, at, copy))?;
+    fn put(&mut self, file: u32, at: u64, bytes: &[u8]) -> Result<(), AllocError>
+        ensures ok { OnOk result ((copy : Vec ℕ Global) × (copy.items ≡ bytes.now)
+            × AddsCall (Call.Write file at copy) self.old self.new) }
+        ensures err { OnErr result (SameRecord self.old self.new) }
+        ensures looks { OnErr result (Looks (mem_medium self.old) (mem_medium self.new)) }
+    {
+        self.history
+            .push(Call::Write(file, at, Vec::from_slice(self.alloc, bytes)?))?;
         match put(self.alloc, &mut self.files, file, at, bytes) {
             Ok(()) => Ok(()),
             Err(error) => {
-                self.record.pop();
+                self.history.pop();
                 Err(error)
             }
         }
     }
 
-    /// Makes a file, and notes it; what fails changes nothing.
-    fn add(&mut self, file: u32) -> Result<(), AllocError> {
-        self.record.push(Call::Make(file))?;
-        match self.files.insert(file, Vec::new(self.alloc)) {
-            Ok(_) => Ok(()),
-            Err(_) => {
-                self.record.pop();
-                Err(AllocError)
+    /// Makes a file that is not there, and notes it; what fails changes nothing.
+    fn add(&mut self, file: u32) -> Result<(), AllocError>
+        requires { image_of self.old.files file ≡ [] }
+        ensures ok { OnOk result (AddsCall (Call.Make file) self.old self.new) }
+        ensures err { OnErr result (SameRecord self.old self.new) }
+        ensures looks { OnErr result (Looks (mem_medium self.old) (mem_medium self.new)) }
+    {
+        self.history.push(Call::Make(file))?;
+        match add(self.alloc, &mut self.files, file) {
+            Ok(()) => Ok(()),
+            Err(error) => {
+                self.history.pop();
+                Err(error)
             }
         }
     }
 }
 
+/// Whether no call failed to sync a file.
+fn drops_nothing(calls: &[Call]) -> bool
+    ensures { IsTrue result → DropNothing calls.now }
+{
+    for call in calls {
+        if let Call::FailSync(_) = call {
+            return false;
+        }
+    }
+    true
+}
+
+/// Makes the bytes of a stretch zeros.
+fn blank(files: &mut Files, stretch: Stretch) {
+    if let Some(bytes) = files.get_mut(&stretch.file) {
+        for byte in bytes
+            .iter_mut()
+            .skip(stretch.at as usize)
+            .take(stretch.len as usize)
+        {
+            *byte = 0;
+        }
+    }
+}
+
 impl System for MemSystem {
-    ghost use Rattle.std.specs.Prelude.{false};
-    ghost use Rattle.disk_model.specs.Silence.{silent_is_lawful};
-    ghost use Rattle.system_model.specs.Untold.{untold};
+    ghost use Rattle.std.specs.Prelude.{true};
+    ghost use Rattle.mem_system.specs.HistoryLaws.{folder_is_lawful};
+    ghost use Rattle.mem_system.specs.Memory.{mem_medium};
 
     type File = MemFile;
 
     ghost number = { λ file. file.number };
 
-    ghost told = { false };
+    ghost told = { true };
 
-    ghost medium = { λ _. untold };
+    ghost medium = { mem_medium };
 
-    ghost lawful = { λ _. silent_is_lawful 0 };
+    ghost lawful = { λ system. folder_is_lawful (image_of system.start) system.history.items };
 
     fn list(&mut self, alloc: Global) -> io::Result<Vec<u32>> {
         self.enter()?;
-        let mut files = Vec::new(alloc);
-        for (file, _) in self.files.iter() {
-            if files.push(*file).is_err() {
-                return Err(no_memory());
-            }
-        }
-        Ok(files)
+        let numbers = numbers_of(alloc, &self.files)?;
+        Ok(numbers)
+    }
+
+    fn is_file(&mut self, file: u32) -> io::Result<bool> {
+        self.enter()?;
+        Ok(has(&self.files, file))
     }
 
     fn open(&mut self, file: u32) -> io::Result<Option<MemFile>> {
         self.enter()?;
-        if self.files.contains_key(&file) {
+        if has(&self.files, file) {
             Ok(Some(MemFile { number: file }))
         } else {
             Ok(None)
         }
     }
 
+    fn set_aside(&mut self, _file: u32) -> io::Result<()> {
+        self.enter()?;
+        Err(io::Error::from(io::ErrorKind::AlreadyExists))
+    }
+
     fn make(&mut self, file: u32) -> io::Result<MemFile> {
         self.enter()?;
-        if self.files.contains_key(&file) {
+        if has(&self.files, file) {
             return Err(io::Error::from(io::ErrorKind::AlreadyExists));
         }
-        match self.add(file) {
-            Ok(()) => Ok(MemFile { number: file }),
-            Err(_) => Err(no_memory()),
-        }
+        self.add(file)?;
+        Ok(MemFile { number: file })
     }
 
     fn close(&mut self, _file: MemFile) {}
@@ -231,9 +298,7 @@ impl System for MemSystem {
     fn write(&mut self, file: &MemFile, at: u64, bytes: &[u8]) -> io::Result<usize> {
         self.enter()?;
         let count = bytes.len().min(MOST_BYTES);
-        if self.put(file.number, at, &bytes[..count]).is_err() {
-            return Err(no_memory());
-        }
+        self.put(file.number, at, &bytes[..count])?;
         let written = Stretch {
             file: file.number,
             at,
@@ -244,32 +309,45 @@ impl System for MemSystem {
     }
 
     fn sync_file(&mut self, file: &MemFile) -> io::Result<()> {
-        let call = match self.calls.next_sync() {
-            Course::Passes => Call::Sync(file.number),
-            Course::Fails => Call::FailSync(file.number),
-            Course::IsOver => return Err(device_error()),
-        };
-        let is_good = matches!(call, Call::Sync(_));
-        if self.record.push(call).is_err() {
-            return Err(no_memory());
+        match self.calls.next_sync() {
+            Course::Passes => {
+                self.note(Call::Sync(file.number))?;
+                Ok(())
+            }
+            Course::Fails => {
+                self.note(Call::FailSync(file.number))?;
+                Err(device_error())
+            }
+            Course::IsOver => Err(device_error()),
         }
-        if is_good { Ok(()) } else { Err(device_error()) }
     }
 
     fn sync_folder(&mut self) -> io::Result<()> {
         match self.calls.next_sync() {
-            Course::Passes => {}
-            Course::Fails | Course::IsOver => return Err(device_error()),
-        }
-        match self.record.push(Call::SyncFolder) {
-            Ok(()) => Ok(()),
-            Err(_) => Err(no_memory()),
+            Course::Passes => {
+                self.note(Call::SyncFolder)?;
+                Ok(())
+            }
+            Course::Fails | Course::IsOver => Err(device_error()),
         }
     }
 
-    fn announce(&mut self, _file: u32, _at: u64, _bytes: &[u8]) {}
+    fn announce(&mut self, file: u32, at: u64, bytes: &[u8]) -> io::Result<()> {
+        if self.calls.is_over() {
+            return Err(device_error());
+        }
+        let copy = Vec::from_slice(self.alloc, bytes)?;
+        self.note(Call::Announce(file, at, copy))?;
+        Ok(())
+    }
 
-    fn settle(&mut self) {}
+    fn settle(&mut self) -> io::Result<()> {
+        if self.calls.is_over() {
+            return Err(device_error());
+        }
+        self.note(Call::Settle)?;
+        Ok(())
+    }
 }
 
 /// The number of the error of a device that cannot do what it is asked.

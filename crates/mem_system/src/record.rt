@@ -2,7 +2,7 @@
 
 /// A call that changed something, or noted something.
 #[derive(Drop)]
-pub(crate) enum Call {
+pub enum Call {
     /// Announced that these bytes are written into a file from a byte on.
     Announce(u32, u64, Vec<u8>),
     /// Wrote these bytes into a file from a byte on.

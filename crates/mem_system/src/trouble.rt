@@ -24,7 +24,7 @@ pub(crate) enum Course {
 
 /// A trouble, and how many calls were made since it was set.
 #[derive(Clone, Copy, Debug)]
-pub(crate) struct Calls {
+pub struct Calls {
     trouble: Trouble,
     calls: u64,
     syncs: u64,
@@ -46,6 +46,14 @@ impl Calls {
 
     pub(crate) fn syncs(&self) -> u64 {
         self.syncs
+    }
+
+    /// Whether the process has ended.
+    pub(crate) fn is_over(&self) -> bool {
+        match self.trouble {
+            Trouble::Kill(number) => number <= self.calls,
+            Trouble::Nothing | Trouble::Call(_) | Trouble::Sync(_) => false,
+        }
     }
 
     /// Counts a call that is no sync.

@@ -1,11 +1,13 @@
 //! Places that a device cannot read, until they are written.
 
+ghost use Rattle.std.specs.Prelude.{◌≡◌, ◌<◌, ◌≤◌, ◌+◌, ℕ, slice_index};
+
 /// A stretch of a file.
 #[derive(Clone, Copy, Debug, PartialEq, Eq)]
-pub(crate) struct Stretch {
-    pub(crate) file: u32,
-    pub(crate) at: u64,
-    pub(crate) len: u64,
+pub struct Stretch {
+    pub file: u32,
+    pub at: u64,
+    pub len: u64,
 }
 
 impl Stretch {
@@ -31,7 +33,9 @@ pub(crate) fn unreadable_from(unreadable: &[Stretch], file: u32, at: u64) -> u64
 }
 
 /// How many bytes from `at` on are before the next that cannot be read.
-pub(crate) fn readable_from(unreadable: &[Stretch], file: u32, at: u64) -> u64 {
+pub(crate) fn readable_from(unreadable: &[Stretch], file: u32, at: u64) -> u64
+    ensures { 0 < result }
+{
     let mut count = u64::MAX;
     for stretch in unreadable {
         if stretch.file == file && stretch.at > at {
@@ -42,13 +46,18 @@ pub(crate) fn readable_from(unreadable: &[Stretch], file: u32, at: u64) -> u64 {
 }
 
 /// How many zeros stand from `at` on, and at most `len`.
-pub(crate) fn zeros_from(bytes: &[u8], at: u64, len: u64) -> u64 {
-    let mut count = 0u64;
-    for byte in bytes.iter().skip(at as usize) {
-        if *byte != 0 || count >= len {
-            break;
-        }
-        count = count.saturating_add(1);
+pub(crate) fn zeros_from(bytes: &[u8], at: u64, len: u64) -> u64
+    ensures { (j : ℕ) → j < result → slice_index bytes.now (at + j) ≡ 0 }
+{
+    if at >= bytes.len() as u64 {
+        return 0;
     }
-    count
+    let rest = &bytes[at as usize..];
+    let most = rest.len().min(len as usize);
+    for i in 0..most {
+        if rest[i] != 0 {
+            return i as u64;
+        }
+    }
+    most as u64
 }

@@ -8,20 +8,20 @@ use Rattle.value_model.specs.Trees.{Tree, unsigned_tree}
 use Rattle.deployment_model.specs.Data.{StorageData}
 use Rattle.element_state.specs.States.{Opens}
 use Rattle.element_maps.specs.Storages.{IsStoring}
-use Rattle.element_store.specs.Stores.{IsUsed, shape_of, view_in}
+use Rattle.element_store.specs.Stores.{IsUsed, store_shape, view_in}
 use Rattle.kvs_store.specs.Storages.{KvsSession, keys_in, showing}
 use Rattle.kvs_store.specs.Synced.{synced_view}
-use Rattle.kvs_laws.specs.Values.{Asked, HasValue, ReadsAs, ValueThroughout}
+use Rattle.kvs_laws.specs.Values.{AskedKey, HasValue, ReadsAs, ValueThroughout}
 use Rattle.odometer.specs.declared.odometers.TheConstants.{KEY}
 
 -- its disk, the storage that is open on it, and the kilometres
-pub record Seen (D : Type 0) : Type 0 where
+pub record SeenOdometer (D : Type 0) : Type 0 where
   pub disk : D
   pub kvs : Option KvsSession
   pub total : ℕ
 
 -- the key of a storage that is configured so
-abbrev pub the_total : StorageData → Asked
+abbrev pub the_total : StorageData → AskedKey
 the_total config = record { config = config; name = KEY.now; kind = unsigned_kind four }
 
 -- kilometres as its value
@@ -46,16 +46,16 @@ IfOpen told m (Some kvs) total = IsOdometer told m kvs total
 
 -- on this image the storage opens, and reads this total
 abbrev pub ReadsTotal : KvsSession → ℕ → Image → Type 0
-ReadsTotal kvs total image = ReadsAs (the_total kvs.config) (shape_of kvs.store) (kilometres total) image
+ReadsTotal kvs total image = ReadsAs (the_total kvs.config) (store_shape kvs.store) (kilometres total) image
 
 -- the storage is on its way to what it would be with this total: a stop at any moment leaves it as before or so
 pub record Saves (told : Bool) (kvs : KvsSession) (total : ℕ) (old new : Medium) : Type 0 where
   pub next : Map
   pub total_is : HasValue (the_total kvs.config) next (kilometres total)
-  pub storing : IsStoring told (shape_of kvs.store) (Opens (synced_view (showing kvs next)) []) old new
+  pub storing : IsStoring told (store_shape kvs.store) (Opens (synced_view (showing kvs next)) []) old new
 
 -- a stop at any moment, and then damage that spares as many copies as must agree, leaves one total or the other
 abbrev pub TotalThroughout : Option KvsSession → (before after : ℕ) → (old new : Medium) → Type 0
 TotalThroughout None before after old new = ⊤
-TotalThroughout (Some kvs) before after old new = ValueThroughout (the_total kvs.config) (shape_of kvs.store)
+TotalThroughout (Some kvs) before after old new = ValueThroughout (the_total kvs.config) (store_shape kvs.store)
     (view_in kvs.store).lacking (kilometres before) (kilometres after) old new

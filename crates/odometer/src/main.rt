@@ -11,7 +11,7 @@ mod refusals;
 
 use folder_disk::FolderDisk;
 use odometers::Odometer;
-use per_system::{Access, Content, HostSystem, fill_streams};
+use per_system::{Access, DeviceKind, HostSystem, fill_streams};
 use refusals::Refusal;
 use std::env;
 use std::process::ExitCode;
@@ -63,7 +63,7 @@ fn disk_in<'a>(
     rt: &'a HostRuntime,
     dir: String,
 ) -> Result<FolderDisk<HostSystem<'a, HostRuntime>>, Refusal> {
-    let Ok(system) = HostSystem::hold(rt, rt.alloc(), dir, Content::Disk, Access::Write) else {
+    let Ok(system) = HostSystem::hold(rt, rt.alloc(), dir, DeviceKind::Disk, Access::Write) else {
         return Err(Refusal::Device);
     };
     match FolderDisk::open(rt.alloc(), system) {

@@ -6,7 +6,7 @@ ghost use Rattle.disk_model.specs.Medium.{Quiet};
 ghost use Rattle.kvs_laws.specs.Values.{HasValue};
 ghost use Rattle.element_state.specs.States.{Opens};
 ghost use Rattle.element_maps.specs.Storages.{IsStoring};
-ghost use Rattle.element_store.specs.Stores.{IsUsed, shape_of};
+ghost use Rattle.element_store.specs.Stores.{IsUsed, store_shape};
 ghost use Rattle.kvs_store.specs.Storages.{showing};
 ghost use Rattle.kvs_store.specs.Synced.{synced_view};
 ghost use Rattle.odometer.specs.Odometers.{IfOpen, IsAtRest, ReadsTotal, Saves, TotalThroughout, kilometres, the_total};
@@ -37,9 +37,9 @@ impl<D: Disk + Drop> Model for Odometer<D> {
     ghost use Rattle.std.specs.Prelude.{◌≡◌};
     ghost use Rattle.std.specs.Coded.{codes};
     ghost use Rattle.value_model.specs.Codes.{kind_code};
-    ghost use Rattle.odometer.specs.Odometers.{IfOpen, Seen};
+    ghost use Rattle.odometer.specs.Odometers.{IfOpen, SeenOdometer};
 
-    ghost Value = { Seen D };
+    ghost Value = { SeenOdometer D };
 
     ghost coded = { Prim.hlevel (codes, kind_code) };
 
@@ -142,7 +142,7 @@ fn synced<D: Disk>(disk: &mut D, kvs: Kvs) -> Result<Kvs, Refusal>
     ensures rest { IfOk result (λ later. IsAtRest D.told (D.medium disk.new) later) }
     ensures same { IfOk result (λ later. (later.config ≡ kvs.config)
         × (later.session.synced ≡ kvs.session.visible)) }
-    ensures storing { IsStoring D.told (shape_of kvs.store) (Opens (synced_view kvs) []) (D.medium disk.old)
+    ensures storing { IsStoring D.told (store_shape kvs.store) (Opens (synced_view kvs) []) (D.medium disk.old)
         (D.medium disk.new) }
     ensures not_too_far { ¬ (IsErrOf result Refusal.TooFar) }
     ensures cause { IsErrOf result Refusal.Device → Rose (D.medium disk.old).faults (D.medium disk.new).faults }

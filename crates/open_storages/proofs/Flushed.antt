@@ -4,7 +4,7 @@ use Rattle.std.specs.Prelude.{Option, Some, None, IsSome, Result, Ok, Err}
 use Rattle.per_base.specs.declared.errors.PerError.{PerError}
 use Rattle.per_base.specs.Maps.{Map}
 use Rattle.disk_model.specs.Image.{Image}
-use Rattle.element_store.specs.Stores.{IsUsed, shape_of, view_in}
+use Rattle.element_store.specs.Stores.{IsUsed, store_shape, view_in}
 use Rattle.file_storage.specs.declared.syncing.Closed.{Closed}
 use Rattle.file_storage.specs.declared.syncing.Closed.TheVariants as closed
 use Rattle.per_base.specs.declared.faults.Fault.{Fault}
@@ -39,7 +39,7 @@ module _ (told : Bool) (image : Image) (f : FilesInUse) (handle : ℕ) (o : File
 
   pub flush_made : (o.refused ≡ None → stored_in o.files.store ≡ f.session.files)
       → (o.refused ≡ None → view_in o.files.store ≡ below.synced_view f)
-      → o.files ≡ record f { store = o.files.store } → shape_of o.files.store ≡ shape_of f.store
+      → o.files ≡ record f { store = o.files.store } → store_shape o.files.store ≡ store_shape f.store
       → IsUsed told image o.files.store → (IsSome o.refused → o.files ≡ f)
       → IsDurableOrRefused told image (Files f) (flush_refused (Files f) handle) (made_of (Files o.files) o.refused)
   flush_made stored view beside shape used same = by o.refused flush_is stored view same

@@ -25,7 +25,8 @@ use Rattle.value_model.specs.Trees.{Tree, type_of}
 use Rattle.value_code.specs.Reading.{decoded}
 use Rattle.value_text.specs.Texts.{mismatch}
 use Rattle.deployment_model.specs.Data.{StorageData}
-use Rattle.deployment_model.specs.Lookups.{element_named, initial_of}
+use Rattle.deployment_model.specs.Lookups.{element_named, initial_content}
+use Rattle.key_maps.specs.TwoMaps.{TwoMaps}
 use Rattle.kvs_core.specs.Calls as kvs
 use Rattle.file_core.specs.declared.cursor.Cursor.{Cursor}
 use Rattle.file_core.specs.declared.room.Room.{Room}
@@ -43,7 +44,7 @@ use Rattle.command_text.specs.declared.calls.Call.TheVariants as call
 use Rattle.command_text.specs.declared.replies.Answer.{Answer}
 use Rattle.deploy_rows.specs.Rows.{◌>>=◌}
 use Rattle.run_model.specs.Sessions as run
-use Rattle.run_model.specs.Sessions.{KeySession, on_keys, on_working}
+use Rattle.run_model.specs.Sessions.{on_keys, on_working}
 use Rattle.open_storages.specs.Answers.{IsAnsweredAsRow}
 
 -- an error of a call, but no failure of the device
@@ -170,7 +171,7 @@ fine_recovered : (c : StorageData) (m : Map) (name : List ℕ) (content : Conten
     → IsFine (kvs.recovered c m name content)
 fine_recovered c m name (Good bytes) = tt
 fine_recovered c m name (Bad (Some salvage)) = tt
-fine_recovered c m name (Bad None) = fine_restored c m name (initial_of c name)
+fine_recovered c m name (Bad None) = fine_restored c m name (initial_content c name)
 
 fine_recover : (c : StorageData) (m : Map) (name : List ℕ) → IsFine (kvs.recover_key c m name)
 fine_recover c m name = fine_refuse c.read_only error.IllegalWriteAccess
@@ -185,10 +186,10 @@ fine_initial (Some bytes) call fine = fine bytes
 
 fine_reset : (c : StorageData) (m : Map) (name : List ℕ) → IsFine (kvs.reset_key c m name)
 fine_reset c m name = fine_refuse c.read_only error.IllegalWriteAccess
-    (with_initial (initial_of c name) (λ bytes. kvs.with_placed c m name bytes)) tt
-    (fine_initial (initial_of c name) (λ bytes. kvs.with_placed c m name bytes) (λ bytes. fine_placed c m name bytes))
+    (with_initial (initial_content c name) (λ bytes. kvs.with_placed c m name bytes)) tt
+    (fine_initial (initial_content c name) (λ bytes. kvs.with_placed c m name bytes) (λ bytes. fine_placed c m name bytes))
 
-pub keys_fine : (c : StorageData) (s : KeySession) (l : Call) → IsFine (on_keys c s l)
+pub keys_fine : (c : StorageData) (s : TwoMaps) (l : Call) → IsFine (on_keys c s l)
 unfolding on_keys
 keys_fine c s (call.Size n) = tt
 keys_fine c s (call.Keys n) = tt
@@ -431,12 +432,12 @@ files_fine c now w (call.Info n f) = fine_then (by_name.file_info w.files f) _
     (fine_file (element_at w.files f) _ (λ file. fine_info file.info)) (λ x. tt)
 files_fine c now w (call.Delete n f) = fine_then (by_name.delete_file (run.storage_of c) w f) _
     (fine_held (run.storage_of c) w f _ (λ file. tt)) (λ x. tt)
-files_fine c now w (call.RecoverFile n f) = fine_then (by_name.recover_file (run.storage_of c) w f now (initial_of c f))
-    _
-    (fine_held (run.storage_of c) w f _ (λ file. fine_file_recovered (run.storage_of c) w f now (initial_of c f) file
+files_fine c now w (call.RecoverFile n f) = fine_then
+    (by_name.recover_file (run.storage_of c) w f now (initial_content c f)) _
+    (fine_held (run.storage_of c) w f _ (λ file. fine_file_recovered (run.storage_of c) w f now (initial_content c f) file
     file.content)) (λ x. tt)
-files_fine c now w (call.ResetFile n f) = fine_then (by_name.reset_file (run.storage_of c) w f now (initial_of c f)) _
-    (fine_file_reset (run.storage_of c) w f now (initial_of c f)) (λ x. tt)
+files_fine c now w (call.ResetFile n f) = fine_then (by_name.reset_file (run.storage_of c) w f now (initial_content c f)) _
+    (fine_file_reset (run.storage_of c) w f now (initial_content c f)) (λ x. tt)
 files_fine c now w (call.Cat n f) = fine_then (whole.cat (run.storage_of c) w f now) _
     (fine_cat (run.storage_of c) w f now) (λ x. tt)
 files_fine c now w (call.Put n f bytes) = fine_then (whole.put_whole (run.storage_of c) w f bytes now) _

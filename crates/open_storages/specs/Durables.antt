@@ -5,7 +5,7 @@ use Rattle.disk_model.specs.Image.{Image}
 use Rattle.disk_model.specs.Medium.{Medium}
 use Rattle.element_state.specs.Written.{IsWithin, map_cost}
 use Rattle.element_store.specs.Committing.{index_length}
-use Rattle.element_store.specs.Stores.{IsUsed, shape_of, view_in}
+use Rattle.element_store.specs.Stores.{IsUsed, store_shape, view_in}
 use Rattle.run_model.specs.Sessions.{made_durable, seen_of, synced_in_session}
 use Rattle.open_storages.specs.declared.opens.Open.{Open}
 use Rattle.open_storages.specs.declared.syncing.Durable.{Durable}
@@ -19,7 +19,7 @@ use Rattle.open_storages.specs.Refusals.{durable_view}
 pub record IsMadeDurable (told : Bool) (image : Image) (before later : Open) : Type 0 where
   pub session : session_in later ≡ made_durable (session_in before)
   pub config : config_in later ≡ config_in before
-  pub shape : shape_of (store_in later) ≡ shape_of (store_in before)
+  pub shape : store_shape (store_in later) ≡ store_shape (store_in before)
   pub view : view_in (store_in later) ≡ durable_view before
   pub used : IsUsed told image (store_in later)
 
@@ -45,6 +45,6 @@ OnClosed (left.Refused same error) P = ⊤
 
 -- in each copy at most the contents that differ, and the next index
 abbrev pub WritesAtMost : Open → (old new : Medium) → Type 0
-WritesAtMost o old new = IsWithin (shape_of (store_in o)).place.copies
+WritesAtMost o old new = IsWithin (store_shape (store_in o)).place.copies
     (map_cost (config_in o).kind (synced_in_session (session_in o)) (seen_of (session_in o)))
     (index_length (config_in o).kind (durable_view o).entries) old.written new.written

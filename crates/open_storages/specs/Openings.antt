@@ -7,7 +7,7 @@ use Rattle.element_state.specs.declared.shapes.Shape.{Shape}
 use Rattle.element_state.specs.declared.shapes.View.{View}
 use Rattle.element_state.specs.Reports.{failed_report, reports}
 use Rattle.element_state.specs.States.{State, Opens, Corrupt, mended_view}
-use Rattle.element_store.specs.Stores.{shape_of, view_in}
+use Rattle.element_store.specs.Stores.{store_shape, view_in}
 use Rattle.run_model.specs.Sessions.{session_of}
 use Rattle.open_storages.specs.declared.opens.Open.{Open}
 use Rattle.open_storages.specs.declared.opening.Opening.{Opening}
@@ -41,4 +41,4 @@ OnCorrupt (given.Corrupt report) P = P
 -- it is where it is configured to
 pub record IsWhereConfigured (shape : Shape) (config : StorageData) (o : Open) : Type 0 where
   pub configured : config_in o ≡ config
-  pub placed : shape_of (store_in o) ≡ shape
+  pub placed : store_shape (store_in o) ≡ shape

@@ -3,14 +3,15 @@ use Rattle.per_base.specs.declared.elements.StoreKind.{StoreKind}
 use Rattle.per_base.specs.declared.elements.StoreKind.TheVariants as kinds
 use Rattle.deployment_model.specs.Data.{StorageData}
 use Rattle.element_store.specs.declared.store.Store.{Store}
+use Rattle.key_maps.specs.TwoMaps.{TwoMaps}
 use Rattle.kvs_store.specs.Storages as stored
 use Rattle.file_storage.specs.FileSessions as working
-use Rattle.run_model.specs.Sessions.{Session, KeySession, FileSession, keys, files}
+use Rattle.run_model.specs.Sessions.{Session, FileSession, keys, files}
 use Rattle.open_storages.specs.declared.opens.Open.{Open}
 use Rattle.open_storages.specs.declared.opens.Open.TheVariants.{Keys, Files}
 
 -- what is on the disk, and what the calls see
-abbrev pub keys_of : stored.KvsSession → KeySession
+abbrev pub keys_of : stored.KvsSession → TwoMaps
 keys_of k = record { synced = k.session.synced; visible = k.session.visible }
 
 abbrev pub files_of : working.FilesInUse → FileSession

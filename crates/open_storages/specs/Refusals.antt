@@ -6,7 +6,7 @@ use Rattle.per_base.specs.declared.errors.PerError.TheVariants.{LimitReached}
 use Rattle.per_base.specs.Refusals.{or_next}
 use Rattle.element_state.specs.declared.shapes.View.{View}
 use Rattle.element_state.specs.States.{is_worn}
-use Rattle.element_store.specs.Stores.{shape_of, view_in}
+use Rattle.element_store.specs.Stores.{store_shape, view_in}
 use Rattle.element_maps.specs.Sessions.{same_map, view_once_synced}
 use Rattle.file_handles.specs.Opening.{busy, when}
 use Rattle.run_model.specs.Calls.{lowest_handle, may_flush}
@@ -15,17 +15,17 @@ use Rattle.open_storages.specs.declared.opens.Open.{Open}
 use Rattle.open_storages.specs.declared.opens.Open.TheVariants.{Keys, Files}
 use Rattle.open_storages.specs.Opens.{session_in, store_in}
 
--- what the calls see is what is on the disk
-abbrev pub is_still : Open → Bool
-is_still o = same_map (synced_in_session (session_in o)) (seen_of (session_in o))
+-- what the calls see is what is on the disk: nothing is pending
+abbrev pub has_nothing_pending : Open → Bool
+has_nothing_pending o = same_map (synced_in_session (session_in o)) (seen_of (session_in o))
 
 -- no generation is left for what differs
 abbrev pub worn : Open → Bool
-worn o = not (is_still o) && is_worn (view_in (store_in o))
+worn o = not (has_nothing_pending o) && is_worn (view_in (store_in o))
 
 -- the view once what the calls see is durable: that of before where nothing differs
 abbrev pub durable_view : Open → View
-durable_view o = view_once_synced (shape_of (store_in o)) (view_in (store_in o)) (synced_in_session (session_in o))
+durable_view o = view_once_synced (store_shape (store_in o)) (view_in (store_in o)) (synced_in_session (session_in o))
     (seen_of (session_in o))
 
 abbrev pub error_of : {A : Type 0} → Result A PerError → Option PerError

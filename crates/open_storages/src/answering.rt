@@ -2,7 +2,7 @@
 
 ghost use Rattle.std.specs.Prelude.{◌≡◌, ◌≢◌, IfErr, IfOk, OnErr, Ok};
 ghost use Rattle.per_base.specs.Refusals.{IsRefusal};
-ghost use Rattle.element_store.specs.Stores.{shape_of};
+ghost use Rattle.element_store.specs.Stores.{store_shape};
 ghost use Rattle.command_text.specs.Replies.{HasText};
 ghost use Rattle.run_model.specs.Sessions.{in_session, synced_in_session};
 ghost use Rattle.open_storages.specs.Opens.{config_in, session_in, store_in};

@@ -7,11 +7,11 @@ ghost use Rattle.per_base.specs.declared.errors.PerError.{PerError};
 ghost use Rattle.disk_model.specs.Medium.{Quiet};
 ghost use Rattle.element_state.specs.Clean.{IsClean};
 ghost use Rattle.element_state.specs.States.{Opens, store_at};
-ghost use Rattle.element_store.specs.Stores.{IsUsed, shape_of};
+ghost use Rattle.element_store.specs.Stores.{IsUsed, store_shape};
 ghost use Rattle.element_maps.specs.Storages.{IsStoring};
 ghost use Rattle.open_storages.specs.Durables.{IsClosedOrRefused, OnClosed, WritesAtMost};
 ghost use Rattle.open_storages.specs.Opens.{config_in, store_in};
-ghost use Rattle.open_storages.specs.Refusals.{close_refused, durable_view, is_still};
+ghost use Rattle.open_storages.specs.Refusals.{close_refused, durable_view, has_nothing_pending};
 
 use crate::opens::Open;
 use deploy::Stop;
@@ -42,29 +42,29 @@ impl Open {
     pub fn close<D: Disk>(self, disk: &mut D) -> Result<Closing, Stop>
         requires used { IsUsed D.told (D.medium disk.old).image (store_in self) }
 
-        // What is due is given: a refusal hands the storage back as it was, and where nothing differs the disk is not
-        // called.
+        // The first refusal that is due is given, and hands the storage back as it was. Where nothing is pending the
+        // disk is not called.
         ensures done { IfOk result (IsClosedOrRefused self (close_refused self)) }
         ensures due { (error : PerError) → close_refused self ≡ Some error
             → (result ≡ Ok (Closing.Refused self error)) × (disk.new ≡ disk.old) }
         ensures keys { (config_in self).kind ≡ kinds.Keys → (result ≡ Ok Closing.Done) × (disk.new ≡ disk.old) }
-        ensures unchanged { is_still self ≡ true → IsOk result × (disk.new ≡ disk.old) }
+        ensures unchanged { has_nothing_pending self ≡ true → IsOk result × (disk.new ≡ disk.old) }
 
         // A storage of files then opens at the working files.
         ensures opens { IsTrue D.told → (config_in self).kind ≡ kinds.Files → IfOk result (λ closing. OnClosed closing
-            (store_at (D.medium disk.new).image (shape_of (store_in self)) ≡ Opens (durable_view self) [])) }
+            (store_at (D.medium disk.new).image (store_shape (store_in self)) ≡ Opens (durable_view self) [])) }
 
         ensures quiet { Quiet (D.medium disk.old) → OnOk result (Quiet (D.medium disk.new)) }
-        ensures clean { IsTrue D.told → IsClean (shape_of (store_in self)) (D.medium disk.old).image
-            → OnOk result (IsClean (shape_of (store_in self)) (D.medium disk.new).image) }
+        ensures clean { IsTrue D.told → IsClean (store_shape (store_in self)) (D.medium disk.old).image
+            → OnOk result (IsClean (store_shape (store_in self)) (D.medium disk.new).image) }
         ensures at_most { WritesAtMost self (D.medium disk.old) (D.medium disk.new) }
         ensures cause { IsErrOf result Stop.Device → Rose (D.medium disk.old).faults (D.medium disk.new).faults }
         ensures passes { OnOk result ((D.medium disk.new).faults ≡ (D.medium disk.old).faults) }
         ensures fed { IsErrOf result Stop.OutOfMemory → disk.new ≡ disk.old }
 
         // No file outside the place changes, and a stop at any moment leaves the storage of before or that of after.
-        ensures storing { IsStoring D.told (shape_of (store_in self)) (Opens (durable_view self) []) (D.medium disk.old)
-            (D.medium disk.new) }
+        ensures storing { IsStoring D.told (store_shape (store_in self)) (Opens (durable_view self) [])
+            (D.medium disk.old) (D.medium disk.new) }
     {
         untouched_is_kept();
         self.invariants();

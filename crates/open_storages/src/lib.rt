@@ -6,7 +6,7 @@
 //!
 //! The promises: each call answers as its row says, every refusal in its order with what it carries, and a refused call
 //! changes nothing. A stop at any moment leaves the storage of before or that of after, and no file outside its place
-//! changes. Where memory ran out or the device failed, the storage is let go, and what stands on the disk is what the
+//! changes. Where memory ran out or the device failed, the storage is dropped, and what stands on the disk is what the
 //! next opening finds.
 #![tactic(auto)]
 

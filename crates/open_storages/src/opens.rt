@@ -2,7 +2,7 @@
 
 ghost use Rattle.std.specs.Prelude.{◌≡◌};
 ghost use Rattle.element_maps.specs.Storages.{IsConfigured};
-ghost use Rattle.element_store.specs.Stores.{shape_of, view_in};
+ghost use Rattle.element_store.specs.Stores.{store_shape, view_in};
 ghost use Rattle.run_model.specs.Sessions.{seen_in, synced_in_session};
 ghost use Rattle.open_storages.specs.Opens.{config_in, session_in, session_kind, store_in};
 
@@ -22,7 +22,7 @@ impl Open {
     /// synchronised is what the storage below shows.
     pub fn invariants(&self)
         ensures configured { IsConfigured (config_in self.now).kind (config_in self.now)
-            (shape_of (store_in self.now)) }
+            (store_shape (store_in self.now)) }
         ensures kind { session_kind (session_in self.now) ≡ (config_in self.now).kind }
         ensures synced { synced_in_session (session_in self.now) ≡ seen_in (config_in self.now).kind
             (view_in (store_in self.now)) }

@@ -7,11 +7,11 @@ ghost use Rattle.per_base.specs.declared.errors.PerError.{PerError};
 ghost use Rattle.disk_model.specs.Medium.{Quiet};
 ghost use Rattle.element_state.specs.Clean.{IsClean};
 ghost use Rattle.element_state.specs.States.{Opens};
-ghost use Rattle.element_store.specs.Stores.{IsUsed, shape_of};
+ghost use Rattle.element_store.specs.Stores.{IsUsed, store_shape};
 ghost use Rattle.element_maps.specs.Storages.{IsStoring};
 ghost use Rattle.open_storages.specs.Durables.{IsDurableOrRefused, WritesAtMost, made_of};
 ghost use Rattle.open_storages.specs.Opens.{config_in, store_in};
-ghost use Rattle.open_storages.specs.Refusals.{durable_view, flush_refused, is_still, sync_refused};
+ghost use Rattle.open_storages.specs.Refusals.{durable_view, flush_refused, has_nothing_pending, sync_refused};
 
 use crate::opens::Open;
 use deploy::Stop;
@@ -48,19 +48,19 @@ impl Open {
         ensures done { IfOk result (IsDurableOrRefused D.told (D.medium disk.new).image self (sync_refused self)) }
         ensures due { (error : PerError) → sync_refused self ≡ Some error
             → (result ≡ Ok (Durable.Refused self error)) × (disk.new ≡ disk.old) }
-        ensures unchanged { is_still self ≡ true → IsOk result × (disk.new ≡ disk.old) }
+        ensures unchanged { has_nothing_pending self ≡ true → IsOk result × (disk.new ≡ disk.old) }
 
         ensures quiet { Quiet (D.medium disk.old) → OnOk result (Quiet (D.medium disk.new)) }
-        ensures clean { IsTrue D.told → IsClean (shape_of (store_in self)) (D.medium disk.old).image
-            → OnOk result (IsClean (shape_of (store_in self)) (D.medium disk.new).image) }
+        ensures clean { IsTrue D.told → IsClean (store_shape (store_in self)) (D.medium disk.old).image
+            → OnOk result (IsClean (store_shape (store_in self)) (D.medium disk.new).image) }
         ensures at_most { WritesAtMost self (D.medium disk.old) (D.medium disk.new) }
         ensures cause { IsErrOf result Stop.Device → Rose (D.medium disk.old).faults (D.medium disk.new).faults }
         ensures passes { OnOk result ((D.medium disk.new).faults ≡ (D.medium disk.old).faults) }
         ensures fed { IsErrOf result Stop.OutOfMemory → disk.new ≡ disk.old }
 
         // No file outside the place changes, and a stop at any moment leaves the storage of before or that of after.
-        ensures storing { IsStoring D.told (shape_of (store_in self)) (Opens (durable_view self) []) (D.medium disk.old)
-            (D.medium disk.new) }
+        ensures storing { IsStoring D.told (store_shape (store_in self)) (Opens (durable_view self) [])
+            (D.medium disk.old) (D.medium disk.new) }
     {
         self.invariants();
         match self {
@@ -98,18 +98,18 @@ impl Open {
             (flush_refused self handle)) }
         ensures due { (error : PerError) → flush_refused self handle ≡ Some error
             → (result ≡ Ok (Durable.Refused self error)) × (disk.new ≡ disk.old) }
-        ensures unchanged { is_still self ≡ true → IsOk result × (disk.new ≡ disk.old) }
+        ensures unchanged { has_nothing_pending self ≡ true → IsOk result × (disk.new ≡ disk.old) }
 
         ensures quiet { Quiet (D.medium disk.old) → OnOk result (Quiet (D.medium disk.new)) }
-        ensures clean { IsTrue D.told → IsClean (shape_of (store_in self)) (D.medium disk.old).image
-            → OnOk result (IsClean (shape_of (store_in self)) (D.medium disk.new).image) }
+        ensures clean { IsTrue D.told → IsClean (store_shape (store_in self)) (D.medium disk.old).image
+            → OnOk result (IsClean (store_shape (store_in self)) (D.medium disk.new).image) }
         ensures at_most { WritesAtMost self (D.medium disk.old) (D.medium disk.new) }
         ensures cause { IsErrOf result Stop.Device → Rose (D.medium disk.old).faults (D.medium disk.new).faults }
         ensures passes { OnOk result ((D.medium disk.new).faults ≡ (D.medium disk.old).faults) }
         ensures fed { IsErrOf result Stop.OutOfMemory → disk.new ≡ disk.old }
 
-        ensures storing { IsStoring D.told (shape_of (store_in self)) (Opens (durable_view self) []) (D.medium disk.old)
-            (D.medium disk.new) }
+        ensures storing { IsStoring D.told (store_shape (store_in self)) (Opens (durable_view self) [])
+            (D.medium disk.old) (D.medium disk.new) }
     {
         untouched_is_kept();
         self.invariants();

@@ -12,13 +12,13 @@ use Rattle.element_state.specs.States.{State, store_at}
 use Rattle.deploy.specs.Views.{ShowsVersions, seen_at, seen_by, versions}
 use Rattle.deploy_laws.specs.Apps.{IsInBank, Says, nothing, absent, installed, app_at, root_sole, says_at}
 use Rattle.deploy_laws.specs.Apps.{shapes_named}
-use Rattle.deploy_laws.specs.Places.{Named, shapes_from, shapes_if, shapes_in, storage_shape}
+use Rattle.deploy_laws.specs.Places.{Named, shapes_from, shapes_if, shapes_in, storage_shape, version_in_bank}
 use Rattle.per_audit.specs.declared.findings.Finding.{Finding}
 use Rattle.per_audit.specs.declared.findings.Listed.{Listed}
 use Rattle.per_audit.specs.declared.noting.Notes.{Notes}
 use Rattle.per_audit.specs.Audits.{damaged_by, each_storage, elements_of, findings_of, listed_of, of_storage}
 use Rattle.per_audit.specs.Audits.{storages_if, storages_of, unless_sole}
-use Rattle.per_audit.specs.Noted.{AddsNotes, elements_seen, findings_seen, of_previous, of_version, version_in_bank}
+use Rattle.per_audit.specs.Noted.{AddsNotes, elements_seen, findings_seen, of_previous, of_version}
 use Rattle.per_audit.specs.Noted.{over_storages}
 
 -- ---- the storages of both versions

@@ -1,8 +1,8 @@
 -- The text of an audit: a line for each element, a line for each finding, and what they come to.
-use Rattle.std.specs.Prelude.{ℕ, List, [], ◌∷◌, ◌++◌, codes, length, Option, Some, None}
+use Rattle.std.specs.Prelude.{ℕ, List, [], ◌∷◌, ◌++◌, codes, length}
 use Rattle.std.specs.List.{flat_map}
 use Rattle.std.specs.Fmt.{decimal}
-use Rattle.command_text.specs.Replies.{unit_text, copies_text}
+use Rattle.command_text.specs.Replies.{unit_text, copies_text, number_or_dash}
 use Rattle.per_audit.specs.declared.findings.Finding.{Finding}
 use Rattle.per_audit.specs.declared.findings.FindingKind.{FindingKind}
 use Rattle.per_audit.specs.declared.findings.FindingKind.TheVariants.{Damaged, Lost, Unsettled}
@@ -19,14 +19,9 @@ kind_word Damaged = codes "damaged"
 kind_word Lost = codes "lost"
 kind_word Unsettled = codes "unsettled"
 
--- a root is in no bank
-abbrev pub bank_text : Option ℕ → List ℕ
-bank_text None = codes "-"
-bank_text (Some bank) = decimal bank
-
--- what is found, the application, the bank, the unit and the copies
+-- what is found, the application, the bank, which a root has not, the unit and the copies
 abbrev pub finding_line : Finding → List ℕ
-finding_line f = kind_word f.kind ++ codes " " ++ decimal f.app ++ codes " " ++ bank_text f.bank ++ codes " "
+finding_line f = kind_word f.kind ++ codes " " ++ decimal f.app ++ codes " " ++ number_or_dash f.bank ++ codes " "
     ++ unit_text f.unit
     ++ codes " " ++ copies_text f.copies ++ codes "\n"
 

@@ -1,10 +1,9 @@
 -- What an audit adds for a root and for a storage, by how it is seen.
-use Rattle.std.specs.Prelude.{◌≡◌, ℕ, List, [], ◌∷◌, ◌++◌, map, Bool, true, false, Option, Some, None, option_map}
+use Rattle.std.specs.Prelude.{◌≡◌, ℕ, List, [], ◌∷◌, ◌++◌, map, Bool, true, false, Option, Some, None}
 use Rattle.std.specs.List.{flat_map, range_with_len}
 use Rattle.per_base.specs.declared.errors.Unit.TheVariants.{Root, Whole}
 use Rattle.disk_model.specs.Image.{Image}
-use Rattle.deployment_model.specs.Data.{StorageData, deployment_data}
-use Rattle.deployment_model.specs.declared.configs.Deployment.{Deployment}
+use Rattle.deployment_model.specs.Data.{StorageData}
 use Rattle.element_state.specs.declared.shapes.View.{View}
 use Rattle.element_state.specs.declared.surveying.Found.{Found}
 use Rattle.element_state.specs.States.{State, store_at}
@@ -62,10 +61,6 @@ over_storages f image app bank number storages =
 
 abbrev pub of_version : {A : Type 0} → (ℕ → StorageData → State → List A) → Image → (app : ℕ) → Named → List A
 of_version f image app v = over_storages f image app v.bank 0 v.deployment.storages
-
--- a version in this bank, where there is one
-abbrev pub version_in_bank : (bank : ℕ) → Option Deployment → Option Named
-version_in_bank bank previous = option_map (λ d. record { bank = bank; deployment = deployment_data d }) previous
 
 abbrev pub of_previous : {A : Type 0} → (ℕ → StorageData → State → List A) → Image → (app : ℕ) → Option Named → List A
 of_previous f image app None = []

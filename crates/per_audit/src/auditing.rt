@@ -11,10 +11,9 @@ ghost use Rattle.element_state.specs.States.{store_at};
 ghost use Rattle.deploy.specs.Views.{ShowsVersions, root_seen};
 ghost use Rattle.deploy.specs.declared.viewing.RootView.TheVariants.{Installed};
 ghost use Rattle.deploy_laws.specs.Apps.{app_at, root_sole};
-ghost use Rattle.deploy_laws.specs.Places.{storage_shape};
+ghost use Rattle.deploy_laws.specs.Places.{storage_shape, version_in_bank};
 ghost use Rattle.per_audit.specs.Audits.{elements_at, elements_of, findings_at, findings_of, listed_of, of_storage};
 ghost use Rattle.per_audit.specs.Noted.{AddsNotes, elements_seen, findings_seen, of_previous, over_storages};
-ghost use Rattle.per_audit.specs.Noted.{version_in_bank};
 
 use crate::findings::Audit;
 use crate::noting::{Notes, note_bad_root, note_root, note_storage};

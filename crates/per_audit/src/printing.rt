@@ -2,7 +2,8 @@
 
 ghost use Rattle.std.specs.Prelude.{◌≡◌, ◌++◌, IfOk, OnOk, string_bytes};
 ghost use Rattle.std.specs.List.{flat_map};
-ghost use Rattle.per_audit.specs.AuditText.{audit_text, bank_text, element_line, finding_line, kind_word, verdict};
+ghost use Rattle.command_text.specs.Replies.{number_or_dash};
+ghost use Rattle.per_audit.specs.AuditText.{audit_text, element_line, finding_line, kind_word, verdict};
 
 use crate::findings::{Audit, Finding, FindingKind, Listed};
 use command_text::{push_copies, push_unit};
@@ -80,7 +81,7 @@ fn kind_word(kind: FindingKind) -> &'static str
 }
 
 fn push_bank(out: &mut String, bank: Option<u32>) -> Result<(), AllocError>
-    ensures { OnOk result (string_bytes out.new ≡ string_bytes out.old ++ bank_text bank) }
+    ensures { OnOk result (string_bytes out.new ≡ string_bytes out.old ++ number_or_dash bank) }
 {
     match bank {
         None => out.push_str("-"),

@@ -29,7 +29,7 @@ use Rattle.deploy.specs.Recovered.{AreElements}
 use Rattle.export_text.specs.declared.exports.Export.{Export}
 use Rattle.export_text.specs.Exports.{AreExportable, IsExport, IsExportable, export_of, export_text}
 use Rattle.export_text.specs.Exports as exports
-use Rattle.run_model.specs.Found.{Found, found_at, found_in, found_with, storage_in, with_storage_state}
+use Rattle.run_model.specs.Found.{FoundStorage, found_at, found_in, found_with, storage_in, with_storage_state}
 use Rattle.per_backup.specs.Backups.{export_for, exported_contents, exported_from, exporting, fresh_of, importing}
 use Rattle.per_backup.specs.Backups.{importing_into, least_mismatch, text_from}
 use Rattle.per_backup.specs.Laws.{AgainLaw, ExportedLaw, ImportsLaw}
@@ -217,7 +217,7 @@ text_again s generation x rules kind =
 
 -- what was found is found again in its next state
 found_again_with : (v : Named) (number : ℕ) (config : Option StorageData) (states : List State) (state : Option State)
-    → slice_get states number ≡ state → (f : Found)
+    → slice_get states number ≡ state → (f : FoundStorage)
     → found_with v.bank number None config state ≡ Ok f → (next : State)
     → found_with v.bank number None config (slice_get (slice_set states f.number next) number)
     ≡ Ok (record f { state = next })
@@ -226,18 +226,18 @@ found_again_with v number (Some s) states None at f is next = absurd (no_ok _ f 
 found_again_with v number (Some s) states (Some state) at f is next =
     let same : f ≡ record { bank = v.bank; number = number; config = s; state = state } =
     ok_same f (record { bank = v.bank; number = number; config = s; state = state }) (sym is) in
-    subst (λ (g : Found). found_with v.bank number None (Some s) (slice_get (slice_set states g.number next) number)
+    subst (λ (g : FoundStorage). found_with v.bank number None (Some s) (slice_get (slice_set states g.number next) number)
     ≡ Ok (record g { state = next })) (sym same)
     (ap (λ (o : Option State). found_with v.bank number None (Some s) o) (get_set states number next state at))
 
-found_again_at : (v : Named) (states : List State) (number : Option ℕ) (f : Found)
+found_again_at : (v : Named) (states : List State) (number : Option ℕ) (f : FoundStorage)
     → found_at v states None number ≡ Ok f → (next : State)
     → found_at v (slice_set states f.number next) None number ≡ Ok (record f { state = next })
 found_again_at v states None f is next = absurd (no_ok _ f is)
 found_again_at v states (Some number) f is next = found_again_with v number (slice_get v.deployment.storages number)
     states (slice_get states number) refl f is next
 
-found_again : (says : Says) (states : List State) (name : List ℕ) (f : Found) → found_in says states name None ≡ Ok f
+found_again : (says : Says) (states : List State) (name : List ℕ) (f : FoundStorage) → found_in says states name None ≡ Ok f
     → (next : State)
     → found_in says (slice_set states f.number next) name None ≡ Ok (record f { state = next })
 found_again nothing states name f is next = absurd (no_ok _ f is)
@@ -245,13 +245,13 @@ found_again (absent g) states name f is next = absurd (no_ok _ f is)
 found_again (installed g active previous) states name f is next =
     found_again_at active states (storage_number active.deployment name) f is next
 
-row_done : (a : App) (f : Found) (row : Result State PerError) (b : App) → with_row a f row ≡ Ok b
+row_done : (a : App) (f : FoundStorage) (row : Result State PerError) (b : App) → with_row a f row ≡ Ok b
     → (next : State) × (row ≡ Ok next) × (b ≡ with_storage_state a f next)
 row_done a f (Ok next) b is = (next, refl, sym (ok_same (with_storage_state a f next) b is))
 row_done a f (Err e) b is = absurd (no_ok e b is)
 
-again_found : TakenLaw → (a b : App) (name text : List ℕ) → AreBytes text → (f : Found) → storage_in a name None ≡ Ok f
-    → importing_into a name text ≡ Ok b → exporting b name ≡ Ok text
+again_found : TakenLaw → (a b : App) (name text : List ℕ) → AreBytes text → (f : FoundStorage)
+    → storage_in a name None ≡ Ok f → importing_into a name text ≡ Ok b → exporting b name ≡ Ok text
 again_found taken a b name text bytes f found is =
     let done = row_done a f (importing f.config f.state text) b (sym (importing_found a name text f found) ∙ is) in
     let made = is_made f.config f.state text done.0 done.1 in
@@ -263,7 +263,7 @@ again_found taken a b name text bytes f found is =
     ∙ text_again f.config (next_generation (salvage_of f.state)) made.spelled spelled.0 made.kind
     ∙ ap (λ (t : List ℕ). Ok t) (sym spelled.1)
 
-again_by : TakenLaw → (a b : App) (name text : List ℕ) → AreBytes text → (found : Result Found PerError)
+again_by : TakenLaw → (a b : App) (name text : List ℕ) → AreBytes text → (found : Result FoundStorage PerError)
     → storage_in a name None ≡ found → importing_into a name text ≡ Ok b
     → exporting b name ≡ Ok text
 again_by taken a b name text bytes (Ok f) found is = again_found taken a b name text bytes f found is

@@ -25,7 +25,7 @@ use Rattle.deploy_rows.specs.Recovering.{if_contents_fit, is_worn_out, rebuildin
 use Rattle.deploy_rows.specs.Rows.{◌>>=◌}
 use Rattle.export_text.specs.declared.exports.Export.{Export}
 use Rattle.export_text.specs.Exports.{export_of, export_text}
-use Rattle.run_model.specs.Found.{Found, found_at, found_in, found_with, of_kind, storage_in, with_storage_state}
+use Rattle.run_model.specs.Found.{FoundStorage, found_at, found_in, found_with, of_kind, storage_in, with_storage_state}
 use Rattle.per_backup.specs.Backups.{configured_type, differing, export_for, exported_contents, exported_from}
 use Rattle.per_backup.specs.Backups.{exported_type, exporting, fresh_by, fresh_of, importing, importing_into}
 use Rattle.per_backup.specs.Backups.{least_mismatch, mismatch_of, text_from}

@@ -22,7 +22,7 @@ use Rattle.deploy_rows.specs.Recovering.{after_state, if_contents_fit}
 use Rattle.deploy_rows.specs.Rows.{AnswersRow, after}
 use Rattle.deploy.specs.Clauses.{ChangesNothing, Leaves}
 use Rattle.deploy.specs.declared.errors.Stop.{Stop}
-use Rattle.run_model.specs.Found.{Found, shape_in, storage_in, with_storage_state}
+use Rattle.run_model.specs.Found.{FoundStorage, shape_in, storage_in, with_storage_state}
 use Rattle.per_backup.specs.declared.finding.Located.{Located}
 use Rattle.per_backup.specs.Backups.{importing, importing_into}
 use Rattle.per_backup.specs.Clauses.{Imported, IsAppSeen, KeepsSettled}
@@ -124,7 +124,7 @@ module _ (laws : BackupLaws) (told : Bool) (app : ℕ) (lt : app < 8) (name text
     abbrev was : State
     was = store_at old.image here
 
-    abbrev f : Found
+    abbrev f : FoundStorage
     f = found_as located.active number l was
 
     says_old : says_at old.image app ≡ installed (located.says tells).0 located.active (located.says tells).1
@@ -137,7 +137,7 @@ module _ (laws : BackupLaws) (told : Bool) (app : ℕ) (lt : app < 8) (name text
     found = let n = located.named was (λ t. ap (store_at old.image) (sym located.of.shape)) in
         subst (λ (it : App). storage_in it name None ≡ Ok f) (n.1 tells) n.2
 
-    it_is : (g : Found) → storage_in a name None ≡ Ok g → g ≡ f
+    it_is : (g : FoundStorage) → storage_in a name None ≡ Ok g → g ≡ f
     it_is g is = one_found a name g f is found
 
     was_mid : store_at mid.image here ≡ was
@@ -176,13 +176,13 @@ module _ (laws : BackupLaws) (told : Bool) (app : ℕ) (lt : app < 8) (name text
 
     pub replaced_keeps : KeepsSettled app name text old new
     replaced_keeps = record {
-      kept = λ g is. subst (λ (x : Found). KeptThroughout (shape_in app x)
+      kept = λ g is. subst (λ (x : FoundStorage). KeptThroughout (shape_in app x)
           (after_state x.state (importing x.config x.state text)) old new) (sym (it_is g is))
           (subst (λ (r : Result State PerError). KeptThroughout here (after_state was r) old new) (sym (row_is was))
           kept_here);
-      elsewhere = λ g is. subst (λ (x : Found). Spares (IsOutside (shape_in app x).place) old.image new.image)
+      elsewhere = λ g is. subst (λ (x : FoundStorage). Spares (IsOutside (shape_in app x).place) old.image new.image)
           (sym (it_is g is)) elsewhere_here;
-      outside = λ g is. subst (λ (x : Found). Quiet old → EachCase
+      outside = λ g is. subst (λ (x : FoundStorage). Quiet old → EachCase
           (IsSettledOn (IsOutside (shape_in app x).place) old.image) old new)
           (sym (it_is g is)) outside_here;
       stands = subst (λ (b : App). StandsThroughout app b old new) (sym world)
@@ -219,9 +219,9 @@ module _ (laws : BackupLaws) (told : Bool) (app : ℕ) (lt : app < 8) (name text
     replaced_imported = if_done result (Imported app name text old new) (λ refused is. record {
       world = stored.0 ∙ ap (λ (st : State). record a { states = slice_set a.states number st })
           (on_so result refused _ is (anew.state tells) ∙ next_mid) ∙ sym world;
-      clean = λ g found_so ok. subst (λ (x : Found). IsClean (shape_in app x) new.image) (sym (it_is g found_so))
+      clean = λ g found_so ok. subst (λ (x : FoundStorage). IsClean (shape_in app x) new.image) (sym (it_is g found_so))
           (clean_here refused is (inl (made refused is (subst (λ (r : Result State PerError). IsOk r) (row_is was)
-          (subst (λ (x : Found). IsOk (importing x.config x.state text)) (it_is g found_so) ok)))));
+          (subst (λ (x : FoundStorage). IsOk (importing x.config x.state text)) (it_is g found_so) ok)))));
       stays_clean = λ clean. stored.1 clean (clean_here refused is
           (inr (clean_there laws app (located.says tells).0 located.active (located.says tells).1 number s
           located.of.config old.image says_old clean)));

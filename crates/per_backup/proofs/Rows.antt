@@ -13,7 +13,7 @@ use Rattle.deploy_laws.specs.Apps.{App, AreVersions, Says, absent, app_at, insta
 use Rattle.deploy_laws.specs.Stands.{IsLater, same_root}
 use Rattle.deploy_rows.specs.Recovering.{after_state}
 use Rattle.deploy_rows.specs.Rows.{◌>>=◌, AnswersRow, after}
-use Rattle.run_model.specs.Found.{Found, found_at, found_in, found_with, shape_in, storage_in, with_storage_state}
+use Rattle.run_model.specs.Found.{FoundStorage, found_at, found_in, found_with, shape_in, storage_in, with_storage_state}
 use Rattle.per_backup.specs.Backups.{exporting, importing, importing_into, text_from}
 use Rattle.per_backup.specs.StorageLaws.{BackupLaws}
 use Rattle.per_backup.proofs.Lists.{all_at, length_set, ok_same}
@@ -21,39 +21,39 @@ use Rattle.per_backup.proofs.Stored.{says_of}
 
 -- ---- a storage that is found, or none
 
-pub one_found : (a : App) (name : List ℕ) (f g : Found) → storage_in a name None ≡ Ok f → storage_in a name None ≡ Ok g
-    → f ≡ g
+pub one_found : (a : App) (name : List ℕ) (f g : FoundStorage) → storage_in a name None ≡ Ok f
+    → storage_in a name None ≡ Ok g → f ≡ g
 one_found a name f g is so = ok_same f g (sym is ∙ so)
 
-pub exporting_found : (a : App) (name : List ℕ) (f : Found) → storage_in a name None ≡ Ok f
+pub exporting_found : (a : App) (name : List ℕ) (f : FoundStorage) → storage_in a name None ≡ Ok f
     → exporting a name ≡ text_from f.config f.state
 unfolding exporting
-exporting_found a name f is = ap (λ (r : Result Found PerError). r >>= λ g. text_from g.config g.state) is
+exporting_found a name f is = ap (λ (r : Result FoundStorage PerError). r >>= λ g. text_from g.config g.state) is
 
 pub exporting_missing : (a : App) (name : List ℕ) (e : PerError) → storage_in a name None ≡ Err e
     → exporting a name ≡ Err e
 unfolding exporting
-exporting_missing a name e is = ap (λ (r : Result Found PerError). r >>= λ g. text_from g.config g.state) is
+exporting_missing a name e is = ap (λ (r : Result FoundStorage PerError). r >>= λ g. text_from g.config g.state) is
 
 -- the application with a state, if it is one
-abbrev pub with_row : App → Found → Result State PerError → Result App PerError
+abbrev pub with_row : App → FoundStorage → Result State PerError → Result App PerError
 with_row a f row = row >>= λ state. Ok (with_storage_state a f state)
 
-pub importing_found : (a : App) (name text : List ℕ) (f : Found) → storage_in a name None ≡ Ok f
+pub importing_found : (a : App) (name text : List ℕ) (f : FoundStorage) → storage_in a name None ≡ Ok f
     → importing_into a name text ≡ with_row a f (importing f.config f.state text)
 unfolding importing_into
-importing_found a name text f is = ap (λ (r : Result Found PerError). r >>= λ g.
+importing_found a name text f is = ap (λ (r : Result FoundStorage PerError). r >>= λ g.
     importing g.config g.state text >>= λ state. Ok (with_storage_state a g state)) is
 
 pub importing_missing : (a : App) (name text : List ℕ) (e : PerError) → storage_in a name None ≡ Err e
     → importing_into a name text ≡ Err e
 unfolding importing_into
-importing_missing a name text e is = ap (λ (r : Result Found PerError). r >>= λ g.
+importing_missing a name text e is = ap (λ (r : Result FoundStorage PerError). r >>= λ g.
     importing g.config g.state text >>= λ state. Ok (with_storage_state a g state)) is
 
 -- ---- what a row leads to
 
-pub answers_row : (a : App) (f : Found) (refused : Option PerError) (row : Result State PerError)
+pub answers_row : (a : App) (f : FoundStorage) (refused : Option PerError) (row : Result State PerError)
     → AnswersRow refused row
     → AnswersRow refused (with_row a f row)
 answers_row a f None (Ok state) answers = tt
@@ -61,12 +61,12 @@ answers_row a f None (Err e) answers = absurd answers
 answers_row a f (Some e) (Ok state) answers = absurd answers
 answers_row a f (Some e) (Err g) answers = answers
 
-pub after_row : (a : App) (f : Found) (row : Result State PerError) → with_storage_state a f f.state ≡ a
+pub after_row : (a : App) (f : FoundStorage) (row : Result State PerError) → with_storage_state a f f.state ≡ a
     → after a (with_row a f row) ≡ with_storage_state a f (after_state f.state row)
 after_row a f (Ok state) same = refl
 after_row a f (Err e) same = sym same
 
-pub row_refused : (a : App) (f : Found) (row : Result State PerError) → IsErr (with_row a f row) → IsErr row
+pub row_refused : (a : App) (f : FoundStorage) (row : Result State PerError) → IsErr (with_row a f row) → IsErr row
 row_refused a f (Ok state) err = err
 row_refused a f (Err e) err = refl
 
@@ -76,17 +76,17 @@ row_done None row answers ok = refl
 row_done (Some e) (Ok state) answers ok = absurd answers
 row_done (Some e) (Err g) answers ok = absurd (true≢false (sym ok))
 
-pub row_goes : (a : App) (f : Found) (row : Result State PerError) (e : PerError) → with_row a f row ≡ Err e → IsOk row
-    → ⊥
+pub row_goes : (a : App) (f : FoundStorage) (row : Result State PerError) (e : PerError) → with_row a f row ≡ Err e
+    → IsOk row → ⊥
 row_goes a f (Ok state) e is ok = absurd cc
 row_goes a f (Err g) e is ok = true≢false (sym ok)
 
 -- it has as many storages as before, under the same root
-later_row : (a : App) (f : Found) (row : Result State PerError) → IsLater a (after a (with_row a f row))
+later_row : (a : App) (f : FoundStorage) (row : Result State PerError) → IsLater a (after a (with_row a f row))
 later_row a f (Ok state) = same_root refl (length_set a.states f.number state)
 later_row a f (Err e) = same_root refl refl
 
-later_by : (a : App) (name text : List ℕ) (found : Result Found PerError) → storage_in a name None ≡ found
+later_by : (a : App) (name text : List ℕ) (found : Result FoundStorage PerError) → storage_in a name None ≡ found
     → IsLater a (after a (importing_into a name text))
 later_by a name text (Ok f) is = subst (λ (r : Result App PerError). IsLater a (after a r))
     (sym (importing_found a name text f is)) (later_row a f (importing f.config f.state text))
@@ -98,21 +98,21 @@ later_import a name text = later_by a name text (storage_in a name None) refl
 
 -- ---- what is found is a storage of a version
 
-record IsPart (v : Named) (f : Found) : Type 0 where
+record IsPart (v : Named) (f : FoundStorage) : Type 0 where
   pub bank : f.bank ≡ v.bank
   pub config : slice_get v.deployment.storages f.number ≡ Some f.config
 
 part_with : (v : Named) (number : ℕ) (config : Option StorageData) → slice_get v.deployment.storages number ≡ config
-    → (state : Option State) (f : Found)
+    → (state : Option State) (f : FoundStorage)
     → found_with v.bank number None config state ≡ Ok f → IsPart v f
 part_with v number (Some s) at (Some state) f is =
     let same : f ≡ record { bank = v.bank; number = number; config = s; state = state } =
     ok_same f (record { bank = v.bank; number = number; config = s; state = state }) (sym is) in
-    subst (λ (g : Found). IsPart v g) (sym same) (record { bank = refl; config = at })
+    subst (λ (g : FoundStorage). IsPart v g) (sym same) (record { bank = refl; config = at })
 part_with v number (Some s) at None f is = absurd cc
 part_with v number None at state f is = absurd cc
 
-part_at : (v : Named) (states : List State) (number : Option ℕ) (f : Found) → found_at v states None number ≡ Ok f
+part_at : (v : Named) (states : List State) (number : Option ℕ) (f : FoundStorage) → found_at v states None number ≡ Ok f
     → IsPart v f
 part_at v states None f is = absurd cc
 part_at v states (Some number) f is = part_with v number (slice_get v.deployment.storages number) refl
@@ -128,7 +128,7 @@ storages_keep g v None are number s at = all_at IsStorage v.deployment.storages 
 storages_keep g v (Some previous) are number s at = all_at IsStorage v.deployment.storages number s
     are.of_active.keeps.each at
 
-found_keeps : (says : Says) (states : List State) (name : List ℕ) (f : Found) → AreVersions says
+found_keeps : (says : Says) (states : List State) (name : List ℕ) (f : FoundStorage) → AreVersions says
     → found_in says states name None ≡ Ok f → IsStorage f.config
 found_keeps nothing states name f are is = absurd cc
 found_keeps (absent g) states name f are is = absurd cc
@@ -141,7 +141,7 @@ unfolding storage_shape
 shape_m app bank number s = refl
 
 -- at least one of its copies has to agree
-pub some_agree : BackupLaws → (image : Image) (app : ℕ) (name : List ℕ) (f : Found)
+pub some_agree : BackupLaws → (image : Image) (app : ℕ) (name : List ℕ) (f : FoundStorage)
     → storage_in (app_at image app) name None ≡ Ok f → 1 ≤ (shape_in app f).m
 some_agree laws image app name f is =
     let keeps = found_keeps (app_at image app).says (app_at image app).states name f

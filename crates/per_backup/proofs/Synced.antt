@@ -16,8 +16,8 @@ use Rattle.deploy_laws.specs.Stands.{StandsCase}
 use Rattle.deploy_rows.specs.Recovering.{after_state}
 use Rattle.deploy_rows.specs.Rows.{after}
 use Rattle.deploy.specs.Clauses.{ChangesNothing}
-use Rattle.run_model.specs.Found.{Found, shape_in, storage_in}
-use Rattle.run_model.specs.Lives.{LooksOnly, behind_sync, looks_unsynced}
+use Rattle.run_model.specs.Found.{FoundStorage, shape_in, storage_in}
+use Rattle.run_model.specs.Lives.{LooksOnly, after_sync, looks_unsynced}
 use Rattle.per_backup.specs.Backups.{importing, importing_into}
 use Rattle.per_backup.specs.Clauses.{ImportKeeps, Imported, IsAppSeen, KeepsSettled}
 
@@ -57,7 +57,7 @@ module _ (told : Bool) (old mid new : Medium) (lawful : IsLawful told mid) (time
   then_looks changes = record {
     image = changes.image ∙ nothing.image;
     written = changes.written ∙ nothing.written;
-    during = behind_sync (IsSettledAt old.image) lawful time nothing later
+    during = after_sync (IsSettledAt old.image) lawful time nothing later
         (subst (λ (im : Image). EachCase (IsSettledAt im) mid new) nothing.image (changes.idle quiet).during);
   }
 
@@ -66,28 +66,28 @@ module _ (told : Bool) (old mid new : Medium) (lawful : IsLawful told mid) (time
   then_seen app it seen tells = seen tells ∙ ap (λ (im : Image). app_at im app) nothing.image
 
   module _ (app : ℕ) (name text : List ℕ) where
-    there : (f : Found) → storage_in (app_at old.image app) name None ≡ Ok f
+    there : (f : FoundStorage) → storage_in (app_at old.image app) name None ≡ Ok f
         → storage_in (app_at mid.image app) name None ≡ Ok f
     there f found = subst (λ (im : Image). storage_in (app_at im app) name None ≡ Ok f) (sym nothing.image) found
 
     pub then_keeps : KeepsSettled app name text mid new → ImportKeeps app name text old new
     then_keeps keeps = record {
-      kept = λ f found clean. behind_sync (IsKeptCase (shape_in app f) old.image
+      kept = λ f found clean. after_sync (IsKeptCase (shape_in app f) old.image
           (after_state f.state (importing f.config f.state text))) lawful time nothing later
           (subst (λ (im : Image). IsClean (shape_in app f) im → EachCase (IsKeptCase (shape_in app f) im
           (after_state f.state (importing f.config f.state text))) mid new) nothing.image
           (keeps.kept f (there f found) quiet) clean);
       elsewhere = λ f found. subst (λ (im : Image). Spares (IsOutside (shape_in app f).place) im new.image)
           nothing.image (keeps.elsewhere f (there f found));
-      outside = λ f found. behind_sync (IsSettledOn (IsOutside (shape_in app f).place) old.image) lawful time nothing
+      outside = λ f found. after_sync (IsSettledOn (IsOutside (shape_in app f).place) old.image) lawful time nothing
           later (subst (λ (im : Image). EachCase (IsSettledOn (IsOutside (shape_in app f).place) im) mid new)
           nothing.image (keeps.outside f (there f found) quiet));
-      stands = λ clean. behind_sync (StandsCase app (app_at old.image app)
+      stands = λ clean. after_sync (StandsCase app (app_at old.image app)
           (after (app_at old.image app) (importing_into (app_at old.image app) name text))) lawful time nothing later
           (subst (λ (im : Image). IsCleanApp app im → EachCase (StandsCase app (app_at im app)
           (after (app_at im app) (importing_into (app_at im app) name text))) mid new) nothing.image
           (keeps.stands quiet) clean);
-      beside = behind_sync (IsSettledOn (IsNoFileOf app) old.image) lawful time nothing later
+      beside = after_sync (IsSettledOn (IsNoFileOf app) old.image) lawful time nothing later
           (subst (λ (im : Image). EachCase (IsSettledOn (IsNoFileOf app) im) mid new) nothing.image
           (keeps.beside quiet));
       refused = λ err. then_looks (keeps.refused (subst (λ (im : Image).

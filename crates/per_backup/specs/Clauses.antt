@@ -19,7 +19,7 @@ use Rattle.deploy_laws.specs.Stands.{StandsCase, StandsThroughout}
 use Rattle.deploy_rows.specs.Recovering.{after_state}
 use Rattle.deploy_rows.specs.Rows.{after}
 use Rattle.deploy.specs.Clauses.{ChangesNothing}
-use Rattle.run_model.specs.Found.{Found, shape_in, storage_in}
+use Rattle.run_model.specs.Found.{FoundStorage, shape_in, storage_in}
 use Rattle.run_model.specs.Lives.{LooksOnly}
 use Rattle.run_model.specs.Moments.{OrBefore}
 use Rattle.per_backup.specs.declared.exporting.Exported.{Exported}
@@ -49,13 +49,13 @@ IsViewFor kind v = (shape : Shape) × (shape.kind ≡ kind) × IsView shape v
 -- Every moment of an import, however it ends: each may also be one that might have come before it.
 pub record ImportKeeps (app : ℕ) (name text : List ℕ) (old new : Medium) : Type 0 where
   -- the storage stands between what it was and what is imported
-  pub kept : (f : Found) → storage_in (app_at old.image app) name None ≡ Ok f → IsClean (shape_in app f) old.image
-      → EachCase (OrBefore old (IsKeptCase (shape_in app f) old.image
+  pub kept : (f : FoundStorage) → storage_in (app_at old.image app) name None ≡ Ok f
+      → IsClean (shape_in app f) old.image → EachCase (OrBefore old (IsKeptCase (shape_in app f) old.image
       (after_state f.state (importing f.config f.state text)))) old new
   -- all other files stay, at the end and at any moment
-  pub elsewhere : (f : Found) → storage_in (app_at old.image app) name None ≡ Ok f
+  pub elsewhere : (f : FoundStorage) → storage_in (app_at old.image app) name None ≡ Ok f
       → Spares (IsOutside (shape_in app f).place) old.image new.image
-  pub outside : (f : Found) → storage_in (app_at old.image app) name None ≡ Ok f
+  pub outside : (f : FoundStorage) → storage_in (app_at old.image app) name None ≡ Ok f
       → EachCase (OrBefore old (IsSettledOn (IsOutside (shape_in app f).place) old.image)) old new
   -- so the application stands between what it was and itself with the imported storage
   pub stands : IsCleanApp app old.image → EachCase (OrBefore old (StandsCase app (app_at old.image app)
@@ -67,11 +67,11 @@ pub record ImportKeeps (app : ℕ) (name text : List ℕ) (old new : Medium) : T
 
 -- The same of the calls after the sync with which an import begins, where nothing is pending.
 pub record KeepsSettled (app : ℕ) (name text : List ℕ) (old new : Medium) : Type 0 where
-  pub kept : (f : Found) → storage_in (app_at old.image app) name None ≡ Ok f
+  pub kept : (f : FoundStorage) → storage_in (app_at old.image app) name None ≡ Ok f
       → KeptThroughout (shape_in app f) (after_state f.state (importing f.config f.state text)) old new
-  pub elsewhere : (f : Found) → storage_in (app_at old.image app) name None ≡ Ok f
+  pub elsewhere : (f : FoundStorage) → storage_in (app_at old.image app) name None ≡ Ok f
       → Spares (IsOutside (shape_in app f).place) old.image new.image
-  pub outside : (f : Found) → storage_in (app_at old.image app) name None ≡ Ok f → Quiet old
+  pub outside : (f : FoundStorage) → storage_in (app_at old.image app) name None ≡ Ok f → Quiet old
       → EachCase (IsSettledOn (IsOutside (shape_in app f).place) old.image) old new
   pub stands : StandsThroughout app (after (app_at old.image app) (importing_into (app_at old.image app) name text)) old
       new
@@ -82,6 +82,6 @@ pub record KeepsSettled (app : ℕ) (name text : List ℕ) (old new : Medium) : 
 pub record Imported (app : ℕ) (name text : List ℕ) (old new : Medium) : Type 0 where
   pub world : app_at new.image app ≡ after (app_at old.image app) (importing_into (app_at old.image app) name text)
   -- the place of what was imported is clean, whatever it was before, and those of the application stay so
-  pub clean : (f : Found) → storage_in (app_at old.image app) name None ≡ Ok f → IsOk (importing f.config f.state text)
-      → IsClean (shape_in app f) new.image
+  pub clean : (f : FoundStorage) → storage_in (app_at old.image app) name None ≡ Ok f
+      → IsOk (importing f.config f.state text) → IsClean (shape_in app f) new.image
   pub stays_clean : IsCleanApp app old.image → IsCleanApp app new.image

@@ -13,7 +13,7 @@ use Rattle.element_state.specs.States.{State, store_at}
 use Rattle.deploy_laws.specs.Places.{Named, storage_shape}
 use Rattle.deploy_laws.specs.Apps.{App, Says, installed, says_at}
 use Rattle.deploy.specs.Views.{RootSeen, bad, no_version, versions}
-use Rattle.run_model.specs.Found.{Found, storage_in}
+use Rattle.run_model.specs.Found.{FoundStorage, storage_in}
 use Rattle.per_backup.specs.declared.finding.Located.{Located}
 use Rattle.per_backup.specs.Clauses.{IsAppSeen}
 
@@ -50,7 +50,7 @@ IsOut name (versions active previous lacking sole) e =
 -- ---- of the application that was seen
 
 -- as it is found in this state
-abbrev pub found_as : Named → ℕ → Located → State → Found
+abbrev pub found_as : Named → ℕ → Located → State → FoundStorage
 found_as active number l state = record { bank = active.bank; number = number; config = config_of l; state = state }
 
 -- it is the storage of this name, in whatever state that is

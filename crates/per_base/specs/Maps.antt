@@ -1,6 +1,8 @@
 -- Finite maps from names to elements: lists of pairs in the order of the names, in the words that std has for a
--- `BTreeMap`.
-use Rattle.std.specs.Prelude.{ℕ, ◌+◌, List, length, map, Bool, Option, sum_by, is_some}
+-- `BTreeMap`; and tables of words.
+use Rattle.std.specs.Prelude.{ℕ, ◌+◌, List, [], ◌∷◌, length, map, Bool, if◌then◌else◌, sum_by, is_some}
+use Rattle.std.specs.Prelude.{Option, Some, None}
+use Rattle.std.specs.Str.{bytes_eq}
 use Rattle.std.specs.BTreeMap.{insert_entry, is_at}
 use Rattle.std.specs.Map.{lookup, remove_entry}
 use Rattle.per_base.specs.declared.elements.Element.{Element}
@@ -8,6 +10,11 @@ use Rattle.per_base.specs.Names.{name_cmp}
 
 abbrev pub Map : Type 0
 Map = List (List ℕ × Element)
+
+-- what a table gives for this word
+abbrev pub first_row : {A : Type 0} → List (List ℕ × A) → List ℕ → Option A
+first_row [] word = None
+first_row (row ∷ rows) word = if bytes_eq word row.0 then Some row.1 else first_row rows word
 
 -- the element of this name
 abbrev pub element_at : Map → List ℕ → Option Element

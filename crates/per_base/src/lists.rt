@@ -61,8 +61,8 @@ impl Bytes {
     }
 }
 
-/// A list of numbers: copies of a storage counted from 1, or blocks of an area. A copy of a single number takes no
-/// memory.
+/// A list of numbers: copies of a storage counted from 1, or blocks of an area. Copying a list of one number does not
+/// allocate.
 #[derive(Debug, Drop)]
 pub struct Numbers {
     numbers: Kept,

@@ -1,6 +1,7 @@
 //! The lines of a person at a terminal.
 
 use crate::help;
+use crate::reasons::why_no_line;
 use command_text::{LineError, parse_line};
 use std::alloc::Global;
 use std::io::{self, Input, Read};
@@ -56,12 +57,22 @@ impl<'a, R: Input + Print + Eprint> Asking<'a, R> {
         match parse_line(self.alloc, line.as_bytes()) {
             Ok(_) => Ok(true),
             Err(LineError::NotALine) => {
-                let _ = self
-                    .rt
-                    .eprintln("per: this is no line; help lists them, and end ends");
+                let _ = self.say_flaw(line);
                 Ok(false)
             }
             Err(LineError::OutOfMemory) => Err(io::Error::from(io::ErrorKind::OutOfMemory)),
+        }
+    }
+
+    /// Says why this is no line.
+    fn say_flaw(&self, line: &str) -> io::Result<()> {
+        match why_no_line(self.alloc, line.as_bytes()) {
+            Ok(Some(why)) => {
+                eprintln!(self.rt; "per: this is no line: {why}; help lists them, and end ends")
+            }
+            Ok(None) | Err(_) => {
+                eprintln!(self.rt; "per: this is no line; help lists them, and end ends")
+            }
         }
     }
 }

@@ -4,13 +4,13 @@
 //! that is refused no other is given, so that nothing is made durable then. What a reply says is written as a person or
 //! a script wants it: the text of a value alone, the bytes of a file as they are, an error on standard error.
 
-ghost use Rattle.std.specs.Prelude.{◌≤◌, length};
-
+use crate::hearing::line_length;
+use crate::reasons::why_no_call;
 use crate::{NO_DISK, NO_INPUT, NO_MEMORY, REFUSED_CALL, REFUSED_WORDS, program};
 use command_text::LineError;
 use per_run::{JobKind, WordsError, read_words};
 use per_words::{
-    Shown, call_lines, content_lines, manifest_lines, options_in, shown_bytes, shown_in,
+    Shown, call_lines, call_word, content_lines, manifest_lines, options_in, shown_bytes, shown_in,
     takes_manifest,
 };
 use std::alloc::{AllocError, Global};
@@ -65,9 +65,7 @@ pub(crate) fn run<R: Files<File = File> + AllocGlobal + Input + Print + Eprint>(
     match made(rt, words, named) {
         Ok(status) => status,
         Err(Unmade::Refused) => {
-            let _ = rt.eprintln(
-                "per: the call is refused: its storage is named A:S, its arguments are as in a line, and --dir and --flash alone stand beside it (per --help)",
-            );
+            let _ = say_refused(rt, rt.alloc(), named);
             REFUSED_WORDS
         }
         Err(Unmade::Unread(error)) => {
@@ -79,6 +77,47 @@ pub(crate) fn run<R: Files<File = File> + AllocGlobal + Input + Print + Eprint>(
             NO_MEMORY
         }
     }
+}
+
+/// Says why words are no call.
+fn say_refused<R: Eprint>(rt: &R, alloc: Global, named: &[&[u8]]) -> io::Result<()> {
+    match why_refused(alloc, named) {
+        Ok(Some(why)) => eprintln!(rt; "per: the call is refused: {why} (per --help)"),
+        Ok(None) | Err(_) => rt.eprintln(
+            "per: the call is refused: its storage is named A:S, its arguments are as in a line, and --dir and --flash alone stand beside it (per --help)",
+        ),
+    }
+}
+
+/// Which word is none of the call, where that shows in its line.
+fn why_refused(alloc: Global, named: &[&[u8]]) -> Result<Option<String>, AllocError> {
+    if named
+        .iter()
+        .any(|word| word.contains(&b' ') || word.contains(&b'\n'))
+    {
+        return Ok(None);
+    }
+    let [call, target, arguments @ ..] = named else {
+        return Ok(None);
+    };
+    let [digit, storage @ ..] = *target else {
+        return Ok(None);
+    };
+    let mut line = Vec::new(alloc);
+    line.push(*digit)?;
+    line.push(b' ')?;
+    line.extend_from_slice(call_word(call))?;
+    if let Some(storage) = storage.strip_prefix(b":") {
+        line.push(b' ')?;
+        line.extend_from_slice(storage)?;
+    } else if !storage.is_empty() {
+        return Ok(None);
+    }
+    for argument in arguments {
+        line.push(b' ')?;
+        line.extend_from_slice(*argument)?;
+    }
+    why_no_call(alloc, line.as_slice())
 }
 
 fn made<R: Files<File = File> + AllocGlobal + Input + Print + Eprint>(
@@ -249,16 +288,6 @@ impl<'a> Read for LineByLine<'a> {
         self.rest = rest;
         self.in_line = count < length;
         Ok(count)
-    }
-}
-
-/// How many bytes the first line has, with its line feed.
-fn line_length(lines: &[u8]) -> usize
-    ensures { result ≤ length lines.now }
-{
-    match lines.iter().position(|byte| *byte == b'\n') {
-        Some(place) => place + 1,
-        None => lines.len(),
     }
 }
 

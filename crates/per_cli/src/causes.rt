@@ -4,9 +4,9 @@ use std::rt::Files;
 use std::{fmt, fs, io};
 use system_model::{Asked, Failure};
 
-/// What is said of the words where they are refused.
+/// What is said of invalid arguments.
 const USAGE: &str =
-    "usage: per --dir DIR [--flash N] [--serve | --format | --generate N | --audit | --export A:S | --import A:S]";
+    "usage: per --dir DIR [--flash N] [--serve | --format | --generate N | --audit | --export A:S | --import A:S | --list FORM | --recover-root A]";
 
 /// Why calls of the disk failed.
 #[derive(Clone, Copy, Debug)]
@@ -40,8 +40,12 @@ pub(crate) struct Ended<'a> {
     pub(crate) flash: Option<u32>,
     /// Whether the lines of the input were to be handled.
     pub(crate) takes_lines: bool,
+    /// Whether what is in the folder was to be said.
+    pub(crate) lists: bool,
     /// Whether a file of the disk or of the flash is in the folder.
     pub(crate) has_files: bool,
+    /// Whether a line of an audit says that something is damaged or lost.
+    pub(crate) has_damage: bool,
     /// The last calls that failed.
     pub(crate) disk: Option<Fault>,
     pub(crate) source: Option<io::Error>,
@@ -95,13 +99,16 @@ pub(crate) fn say<R: Files + Eprint>(rt: &R, ended: &Ended<'_>) -> io::Result<()
         6 => say_stream(rt, "standard output", ended.sink),
         7 => rt.eprintln("per: the first 67108864 bytes of the input have no line `end`"),
         8 if !ended.has_files => say_of_folder(rt, ended),
-        8 => rt.eprintln("per: the audit found something; its lines say what"),
+        8 if ended.has_damage => rt.eprintln("per: the audit found something; its lines say what"),
+        8 => rt.eprintln(
+            "per: the audit found nothing damaged or lost; what is unsettled, as by a stop, the next opening settles",
+        ),
         9 if !ended.has_files => say_of_folder(rt, ended),
         9 => rt.eprintln(
-            "per: the export or the import was refused; the line that was written says why",
+            "per: the export, the import or the recovery was refused; the line that was written says why",
         ),
         10 => eprintln!(rt;
-            "per: the flash in {dir} cannot be opened: it holds more pages of files than so many blocks may, or no block is spare"
+            "per: the flash in {dir} cannot be opened: it holds more pages of files than its blocks may, or no block is spare"
         ),
         11 => say_of_size(rt, ended),
         _ => Ok(()),
@@ -117,7 +124,7 @@ fn say_usage<R: Eprint>(rt: &R, unknown: Option<&[u8]>) -> io::Result<()> {
 }
 
 fn say_of_answers<R: Files + Eprint>(rt: &R, ended: &Ended<'_>) -> io::Result<()> {
-    if ended.takes_lines && !ended.has_files {
+    if (ended.takes_lines || ended.lists) && !ended.has_files {
         say_of_folder(rt, ended)
     } else if ended.disk.is_some() && !ended.takes_lines {
         say_answered(rt, ended.dir, ended.disk)

@@ -4,7 +4,7 @@ use crate::NO_OUTPUT;
 use std::io;
 
 /// The version of the sources.
-const VERSION: &str = "0.12.0";
+const VERSION: &str = "0.13.0";
 
 /// The words of the program.
 const WORDS: &str = "per keeps the data of up to eight applications in a folder, so that it outlives
@@ -16,16 +16,23 @@ power loss, lost copies and updates.
                                 of lines; a bad one is answered and passed over;
                                 a last one without its line feed is dropped; an
                                 empty folder is made ready first
-  ./per --generate N --dir DIR  formats, and handles a large input that is made
-                                from N, 1 to 100000
+  ./per --generate N --dir DIR  formats, and handles a synthetic workload from
+                                N, 1 to 100000
   ./per --audit --dir DIR       lists what is kept, and what is damaged or lost;
                                 mends nothing
+  ./per ls --dir DIR            lists what is there: applications, versions and
+                                storages, and in which files each copy is; with
+                                --json for a program; the same as --list lines
+                                or --list json; mends nothing
   ./per --export A:S --dir DIR  writes storage S of application A, 0 to 7, as
                                 one text; mends nothing
-  ./per --import A:S --dir DIR  makes that storage anew of such a text on
+  ./per --import A:S --dir DIR  rebuilds that storage from such a text on
                                 standard input, whole or not at all
+  ./per --recover-root A --dir DIR
+                                takes what one copy holds of the root of
+                                application A, where too few copies agree
   ./per --flash N --dir DIR     the same as without --flash, in one file of the
-                                folder that stands for raw flash of N blocks,
+                                folder that serves as raw flash of N blocks,
                                 4 to 4096; beside each of the words above
   ./per --demo                  shows a first session, in a folder of its own
   ./per --help                  shows this, also beside other words
@@ -45,6 +52,7 @@ standard error, and then the status is 9. --flash N may stand beside --dir DIR.
   ./per ls 0:f --dir DIR             the same of files
   ./per put 0:f a --dir DIR <A       the content is what standard input has
   ./per cat 0:f a --dir DIR >B       writes the content, byte by byte
+  ./per recover-root 0 --dir DIR     the same as --recover-root 0
  Likewise, with what they take in a line:
   finish, rollback, wipe, exists, get-as, remove, remove-all, recover-key,
   reset-key, files, file-exists, size-of, info, delete, recover-file,
@@ -140,7 +148,7 @@ const ENDINGS: &str = "Errors
  15 InvalidSize
  20 NotInstalled
  21 AlreadyInstalled
- 22 ManifestRejected         the first broken rule; docs/FORMATS.md lists them
+ 22 ManifestRejected         the first violated rule; docs/FORMATS.md lists them
  23 NoPreviousVersion
  24 NotOpen
  25 LimitReached             elements, handles, file-bytes, value-bytes,
@@ -153,22 +161,24 @@ const ENDINGS: &str = "Errors
 
 Status
   0 all lines were handled and answered, or the job was done
-  1 the words are refused, also a number of blocks outside 4 to 4096
+  1 the arguments are invalid, also a number of blocks outside 4 to 4096
   2 a line is outside the grammar; bad-line and its number are the last reply;
     not with --serve
-  3 the disk failed while the program started or formatted, in an audit, an
-    export or an import, or in a call by itself; or another run holds the
-    folder; or --serve or install found nothing but other files in it
+  3 the disk failed while the program started or formatted, in an audit, a
+    listing, an export, an import or a recovery, or in a call by itself; or
+    another run holds the folder; or --serve or install found nothing but other
+    files in it
   4 memory ran out
   5 the input failed, or the file that a call by itself takes
   6 the output failed
   7 the first 67108864 bytes of the input have neither the line `end` nor the
     input's end; with --serve no bytes are too many
   8 the audit found something; its lines say what
-  9 the export, the import or the call by itself was refused; its line says why
+  9 the export, the import, the recovery of a root or the call by itself was
+    refused; its line says why
  10 the flash cannot be opened: too many pages of files, or no spare block
  11 the file of the flash has more blocks than N
- 12 the system does not give the words
+ 12 the system does not give the arguments
  13 the program could not be built
 ";
 

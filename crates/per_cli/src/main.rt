@@ -3,24 +3,30 @@
 //! `per --dir DIR` makes the folder a disk, standard input a source and standard output a sink, and ends with the
 //! status of [`per_run::per_run`] over them and the six converters of [`number_converters`]. `per --help` says what
 //! there is, and `per --demo` shows a first session. A call by itself, as `per get 0:cockpit volume --dir DIR`, is such
-//! a run too ([`call`]): of the lines that make the call, with its reply for a person.
+//! a run too ([`call`]): of the lines that make the call, with its reply for a person. `per ls --dir DIR` runs the job
+//! that says what is there ([`listing`]). Another job may be named as a call is ([`jobs`]).
 //!
 //! Where a run did not end well, one line on standard error says why ([`causes`]). Main itself ends with 4 where memory
 //! runs out before the top call, with 6 where a standard stream that was closed cannot be filled, and with 12 where the
-//! system does not give the words; help and the demo also with 6 where the output fails, and the demo with 3 where its
-//! folder cannot be made; a call by itself with 1 where its words are refused, with 3 where the device failed in it,
-//! with 5 where what it takes cannot be read, and with 9 where it was refused. The status is 3 or 11 too where the file
-//! of a flash cannot be looked at, or has more bytes than its blocks.
+//! system does not give the arguments; help and the demo also with 6 where the output fails, and the demo with 3 where
+//! its folder cannot be made; a call by itself with 1 where its arguments are invalid, with 3 where the device failed
+//! in it, with 5 where what it takes cannot be read, and with 9 where it was refused. The status is 3 or 11 too where
+//! the file of a flash cannot be looked at, or has more bytes than its blocks.
 //!
 //! At a terminal the lines of a run are asked for ([`asking`]).
 #![tactic(auto)]
 
 mod asking;
+mod blame;
 mod call;
 mod causes;
 mod demo;
+mod hearing;
 mod help;
+mod jobs;
+mod listing;
 mod program;
+mod reasons;
 mod telling;
 
 use asking::Asking;
@@ -63,6 +69,10 @@ enum Asked {
     Demo,
     /// One call, by itself.
     Call,
+    /// What is there.
+    Listing,
+    /// A job of the program, named as a call is.
+    Job,
     /// A run of the program, if the words are accepted.
     Run,
 }
@@ -90,6 +100,8 @@ fn main(rt: HostRuntime) -> ExitCode {
         Asked::Version => help::show_version(&rt),
         Asked::Demo => demo::show(&rt, process::id(rt.process())),
         Asked::Call => call::run(&rt, &words, named.as_slice()),
+        Asked::Listing => listing::run(&rt, &words),
+        Asked::Job => jobs::run(&rt, &words, named.as_slice()),
         Asked::Run if is_asked(&rt, &words) => {
             program::run(&rt, &words, Asking::new(&rt, rt.alloc()), rt.stdout())
         }
@@ -129,7 +141,9 @@ fn wish_of(words: &[String], named: &[&[u8]]) -> Asked {
         _ => {}
     }
     match named {
+        [word] if *word == b"ls".as_slice() => Asked::Listing,
         [call, ..] if is_call(call) => Asked::Call,
+        [job, ..] if jobs::is_job(job) => Asked::Job,
         _ => Asked::Run,
     }
 }

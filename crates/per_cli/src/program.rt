@@ -1,6 +1,7 @@
 //! A run of the program over a folder, or a flash in it, and two streams.
 
 use crate::causes::{Ended, Fault, say, say_foreign};
+use crate::hearing::{ByLine, LastLine};
 use crate::telling::Telling;
 use crate::{NO_DISK, NO_MEMORY, WRONG_SIZE};
 use flash_disk::erase_all;
@@ -12,23 +13,27 @@ use number_converters::{WithConverters, with_converters};
 use per_base::{Sink, Source};
 use per_run::{FlashRun, JobKind, WordsError, per_flash, per_run, read_words};
 use per_system::{
-    Access, Content, HostSystem, Noted, NotedFlash, Notes, StdSink, StdSource, holds_only_others,
+    Access, DeviceKind, HostSystem, Noted, NotedFlash, Notes, StdSink, StdSource, holds_only_others,
 };
 use per_words::unknown_in;
 use std::alloc::{AllocError, Global};
+use std::cell::Cell;
 use std::fs::File;
 use std::io::{Read, Write};
 use std::rt::Files;
 use system_model::{Failure, System};
 
-/// The folder that the words name, for what it is held, whether it is formatted, whether lines are to be handled in it,
-/// whether it may be formatted for them, and how many blocks its flash has, where it has one.
+/// The folder that the words name, for what it is held, whether it is formatted or audited, whether lines are to be
+/// handled in it or what is in it is to be said, whether it may be formatted for them, and how many blocks its flash
+/// has, where it has one.
 #[derive(Drop)]
 struct Target {
     dir: String,
     access: Access,
     formats: bool,
+    audits: bool,
     takes_lines: bool,
+    lists: bool,
     formats_blank: bool,
     flash: Option<u32>,
 }
@@ -106,8 +111,23 @@ fn run_with<R: Files<File = File> + Eprint, I: Read + Drop, O: Write + Drop>(
         Err(_) => return no_memory(rt),
     };
     let notes = Notes::new();
+    let line = LastLine::new(alloc);
+    let Ok(input) = ByLine::new(alloc, input, target.takes_lines, &line) else {
+        return no_memory(rt);
+    };
+    let has_damage = Cell::new(false);
     run_noting(
-        rt, alloc, migrations, words, input, output, &target, dir, &notes,
+        rt,
+        alloc,
+        migrations,
+        words,
+        input,
+        output,
+        &target,
+        dir,
+        &notes,
+        &line,
+        &has_damage,
     )
 }
 
@@ -116,12 +136,14 @@ fn run_noting<'a, R: Files<File = File> + Eprint, I: Read + Drop, O: Write + Dro
     rt: &'a R,
     alloc: Global,
     migrations: &Migrations,
-    words: &[String],
+    words: &'a [String],
     input: I,
     output: O,
     target: &'a Target,
     dir: String,
     notes: &'a Notes,
+    line: &'a LastLine,
+    has_damage: &'a Cell<bool>,
 ) -> u8 {
     if is_foreign(rt, alloc, target) {
         let dir = target.dir.as_str();
@@ -131,13 +153,16 @@ fn run_noting<'a, R: Files<File = File> + Eprint, I: Read + Drop, O: Write + Dro
     let mut source = StdSource::new(input);
     let mut sink = StdSink::new(Telling {
         rt,
+        alloc,
         dir: target.dir.as_str(),
         notes,
         otherwise: target.flash.map(|_| Fault::Full),
+        line,
+        has_damage: target.audits.then_some(has_damage),
         output,
     });
-    let content = content_of(target);
-    let outcome = match HostSystem::hold(rt, alloc, dir, content, target.access) {
+    let kind = device_kind_of(target);
+    let outcome = match HostSystem::hold(rt, alloc, dir, kind, target.access) {
         Ok(system) => run_over(
             alloc,
             words,
@@ -156,7 +181,9 @@ fn run_noting<'a, R: Files<File = File> + Eprint, I: Read + Drop, O: Write + Dro
         unknown: unknown_in(words),
         flash: target.flash,
         takes_lines: target.takes_lines,
+        lists: target.lists,
         has_files: outcome.has_files,
+        has_damage: has_damage.get(),
         disk: notes.last().map(Fault::System).or(outcome.fault),
         source: source.failure(),
         sink: sink.failure(),
@@ -166,10 +193,10 @@ fn run_noting<'a, R: Files<File = File> + Eprint, I: Read + Drop, O: Write + Dro
 }
 
 /// What the folder holds.
-fn content_of(target: &Target) -> Content {
+fn device_kind_of(target: &Target) -> DeviceKind {
     match target.flash {
-        Some(_) => Content::Flash,
-        None => Content::Disk,
+        Some(_) => DeviceKind::Flash,
+        None => DeviceKind::Disk,
     }
 }
 
@@ -178,7 +205,7 @@ fn content_of(target: &Target) -> Content {
 fn is_foreign<R: Files<File = File>>(rt: &R, alloc: Global, target: &Target) -> bool {
     target.formats_blank
         && matches!(
-            holds_only_others(rt, alloc, target.dir.as_str(), content_of(target)),
+            holds_only_others(rt, alloc, target.dir.as_str(), device_kind_of(target)),
             Ok(true)
         )
 }
@@ -288,12 +315,13 @@ fn outcome_of<Y: System + Drop>(
 /// For what a job holds the folder.
 fn access_of(kind: &JobKind) -> Access {
     match kind {
-        JobKind::Audit | JobKind::Export(_, _) => Access::Read,
+        JobKind::Audit | JobKind::Listing(_) | JobKind::Export(_, _) => Access::Read,
         JobKind::Run
         | JobKind::Serve
         | JobKind::Format
         | JobKind::Generate(_)
-        | JobKind::Import(_, _) => Access::Write,
+        | JobKind::Import(_, _)
+        | JobKind::RecoverRoot(_) => Access::Write,
     }
 }
 
@@ -309,7 +337,9 @@ fn target_of(alloc: Global, words: &[String]) -> Result<(Target, String), AllocE
         Ok(job) => {
             let access = access_of(&job.kind);
             let formats = matches!(job.kind, JobKind::Format | JobKind::Generate(_));
+            let audits = matches!(job.kind, JobKind::Audit);
             let takes_lines = matches!(job.kind, JobKind::Run | JobKind::Serve);
+            let lists = matches!(job.kind, JobKind::Listing(_));
             let formats_blank = matches!(job.kind, JobKind::Serve);
             let flash = job.flash;
             let dir = job.dir.into_string();
@@ -318,7 +348,9 @@ fn target_of(alloc: Global, words: &[String]) -> Result<(Target, String), AllocE
                 dir,
                 access,
                 formats,
+                audits,
                 takes_lines,
+                lists,
                 formats_blank,
                 flash,
             };
@@ -330,7 +362,9 @@ fn target_of(alloc: Global, words: &[String]) -> Result<(Target, String), AllocE
                 dir: String::new(alloc),
                 access: Access::Read,
                 formats: false,
+                audits: false,
                 takes_lines: false,
+                lists: false,
                 formats_blank: false,
                 flash: None,
             };

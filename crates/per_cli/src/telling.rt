@@ -1,20 +1,29 @@
-//! The output of a run, whose failures of the disk are told where they are answered.
+//! The output of a run: why the disk failed, and why a line was refused, is told where it is answered.
 
 use crate::causes::{Fault, say_answered};
+use crate::hearing::LastLine;
+use crate::reasons::say_why;
 use per_system::Notes;
+use std::alloc::Global;
+use std::cell::Cell;
 use std::io::{self, Write};
 
 /// The reply where the disk failed.
 const FAILED: &[u8] = b"error 4 PhysicalStorageFailure\n";
 
-/// An output that says on standard error why the disk failed, before it takes the reply that answers it.
+/// An output that says on standard error why the disk failed, or a line was refused, before it takes the reply.
 #[derive(Drop)]
 pub(crate) struct Telling<'a, R: Eprint, O: Write + Drop> {
     pub(crate) rt: &'a R,
+    pub(crate) alloc: Global,
     pub(crate) dir: &'a str,
     pub(crate) notes: &'a Notes,
     /// Why the disk failed, where no call of the system did.
     pub(crate) otherwise: Option<Fault>,
+    /// The line that is answered.
+    pub(crate) line: &'a LastLine,
+    /// Where it is noted that a line of an audit says that something is damaged or lost.
+    pub(crate) has_damage: Option<&'a Cell<bool>>,
     pub(crate) output: O,
 }
 
@@ -24,11 +33,28 @@ impl<'a, R: Eprint, O: Write + Drop> Write for Telling<'a, R, O> {
             let news = self.notes.news().map(Fault::System);
             let _ = say_answered(self.rt, self.dir, news.or(self.otherwise));
         }
+        match self.has_damage {
+            Some(has_damage) if says_damage(bytes) => has_damage.set(true),
+            _ => {}
+        }
+        if let Some(answer) = refusal_in(bytes) {
+            let _ = self.say_why(answer);
+        }
         self.output.write(bytes)
     }
 
     fn flush(&mut self) -> io::Result<()> {
         self.output.flush()
+    }
+}
+
+impl<'a, R: Eprint, O: Write + Drop> Telling<'a, R, O> {
+    /// Says why the line was refused, where it is known whole.
+    fn say_why(&self, answer: &[u8]) -> io::Result<()> {
+        match self.line.text() {
+            Some(line) => say_why(self.rt, self.alloc, answer, line.as_slice()),
+            None => Ok(()),
+        }
     }
 }
 
@@ -38,4 +64,21 @@ fn answers_failure(bytes: &[u8]) -> bool {
         Some(before) => before.is_empty() || before.ends_with(b"\n"),
         None => false,
     }
+}
+
+/// Whether a line of an audit says so. The text of an audit is handed over at once.
+fn says_damage(bytes: &[u8]) -> bool {
+    bytes.split(|byte| *byte == b'\n').any(|line| line.starts_with(b"damaged ")
+        || line.starts_with(b"lost "))
+}
+
+/// The answer, where a line was refused by it: the last line, where reports stand before it.
+fn refusal_in(bytes: &[u8]) -> Option<&[u8]> {
+    let lines = bytes.strip_suffix(b"\n")?;
+    let answer = if lines.starts_with(b"report ") {
+        lines.rsplit(|byte| *byte == b'\n').next()?
+    } else {
+        lines
+    };
+    (answer.starts_with(b"error ") || answer.starts_with(b"bad-line ")).then_some(answer)
 }

@@ -15,11 +15,11 @@ use Rattle.element_state.specs.States.{State, store_at}
 use Rattle.deploy.specs.Views.{ShowsVersions, seen_at, seen_by, versions}
 use Rattle.deploy_laws.specs.Apps.{IsInBank, Says, nothing, absent, installed, app_at, root_sole, says_at}
 use Rattle.deploy_laws.specs.Apps.{shapes_named}
-use Rattle.deploy_laws.specs.Places.{Named, shapes_from, shapes_if, shapes_in, storage_shape}
+use Rattle.deploy_laws.specs.Places.{Named, shapes_from, shapes_if, shapes_in, storage_shape, version_in_bank}
 use Rattle.per_list.specs.declared.forms.Form.{Form}
 use Rattle.per_list.specs.Listings.{app_by, app_text, list_end, next_list, previous_by, storage_by, storages_by}
 use Rattle.per_list.specs.Listings.{version_by, version_head, version_number}
-use Rattle.per_list.specs.Seen.{app_seen, previous_seen, storages_seen, previous_in_bank, version_seen}
+use Rattle.per_list.specs.Seen.{app_seen, previous_seen, storages_seen, version_seen}
 
 -- ---- storages of a version
 
@@ -130,7 +130,7 @@ shown_active active None lacking sole shown = shown
 shown_active active (Some v) lacking sole shown = shown.of_active
 
 pub shown_previous : (active : Named) (bank : ℕ) (previous : Option Deployment) (lacking : List ℕ) (sole : Bool)
-    → ShowsVersions (versions active (previous_in_bank bank previous) lacking sole)
+    → ShowsVersions (versions active (version_in_bank bank previous) lacking sole)
     → IfSome previous (λ d. IsDeployment (deployment_data d))
 shown_previous active bank None lacking sole shown = tt
 shown_previous active bank (Some d) lacking sole shown = let placed = shown.of_previous in placed.keeps
@@ -142,6 +142,6 @@ kept_some previous d is kept =
 
 -- the number of a version in a bank is that of its deployment
 pub number_named : (bank : ℕ) (previous : Option Deployment)
-    → option_map version_number (previous_in_bank bank previous) ≡ option_map (λ (d : Deployment). d.version) previous
+    → option_map version_number (version_in_bank bank previous) ≡ option_map (λ (d : Deployment). d.version) previous
 number_named bank None = refl
 number_named bank (Some d) = refl

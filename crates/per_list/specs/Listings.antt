@@ -15,7 +15,7 @@ use Rattle.element_state.specs.Chosen.{opened_of}
 use Rattle.element_state.specs.Conditions.{size_of}
 use Rattle.element_state.specs.States.{State}
 use Rattle.deploy_laws.specs.Apps.{App, Says, nothing, absent, installed, app_at}
-use Rattle.deploy_laws.specs.Places.{Named, root_place, storage_shape}
+use Rattle.deploy_laws.specs.Places.{Named, root_place, storage_shape, copies_of_root}
 use Rattle.per_list.specs.declared.forms.Form.{Form}
 use Rattle.per_list.specs.declared.forms.Form.TheVariants.{Lines, Json}
 use Rattle.per_list.specs.declared.forms.Held.{Held}
@@ -56,7 +56,7 @@ root_copy Json app copy = comma copy ++ codes "[\"f" ++ decimal (slot (root_plac
     ++ codes "\",\"f" ++ decimal (slot (root_place app) copy 1) ++ codes "\"]"
 
 abbrev pub root_copies : Form → (app : ℕ) → List ℕ
-root_copies form app = flat_map (root_copy form app) (range_with_len 0 3)
+root_copies form app = flat_map (root_copy form app) (range_with_len 0 copies_of_root)
 
 -- the two slots and the area of a copy of a storage
 unfoldable pub copy_name : (app bank : ℕ) → (name : List ℕ) → List ℕ

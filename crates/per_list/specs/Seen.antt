@@ -1,8 +1,7 @@
 -- What a listing adds for an application by how its root is seen, and for storages by the image.
 use Rattle.std.specs.Prelude.{ℕ, List, [], ◌∷◌, ◌++◌, map, Option, Some, None, option_map}
 use Rattle.disk_model.specs.Image.{Image}
-use Rattle.deployment_model.specs.Data.{StorageData, deployment_data}
-use Rattle.deployment_model.specs.declared.configs.Deployment.{Deployment}
+use Rattle.deployment_model.specs.Data.{StorageData}
 use Rattle.element_state.specs.States.{store_at}
 use Rattle.deploy.specs.Views.{RootSeen, bad, no_version, versions}
 use Rattle.deploy_laws.specs.Places.{Named, shapes_from}
@@ -17,10 +16,6 @@ storages_seen form image app bank number storages =
 
 abbrev pub version_seen : Form → Image → (app : ℕ) → Named → List ℕ
 version_seen form image app v = storages_seen form image app v.bank 0 v.deployment.storages
-
--- the previous version in this bank, where there is one
-abbrev pub previous_in_bank : (bank : ℕ) → Option Deployment → Option Named
-previous_in_bank bank previous = option_map (λ d. record { bank = bank; deployment = deployment_data d }) previous
 
 abbrev pub previous_seen : Form → Image → (app : ℕ) → Option Named → List ℕ
 previous_seen form image app None = []

@@ -14,9 +14,9 @@ ghost use Rattle.element_state.specs.States.{store_at};
 ghost use Rattle.deploy.specs.Views.{ShowsVersions, root_seen};
 ghost use Rattle.deploy.specs.declared.viewing.RootView.TheVariants.{Installed};
 ghost use Rattle.deploy_laws.specs.Apps.{app_at};
-ghost use Rattle.deploy_laws.specs.Places.{storage_shape};
+ghost use Rattle.deploy_laws.specs.Places.{storage_shape, version_in_bank};
 ghost use Rattle.per_list.specs.Listings.{app_text, held_in, listing_text, storage_by};
-ghost use Rattle.per_list.specs.Seen.{app_seen, previous_seen, storages_seen, previous_in_bank};
+ghost use Rattle.per_list.specs.Seen.{app_seen, previous_seen, storages_seen};
 
 use crate::forms::{Form, Held};
 use crate::printing::{
@@ -201,7 +201,7 @@ fn list_previous<D: Disk>(
     requires bank { bank ≤ 1 }
     requires deployment { IfSome previous.now (λ d. IsDeployment (deployment_data d)) }
     ensures adds { IsTrue D.told → OnOk result (string_bytes out.new ≡ string_bytes out.old
-        ++ previous_seen form (D.medium disk.old).image app (previous_in_bank bank previous.now)) }
+        ++ previous_seen form (D.medium disk.old).image app (version_in_bank bank previous.now)) }
     ensures image { (D.medium disk.new).image ≡ (D.medium disk.old).image }
     ensures idle { Quiet (D.medium disk.old) → IsIdle (D.medium disk.old) (D.medium disk.new) }
     ensures written { (D.medium disk.new).written ≡ (D.medium disk.old).written }

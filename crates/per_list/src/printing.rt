@@ -2,7 +2,7 @@
 
 ghost use Rattle.std.specs.Prelude.{◌≡◌, ◌<◌, ◌++◌, OnOk, string_bytes};
 ghost use Rattle.deployment_model.specs.Data.{storage_data};
-ghost use Rattle.deploy_laws.specs.Places.{root_place};
+ghost use Rattle.deploy_laws.specs.Places.{copies_of_root};
 ghost use Rattle.per_list.specs.Listings.{absent_text, access_member, access_word, bad_head, bad_text, between, comma};
 ghost use Rattle.per_list.specs.Listings.{config_text, config_words, copies_members, copy_members, copy_name};
 ghost use Rattle.per_list.specs.Listings.{copy_text, copy_words, corrupt_members, corrupt_words, held_text};
@@ -12,6 +12,7 @@ ghost use Rattle.per_list.specs.Listings.{storage_files, storage_name, storage_t
 ghost use Rattle.per_list.specs.Listings.{version_facts, version_head, version_members, version_words};
 
 use crate::forms::{Form, Held};
+use deploy_laws::root_place;
 use deployment_model::StorageConfig;
 use disk_model::Place;
 use per_base::{Name, StoreKind};
@@ -183,7 +184,7 @@ fn push_root_copies(out: &mut String, form: Form, app: u32) -> Result<(), AllocE
 
 fn push_root_copy(out: &mut String, form: Form, app: u32, copy: u32) -> Result<(), AllocError>
     requires app { app < 8 }
-    requires copy { copy < 3 }
+    requires copy { copy < copies_of_root }
     ensures { OnOk result (string_bytes out.new ≡ string_bytes out.old ++ root_copy form app copy) }
 {
     let number = copy + 1;
@@ -196,17 +197,6 @@ fn push_root_copy(out: &mut String, form: Form, app: u32, copy: u32) -> Result<(
             push_comma(out, copy)?;
             write!(out, "[\"f{even}\",\"f{odd}\"]")
         }
-    }
-}
-
-// The files of an application's root.
-fn root_place(app: u32) -> Place
-    requires { app < 8 }
-    ensures { result ≡ root_place app }
-{
-    Place {
-        first: 4096 * app,
-        copies: 3,
     }
 }
 

@@ -1,4 +1,5 @@
--- What an audit, an export and an import promise: that the call was made, or that the job did not come to it.
+-- What an audit, a listing, a recovery, an export and an import promise: that the call was made, or that the job did
+-- not come to it.
 use Rattle.std.proofs.Common.{ℕ, List, [], ◌∷◌, ◌≡◌, ◌≢◌, ◌⊎◌, ◌<◌, inl, inr, refl, sym, ap, subst, arith, length}
 use Rattle.std.proofs.Common.{◌∙◌, Option, Some, None, Bool, true, false, Result, Ok, Err, IfErr, IfSome, codes}
 use Rattle.std.proofs.KnownBytes.{Consumes-nil, Keeps-refl}
@@ -11,14 +12,17 @@ use Rattle.deploy_laws.specs.Apps.{App, app_at}
 use Rattle.deploy_rows.specs.Rows.{AnswersRow}
 use Rattle.per_audit.specs.Audits.{elements_at, findings_at, is_sound}
 use Rattle.per_audit.specs.declared.findings.Finding.{Finding}
+use Rattle.per_list.specs.Listings.{listing_text}
+use Rattle.per_list.specs.declared.forms.Form.{Form}
+use Rattle.root_recovery.specs.Clauses.{RecoveryKeeps}
+use Rattle.root_recovery.specs.Recoveries.{none_left}
 use Rattle.per_backup.specs.Backups.{exporting, importing_into}
 use Rattle.per_backup.specs.Clauses.{ImportKeeps, Imported, IsAppSeen}
 use Rattle.per_run.specs.declared.endings.Ending.{Ending}
 use Rattle.per_run.specs.declared.endings.Ending.TheVariants.{AllRead, EndLine, BadLine, OutOfMemory, Source, Sink}
 use Rattle.per_run.specs.declared.endings.Ending.TheVariants.{TooLong}
 use Rattle.per_run.specs.Jobs.{AnswersOr, Audits, CameToOutput, Exports, FailsAtThree, Imports, IsInputTaken}
-use Rattle.per_run.specs.Jobs.{IsUncalled}
-use Rattle.per_run.specs.Jobs.{Makes, WritesOutput, answered_text, error_line}
+use Rattle.per_run.specs.Jobs.{IsUncalled, Lists, Makes, Recovers, WritesOutput, answered_text, error_line}
 use Rattle.per_run.specs.Steps.{Breaks, IsCut, ending_of}
 use Rattle.per_run.proofs.Outputs.{not_cut, not_done, not_read, writes_as, writes_none}
 use Rattle.run_model.specs.Endings.{ending_status}
@@ -49,6 +53,60 @@ sound_none (f ∷ findings) is = let bad : false ≡ true = is in cc
 pub unsound_some : (findings : List Finding) → is_sound findings ≡ false → findings ≢ []
 unsound_some findings is none = let bad : is_sound [] ≡ false =
     subst (λ (fs : List Finding). is_sound fs ≡ false) none is in cc
+
+-- ---- a listing
+
+pub lists_none : (told : Bool) (form : Form) (status : ℕ) (now : Option (List ℕ)) (old new : Medium)
+    → (status ≡ 3) ⊎ (status ≡ 4) → LooksOnly old new → FailsAtThree status old.faults new.faults
+    → Lists told form status now now old new
+lists_none told form status now old new is stays failed = record {
+  text = listing_text form old.image;
+  text_is = λ tells. refl;
+  output = writes_none status now _ is;
+  stays = stays;
+  quiet = λ done. absurd (not_done status is done);
+  failed = failed;
+}
+
+-- ---- a recovery of a root
+
+pub recovers_none : (told : Bool) (app status : ℕ) (now : Option (List ℕ)) (old new : Medium)
+    → (status ≡ 3) ⊎ (status ≡ 4) → (IsTrue told → RecoveryKeeps app old new)
+    → FailsAtThree status old.faults new.faults → Recovers told app status now now old new
+recovers_none told app status now old new is keeps failed = record {
+  row = none_left;
+  ended = λ tells came. absurd (not_done status is came);
+  output = writes_none status now _ is;
+  done = λ none. absurd (not_done status is (inl (inl none)));
+  refused = λ nine. absurd (not_done status is (inl (inr (inr nine))));
+  stays = λ came refused. absurd (not_done status is came);
+  keeps = keeps;
+  quiet = λ came. absurd (not_done status is came);
+  failed = failed;
+}
+
+-- no call was made
+pub recovery_keeps_none : {told : Bool} (app : ℕ) (m : Medium) → IsLawful told m → RecoveryKeeps app m m
+recovery_keeps_none app m lawful = record {
+  elsewhere = λ f aside. refl;
+  outside = λ c past. inl (lawful.only_now c past);
+  stands = λ clean cleans c past. inl (lawful.only_now c past);
+}
+
+-- the status of a recovery whose output was made
+pub recovered_as : (P : Type 0) (status verdict done : ℕ) (Q : Type 0) → (verdict ≡ done → P)
+    → (done ≡ 4 → ⊥) → (done ≡ 6 → ⊥) → (status ≡ verdict) ⊎ ((status ≡ 4) ⊎ ((status ≡ 6) × Q)) → status ≡ done → P
+recovered_as P status verdict done Q so no_4 no_6 (inl is) e = so (sym is ∙ e)
+recovered_as P status verdict done Q so no_4 no_6 (inr (inl four)) e = absurd (no_4 (sym e ∙ four))
+recovered_as P status verdict done Q so no_4 no_6 (inr (inr six)) e = absurd (no_6 (sym e ∙ six.0))
+
+-- and what it may be
+pub recovered_ends : (status verdict : ℕ) (Q : Type 0) → (verdict ≡ 0) ⊎ (verdict ≡ 9)
+    → (status ≡ verdict) ⊎ ((status ≡ 4) ⊎ ((status ≡ 6) × Q))
+    → ((status ≡ 0) ⊎ (status ≡ 9)) ⊎ ((status ≡ 4) ⊎ ((status ≡ 6) × Q))
+recovered_ends status verdict Q (inl none) (inl is) = inl (inl (is ∙ none))
+recovered_ends status verdict Q (inr nine) (inl is) = inl (inr (is ∙ nine))
+recovered_ends status verdict Q either (inr other) = inr other
 
 -- ---- an answer that may be a refusal
 

@@ -77,7 +77,7 @@ run_none told rules answers left before source sink old new status lawful time k
   gives = refl;
   ends = record { no_line = refl; no_turn = refl; wrote = Appends-nil before };
   cause = rose;
-  failures = record { behind = old.faults; blamed = refl; later = time.faults; passes = λ over. absurd over };
+  failures = record { last = old.faults; blamed = refl; later = time.faults; passes = λ over. absurd over };
   time = time;
   disk = λ tells. start_disk rules answers endings.device before before told old new lawful time (λ begun. begun)
       (keeps tells);
@@ -101,7 +101,7 @@ run_short told rules answers left before source sink old new status lawful time 
   gives = refl;
   ends = record { no_line = refl; no_turn = refl; wrote = Appends-nil before };
   cause = tt;
-  failures = record { behind = old.faults; blamed = refl; later = time.faults; passes = λ over. absurd over };
+  failures = record { last = old.faults; blamed = refl; later = time.faults; passes = λ over. absurd over };
   time = time;
   disk = λ tells. start_disk rules answers endings.start_memory before before told old new lawful time (λ begun. begun)
       (keeps tells);

@@ -6,6 +6,7 @@ use Rattle.std.proofs.KnownBytes.{Consumes-nil}
 use Rattle.std.proofs.lemmas.Bool.{leb-true}
 use Rattle.std.specs.Bool.{⊤}
 use Rattle.std.specs.List.{AllByRecursion, Contains}
+use Rattle.std.specs.Str.{bytes_eq}
 use Rattle.std.specs.Str.Parse.{digits_value, without_leading_plus}
 use Rattle.clap.proofs.ValueTestLemmas.{accepts-Accepts}
 use Rattle.clap.specs.Simple.{matches_of}
@@ -15,12 +16,14 @@ use Rattle.clap.specs.declared.builder.value_parser.ValueParser.TheVariants as v
 use Rattle.per_base.specs.Causes.{Rose}
 use Rattle.per_base.specs.Fields.{◌>>=◌, only_if}
 use Rattle.per_base.specs.Names.{is_name}
+use Rattle.per_list.specs.declared.forms.Form.TheVariants as form
 use Rattle.disk_model.specs.Laws.{elapses_none, reads_none, rose_before}
 use Rattle.disk_model.specs.Medium.{Medium, IsLawful}
 use Rattle.migrate_fns.specs.Rules.{Rule, Answers}
+use Rattle.command_text.specs.Reading.{is_application_digit}
 use Rattle.run_model.specs.AppLaws.{AppLaws}
 use Rattle.run_model.specs.Endings as endings
-use Rattle.run_model.specs.Endings.{Ending, Failed, HasCauseOf, ending_status}
+use Rattle.run_model.specs.Endings.{Ending, FailureCounts, HasCauseOf, ending_status}
 use Rattle.run_model.specs.Lines.{IsWellFormed}
 use Rattle.run_model.specs.Lives.{looks_none}
 use Rattle.run_model.specs.Runs as runs
@@ -28,14 +31,16 @@ use Rattle.per_run.specs.declared.endings.Ending as parts
 use Rattle.per_run.specs.declared.endings.Ending.TheVariants as part
 use Rattle.per_run.specs.declared.words.Job.{Job}
 use Rattle.per_run.specs.declared.words.JobKind.{JobKind}
-use Rattle.per_run.specs.declared.words.JobKind.TheVariants.{Run, Serve, Format, Generate, Audit, Export, Import}
+use Rattle.per_run.specs.declared.words.JobKind.TheVariants.{Run, Serve, Format, Generate, Audit, Listing, Export}
+use Rattle.per_run.specs.declared.words.JobKind.TheVariants.{Import, RecoverRoot}
 use Rattle.per_run.specs.Jobs.{IsCaused, JobDone, by_disk, by_itself, by_sink, by_source, statuses_of}
 use Rattle.per_run.specs.Serves.{Heard, Serves, ServesBy, served, unprepared}
 use Rattle.per_run.specs.Steps.{IsCut, IsInRange, ending_of}
 use Rattle.per_run.specs.Words.{command, dir_of, export_job, flagged, flash_of, generate_of, has_matches, import_of}
-use Rattle.per_run.specs.Words.{is_application, is_set, job_in, job_kind_in, job_of, modes, only_mode, reads_input}
-use Rattle.per_run.specs.Words.{target_of, valued}
-use Rattle.per_run.proofs.Answered.{audits_none, exports_none, imports_cut}
+use Rattle.per_run.specs.Words.{application_of, is_set, job_in, job_kind_in, job_of, list_of, modes}
+use Rattle.per_run.specs.Words.{only_mode, reads_input, recover_of, target_of, valued}
+use Rattle.per_run.proofs.Answered.{audits_none, exports_none, imports_cut, lists_none, recovers_none}
+use Rattle.per_run.proofs.Answered.{recovery_keeps_none}
 use Rattle.per_run.proofs.Begins.{run_short, unbegun}
 use Rattle.per_run.proofs.Completes.{OneLine, completes}
 use Rattle.per_run.proofs.Fresh.{formats_none, generates_none}
@@ -47,7 +52,7 @@ use Rattle.per_run.proofs.Prepared.{earlier_start, serves_short}
 among : (status other : ℕ) (xs : List ℕ) → status ≡ other → Contains xs other → Contains xs status
 among status other xs is contains = subst (Contains xs) (sym is) contains
 
-ended_so : (ending : Ending) (status : ℕ) (b n : Failed) → status ≡ ending_status ending → HasCauseOf ending b n
+ended_so : (ending : Ending) (status : ℕ) (b n : FailureCounts) → status ≡ ending_status ending → HasCauseOf ending b n
     → IsCaused Run status b n
 ended_so endings.all_read status b n is cause = by_itself (among status 0 (statuses_of Run) is (0, omega arith, refl))
 ended_so endings.end_line status b n is cause = by_itself (among status 0 (statuses_of Run) is (0, omega arith, refl))
@@ -71,7 +76,7 @@ run_caused told rules answers status left_before left_now before now source_befo
 
 -- a run that stays
 stayed_so : (P : Type 0) (ending : Ending) (heard : List Heard) (all : List (List ℕ)) (before now : Option (List ℕ))
-    (status : ℕ) (b n : Failed) → ServesBy P ending heard all before now → status ≡ ending_status ending
+    (status : ℕ) (b n : FailureCounts) → ServesBy P ending heard all before now → status ≡ ending_status ending
     → HasCauseOf ending b n → IsCaused Serve status b n
 stayed_so P endings.all_read heard all before now status b n ends is cause =
     by_itself (among status 0 (statuses_of Serve) is (0, omega arith, refl))
@@ -89,7 +94,7 @@ stayed_so P endings.too_long heard all before now status b n ends is cause =
     by_itself (among status 7 (statuses_of Serve) is (2, omega arith, refl))
 
 -- what rose since a later count of the disk
-since_earlier : (kind : JobKind) (status earlier later source sink : ℕ) (n : Failed) → earlier ≤ later
+since_earlier : (kind : JobKind) (status earlier later source sink : ℕ) (n : FailureCounts) → earlier ≤ later
     → IsCaused kind status (record { disk = later; source = source; sink = sink }) n
     → IsCaused kind status (record { disk = earlier; source = source; sink = sink }) n
 since_earlier kind status earlier later source sink n le (by_itself has) = by_itself has
@@ -118,7 +123,7 @@ serve_caused told medium rules answers status left_before left_now before now so
     by_itself (among status 4 (statuses_of Serve) four (1, omega arith, refl))
 
 -- a job that writes once
-pub written_caused : (kind : JobKind) (status : ℕ) (b n : Failed) → statuses_of kind ≡ 0 ∷ 4 ∷ []
+pub written_caused : (kind : JobKind) (status : ℕ) (b n : FailureCounts) → statuses_of kind ≡ 0 ∷ 4 ∷ []
     → (status ≡ 0) ⊎ ((status ≡ 4) ⊎ (((status ≡ 3) × Rose b.disk n.disk) ⊎ ((status ≡ 6) × Rose b.sink n.sink)))
     → IsCaused kind status b n
 written_caused kind status b n has (inl none) = by_itself
@@ -128,17 +133,19 @@ written_caused kind status b n has (inr (inl four)) = by_itself
 written_caused kind status b n has (inr (inr (inl disk))) = by_disk disk.0 disk.1
 written_caused kind status b n has (inr (inr (inr sink))) = by_sink sink.0 sink.1
 
-pub short_caused : (kind : JobKind) (b n : Failed) → IsCaused kind 4 b n
+pub short_caused : (kind : JobKind) (b n : FailureCounts) → IsCaused kind 4 b n
 short_caused Run b n = by_itself (2, omega arith, refl)
 short_caused Serve b n = by_itself (1, omega arith, refl)
 short_caused Format b n = by_itself (1, omega arith, refl)
 short_caused (Generate k) b n = by_itself (1, omega arith, refl)
 short_caused Audit b n = by_itself (1, omega arith, refl)
+short_caused (Listing f) b n = by_itself (1, omega arith, refl)
 short_caused (Export app name) b n = by_itself (1, omega arith, refl)
 short_caused (Import app name) b n = by_itself (1, omega arith, refl)
+short_caused (RecoverRoot app) b n = by_itself (1, omega arith, refl)
 
 -- the output of a job that came to it, by this status where all of it was taken
-pub output_caused : (kind : JobKind) (status done : ℕ) (b n : Failed) → Contains (statuses_of kind) done
+pub output_caused : (kind : JobKind) (status done : ℕ) (b n : FailureCounts) → Contains (statuses_of kind) done
     → (status ≡ done) ⊎ ((status ≡ 4) ⊎ ((status ≡ 6) × Rose b.sink n.sink))
     → IsCaused kind status b n
 output_caused kind status done b n has (inl is) = by_itself (among status done (statuses_of kind) is has)
@@ -147,26 +154,32 @@ output_caused kind status done b n has (inr (inl four)) =
 output_caused kind status done b n has (inr (inr six)) = by_sink six.0 six.1
 
 -- an audit that was written
-pub audit_caused : (status : ℕ) (b n : Failed) → ((status ≡ 0) ⊎ (status ≡ 8))
+pub audit_caused : (status : ℕ) (b n : FailureCounts) → ((status ≡ 0) ⊎ (status ≡ 8))
     ⊎ ((status ≡ 4) ⊎ ((status ≡ 6) × Rose b.sink n.sink)) → IsCaused Audit status b n
 audit_caused status b n (inl (inl none)) = output_caused Audit status 0 b n (0, omega arith, refl) (inl none)
 audit_caused status b n (inl (inr eight)) = output_caused Audit status 8 b n (2, omega arith, refl) (inl eight)
 audit_caused status b n (inr other) = output_caused Audit status 0 b n (0, omega arith, refl) (inr other)
 
+-- a listing that was written
+pub list_caused : (kind : JobKind) (status : ℕ) (b n : FailureCounts) → statuses_of kind ≡ 0 ∷ 4 ∷ []
+    → (status ≡ 0) ⊎ ((status ≡ 6) × Rose b.sink n.sink) → IsCaused kind status b n
+list_caused kind status b n has (inl none) = written_caused kind status b n has (inl none)
+list_caused kind status b n has (inr six) = by_sink six.0 six.1
+
 -- an export or an import that was answered
-answered_caused : (kind : JobKind) (status : ℕ) (b n : Failed) → Contains (statuses_of kind) 0
+answered_caused : (kind : JobKind) (status : ℕ) (b n : FailureCounts) → Contains (statuses_of kind) 0
     → Contains (statuses_of kind) 9 → ((status ≡ 0) ⊎ (status ≡ 9))
     ⊎ ((status ≡ 4) ⊎ ((status ≡ 6) × Rose b.sink n.sink)) → IsCaused kind status b n
 answered_caused kind status b n has_0 has_9 (inl (inl none)) = output_caused kind status 0 b n has_0 (inl none)
 answered_caused kind status b n has_0 has_9 (inl (inr nine)) = output_caused kind status 9 b n has_9 (inl nine)
 answered_caused kind status b n has_0 has_9 (inr other) = output_caused kind status 0 b n has_0 (inr other)
 
-pub export_caused : (app : ℕ) (name : List ℕ) (status : ℕ) (b n : Failed) → ((status ≡ 0) ⊎ (status ≡ 9))
+pub export_caused : (app : ℕ) (name : List ℕ) (status : ℕ) (b n : FailureCounts) → ((status ≡ 0) ⊎ (status ≡ 9))
     ⊎ ((status ≡ 4) ⊎ ((status ≡ 6) × Rose b.sink n.sink)) → IsCaused (Export app name) status b n
 export_caused app name status b n is =
     answered_caused (Export app name) status b n (0, omega arith, refl) (2, omega arith, refl) is
 
-pub import_caused : (app : ℕ) (name : List ℕ) (status : ℕ) (b n : Failed) → ((status ≡ 0) ⊎ (status ≡ 9))
+pub import_caused : (app : ℕ) (name : List ℕ) (status : ℕ) (b n : FailureCounts) → ((status ≡ 0) ⊎ (status ≡ 9))
     ⊎ ((status ≡ 4) ⊎ (((status ≡ 3) × Rose b.disk n.disk) ⊎ ((status ≡ 6) × Rose b.sink n.sink)))
     → IsCaused (Import app name) status b n
 import_caused app name status b n (inl is) =
@@ -176,8 +189,14 @@ import_caused app name status b n (inr (inl four)) =
 import_caused app name status b n (inr (inr (inl disk))) = by_disk disk.0 disk.1
 import_caused app name status b n (inr (inr (inr sink))) = by_sink sink.0 sink.1
 
+-- a recovery that was answered
+pub recover_caused : (app : ℕ) (status : ℕ) (b n : FailureCounts) → ((status ≡ 0) ⊎ (status ≡ 9))
+    ⊎ ((status ≡ 4) ⊎ ((status ≡ 6) × Rose b.sink n.sink)) → IsCaused (RecoverRoot app) status b n
+recover_caused app status b n is =
+    answered_caused (RecoverRoot app) status b n (0, omega arith, refl) (2, omega arith, refl) is
+
 -- and one whose input was not read whole
-pub cut_caused : (app : ℕ) (name : List ℕ) (ending : parts.Ending) (status count : ℕ) (b n : Failed)
+pub cut_caused : (app : ℕ) (name : List ℕ) (ending : parts.Ending) (status count : ℕ) (b n : FailureCounts)
     → status ≡ ending_status (ending_of ending) → IsCut ending count → (ending ≡ part.Source → Rose b.source n.source)
     → IsCaused (Import app name) status b n
 cut_caused app name part.AllRead status count b n is cut rose = absurd cut
@@ -207,6 +226,7 @@ others_than_one Serve = (λ is. omega (arith, is), (λ is. omega (arith, is), (�
 others_than_one Format = (λ is. omega (arith, is), (λ is. omega (arith, is), tt))
 others_than_one (Generate k) = (λ is. omega (arith, is), (λ is. omega (arith, is), tt))
 others_than_one Audit = (λ is. omega (arith, is), (λ is. omega (arith, is), (λ is. omega (arith, is), tt)))
+others_than_one (Listing f) = (λ is. omega (arith, is), (λ is. omega (arith, is), tt))
 others_than_one (Export app name) = (λ is. omega (arith, is), (λ is. omega (arith, is), (λ is. omega (arith, is), tt)))
 others_than_one (Import app name) = (
   λ is. omega (arith, is),
@@ -215,11 +235,12 @@ others_than_one (Import app name) = (
     (λ is. omega (arith, is), (λ is. omega (arith, is), tt)),
   ),
 )
+others_than_one (RecoverRoot app) = (λ is. omega (arith, is), (λ is. omega (arith, is), (λ is. omega (arith, is), tt)))
 
 has_no_one : (kind : JobKind) → Contains (statuses_of kind) 1 → ⊥
 has_no_one kind contains = no_one (statuses_of kind) (others_than_one kind) contains.0 contains.1 contains.2
 
-pub not_one : (kind : JobKind) (status : ℕ) (b n : Failed) → IsCaused kind status b n → status ≡ 1 → ⊥
+pub not_one : (kind : JobKind) (status : ℕ) (b n : FailureCounts) → IsCaused kind status b n → status ≡ 1 → ⊥
 not_one kind status b n (by_itself contains) is = has_no_one kind (subst (Contains (statuses_of kind)) is contains)
 not_one kind status b n (by_disk three rose) is = omega (arith, three, is)
 not_one kind status b n (by_source five reads rose) is = omega (arith, five, is)
@@ -229,14 +250,14 @@ not_one kind status b n (by_sink six rose) is = omega (arith, six, is)
 
 pub done_as : {D : Type 0} (told : Bool) (medium : D → Medium) (kind same : JobKind) (rules : List Rule)
     (answers : Answers) (status : ℕ)
-    (left left_now before now : Option (List ℕ)) (b n : Failed) (old new : D) → kind ≡ same
+    (left left_now before now : Option (List ℕ)) (b n : FailureCounts) (old new : D) → kind ≡ same
     → JobDone told medium same rules answers status left left_now before now b n old new
     → JobDone told medium kind rules answers status left left_now before now b n old new
 done_as told medium kind same rules answers status left left_now before now b n old new is done =
     subst (λ (k : JobKind). JobDone told medium k rules answers status left left_now before now b n old new) (sym is)
     done
 
-pub caused_as : (kind same : JobKind) (status : ℕ) (b n : Failed) → kind ≡ same → IsCaused same status b n
+pub caused_as : (kind same : JobKind) (status : ℕ) (b n : FailureCounts) → kind ≡ same → IsCaused same status b n
     → IsCaused kind status b n
 caused_as kind same status b n is caused = subst (λ (k : JobKind). IsCaused k status b n) (sym is) caused
 
@@ -280,6 +301,8 @@ done_none laws told medium (Generate n) rules answers left before source sink di
     generates_none told rules answers n 4 before (medium disk) (medium disk) (inr refl) (elapses_none lawful).faults
 done_none laws told medium Audit rules answers left before source sink disk lawful =
     audits_none told 4 before (medium disk) (medium disk) (inr refl) (looks_none lawful) (λ unfailed. refl)
+done_none laws told medium (Listing f) rules answers left before source sink disk lawful =
+    lists_none told f 4 before (medium disk) (medium disk) (inr refl) (looks_none lawful) (λ unfailed. refl)
 done_none laws told medium (Export app name) rules answers left before source sink disk lawful =
     exports_none told app name 4 before (medium disk) (medium disk) (inr refl) (looks_none lawful)
     (λ unfailed. refl)
@@ -290,6 +313,9 @@ done_none laws told medium (Import app name) rules answers left before source si
       taken = record { takes = Consumes-nil left; bound = omega arith; end_seen = not_seen };
       cut = tt;
     })
+done_none laws told medium (RecoverRoot app) rules answers left before source sink disk lawful =
+    recovers_none told app 4 before (medium disk) (medium disk) (inr refl)
+    (λ tells. recovery_keeps_none app (medium disk) lawful) (λ unfailed. refl)
 
 pub unread_none : {S : Type 0} (o : Option Job) (s : S) → IfSome o (λ job. reads_input job.kind ≡ false → s ≡ s)
 unread_none o s = each_is o (λ job. reads_input job.kind ≡ false → s ≡ s) (λ job reads. refl)
@@ -306,7 +332,7 @@ complete_none o left A B C = each_is o (λ job. job.kind ≡ Run → A → B →
 
 pub completes_if : {D : Type 0} → OneLine → (told : Bool) (medium : D → Medium) (kind : JobKind) (rules : List Rule)
     (answers : Answers) (status : ℕ)
-    (left left_now before now : Option (List ℕ)) (b n : Failed) (old new : D)
+    (left left_now before now : Option (List ℕ)) (b n : FailureCounts) (old new : D)
     → b.disk ≡ (medium old).faults → n.disk ≡ (medium new).faults
     → JobDone told medium kind rules answers status left left_now before now b n old new → kind ≡ Run
     → (Rose (medium old).faults (medium new).faults → ⊥) → (Rose b.source n.source → ⊥)
@@ -370,9 +396,10 @@ target_within : (value : List ℕ) (target : ℕ × List ℕ) → target_of valu
 target_within [] target is = let bad : ◌≡◌ {A = Option (ℕ × List ℕ)} None (Some target) = is in absurd (cc)
 target_within (digit ∷ []) target is = let bad : ◌≡◌ {A = Option (ℕ × List ℕ)} None (Some target) = is in absurd (cc)
 target_within (digit ∷ colon ∷ name) target is =
-    let told : ((is_application digit && nat_eq colon 58 && is_name name) ≡ true)
+    let told : ((is_application_digit digit && nat_eq colon 58 && is_name name) ≡ true)
     × (◌≡◌ {A = ℕ × List ℕ} (digit - 48, name) target) =
-    only_some {A = ℕ × List ℕ} (is_application digit && nat_eq colon 58 && is_name name) (digit - 48, name) target is in
+    only_some {A = ℕ × List ℕ} (is_application_digit digit && nat_eq colon 58 && is_name name)
+    (digit - 48, name) target is in
     let high : digit ≤ 55 = leb-true digit 55
     (digit_within (nat_le 48 digit) (nat_le digit 55) (nat_eq colon 58) (is_name name) told.0) in
     let app : digit - 48 ≡ target.0 = ap (λ (t : ℕ × List ℕ). t.0) told.1 in
@@ -386,6 +413,15 @@ target_safe kind value safe = go (target_of value) refl
         → IsSafe (option_map (λ target. kind target.0 target.1) o)
     go None is = none_safe
     go (Some target) is = some_safe (kind target.0 target.1) (safe target.0 target.1 (target_within value target is))
+
+list_safe : (value : List ℕ) → IsSafe (list_of value)
+list_safe value = go (bytes_eq value (codes "lines")) (bytes_eq value (codes "json"))
+  where
+    go : (lines json : Bool)
+        → IsSafe (if lines then Some (Listing form.Lines) else if json then Some (Listing form.Json) else None)
+    go true json = some_safe (Listing form.Lines) tt
+    go false true = some_safe (Listing form.Json) tt
+    go false false = none_safe
 
 -- so is each that is named
 abbrev AreSafe : List (Option JobKind) → Type 0
@@ -405,10 +441,37 @@ valued_safe : (mode : List ℕ → Option JobKind) (value : Option (List ℕ)) �
 valued_safe mode (Some v) safe = (safe v, tt)
 valued_safe mode None safe = tt
 
+high_within : (low high : Bool) → (low && high) ≡ true → high ≡ true
+high_within true high is = is
+high_within false high is = let bad : false ≡ true = is in cc
+
+application_within : (value : List ℕ) (app : ℕ) → application_of value ≡ Some app → app < 8
+application_within [] app is = let bad : ◌≡◌ {A = Option ℕ} None (Some app) = is in absurd (cc)
+application_within (digit ∷ []) app is =
+    let told : (is_application_digit digit ≡ true) × (digit - 48 ≡ app) =
+    only_some (is_application_digit digit) (digit - 48) app is in
+    let small : digit ≤ 55 = leb-true digit 55 (high_within (nat_le 48 digit) (nat_le digit 55) told.0) in
+    let same = told.1 in
+    omega (arith, small, same)
+application_within (digit ∷ other ∷ more) app is = let bad : ◌≡◌ {A = Option ℕ} None (Some app) = is in absurd (cc)
+
+recover_safe : (value : List ℕ) → IsSafe (recover_of value)
+recover_safe value = go (application_of value) refl
+  where
+    go : (o : Option ℕ) → application_of value ≡ o → IsSafe (option_map RecoverRoot o)
+    go None is = none_safe
+    go (Some app) is = some_safe (RecoverRoot app) (application_within value app is)
+
 modes_safe : (formats : Bool) (number : Option (List ℕ)) (audits : Bool) (exports imports : Option (List ℕ))
-    (serves : Bool) → AreSafe (modes formats number audits exports imports serves)
-modes_safe formats number audits exports imports serves =
-    both_safe ((((flagged Format formats ++ valued generate_of number) ++ flagged Audit audits)
+    (serves : Bool) (lists recovers : Option (List ℕ))
+    → AreSafe (modes formats number audits exports imports serves lists recovers)
+modes_safe formats number audits exports imports serves lists recovers =
+    both_safe ((((((flagged Format formats ++ valued generate_of number) ++ flagged Audit audits)
+    ++ valued export_job exports) ++ valued import_of imports) ++ flagged Serve serves) ++ valued list_of lists)
+    (valued recover_of recovers)
+    (both_safe (((((flagged Format formats ++ valued generate_of number) ++ flagged Audit audits)
+    ++ valued export_job exports) ++ valued import_of imports) ++ flagged Serve serves) (valued list_of lists)
+    (both_safe ((((flagged Format formats ++ valued generate_of number) ++ flagged Audit audits)
     ++ valued export_job exports) ++ valued import_of imports) (flagged Serve serves)
     (both_safe (((flagged Format formats ++ valued generate_of number) ++ flagged Audit audits)
     ++ valued export_job exports) (valued import_of imports)
@@ -420,7 +483,9 @@ modes_safe formats number audits exports imports serves =
     (flagged_safe Audit audits tt))
     (valued_safe export_job exports (λ value. target_safe Export value (λ app name within. within))))
     (valued_safe import_of imports (λ value. target_safe Import value (λ app name within. within))))
-    (flagged_safe Serve serves tt)
+    (flagged_safe Serve serves tt))
+    (valued_safe list_of lists list_safe))
+    (valued_safe recover_of recovers recover_safe)
 
 only_safe : (ms : List (Option JobKind)) → AreSafe ms → IsSafe (only_mode ms)
 only_safe [] safe = some_safe Run tt
@@ -451,7 +516,8 @@ job_within ws job is = go (has_matches ws) is
     go : (b : Bool) → (if b then job_in rows else None) ≡ Some job → IsInRange job.kind
     go true says = only_safe _ (modes_safe (is_set (first_of (codes "format") rows)) (first_of (codes "generate") rows)
         (is_set (first_of (codes "audit") rows)) (first_of (codes "export") rows) (first_of (codes "import") rows)
-        (is_set (first_of (codes "serve") rows)))
+        (is_set (first_of (codes "serve") rows)) (first_of (codes "list") rows)
+        (first_of (codes "recover-root") rows))
         job.kind
         (kind_of_job (job_kind_in rows) (flash_of (first_of (codes "flash") rows))
         (dir_of (first_of (codes "dir") rows))

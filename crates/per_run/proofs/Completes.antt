@@ -11,7 +11,7 @@ use Rattle.command_text.specs.declared.calls.Event.{Event}
 use Rattle.command_text.specs.declared.lines.Line.{Line}
 use Rattle.command_text.specs.declared.lines.Line.TheVariants as line
 use Rattle.command_text.specs.Grammar.{IsLine}
-use Rattle.run_model.specs.Endings.{Ending, Failed, HasCauseOf, EndsBy, IsInput, ending_status}
+use Rattle.run_model.specs.Endings.{Ending, FailureCounts, HasCauseOf, EndsBy, IsInput, ending_status}
 use Rattle.run_model.specs.Endings as endings
 use Rattle.run_model.specs.Lines.{Give, IsBad, IsWellFormed, all_read, end_last, end_line, last_line, lines_of}
 use Rattle.run_model.specs.Lines.{onto_first, split_lines}
@@ -229,7 +229,7 @@ long_never one left (end_line front others lines' more events is_left few is_lin
 by_ending : OneLine → (left : List ℕ) → IsWellFormed left
     → (ending : Ending) (status : ℕ) (ended : Bool) (given : List ℕ) (lines : List (List ℕ)) (turns : List Turn)
     (before now : Option (List ℕ))
-    (b n : Failed) → status ≡ ending_status ending → IsFrontOf ended given left → Give lines (events_of turns)
+    (b n : FailureCounts) → status ≡ ending_status ending → IsFrontOf ended given left → Give lines (events_of turns)
     → EndsBy ending lines (lines_of ended given) turns before now
     → IsInput ending ended (length given) → HasCauseOf ending b n → (Rose b.disk n.disk → ⊥)
     → (Rose b.source n.source → ⊥) → (Rose b.sink n.sink → ⊥) → (status ≡ 0) ⊎ (status ≡ 4)

@@ -55,7 +55,7 @@ stopped_front whole front s = record {
 pub counts_whole : {Whole : Type 0} {before : ℕ} {ts : List Turn} {after : ℕ} → AreBlamed before ts after
     → CountsFailures Whole before ts after
 counts_whole {after = after} blamed = record {
-  behind = after;
+  last = after;
   blamed = blamed;
   later = le_refl after;
   passes = λ whole. refl;
@@ -227,7 +227,7 @@ module _ (told : Bool) (rules : List Rule) (answers : Answers) (start : Medium) 
     gives = handled.gives;
     ends = inl (record { others = text ∷ others; next = refl; wrote = handled.wrote });
     failures = record {
-      behind = old.faults;
+      last = old.faults;
       blamed = handled.goes.blamed;
       later = time.faults;
       passes = λ over. absurd over;

@@ -221,7 +221,7 @@ module _ (told : Bool) (rules : List Rule) (answers : Answers) (start : Medium) 
     are = hearing.are;
     ends = inl (record { others = text ∷ others; next = refl; wrote = hearing.wrote });
     failures = record {
-      behind = old.faults;
+      last = old.faults;
       blamed = hearing.goes.blamed;
       later = time.faults;
       passes = λ over. absurd over;

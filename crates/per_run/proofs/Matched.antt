@@ -164,7 +164,7 @@ pub job_refused : (result : Result Job WordsError) (said same : Option Job) → 
 job_refused result said same is reads refused = is ∙ subst (λ (r : Result Job WordsError). ReadsWord r said) refused
     reads
 
-pub modes_as : {f g a b s t : Bool} {n m x y i j : Option (List ℕ)} → f ≡ g → n ≡ m → a ≡ b → x ≡ y → i ≡ j → s ≡ t
-    → only_mode (modes f n a x i s) ≡ only_mode (modes g m b y j t)
-modes_as formats number audits exports imports serves =
-    rw (formats, number, audits, exports, imports, serves) refl
+pub modes_as : {f g a b s t : Bool} {n m x y i j k l r q : Option (List ℕ)} → f ≡ g → n ≡ m → a ≡ b → x ≡ y → i ≡ j
+    → s ≡ t → k ≡ l → r ≡ q → only_mode (modes f n a x i s k r) ≡ only_mode (modes g m b y j t l q)
+modes_as formats number audits exports imports serves lists recovers =
+    rw (formats, number, audits, exports, imports, serves, lists, recovers) refl

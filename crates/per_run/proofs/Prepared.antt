@@ -12,7 +12,7 @@ use Rattle.migrate_fns.specs.Rules.{Rule, Answers}
 use Rattle.deploy.specs.declared.errors.Stop.{Stop}
 use Rattle.deploy_laws.specs.Apps.{IsCleanApp}
 use Rattle.run_model.specs.Endings as endings
-use Rattle.run_model.specs.Endings.{Failed, HasCauseOf, HasStarted, ending_status}
+use Rattle.run_model.specs.Endings.{FailureCounts, HasCauseOf, HasStarted, ending_status}
 use Rattle.run_model.specs.Moments.{Between, OrBefore}
 use Rattle.run_model.specs.RunLaws.{start_disk}
 use Rattle.run_model.specs.Runtimes.{Memory, StartKeeps, Starts}
@@ -231,7 +231,7 @@ serve_none told rules answers endings.device status left before source sink old 
       are = tt;
       ends = record { no_line = refl; wrote = Appends-nil before };
       cause = cause;
-      failures = record { behind = old.faults; blamed = refl; later = time.faults; passes = λ over. absurd over };
+      failures = record { last = old.faults; blamed = refl; later = time.faults; passes = λ over. absurd over };
       time = time;
       disk = λ tells. start_disk rules answers endings.device None None told old new lawful time (λ begun. begun)
           (keeps tells);
@@ -249,7 +249,7 @@ serve_none told rules answers endings.start_memory status left before source sin
       are = tt;
       ends = record { no_line = refl; wrote = Appends-nil before };
       cause = cause;
-      failures = record { behind = old.faults; blamed = refl; later = time.faults; passes = λ over. absurd over };
+      failures = record { last = old.faults; blamed = refl; later = time.faults; passes = λ over. absurd over };
       time = time;
       disk = λ tells. start_disk rules answers endings.start_memory None None told old new lawful time
           (λ begun. begun) (keeps tells);

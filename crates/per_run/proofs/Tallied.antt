@@ -169,17 +169,17 @@ module _ (told : Bool) (rules : List Rule) (answers : Answers) (start : Medium) 
 -- ---- the lines of a number
 
 -- the number after that many others
-abbrev pub number_behind : ℕ → ℕ → ℕ
-number_behind x zero = x
-number_behind x (suc n) = number_behind (next_number x) n
+abbrev pub number_after : ℕ → ℕ → ℕ
+number_after x zero = x
+number_after x (suc n) = number_after (next_number x) n
 
-pub next_behind : (x n : ℕ) → number_behind x (suc n) ≡ next_number (number_behind x n)
-next_behind x zero = refl
-next_behind x (suc n) = next_behind (next_number x) n
+pub next_after : (x n : ℕ) → number_after x (suc n) ≡ next_number (number_after x n)
+next_after x zero = refl
+next_after x (suc n) = next_after (next_number x) n
 
 -- the lines with one more
 abbrev with_line : ℕ → ℕ → ℕ → ℕ → List (List ℕ)
-with_line n i x k = generated_lines n i x ++ generated_line (next_number (number_behind x n)) k ∷ []
+with_line n i x k = generated_lines n i x ++ generated_line (next_number (number_after x n)) k ∷ []
 
 place_none : (i : ℕ) → i ≡ i + 0
 place_none i = omega arith
@@ -202,7 +202,7 @@ length_all n = length-append (first_lines ++ generated_lines n 1 n) last_lines
     ∙ ap (λ (k : ℕ). k + 3) (length-append first_lines (generated_lines n 1 n)
     ∙ ap (λ (k : ℕ). 2 + k) (length_lines n 1 n)) ∙ omega arith
 
-pub generated_on : (before : List (List ℕ)) (n i x : ℕ) (text : List ℕ) → x ≡ number_behind n i
+pub generated_on : (before : List (List ℕ)) (n i x : ℕ) (text : List ℕ) → x ≡ number_after n i
     → text ≡ generated_line (next_number x) (i + 1)
     → before ++ generated_lines (i + 1) 1 n ≡ (before ++ generated_lines i 1 n) ++ text ∷ []
 generated_on before n i x text behind is =
@@ -215,9 +215,9 @@ generated_on before n i x text behind is =
     turned : (k : ℕ) → k + 1 ≡ 1 + k
     turned k = omega arith
 
-pub number_on : (n i x next : ℕ) → x ≡ number_behind n i → next ≡ next_number x → next ≡ number_behind n (i + 1)
-number_on n i x next behind is = is ∙ ap next_number behind ∙ sym (next_behind n i)
-    ∙ ap (number_behind n) (sym (add-one i))
+pub number_on : (n i x next : ℕ) → x ≡ number_after n i → next ≡ next_number x → next ≡ number_after n (i + 1)
+number_on n i x next behind is = is ∙ ap next_number behind ∙ sym (next_after n i)
+    ∙ ap (number_after n) (sym (add-one i))
 
 pub few_generated : (before : List (List ℕ)) (n i : ℕ) → length before + n < 2 ^ 32 → i < n
     → length (before ++ generated_lines i 1 n) < 2 ^ 32

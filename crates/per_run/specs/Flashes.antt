@@ -18,7 +18,7 @@ use Rattle.flash_disk.specs.Standing.{IsAgreed}
 use Rattle.flash_disk.specs.Throughout.{AgreedSince, UsableSince}
 use Rattle.flash_laws.specs.Outvotes.{OutlastsSince}
 use Rattle.migrate_fns.specs.Rules.{Answers, Rule}
-use Rattle.run_model.specs.Endings.{Failed}
+use Rattle.run_model.specs.Endings.{FailureCounts}
 use Rattle.per_run.specs.declared.flash.FlashRun.{FlashRun}
 use Rattle.per_run.specs.declared.flash.FlashRun.TheVariants.{Ran, Unopened}
 use Rattle.per_run.specs.declared.words.Job.{Job}
@@ -116,7 +116,7 @@ pub record FlashRan {F : Type 0} (told : Bool) (medium : F → FlashMedium) (kin
   pub time : Elapses (disk_seen told medium opened) (disk_seen told medium disk)
   pub stops : IsTrue told → OpensAgain told medium flash opened disk
 
--- The words were refused; or there was no memory for them; or they say a job, and the flash was not opened.
+-- The arguments were invalid; or there was no memory for them; or they say a job, and the flash was not opened.
 pub data HasNotRun (told : Bool) (job : Option Job) (status : ℕ) (flash back : FlashMedium) : Type 0 where
   refused : job ≡ None → status ≡ 1 → HasNotRun told job status flash back
   short : status ≡ 4 → HasNotRun told job status flash back

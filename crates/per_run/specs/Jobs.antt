@@ -14,25 +14,31 @@ use Rattle.command_text.specs.declared.replies.Answer.{Answer}
 use Rattle.command_text.specs.declared.replies.Answer.TheVariants as answer
 use Rattle.command_text.specs.declared.replies.Reply.{Reply}
 use Rattle.command_text.specs.Generated.{generated}
-use Rattle.command_text.specs.Replies.{answer_text}
+use Rattle.command_text.specs.Replies.{answer_text, number_or_dash}
 use Rattle.deploy_laws.specs.Apps.{App, IsCleanApp}
 use Rattle.run_model.specs.Bounds.{AreBounded}
-use Rattle.run_model.specs.Endings.{Failed}
+use Rattle.run_model.specs.Endings.{FailureCounts}
 use Rattle.run_model.specs.Lines.{Give}
 use Rattle.run_model.specs.Lives.{LooksOnly}
 use Rattle.run_model.specs.Moments.{AreSoundDoubts, last_of}
 use Rattle.run_model.specs.Runs as runs
 use Rattle.run_model.specs.Runs.{IsSettled}
-use Rattle.run_model.specs.Turns.{Bytes, Turn, events_of, replies_of, worlds_of, CountsFailures, Follow}
+use Rattle.run_model.specs.Turns.{DiskBytes, Turn, events_of, replies_of, worlds_of, CountsFailures, Follow}
 use Rattle.run_model.specs.Worlds.{world_at, formatted}
 use Rattle.per_audit.specs.Audits.{elements_at, findings_at}
 use Rattle.per_audit.specs.AuditText.{audit_text}
 use Rattle.per_audit.specs.declared.findings.Finding.{Finding}
 use Rattle.per_audit.specs.declared.findings.Listed.{Listed}
+use Rattle.per_list.specs.Listings.{listing_text}
+use Rattle.per_list.specs.declared.forms.Form.{Form}
+use Rattle.root_recovery.specs.Clauses.{IsRecovered, RecoveryKeeps}
+use Rattle.root_recovery.specs.Recoveries.{IsRefused, RootRow}
+use Rattle.root_recovery.specs.Texts.{recovery_text}
 use Rattle.per_backup.specs.Backups.{exporting, importing_into}
 use Rattle.per_backup.specs.Clauses.{ImportKeeps, Imported, IsAppSeen}
 use Rattle.per_run.specs.declared.words.JobKind.{JobKind}
-use Rattle.per_run.specs.declared.words.JobKind.TheVariants.{Run, Serve, Format, Generate, Audit, Export, Import}
+use Rattle.per_run.specs.declared.words.JobKind.TheVariants.{Run, Serve, Format, Generate, Audit, Listing, Export}
+use Rattle.per_run.specs.declared.words.JobKind.TheVariants.{Import, RecoverRoot}
 use Rattle.per_run.specs.Serves.{Serves}
 use Rattle.per_run.specs.Words.{reads_input}
 
@@ -42,7 +48,8 @@ use Rattle.per_run.specs.Words.{reads_input}
 abbrev pub WroteProperPrefix : (before now : Option (List ℕ)) → List ℕ → Type 0
 WroteProperPrefix before now text = (count : ℕ) × (count < length text) × Appends before now (take count text)
 
--- the sink took all of the output: the job is done, its audit has findings, or its export or import is refused
+-- the sink took all of the output: the job is done, its audit has findings, or its export, import or recovery is
+-- refused
 abbrev pub IsOutputWritten : ℕ → Type 0
 IsOutputWritten status = (status ≡ 0) ⊎ ((status ≡ 8) ⊎ (status ≡ 9))
 
@@ -99,14 +106,10 @@ abbrev pub size_given : List Reply → Option ℕ
 size_given [] = None
 size_given (r ∷ rs) = option_or (number_in r.answer) (size_given rs)
 
-abbrev pub size_or_dash : Option ℕ → List ℕ
-size_or_dash None = codes "-"
-size_or_dash (Some n) = decimal n
-
 abbrev pub summary_text : (lines done other errors : ℕ) → (size : Option ℕ) → List ℕ
 summary_text lines done other errors size = codes "lines "
     ++ (decimal lines ++ (codes " ok " ++ (decimal done ++ (codes " other " ++ (decimal other
-    ++ (codes " errors " ++ (decimal errors ++ (codes " size " ++ (size_or_dash size ++ codes "\n")))))))))
+    ++ (codes " errors " ++ (decimal errors ++ (codes " size " ++ (number_or_dash size ++ codes "\n")))))))))
 
 -- how many lines there were, how many replies of each sort, and the size
 abbrev pub summary : (lines : ℕ) → List Reply → List ℕ
@@ -122,7 +125,7 @@ pub record Generates (told : Bool) (rules : List Rule) (answers : Answers) (n st
   pub failures : CountsFailures (CameToOutput status) old.faults turns new.faults
   pub follow : IsTrue told → Follow rules answers formatted turns
   -- what each command wrote, from the bytes that the start left on
-  pub bounded : IsTrue told → (begun : Bytes) × AreBounded formatted begun turns
+  pub bounded : IsTrue told → (begun : DiskBytes) × AreBounded formatted begun turns
   pub settled : IsTrue told → CameToOutput status → IsSettled (last_of formatted (worlds_of turns)) new
   pub clean : IsTrue told → CameToOutput status → (app : ℕ) → app < 8 → AreSoundDoubts app (worlds_of turns)
       → IsCleanApp app new.image
@@ -143,6 +146,18 @@ pub record Audits (told : Bool) (status : ℕ) (before now : Option (List ℕ)) 
   pub stays : LooksOnly old new
   pub quiet : CameToOutput status → Quiet new
   pub failed : FailsAtThree status old.faults new.faults
+
+-- ---- a listing
+
+-- what is on the disk is said in this form; over a disk that models nothing it is some text
+pub record Lists (told : Bool) (form : Form) (status : ℕ) (before now : Option (List ℕ)) (old new : Medium) : Type 0
+  where
+    pub text : List ℕ
+    pub text_is : IsTrue told → text ≡ listing_text form old.image
+    pub output : WritesOutput status before now text
+    pub stays : LooksOnly old new
+    pub quiet : CameToOutput status → Quiet new
+    pub failed : FailsAtThree status old.faults new.faults
 
 -- ---- an answer that may be a refusal
 
@@ -214,11 +229,27 @@ pub record Imports (told : Bool) (app : ℕ) (name : List ℕ) (status : ℕ)
   pub uncalled : IsFalse ended → IsUncalled before now old new
   pub made : IsTrue ended → Makes told app name given status before now old new
 
+-- ---- a recovery of a root
+
+-- what was recovered is said, or why nothing was; 9 and not 0 is the status of a refusal; over a disk that models
+-- nothing it is some row
+pub record Recovers (told : Bool) (app status : ℕ) (before now : Option (List ℕ)) (old new : Medium) : Type 0 where
+  pub row : RootRow
+  pub ended : IsTrue told → CameToOutput status → IsRecovered app row old.image new.image
+  pub output : WritesOutput status before now (recovery_text row)
+  pub done : status ≡ 0 → ¬ (IsRefused row)
+  pub refused : status ≡ 9 → IsRefused row
+  pub stays : CameToOutput status → IsRefused row → LooksOnly old new
+  -- at every moment, however it ends
+  pub keeps : IsTrue told → RecoveryKeeps app old new
+  pub quiet : CameToOutput status → Quiet new
+  pub failed : FailsAtThree status old.faults new.faults
+
 -- ---- all jobs
 
 abbrev pub JobDone : {D : Type 0} → (told : Bool) → (medium : D → Medium) → JobKind → List Rule → Answers → (status : ℕ)
     → (left_before left_now before now : Option (List ℕ))
-    → (old_counts new_counts : Failed) → (old new : D) → Type 0
+    → (old_counts new_counts : FailureCounts) → (old new : D) → Type 0
 JobDone told medium Run rules answers status left_before left_now before now old_counts new_counts old new =
     runs.Run told rules answers status left_before left_now before now old_counts.source new_counts.source
     old_counts.sink new_counts.sink (medium old) (medium new)
@@ -231,12 +262,17 @@ JobDone told medium (Generate n) rules answers status left_before left_now befor
     Generates told rules answers n status before now (medium old) (medium new)
 JobDone told medium Audit rules answers status left_before left_now before now old_counts new_counts old new =
     Audits told status before now (medium old) (medium new)
+JobDone told medium (Listing form) rules answers status left_before left_now before now old_counts new_counts old new =
+    Lists told form status before now (medium old) (medium new)
 JobDone told medium (Export app name) rules answers status left_before left_now before now old_counts new_counts old
     new =
     Exports told app name status before now (medium old) (medium new)
 JobDone told medium (Import app name) rules answers status left_before left_now before now old_counts new_counts old
     new =
     Imports told app name status left_before left_now before now (medium old) (medium new)
+JobDone told medium (RecoverRoot app) rules answers status left_before left_now before now old_counts new_counts old
+    new =
+    Recovers told app status before now (medium old) (medium new)
 
 -- the statuses that no failure brings
 abbrev pub statuses_of : JobKind → List ℕ
@@ -245,11 +281,13 @@ statuses_of Serve = 0 ∷ 4 ∷ 7 ∷ []
 statuses_of Format = 0 ∷ 4 ∷ []
 statuses_of (Generate n) = 0 ∷ 4 ∷ []
 statuses_of Audit = 0 ∷ 4 ∷ 8 ∷ []
+statuses_of (Listing form) = 0 ∷ 4 ∷ []
 statuses_of (Export app name) = 0 ∷ 4 ∷ 9 ∷ []
 statuses_of (Import app name) = 0 ∷ 4 ∷ 7 ∷ 9 ∷ []
+statuses_of (RecoverRoot app) = 0 ∷ 4 ∷ 9 ∷ []
 
 -- the others come only by a failure in this very run: 3 of the disk, 5 of the source, 6 of the sink
-pub data IsCaused (kind : JobKind) (status : ℕ) (old new : Failed) : Type 0 where
+pub data IsCaused (kind : JobKind) (status : ℕ) (old new : FailureCounts) : Type 0 where
   by_itself : Contains (statuses_of kind) status → IsCaused kind status old new
   by_disk : status ≡ 3 → Rose old.disk new.disk → IsCaused kind status old new
   by_source : status ≡ 5 → IsTrue (reads_input kind) → Rose old.source new.source → IsCaused kind status old new

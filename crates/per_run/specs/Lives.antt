@@ -1,6 +1,6 @@
--- The jobs of the program as steps of a life: an audit and an export look, and so does an import whose input is not
--- read whole; any other import is one of a storage of the application, or of another one. Of a run it is `ran_of`; a
--- run that stays is one on the disk that it started on.
+-- The jobs of the program as steps of a life: an audit, a listing and an export look, and so does an import whose input
+-- is not read whole; any other import is one of a storage of the application, or of another one. Of a run it is
+-- `ran_of`; a run that stays is one on the disk that it started on.
 use Rattle.std.specs.Prelude.{◌≡◌, ◌≢◌, ℕ, List, Bool, true, false, IsTrue, None, Option}
 use Rattle.std.proofs.Common.{refl, subst, ⊎_elim}
 use Rattle.disk_model.specs.Medium.{EachCase, Medium}
@@ -14,13 +14,17 @@ use Rattle.run_model.specs.Moments.{AreSoundDoubts, OrBefore}
 use Rattle.run_model.specs.Starting.{which}
 use Rattle.per_backup.specs.Backups.{importing_into}
 use Rattle.per_backup.specs.Clauses.{ImportKeeps}
-use Rattle.per_run.specs.Jobs.{Audits, Exports, Imports}
+use Rattle.per_list.specs.declared.forms.Form.{Form}
+use Rattle.per_run.specs.Jobs.{Audits, Exports, Imports, Lists}
 use Rattle.per_run.specs.Serves.{Serve, lines_in, turns_in}
 
 module _ (rules : List Rule) (answers : Answers) (app : ℕ) (told : Bool) (status : ℕ) (before now : Option (List ℕ))
     (old new : Medium) where
   pub of_audit : Audits told status before now old new → Job rules answers app old new
   of_audit audit = looks audit.stays
+
+  pub of_listing : (form : Form) → Lists told form status before now old new → Job rules answers app old new
+  of_listing form listing = looks listing.stays
 
   pub of_export : (other : ℕ) (name : List ℕ) → Exports told other name status before now old new
       → Job rules answers app old new

@@ -7,9 +7,11 @@ use Rattle.command_text.specs.declared.replies.Answer.{Answer}
 use Rattle.command_text.specs.declared.replies.Answer.TheVariants as answer
 use Rattle.command_text.specs.declared.replies.Reply.{Reply}
 use Rattle.per_base.specs.declared.errors.PerError.TheVariants as error
+use Rattle.per_list.specs.declared.forms.Form.TheVariants.{Lines, Json}
 use Rattle.per_run.specs.declared.words.Job.{Job}
 use Rattle.per_run.specs.declared.words.JobKind.{JobKind}
-use Rattle.per_run.specs.declared.words.JobKind.TheVariants.{Run, Serve, Format, Generate, Audit, Export, Import}
+use Rattle.per_run.specs.declared.words.JobKind.TheVariants.{Run, Serve, Format, Generate, Audit, Listing, Export}
+use Rattle.per_run.specs.declared.words.JobKind.TheVariants.{Import, RecoverRoot}
 use Rattle.per_run.specs.Jobs.{summary}
 use Rattle.per_run.specs.Words.{job_of}
 
@@ -57,6 +59,36 @@ twice = refl
 audits : job_of (codes "--dir" ∷ codes "d" ∷ codes "--audit" ∷ []) ≡ job Audit
 unfolding job_of clap_on_literals
 audits = refl
+
+lists : job_of (codes "--list" ∷ codes "lines" ∷ codes "--dir" ∷ codes "d" ∷ []) ≡ job (Listing Lines)
+unfolding job_of clap_on_literals
+lists = refl
+
+lists_as_json : job_of (codes "--dir" ∷ codes "d" ∷ codes "--list=json" ∷ codes "--flash" ∷ codes "4" ∷ [])
+    ≡ over_flash 4 (Listing Json)
+unfolding job_of clap_on_literals
+lists_as_json = refl
+
+no_form : job_of (codes "--dir" ∷ codes "d" ∷ codes "--list" ∷ codes "Lines" ∷ []) ≡ None
+unfolding job_of clap_on_literals
+no_form = refl
+
+listed_and_audited : job_of (codes "--dir" ∷ codes "d" ∷ codes "--list" ∷ codes "lines" ∷ codes "--audit" ∷ []) ≡ None
+unfolding job_of clap_on_literals
+listed_and_audited = refl
+
+recovers : job_of (codes "--recover-root" ∷ codes "7" ∷ codes "--dir" ∷ codes "d" ∷ []) ≡ job (RecoverRoot 7)
+unfolding job_of clap_on_literals
+recovers = refl
+
+no_root : job_of (codes "--dir" ∷ codes "d" ∷ codes "--recover-root=8" ∷ []) ≡ None
+unfolding job_of clap_on_literals
+no_root = refl
+
+recovered_and_listed : job_of (codes "--dir" ∷ codes "d" ∷ codes "--list" ∷ codes "lines" ∷ codes "--recover-root"
+    ∷ codes "0" ∷ []) ≡ None
+unfolding job_of clap_on_literals
+recovered_and_listed = refl
 
 least_flash : job_of (codes "--dir" ∷ codes "d" ∷ codes "--flash=+4" ∷ codes "--audit" ∷ []) ≡ over_flash 4 Audit
 unfolding job_of clap_on_literals

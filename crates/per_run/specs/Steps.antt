@@ -27,7 +27,7 @@ use Rattle.per_run.specs.declared.endings.Ending.TheVariants.{AllRead, EndLine, 
 use Rattle.per_run.specs.declared.endings.Ending.TheVariants.{TooLong}
 use Rattle.per_run.specs.declared.tally.Tally.{Tally}
 use Rattle.per_run.specs.declared.words.JobKind.{JobKind}
-use Rattle.per_run.specs.declared.words.JobKind.TheVariants.{Generate, Export, Import}
+use Rattle.per_run.specs.declared.words.JobKind.TheVariants.{Generate, Export, Import, RecoverRoot}
 use Rattle.per_run.specs.Jobs.{WroteProperPrefix, IsInputTaken, is_done, is_other, is_error, size_given}
 
 -- ---- endings
@@ -221,9 +221,10 @@ pub record IsServeBegun (told : Bool) (memory : Memory) (old middle new : Medium
 
 -- ---- jobs
 
--- the number of an input that is made is in its range, and so is that of an application
+-- the number of a synthetic workload is in its range, and so is that of an application
 abbrev pub IsInRange : JobKind → Type 0
 IsInRange (Generate n) = n ≤ 100000
 IsInRange (Export app name) = app < 8
 IsInRange (Import app name) = app < 8
+IsInRange (RecoverRoot app) = app < 8
 IsInRange other = ⊤

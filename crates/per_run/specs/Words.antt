@@ -1,6 +1,6 @@
 -- The words of the command line that are accepted, and the job that they say.
 use Rattle.std.specs.Prelude.{◌≡◌, ◌==◌, ◌-◌, ℕ, List, [], ◌∷◌, ◌++◌, length, fold, ⊤, Bool, true, false, ◌&&◌}
-use Rattle.std.specs.Prelude.{nat_eq, nat_le, Option, Some, None, option_map, Result, Ok, Err, codes, if◌then◌else◌}
+use Rattle.std.specs.Prelude.{nat_eq, Option, Some, None, option_map, Result, Ok, Err, codes, if◌then◌else◌}
 use Rattle.std.specs.Str.{bytes_eq}
 use Rattle.std.specs.Str.Parse.{digits_value, without_leading_plus}
 use Rattle.clap.specs.Faults.{fault_of}
@@ -11,9 +11,12 @@ use Rattle.clap.specs.declared.builder.action.ArgAction.{ArgAction}
 use Rattle.clap.specs.declared.builder.action.ArgAction.TheVariants.{Set, SetTrue}
 use Rattle.per_base.specs.Fields.{◌>>=◌, only_if}
 use Rattle.per_base.specs.Names.{is_name}
+use Rattle.command_text.specs.Reading.{is_application_digit}
 use Rattle.per_run.specs.declared.words.Job.{Job}
 use Rattle.per_run.specs.declared.words.JobKind.{JobKind}
-use Rattle.per_run.specs.declared.words.JobKind.TheVariants.{Run, Serve, Format, Generate, Audit, Export, Import}
+use Rattle.per_list.specs.declared.forms.Form.TheVariants as form
+use Rattle.per_run.specs.declared.words.JobKind.TheVariants.{Run, Serve, Format, Generate, Audit, Listing, Export}
+use Rattle.per_run.specs.declared.words.JobKind.TheVariants.{Import, RecoverRoot}
 use Rattle.per_run.specs.declared.words.WordsError.{WordsError}
 use Rattle.per_run.specs.declared.words.WordsError.TheVariants as words_error
 
@@ -23,11 +26,12 @@ abbrev pub named_rule : List ℕ → ArgAction → Rule
 named_rule name action = record (new_rule name) { long = Some name; action = Some action }
 
 -- a required option `--dir`, the flags `--format`, `--audit` and `--serve`, and the options `--flash`, `--generate`,
--- `--export` and `--import`
+-- `--export`, `--import`, `--list` and `--recover-root`
 abbrev pub option_rules : List Rule
 option_rules = record (named_rule (codes "dir") Set) { required = true } ∷ named_rule (codes "flash") Set
     ∷ named_rule (codes "format") SetTrue ∷ named_rule (codes "generate") Set ∷ named_rule (codes "audit") SetTrue
-    ∷ named_rule (codes "export") Set ∷ named_rule (codes "import") Set ∷ named_rule (codes "serve") SetTrue ∷ []
+    ∷ named_rule (codes "export") Set ∷ named_rule (codes "import") Set ∷ named_rule (codes "serve") SetTrue
+    ∷ named_rule (codes "list") Set ∷ named_rule (codes "recover-root") Set ∷ []
 
 -- with these options; the words come without the program's name
 abbrev pub command : App
@@ -49,18 +53,15 @@ is_set (Some value) = bytes_eq value (codes "true")
 abbrev pub number_in : (least most : ℕ) → List ℕ → Option ℕ
 number_in least most value = only_if (is_unsigned_in least most value) (digits_value 10 (without_leading_plus value))
 
--- the digit of an application
-abbrev pub is_application : ℕ → Bool
-is_application digit = nat_le 48 digit && nat_le digit 55
-
 -- an application and the name of a storage, with a colon between them
 abbrev pub target_of : List ℕ → Option (ℕ × List ℕ)
-target_of (digit ∷ colon ∷ name) = only_if (is_application digit && nat_eq colon 58 && is_name name) (digit - 48, name)
+target_of (digit ∷ colon ∷ name) = only_if (is_application_digit digit && nat_eq colon 58 && is_name name)
+    (digit - 48, name)
 target_of text = None
 
 -- the one of them, and the other
 abbrev pub application_of : List ℕ → Option ℕ
-application_of (digit ∷ []) = only_if (is_application digit) (digit - 48)
+application_of (digit ∷ []) = only_if (is_application_digit digit) (digit - 48)
 application_of text = None
 
 abbrev pub name_of : List ℕ → Option (List ℕ)
@@ -87,12 +88,20 @@ export_job value = option_map (λ target. Export target.0 target.1) (target_of v
 abbrev pub import_of : List ℕ → Option JobKind
 import_of value = option_map (λ target. Import target.0 target.1) (target_of value)
 
+abbrev pub list_of : List ℕ → Option JobKind
+list_of value = if bytes_eq value (codes "lines") then Some (Listing form.Lines) else
+    if bytes_eq value (codes "json") then Some (Listing form.Json) else None
+
+abbrev pub recover_of : List ℕ → Option JobKind
+recover_of value = option_map RecoverRoot (application_of value)
+
 -- the modes that are named
 abbrev pub modes : (formats : Bool) → (generates : Option (List ℕ)) → (audits : Bool)
-    → (exports imports : Option (List ℕ)) → (serves : Bool) → List (Option JobKind)
-modes formats generates audits exports imports serves = flagged Format formats ++ valued generate_of generates
-    ++ flagged Audit audits ++ valued export_job exports ++ valued import_of imports
-    ++ flagged Serve serves
+    → (exports imports : Option (List ℕ)) → (serves : Bool) → (lists recovers : Option (List ℕ))
+    → List (Option JobKind)
+modes formats generates audits exports imports serves lists recovers = flagged Format formats
+    ++ valued generate_of generates ++ flagged Audit audits ++ valued export_job exports ++ valued import_of imports
+    ++ flagged Serve serves ++ valued list_of lists ++ valued recover_of recovers
 
 -- at most one is named, and where none is the lines of the input are handled
 abbrev pub only_mode : List (Option JobKind) → Option JobKind
@@ -103,7 +112,7 @@ only_mode (mode ∷ other ∷ others) = None
 abbrev pub job_kind_in : List Row → Option JobKind
 job_kind_in rows = only_mode (modes (is_set (first_of (codes "format") rows)) (first_of (codes "generate") rows)
     (is_set (first_of (codes "audit") rows)) (first_of (codes "export") rows) (first_of (codes "import") rows)
-    (is_set (first_of (codes "serve") rows)))
+    (is_set (first_of (codes "serve") rows)) (first_of (codes "list") rows) (first_of (codes "recover-root") rows))
 
 -- the number of blocks of the flash, where one is named
 abbrev pub flash_of : Option (List ℕ) → Option (Option ℕ)

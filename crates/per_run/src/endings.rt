@@ -48,8 +48,8 @@ pub const REFUSED: u8 = 1;
 /// The status where a line is outside the grammar.
 pub const BAD_LINE: u8 = 2;
 
-/// The status where the disk failed while it was formatted or the runtime started, or in an audit, an export or an
-/// import.
+/// The status where the disk failed while it was formatted or the runtime started, or in an audit, a listing, an
+/// export, an import or the recovery of a root.
 pub const DEVICE: u8 = 3;
 
 /// The status where memory ran out.
@@ -67,7 +67,7 @@ pub const TOO_LONG: u8 = 7;
 /// The status where an audit found something, and the sink took all of its text.
 pub const FOUND: u8 = 8;
 
-/// The status where an export or an import is refused, and the sink took its line whole.
+/// The status where an export, an import or the recovery of a root is refused, and the sink took its line whole.
 pub const CALL_REFUSED: u8 = 9;
 
 /// The status where a flash cannot be a disk.

@@ -25,8 +25,8 @@ use std::alloc::Global;
 pub enum FlashRun<F: Flash> {
     /// The job of the words was begun on the flash as a disk, which is handed back.
     Ran(u8, FlashDisk<F>),
-    /// The words were refused, or memory ran out before, or the flash was not opened as a disk. It is handed back, and
-    /// no page of it changed.
+    /// The arguments were invalid, or memory ran out before, or the flash was not opened as a disk. It is handed back,
+    /// and no page of it changed.
     Unopened(u8, F),
 }
 

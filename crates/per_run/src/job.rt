@@ -16,6 +16,8 @@ use crate::exporting::export_storage;
 use crate::formatting::format;
 use crate::generating::generate;
 use crate::importing::import_storage;
+use crate::listing::list_disk;
+use crate::recovering::recover;
 use crate::run::run;
 use crate::serving::serve;
 use crate::words::{JobKind, WordsError, read_words};
@@ -30,16 +32,16 @@ use std::alloc::Global;
 ///
 /// | status | comes |
 /// |---|---|
-/// | 0 | the job is done, and all output is written: the input was read to its end or to the line `end`, the disk is formatted, the synthetic workload is handled, an audit found nothing, or the storage is exported or imported |
+/// | 0 | the job is done, and all output is written: the input was read to its end or to the line `end`, the disk is formatted, the synthetic workload is handled, an audit found nothing, what is on the disk is listed, the storage is exported or imported, or the root is recovered |
 /// | 1 | only where the arguments are invalid; nothing was read or written |
 /// | 2 | the line with the number in `bad-line N` is outside the grammar; all lines before it were handled and answered; never of a run that stays |
-/// | 3 | the disk failed while it was formatted or the runtime started, or in an audit, an export or an import |
+/// | 3 | the disk failed while it was formatted or the runtime started, or in an audit, a listing, an export, an import or the recovery of a root |
 /// | 4 | memory ran out |
 /// | 5 | the source failed; all whole lines before were handled and answered, and nothing was imported |
 /// | 6 | the sink failed; what it took is a prefix of the output |
 /// | 7 | 67,108,864 bytes were taken, and neither `end` nor the end of the input was among them; nothing was imported; of a run that stays 2^64 - 1 bytes |
 /// | 8 | an audit found something; what it is is written |
-/// | 9 | an export or an import was refused; the line of its error is written |
+/// | 9 | an export or an import was refused, and the line of its error is written; or no root was recovered, and the line that says why is |
 pub fn per_run<D: Disk, S: Source, K: Sink>(
     alloc: Global,
     words: &[String],
@@ -48,7 +50,7 @@ pub fn per_run<D: Disk, S: Source, K: Sink>(
     sink: &mut K,
     disk: &mut D,
 ) -> u8
-    // Refused words, and only they, give 1, unless memory ran out; and then nothing happened.
+    // Invalid arguments, and only they, give 1, unless memory ran out; and then nothing happened.
     ensures refused { result ≡ 1 → job_of (map string_bytes words.now) ≡ None }
     ensures words { job_of (map string_bytes words.now) ≡ None → (result ≡ 1) ⊎ (result ≡ 4) }
     ensures untouched { job_of (map string_bytes words.now) ≡ None
@@ -111,11 +113,13 @@ pub fn run_job<D: Disk, S: Source, K: Sink>(
         JobKind::Format => format(alloc, sink, disk),
         JobKind::Generate(number) => generate(alloc, number, migrations, sink, disk),
         JobKind::Audit => audit_disk(alloc, sink, disk),
+        JobKind::Listing(form) => list_disk(alloc, form, sink, disk),
         JobKind::Export(application, name) => {
             export_storage(alloc, u32::from(application), &name, sink, disk)
         }
         JobKind::Import(application, name) => {
             import_storage(alloc, u32::from(application), &name, source, sink, disk)
         }
+        JobKind::RecoverRoot(application) => recover(alloc, u32::from(application), sink, disk),
     }
 }

@@ -5,10 +5,12 @@
 //! outside the grammar, or something fails. With `--serve` the input has no bound, a line outside the grammar is
 //! answered and ends nothing, and an empty disk is formatted first. `--format` formats the disk, and
 //! `--generate N` does that and then handles a synthetic workload, generated from a number. `--audit` lists what is on
-//! the disk and finds what is damaged or lost, and mends nothing. `--export A:S` writes a storage as one text, and
-//! `--import A:S` rebuilds it from such a text. The contract says what every status means: which lines were handled,
-//! what was written, what the disk then denotes, what a stop at any moment leaves, and that a failure of the disk,
-//! the source or the sink ends the program only where its count of faults rose.
+//! the disk and finds what is damaged or lost, and mends nothing. `--list lines` says which applications, versions and
+//! storages are there and in which files, and `--list json` the same for a program. `--export A:S` writes a storage as
+//! one text, and `--import A:S` rebuilds it from such a text. `--recover-root A` brings every copy of a root that does
+//! not read to the newest that one copy holds. The contract says what every status means: which lines were handled,
+//! what was written, what the disk then denotes, what a stop at any moment leaves, and that a failure of the disk, the
+//! source or the sink ends the program only where its count of faults rose.
 //!
 //! Statuses: the table above [`per_run`] says when 0 to 9 come, and that above [`per_flash`] which come where a flash
 //! is not opened, as 10 and 11. `specs/Jobs` says the same in clauses, job by job, and `specs/Endings` of `run_model`
@@ -30,8 +32,10 @@ mod generating;
 mod importing;
 mod input;
 mod job;
+mod listing;
 mod preparing;
 mod reader;
+mod recovering;
 mod refusing;
 mod run;
 mod serving;

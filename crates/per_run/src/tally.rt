@@ -2,7 +2,8 @@
 
 ghost use Rattle.std.specs.Prelude.{◌≡◌, ◌<◌, ◌++◌, ◌^◌, List, [], ◌∷◌, IfOk, length, string_bytes};
 ghost use Rattle.command_text.specs.declared.replies.Reply.{Reply};
-ghost use Rattle.per_run.specs.Jobs.{done_in, error_in, number_in, size_or_dash, summary_text};
+ghost use Rattle.command_text.specs.Replies.{number_or_dash};
+ghost use Rattle.per_run.specs.Jobs.{done_in, error_in, number_in, summary_text};
 ghost use Rattle.per_run.specs.Steps.{Tallies};
 
 use command_text::{Answer, Reply};
@@ -61,7 +62,7 @@ impl Tally {
 
 /// The text of the size; a dash where no reply gave one.
 fn print_size(alloc: Global, size: Option<u64>) -> Result<String, AllocError>
-    ensures { IfOk result (λ text. string_bytes text ≡ size_or_dash size) }
+    ensures { IfOk result (λ text. string_bytes text ≡ number_or_dash size) }
 {
     match size {
         Some(number) => format!(in alloc; "{number}"),

@@ -5,12 +5,13 @@ ghost use Rattle.clap.specs.Words.{app_of, found_of, kind_of, rows_of, rule_of};
 ghost use Rattle.clap.specs.declared.error.kind.ErrorKind.{ErrorKind};
 ghost use Rattle.clap.specs.declared.builder.action.ArgAction.TheVariants.{Set, SetTrue};
 ghost use Rattle.per_run.specs.Words.{ReadsWord, application_of, command, dir_of, export_job, flash_of, generate_of};
-ghost use Rattle.per_run.specs.Words.{import_of, is_set, job_in, job_kind_in, job_of, modes, name_of, named_rule};
-ghost use Rattle.per_run.specs.Words.{number_in, only_mode, target_of};
+ghost use Rattle.per_run.specs.Words.{import_of, is_set, job_in, job_kind_in, job_of, list_of, modes, name_of};
+ghost use Rattle.per_run.specs.Words.{named_rule, number_in, only_mode, recover_of, target_of};
 
 use clap::error::ErrorKind;
 use clap::{Arg, ArgAction, ArgMatches, Command, Error};
 use per_base::{Name, PerError, ValueText};
+use per_list::Form;
 use std::alloc::{AllocError, Global};
 use thiserror::Error as ThisError;
 
@@ -38,10 +39,14 @@ pub enum JobKind {
     Generate(u32),
     /// What all storages hold is listed, and what is damaged or lost, and nothing is mended.
     Audit,
+    /// What is on the disk is said in this form, and nothing is mended.
+    Listing(Form),
     /// The storage of this name of an application, 0 to 7, is written as one text, and nothing is mended.
     Export(u8, Name),
     /// The storage of this name of an application, 0 to 7, is rebuilt from the text that the input is.
     Import(u8, Name),
+    /// The root of an application, 0 to 7, is recovered, where it does not read and some copy holds one.
+    RecoverRoot(u8),
 }
 
 /// Why the words give no job.
@@ -95,7 +100,9 @@ fn command<'a>(alloc: Global) -> Result<Command<'a>, AllocError>
         .arg(flag(alloc, "audit"))?
         .arg(option(alloc, "export"))?
         .arg(option(alloc, "import"))?
-        .arg(flag(alloc, "serve"))
+        .arg(flag(alloc, "serve"))?
+        .arg(option(alloc, "list"))?
+        .arg(option(alloc, "recover-root"))
 }
 
 /// An option of this name, with one value.
@@ -147,6 +154,8 @@ fn kind_in(alloc: Global, matches: &ArgMatches<'_>) -> Result<JobKind, WordsErro
         matches.get_str("export"),
         matches.get_str("import"),
         is_set(matches.get_str("serve")),
+        matches.get_str("list"),
+        matches.get_str("recover-root"),
     )
 }
 
@@ -159,18 +168,25 @@ fn only_mode(
     exports: Option<&str>,
     imports: Option<&str>,
     serves: bool,
+    lists: Option<&str>,
+    recovers: Option<&str>,
 ) -> Result<JobKind, WordsError>
     ensures { ReadsWord result (only_mode (modes formats (option_map (λ text. text.now) generates.entry) audits
-        (option_map (λ text. text.now) exports.entry) (option_map (λ text. text.now) imports.entry) serves)) }
+        (option_map (λ text. text.now) exports.entry) (option_map (λ text. text.now) imports.entry) serves
+        (option_map (λ text. text.now) lists.entry) (option_map (λ text. text.now) recovers.entry))) }
 {
-    match (formats, generates, audits, exports, imports, serves) {
-        (false, None, false, None, None, false) => Ok(JobKind::Run),
-        (true, None, false, None, None, false) => Ok(JobKind::Format),
-        (false, Some(number), false, None, None, false) => generate_of(number),
-        (false, None, true, None, None, false) => Ok(JobKind::Audit),
-        (false, None, false, Some(target), None, false) => export_of(alloc, target),
-        (false, None, false, None, Some(target), false) => import_of(alloc, target),
-        (false, None, false, None, None, true) => Ok(JobKind::Serve),
+    match (
+        formats, generates, audits, exports, imports, serves, lists, recovers,
+    ) {
+        (false, None, false, None, None, false, None, None) => Ok(JobKind::Run),
+        (true, None, false, None, None, false, None, None) => Ok(JobKind::Format),
+        (false, Some(number), false, None, None, false, None, None) => generate_of(number),
+        (false, None, true, None, None, false, None, None) => Ok(JobKind::Audit),
+        (false, None, false, Some(target), None, false, None, None) => export_of(alloc, target),
+        (false, None, false, None, Some(target), false, None, None) => import_of(alloc, target),
+        (false, None, false, None, None, true, None, None) => Ok(JobKind::Serve),
+        (false, None, false, None, None, false, Some(form), None) => list_of(form),
+        (false, None, false, None, None, false, None, Some(application)) => recover_of(application),
         _ => Err(WordsError::Refused),
     }
 }
@@ -206,6 +222,26 @@ fn import_of(alloc: Global, text: &str) -> Result<JobKind, WordsError>
 {
     let (application, name) = target_of(alloc, text)?;
     Ok(JobKind::Import(application, name))
+}
+
+/// The form is said by its word.
+fn list_of(text: &str) -> Result<JobKind, WordsError>
+    ensures { ReadsWord result (list_of text.now) }
+{
+    if text == "lines" {
+        Ok(JobKind::Listing(Form::Lines))
+    } else if text == "json" {
+        Ok(JobKind::Listing(Form::Json))
+    } else {
+        Err(WordsError::Refused)
+    }
+}
+
+/// The application is named by its digit.
+fn recover_of(text: &str) -> Result<JobKind, WordsError>
+    ensures { ReadsWord result (recover_of text.now) }
+{
+    Ok(JobKind::RecoverRoot(application_of(text)?))
 }
 
 /// How many blocks the flash has, where one is named: 4 to 4096.

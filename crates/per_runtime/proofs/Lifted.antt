@@ -17,7 +17,7 @@ use Rattle.deploy_laws.specs.Places.{IsBeside}
 use Rattle.deploy_laws.specs.Stands.{StandsCase}
 use Rattle.run_model.specs.AppLaws.{AppLaws, Calls}
 use Rattle.run_model.specs.Calls.{beside_update, session_at}
-use Rattle.run_model.specs.Found.{Found}
+use Rattle.run_model.specs.Found.{FoundStorage}
 use Rattle.run_model.specs.KeepLaws.{call_fails, call_keeps, each_moment, idle_keeps}
 use Rattle.run_model.specs.Later.{set_length}
 use Rattle.run_model.specs.Lasting.{IsWorld}
@@ -121,7 +121,8 @@ module _ (laws : AppLaws) (rules : List Rule) (answers : Answers) (told : Bool) 
     (below : n < 8) (eight : length apps ≡ 8) (there : slice_get apps n ≡ Some a) (number : a.app ≡ n)
     (time : Elapses old new)
     (idle : calls_device (application old.image a) c ≡ false → OnlyReads old new)
-    (written : is_durable c ≡ true → (f : Found) (s : Session) → found_named (application old.image a) c ≡ Some (Ok f)
+    (written : is_durable c ≡ true → (f : FoundStorage) (s : Session)
+    → found_named (application old.image a) c ≡ Some (Ok f)
     → session_at (application old.image a) f.number ≡ Some s → WritesWithin a.app f s old new)
     (looks : only_plans c ≡ true → is_to_open (stage_in a.stage) ≡ false → IsUnwritten old new)
     (place : is_to_open (stage_in a.stage) ≡ false

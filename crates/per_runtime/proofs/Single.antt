@@ -21,7 +21,7 @@ use Rattle.deploy_laws.specs.Stands.{IsLater, StandsCase, next_root, same_root}
 use Rattle.deploy_rows.specs.Rows.{reopened}
 use Rattle.run_model.specs.AppLaws.{OpensRoot}
 use Rattle.run_model.specs.Calls.{Outcome, StepBeside, beside_update, if_open, session_at}
-use Rattle.run_model.specs.Found.{Found}
+use Rattle.run_model.specs.Found.{FoundStorage}
 use Rattle.run_model.specs.Lasting.{IsApplication, IsStageOn}
 use Rattle.run_model.specs.OneApp.{as_app, none_there}
 use Rattle.run_model.specs.Runtimes.{IsUnwritten, WritesWithin, is_durable, is_refusal}
@@ -225,7 +225,7 @@ module _ (mend : RootMendLaw) (told : Bool) (rules : List Rule) (answers : Answe
   none_idle untouched none = absurd (true≢false (sym (ap
       (λ (s : Stage). is_to_open s || uses_device (app_at old.image a.app) c) marked) ∙ none))
 
-  pub none_written : (new : Medium) → IsTrue told → is_durable c ≡ true → (f : Found) (s : Session)
+  pub none_written : (new : Medium) → IsTrue told → is_durable c ≡ true → (f : FoundStorage) (s : Session)
       → found_named (application old.image a) c ≡ Some (Ok f)
       → session_at (application old.image a) f.number ≡ Some s → WritesWithin a.app f s old new
   none_written new tells durable f s found there = absurd (none_some s (sym (none_there 16 f.number)

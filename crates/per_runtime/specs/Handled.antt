@@ -14,7 +14,7 @@ use Rattle.deploy_laws.specs.Apps.{App, app_at, IsCleanApp}
 use Rattle.deploy_laws.specs.Stands.{IsLater}
 use Rattle.run_model.specs.Worlds.{Application, is_to_open}
 use Rattle.run_model.specs.Sessions.{Session}
-use Rattle.run_model.specs.Found.{Found}
+use Rattle.run_model.specs.Found.{FoundStorage}
 use Rattle.run_model.specs.Calls.{Outcome, session_at}
 use Rattle.run_model.specs.Steps.{AppStep, FailsAs, calls_device, found_named}
 use Rattle.run_model.specs.Runtimes.{IsUnwritten, WritesWithin, is_refusal, is_durable, only_plans}
@@ -81,7 +81,7 @@ pub record IsHandled (told : Bool) (rules : List Rule) (answers : Answers) (now 
   pub looks : only_plans c ≡ true → is_to_open (stage_in a.stage) ≡ false → IsUnwritten old new
   -- a call that needs no device calls none
   pub idle : IsTrue told → calls_device (application old.image a) c ≡ false → Untouched
-  pub written : IsTrue told → is_durable c ≡ true → (f : Found) (s : Session)
+  pub written : IsTrue told → is_durable c ≡ true → (f : FoundStorage) (s : Session)
       → found_named (application old.image a) c ≡ Some (Ok f)
       → session_at (application old.image a) f.number ≡ Some s → WritesWithin a.app f s old new
   -- no file changes beside those of a storage that the call names

@@ -6,7 +6,7 @@
 //! call of its application.
 //!
 //! Every command is a step of the world of `run_model`, and a stop at any moment leaves each application between two
-//! worlds that follow each other. Want of memory ends the run; nothing else does.
+//! worlds that follow each other. Running out of memory ends the run; nothing else does.
 #![tactic(auto)]
 
 mod calls;

@@ -1,8 +1,10 @@
-//! The files of a folder, as the operating system has them: a call of the trait is a call of std.
+//! The files of a folder, as the operating system has them: each call of the trait is one call of std.
 
-ghost use Rattle.std.specs.Prelude.{◌≡◌, IfOk, IfSome};
+ghost use Rattle.std.specs.Prelude.{◌≡◌, IfOk};
 
+use crate::errors::{passed_by, unless_outside};
 use crate::held::{Access, HostSystem};
+use crate::listing::list_folder;
 use std::alloc::Global;
 use std::fs::{self, File, OpenOptions};
 use std::io;
@@ -20,7 +22,7 @@ pub struct HostFile {
 impl<'a, R: Files<File = File>> System for HostSystem<'a, R> {
     ghost use Rattle.std.specs.Prelude.{false};
     ghost use Rattle.disk_model.specs.Silence.{silent_is_lawful};
-    ghost use Rattle.system_model.specs.Untold.{untold};
+    ghost use Rattle.system_model.specs.Unmodelled.{unmodelled};
 
     type File = HostFile;
 
@@ -28,43 +30,43 @@ impl<'a, R: Files<File = File>> System for HostSystem<'a, R> {
 
     ghost told = { false };
 
-    ghost medium = { λ _. untold };
+    ghost medium = { λ _. unmodelled };
 
     ghost lawful = { λ _. silent_is_lawful 0 };
 
     fn list(&mut self, alloc: Global) -> io::Result<Vec<u32>> {
-        let mut numbers = Vec::new(alloc);
-        if self.folder.is_none() {
-            return Ok(numbers);
+        match self.folder {
+            Some(_) => Ok(list_folder(self.rt, alloc, self.dir.as_str(), self.kind)?.numbers),
+            None => Ok(Vec::new(alloc)),
         }
-        for entry in fs::read_dir(&(self.rt, alloc), self.dir.as_str())? {
-            match entry {
-                Ok(entry) => self.content.list(entry.file_name(), &mut numbers)?,
-                Err(error) if error.kind() == io::ErrorKind::InvalidFilename => {}
-                Err(error) => return Err(error),
-            }
+    }
+
+    fn is_file(&mut self, file: u32) -> io::Result<bool> {
+        match fs::metadata(self.rt, self.path_of(file)?.as_str()) {
+            Ok(found) => Ok(found.is_file()),
+            Err(error) => unless_outside(error, false),
         }
-        Ok(numbers)
     }
 
     fn open(&mut self, file: u32) -> io::Result<Option<HostFile>> {
-        match self.found(file) {
-            Ok(found) => Ok(found),
-            Err(error) if is_failure(error) => Err(error),
-            Err(_) => Ok(None),
+        let mut options = OpenOptions::new();
+        options.read(true).write(self.access == Access::Write);
+        match self.opened(file, &options) {
+            Ok(found) => Ok(Some(found)),
+            Err(error) => unless_outside(error, None),
         }
+    }
+
+    fn set_aside(&mut self, file: u32) -> io::Result<()> {
+        let path = self.path_of(file)?;
+        let aside = format!(in self.alloc; "{path}.unreadable")?;
+        self.rt.rename(path.as_str(), aside.as_str())
     }
 
     fn make(&mut self, file: u32) -> io::Result<HostFile> {
         let mut options = OpenOptions::new();
         options.read(true).write(true).create_new(true);
-        match self.opened(file, &options) {
-            Err(error) if error.kind() == io::ErrorKind::AlreadyExists => {
-                self.set_aside(file)?;
-                self.opened(file, &options)
-            }
-            done => done,
-        }
+        self.opened(file, &options)
     }
 
     fn close(&mut self, _file: HostFile) {}
@@ -72,8 +74,10 @@ impl<'a, R: Files<File = File>> System for HostSystem<'a, R> {
     fn read(&mut self, file: &HostFile, at: u64, out: &mut [u8]) -> io::Result<Reading> {
         match file.file.read_at(out, at) {
             Ok(count) => Ok(Reading::Bytes(count)),
-            Err(error) if is_failure(error) => Err(error),
-            Err(_) => Ok(Reading::Unreadable((PAGE_BYTES - at % PAGE_BYTES) as usize)),
+            Err(error) => {
+                let rest = (PAGE_BYTES - at % PAGE_BYTES) as usize;
+                unless_outside(error, Reading::Unreadable(rest))
+            }
         }
     }
 
@@ -97,71 +101,30 @@ impl<'a, R: Files<File = File>> System for HostSystem<'a, R> {
         }
     }
 
-    fn announce(&mut self, _file: u32, _at: u64, _bytes: &[u8]) {}
+    fn announce(&mut self, _file: u32, _at: u64, _bytes: &[u8]) -> io::Result<()> {
+        Ok(())
+    }
 
-    fn settle(&mut self) {}
+    fn settle(&mut self) -> io::Result<()> {
+        Ok(())
+    }
 }
 
 impl<'a, R: Files<File = File>> HostSystem<'a, R> {
-    /// Opens what stands in the place of a file, if it is one. What is none stays closed: a FIFO or a device may hold
-    /// up whoever opens it.
-    fn found(&self, number: u32) -> io::Result<Option<HostFile>>
-        ensures { IfOk result (λ found. IfSome found (λ file. file.number ≡ number)) }
-    {
-        let path = self.content.path_of(self.alloc, self.dir.as_str(), number)?;
-        if !fs::metadata(self.rt, path.as_str())?.is_file() {
-            return Ok(None);
-        }
-        let can_write = self.access == Access::Write;
-        let file = self.opened(number, OpenOptions::new().read(true).write(can_write))?;
-        Ok(Some(file))
-    }
-
     fn opened(&self, number: u32, options: &OpenOptions) -> io::Result<HostFile>
         ensures { IfOk result (λ file. file.number ≡ number) }
     {
         if self.folder.is_none() {
             return Err(io::Error::from(io::ErrorKind::NotFound));
         }
-        let path = self.content.path_of(self.alloc, self.dir.as_str(), number)?;
-        let file = options.open(self.rt, path.as_str())?;
+        let file = options.open(self.rt, self.path_of(number)?.as_str())?;
         Ok(HostFile { number, file })
     }
 
-    /// Gives what stands in the place of a file, and cannot be opened, another name.
-    fn set_aside(&self, number: u32) -> io::Result<()> {
-        let path = self.content.path_of(self.alloc, self.dir.as_str(), number)?;
-        let aside = format!(in self.alloc; "{path}.unreadable")?;
-        self.rt.rename(path.as_str(), aside.as_str())
-    }
-}
-
-/// Whether a call failed for a reason outside the file: the system lacks descriptors or memory, was interrupted, or
-/// does not allow it. A file that cannot be opened for another reason counts as one that is not there, and a place that
-/// cannot be read for another one as one of zeros.
-fn is_failure(error: io::Error) -> bool {
-    match error.kind() {
-        io::ErrorKind::Interrupted
-        | io::ErrorKind::OutOfMemory
-        | io::ErrorKind::PermissionDenied
-        | io::ErrorKind::ReadOnlyFilesystem => true,
-        _ => matches!(error.raw_os_error(), Some(ENFILE | EMFILE)),
-    }
-}
-
-/// What is no file holds nothing that is pending, and cannot be synced; nor can, on some systems, a folder in which
-/// nothing may be written.
-fn passed_by(error: io::Error) -> io::Result<()> {
-    match error.kind() {
-        io::ErrorKind::InvalidInput => Ok(()),
-        _ => Err(error),
+    fn path_of(&self, number: u32) -> io::Result<String> {
+        Ok(self.kind.path_of(self.alloc, self.dir.as_str(), number)?)
     }
 }
 
 /// How many bytes the system reads as one, and cannot read as one.
 const PAGE_BYTES: u64 = 4096;
-
-/// The numbers of the errors where the system, or the process, has no descriptor left.
-const ENFILE: i32 = 23;
-
-const EMFILE: i32 = 24;

@@ -2,18 +2,22 @@
 //!
 //! [`HostSystem`] has the calls of the operating system for the files of a folder, each as it is: what it says of bytes
 //! is believed, and all that stands above it is proved. [`Noted`] is a device over them that notes why a call failed,
-//! for error reporting. [`StdSource`] and [`StdSink`] fail only where their counts of failures rise, and tell
-//! nothing of what they hold.
+//! for error reporting. [`StdSource`] and [`StdSink`] fail only where their counts of failures rise; their
+//! bytes are not modelled.
 #![tactic(auto)]
 
+mod errors;
 mod held;
 mod host;
+mod listing;
+mod names;
 mod notes;
 mod standard;
 mod streams;
 
-pub use held::{Access, Content, HostSystem, holds_only_others};
+pub use held::{Access, HostSystem, holds_only_others};
 pub use host::HostFile;
+pub use names::DeviceKind;
 pub use notes::{Explains, Noted, NotedFlash, Notes};
 pub use standard::{StdSink, StdSource};
 pub use streams::{Streams, fill_streams};

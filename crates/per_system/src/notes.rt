@@ -9,7 +9,7 @@ use folder_flash::FolderFlash;
 use std::cell::Cell;
 use system_model::{Failure, System};
 
-/// Where the last call of the system that failed is noted, for the one who is to be told of it.
+/// Where the last call of the system that failed is noted, for error reporting.
 #[derive(Drop)]
 pub struct Notes {
     last: Cell<Option<Failure>>,

@@ -10,7 +10,8 @@ is_option word = starts_with nat_eq word (codes "--")
 
 -- the next word belongs to this one
 abbrev pub takes_value : List ℕ → Bool
-takes_value = is_among (codes "--dir" ∷ codes "--flash" ∷ codes "--generate" ∷ codes "--export" ∷ codes "--import" ∷ [])
+takes_value = is_among (codes "--dir" ∷ codes "--flash" ∷ codes "--generate" ∷ codes "--export" ∷ codes "--import"
+    ∷ codes "--list" ∷ codes "--recover-root" ∷ [])
 
 -- options and their values; whether the first word is a value
 abbrev pub options_in : Bool → List (List ℕ) → List (List ℕ)
@@ -27,12 +28,13 @@ named_words is_value (w ∷ ws) =
 abbrev pub is_flag : List ℕ → Bool
 is_flag = is_among (codes "--format" ∷ codes "--audit" ∷ codes "--serve" ∷ [])
 
--- an option of a run with its value behind an equals sign
+-- an option of a run with its value after an equals sign
 abbrev pub has_value : List ℕ → Bool
 has_value word = list_any (λ front. starts_with nat_eq word front)
-    (codes "--dir=" ∷ codes "--flash=" ∷ codes "--generate=" ∷ codes "--export=" ∷ codes "--import=" ∷ [])
+    (codes "--dir=" ∷ codes "--flash=" ∷ codes "--generate=" ∷ codes "--export=" ∷ codes "--import="
+    ∷ codes "--list=" ∷ codes "--recover-root=" ∷ [])
 
--- the word is an option of a run, with its value behind an equals sign or not
+-- the word is an option of a run, with its value after an equals sign or not
 abbrev pub is_known : List ℕ → Bool
 is_known word = takes_value word || (is_flag word || has_value word)
 

@@ -1,4 +1,6 @@
 pub mod Apart
+pub mod FlawSamples
+pub mod Flaws
 pub mod Samples
 pub mod Shown
 pub mod Words

@@ -11,6 +11,7 @@ use Rattle.command_text.specs.declared.errors.LineError.{LineError}
 use Rattle.command_text.specs.declared.errors.LineError.TheVariants as error
 use Rattle.command_text.specs.declared.lines.Line.{Line}
 use Rattle.command_text.specs.declared.lines.Line.TheVariants as line
+use Rattle.command_text.specs.Reading.{is_application_digit}
 use Rattle.per_words.specs.declared.kinds.CallKind.{CallKind}
 use Rattle.per_words.specs.declared.kinds.CallKind.TheVariants as kind
 
@@ -91,18 +92,15 @@ call_word call = if bytes_eq call (codes "ls") then codes "files" else call
 
 -- ---- to what it is made
 
--- the digits of the eight applications
-abbrev pub is_digit : ℕ → Bool
-is_digit digit = nat_le 48 digit && nat_le digit 55
-
 -- the digit of an application, alone
 abbrev pub application_digit : List ℕ → Option ℕ
-application_digit (digit ∷ []) = if is_digit digit then Some digit else None
+application_digit (digit ∷ []) = if is_application_digit digit then Some digit else None
 application_digit other = None
 
 -- the digit of an application and a storage, with a colon between them
 abbrev pub place_in : List ℕ → Option (ℕ × List ℕ)
-place_in (digit ∷ colon ∷ storage) = if is_digit digit && nat_eq colon 58 then Some (digit, storage) else None
+place_in (digit ∷ colon ∷ storage) =
+    if is_application_digit digit && nat_eq colon 58 then Some (digit, storage) else None
 place_in other = None
 
 -- ---- the lines of a call
@@ -148,7 +146,7 @@ manifest_lines call target manifest =
 
 -- ---- the lines that write a content
 
--- the bytes cut into pieces of this size, and a last one that is no longer; more than so many cuts are not made
+-- the bytes cut into pieces of this size, and a last one that is no longer; more than `cuts` cuts are not made
 abbrev pub cut_by : (size : ℕ) → (cuts : ℕ) → List ℕ → List (List ℕ)
 cut_by size zero bytes = bytes ∷ []
 cut_by size (suc cuts) bytes =

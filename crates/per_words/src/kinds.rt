@@ -109,7 +109,7 @@ fn changes_files(call: &[u8]) -> bool
 }
 
 /// The word of the call in a line.
-pub(crate) fn call_word(call: &[u8]) -> &[u8]
+pub fn call_word(call: &[u8]) -> &[u8]
     ensures { result.now ≡ call_word call.now }
 {
     if is_word(call, b"ls") { b"files" } else { call }

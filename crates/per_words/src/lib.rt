@@ -9,16 +9,21 @@
 //! The words of a shell are told apart by [`options_in`] and [`named_words`]; [`unknown_in`] finds one that is refused.
 #![tactic(auto)]
 
+mod flaws;
 mod kinds;
 mod lines;
+mod meeting;
+mod needs;
 mod places;
 mod pushing;
 mod putting;
 mod showing;
 mod words;
 
-pub use kinds::{CallKind, is_call, takes_manifest};
+pub use flaws::{Flaw, flaw_in};
+pub use kinds::{CallKind, call_word, is_call, takes_manifest};
 pub use lines::{call_lines, manifest_lines};
+pub use needs::Needed;
 pub use putting::content_lines;
 pub use showing::{Shown, shown_bytes, shown_in};
 pub use words::{named_words, options_in, unknown_in};

@@ -72,9 +72,11 @@ fn takes_value(word: &[u8]) -> bool
         || is_word(word, b"--generate")
         || is_word(word, b"--export")
         || is_word(word, b"--import")
+        || is_word(word, b"--list")
+        || is_word(word, b"--recover-root")
 }
 
-/// Whether the word is an option of a run, with its value behind an equals sign or not.
+/// Whether the word is an option of a run, with its value after an equals sign or not.
 fn is_known(word: &[u8]) -> bool
     ensures { result ≡ is_known word.now }
 {
@@ -88,7 +90,7 @@ fn is_flag(word: &[u8]) -> bool
     is_word(word, b"--format") || is_word(word, b"--audit") || is_word(word, b"--serve")
 }
 
-/// Whether the word is an option of a run with its value behind an equals sign.
+/// Whether the word is an option of a run with its value after an equals sign.
 fn has_value(word: &[u8]) -> bool
     ensures { result ≡ has_value word.now }
 {
@@ -97,4 +99,6 @@ fn has_value(word: &[u8]) -> bool
         || word.starts_with(b"--generate=")
         || word.starts_with(b"--export=")
         || word.starts_with(b"--import=")
+        || word.starts_with(b"--list=")
+        || word.starts_with(b"--recover-root=")
 }

@@ -14,7 +14,7 @@ use Rattle.manifest.specs.Reading.{deployment_in}
 use Rattle.root_text.specs.RootText.{Version, Root, Parts, absent, installed, version_text, parts_of, long_text}
 use Rattle.root_text.specs.RootText.{flag_of}
 use Rattle.root_text.specs.RootText.{previous_text, parts_text, root_text, IsVersion, IfVersion, IsRoot, text_at}
-use Rattle.root_text.specs.RootText.{some_text_at, previous_at, parts_at, parts_in, version_in, previous_in}
+use Rattle.root_text.specs.RootText.{some_text_at, previous_at, parts_at, parts_in, version_of_text, previous_in}
 use Rattle.root_text.specs.RootText.{installed_in, some_root_in, root_in, root_of}
 
 -- ---- a text with its length
@@ -156,15 +156,15 @@ record IsTextOf (text : List ℕ) (v : Version) : Type 0 where
   pub text_is : text ≡ v.text
   pub says : IsVersion v
 
-version_is : (text : List ℕ) (v : Version) → version_in text ≡ Some v → IsTextOf text v
-unfolding version_in
+version_is : (text : List ℕ) (v : Version) → version_of_text text ≡ Some v → IsTextOf text v
+unfolding version_of_text
 version_is text v e =
     let said = bind_some (deployment_in text) _ v e in
     let made : Version = record { text = text; deployment = said.0 } in
     moved (IsTextOf text) made v said.2 (record { text_is = refl; says = said.1 })
 
-version_again : (v : Version) → IsVersion v → version_in v.text ≡ Some v
-unfolding version_in
+version_again : (v : Version) → IsVersion v → version_of_text v.text ≡ Some v
+unfolding version_of_text
 version_again v is = rw is refl
 
 record ArePrevious (text : Option (List ℕ)) (previous : Option Version) : Type 0 where
@@ -176,7 +176,7 @@ previous_is : (text : Option (List ℕ)) (previous : Option Version) → previou
 unfolding previous_in
 previous_is None previous e = moved (ArePrevious None) None previous e (record { text_is = refl; says = tt })
 previous_is (Some text) previous e =
-    let version = bind_some (version_in text) _ previous e in
+    let version = bind_some (version_of_text text) _ previous e in
     let is = version_is text version.0 version.1 in
     moved (ArePrevious (Some text)) (Some version.0) previous version.2
     (record { text_is = ap Some is.text_is; says = is.says })
@@ -197,7 +197,7 @@ record IsRootOf (p : Parts) (r : Root) : Type 0 where
 installed_is : (p : Parts) (r : Root) → installed_in p ≡ Some r → IsRootOf p r
 unfolding installed_in root_text
 installed_is p r e =
-    let active = bind_some (version_in p.active) _ r e in
+    let active = bind_some (version_of_text p.active) _ r e in
     let previous = bind_some (previous_in p.previous) _ r active.2 in
     let a = version_is p.active active.0 active.1 in
     let b = previous_is p.previous previous.0 previous.1 in

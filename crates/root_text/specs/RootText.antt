@@ -117,20 +117,20 @@ parts_of_text text = do
 -- ---- the root that a text says
 
 -- the text of a manifest
-unfoldable pub version_in : List ℕ → Option Version
-version_in text = do
+unfoldable pub version_of_text : List ℕ → Option Version
+version_of_text text = do
   deployment ← deployment_in text
   Some (record { text = text; deployment = deployment })
 
 unfoldable pub previous_in : Option (List ℕ) → Option (Option Version)
 previous_in None = Some None
 previous_in (Some text) = do
-  version ← version_in text
+  version ← version_of_text text
   Some (Some version)
 
 unfoldable pub installed_in : Parts → Option Root
 installed_in parts = do
-  active ← version_in parts.active
+  active ← version_of_text parts.active
   previous ← previous_in parts.previous
   Some (installed parts.bank active previous)
 

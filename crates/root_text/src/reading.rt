@@ -4,7 +4,7 @@ ghost use Rattle.std.specs.Prelude.{◌≡◌, ◌≢◌, ◌==◌, IfOk, None, 
 ghost use Rattle.per_base.specs.Fields.{only_if};
 ghost use Rattle.root_text.specs.RootText.{IsRoot, Root, absent, installed_in, parts_at, parts_by, parts_in};
 ghost use Rattle.root_text.specs.RootText.{parts_of_text, previous_at, previous_in, root_in, root_of, root_text};
-ghost use Rattle.root_text.specs.RootText.{some_root_in, some_text_at, text_at, version_in};
+ghost use Rattle.root_text.specs.RootText.{some_root_in, some_text_at, text_at, version_of_text};
 ghost use Rattle.root_text.specs.Views.{Gives, borrowed_bytes, parts_seen, root_said, version_said};
 
 use crate::errors::RootError;
@@ -30,7 +30,7 @@ pub fn read_root(alloc: Global, text: &[u8]) -> Result<RootSays, RootError>
     // Which root it is, as a function of the bytes.
     ensures read { Gives root_said result (root_of text.now) }
 
-    // Only where a text has all its parts do their manifests take memory.
+    // Only where a text has all its parts are its manifests copied.
     ensures memory { IsErrOf result RootError.OutOfMemory → parts_of_text text.now ≢ None }
 {
     one_root();
@@ -105,9 +105,9 @@ fn previous_of(alloc: Global, text: Option<&[u8]>) -> Result<Option<VersionText>
 }
 
 /// A manifest and what it says.
-#[tactic(auto, unfolding(crate::specs::RootText::version_in))]
+#[tactic(auto, unfolding(crate::specs::RootText::version_of_text))]
 fn version_of(alloc: Global, text: &[u8]) -> Result<VersionText, RootError>
-    ensures { Gives version_said result (version_in text.now) }
+    ensures { Gives version_said result (version_of_text text.now) }
 {
     let deployment = match read_manifest(alloc, text) {
         Ok(deployment) => deployment,

@@ -29,7 +29,7 @@ use Rattle.deploy_laws.specs.Apps.{Says, nothing, absent, installed, App}
 use Rattle.deploy_rows.specs.Rows.{◌>>=◌, InProgress, BeginsUpdate, installing, finishing, rolling_back, wiping}
 use Rattle.deploy_rows.specs.Rows.{updated_app, one_more}
 use Rattle.deploy_rows.specs.Recovering.{recovering, resetting}
-use Rattle.run_model.specs.Found.{Found, storage_in, shape_in, with_storage_state}
+use Rattle.run_model.specs.Found.{FoundStorage, storage_in, shape_in, with_storage_state}
 use Rattle.run_model.specs.Sessions.{Session, keys, files, in_session, session_of, synced_in_session, seen_of}
 use Rattle.run_model.specs.Sessions.{made_durable}
 use Rattle.run_model.specs.Worlds.{Application, Sessions, at_rest, updating, update_in}
@@ -66,17 +66,17 @@ with_session r number s = record r { sessions = slice_set r.sessions number (Som
 abbrev pub without_session : Application → ℕ → Application
 without_session r number = record r { sessions = slice_set r.sessions number None }
 
-abbrev pub unless_open : {A : Type 0} → Application → Found → Result A PerError → Result A PerError
+abbrev pub unless_open : {A : Type 0} → Application → FoundStorage → Result A PerError → Result A PerError
 unless_open r f rest = refuse (is_some (session_at r f.number)) (error.ResourceBusy (holder.Storage f.config.name)) rest
 
-abbrev pub opened_session : Application → Found → Result Session PerError
+abbrev pub opened_session : Application → FoundStorage → Result Session PerError
 opened_session r f = found_or (session_at r f.number) error.NotOpen
 
 -- ---- opening
 
 -- what was seen is reported, what can be mended is mended, and both maps are what was seen; a corrupt storage stays as
 -- it is
-abbrev pub storage_opened : ℕ → Application → Found → State → Outcome
+abbrev pub storage_opened : ℕ → Application → FoundStorage → State → Outcome
 storage_opened app r f (Opens v others) = (
   record { reports = reports (is_content f.config.kind) (shape_in app f) v; answer = answer.Done },
   with_session (record r { disk = with_storage_state r.disk f (Opens (mended_view (shape_in app f) v) []) }) f.number
@@ -99,14 +99,14 @@ open_step app r name kind = storage_in r.disk name (Some kind) >>= λ f. unless_
 
 -- The state of an open storage once it holds what the calls see: that of before where nothing differs, and else the
 -- next generation's.
-abbrev pub durable_state : ℕ → Found → State → Session → Result State PerError
+abbrev pub durable_state : ℕ → FoundStorage → State → Session → Result State PerError
 durable_state app f (Opens v others) s = refuse (not (same_map (synced_in_session s) (seen_of s)) && is_worn v)
     (error.LimitReached limit.Generations)
     (Ok (Opens (view_once_synced (shape_in app f) v (synced_in_session s) (seen_of s)) []))
 -- no open storage is corrupt
 durable_state app f (Corrupt salvage others) s = Ok f.state
 
-unfoldable pub durable : ℕ → Application → Found → Session → Result Application PerError
+unfoldable pub durable : ℕ → Application → FoundStorage → Session → Result Application PerError
 durable app r f s = durable_state app f f.state s >>= λ state.
     Ok (with_session (record r { disk = with_storage_state r.disk f state }) f.number (made_durable s))
 
@@ -134,7 +134,7 @@ unless_busy None rest = rest
 unless_busy (Some h) rest = Err (error.ResourceBusy (holder.Handle h))
 
 -- what is pending of keys is dropped, and the working files are made durable
-abbrev pub closing : ℕ → Application → Found → Session → Result Application PerError
+abbrev pub closing : ℕ → Application → FoundStorage → Session → Result Application PerError
 closing app r f (keys s) = Ok r
 closing app r f (files s) = durable app r f (files s)
 
@@ -145,7 +145,7 @@ close_step app r name = storage_in r.disk name None >>= λ f. opened_session r f
 
 -- ---- a closed storage is rebuilt
 
-abbrev pub rebuild_step : Application → List ℕ → (Found → Result State PerError) → Result Outcome PerError
+abbrev pub rebuild_step : Application → List ℕ → (FoundStorage → Result State PerError) → Result Outcome PerError
 rebuild_step r name state_of = storage_in r.disk name None >>= λ f. unless_open r f (state_of f >>= λ state.
     Ok (answered answer.Done (record r { disk = with_storage_state r.disk f state })))
 

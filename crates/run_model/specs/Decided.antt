@@ -4,7 +4,6 @@ use Rattle.std.specs.List.{Contains}
 use Rattle.std.proofs.Common.{refl, sym, ap, subst, inl, inr, ⊎_elim, arith}
 use Rattle.disk_model.specs.Image.{Image}
 use Rattle.disk_model.specs.Case.{Case}
-use Rattle.disk_model.specs.Damage.{AtLeast}
 use Rattle.deployment_model.specs.Data.{StorageData}
 use Rattle.element_state.specs.declared.shapes.Shape.{Shape}
 use Rattle.element_state.specs.declared.shapes.View.{View}
@@ -13,7 +12,7 @@ use Rattle.element_state.specs.States.{State, Opens, store_at}
 use Rattle.deploy_laws.specs.Places.{storage_shape}
 use Rattle.deploy_laws.specs.Apps.{Says, nothing, absent, installed, App, says_at, shapes_named}
 use Rattle.deploy_laws.specs.Pieces.{IsSoundApp, DecaysApp}
-use Rattle.deploy_laws.specs.Stands.{Stands, IsRootSpared, AreKept}
+use Rattle.deploy_laws.specs.Stands.{Stands, IsRootSpared, AreKept, HasEnoughRoot}
 use Rattle.run_model.specs.Moments.{Between, InDoubt, IsMomentOf, IsDecided}
 use Rattle.run_model.specs.Worlds.{Disks, Doubt, World, disks, disk_at}
 
@@ -23,8 +22,8 @@ undamaged app image place of_app = record { others = λ f outside. refl; pieces 
 none_in : (n : ℕ) → Contains [] n → ⊥
 none_in n c = omega (arith, c.1)
 
-spared : (app : ℕ) (lacking : List ℕ) → lacking ≡ [] → AtLeast (IsRootSpared app [] lacking) 3 2
-spared app lacking none = subst (λ (l : List ℕ). AtLeast (IsRootSpared app [] l) 3 2) (sym none)
+spared : (app : ℕ) (lacking : List ℕ) → lacking ≡ [] → HasEnoughRoot app [] lacking
+spared app lacking none = subst (λ (l : List ℕ). HasEnoughRoot app [] l) (sym none)
     (inl (one 2, inl (one 1, tt)))
   where
     one : (copy : ℕ) → IsRootSpared app [] [] copy

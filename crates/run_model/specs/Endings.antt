@@ -58,13 +58,13 @@ bad_line_text n = codes "bad-line " ++ (decimal n ++ codes "\n")
 -- ---- why
 
 -- how many calls of the disk, of the source and of the sink have failed
-pub record Failed : Type 0 where
+pub record FailureCounts : Type 0 where
   pub disk : ℕ
   pub source : ℕ
   pub sink : ℕ
 
 -- a run ends for one of the three only where its count rose in that run
-abbrev pub HasCauseOf : Ending → (before now : Failed) → Type 0
+abbrev pub HasCauseOf : Ending → (before now : FailureCounts) → Type 0
 HasCauseOf device before now = Rose before.disk now.disk
 HasCauseOf source before now = Rose before.source now.source
 HasCauseOf sink before now = Rose before.sink now.sink

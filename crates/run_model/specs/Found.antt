@@ -13,7 +13,7 @@ use Rattle.deploy_laws.specs.Places.{Named, storage_shape}
 use Rattle.deploy_laws.specs.Apps.{Says, nothing, absent, installed, App}
 
 -- a storage of the active version: its bank and number, how it is configured, and its state
-pub record Found : Type 0 where
+pub record FoundStorage : Type 0 where
   pub bank : ℕ
   pub number : ℕ
   pub config : StorageData
@@ -24,18 +24,19 @@ abbrev pub of_kind : Option StoreKind → StoreKind → Bool
 of_kind None kind = true
 of_kind (Some wanted) kind = is_kind wanted kind
 
-abbrev pub found_with : (bank number : ℕ) → Option StoreKind → Option StorageData → Option State → Result Found PerError
+abbrev pub found_with : (bank number : ℕ) → Option StoreKind → Option StorageData → Option State
+    → Result FoundStorage PerError
 found_with bank number kind (Some config) (Some state) = cond (of_kind kind config.kind)
     (Ok (record { bank = bank; number = number; config = config; state = state })) (Err error.StorageNotFound)
 found_with bank number kind (Some config) None = Err error.StorageNotFound
 found_with bank number kind None state = Err error.StorageNotFound
 
-abbrev pub found_at : Named → List State → Option StoreKind → Option ℕ → Result Found PerError
+abbrev pub found_at : Named → List State → Option StoreKind → Option ℕ → Result FoundStorage PerError
 found_at v states kind None = Err error.StorageNotFound
 found_at v states kind (Some number) = found_with v.bank number kind (slice_get v.deployment.storages number)
     (slice_get states number)
 
-abbrev pub found_in : Says → List State → List ℕ → Option StoreKind → Result Found PerError
+abbrev pub found_in : Says → List State → List ℕ → Option StoreKind → Result FoundStorage PerError
 found_in nothing states name kind = Err (error.IntegrityCorrupted unit.Root)
 found_in (absent g) states name kind = Err error.NotInstalled
 found_in (installed g active previous) states name kind =
@@ -43,13 +44,13 @@ found_in (installed g active previous) states name kind =
 
 -- the storage of this name and kind, or the first refusal: the root is bad, nothing is installed, there is no such
 -- storage
-abbrev pub storage_in : App → List ℕ → Option StoreKind → Result Found PerError
+abbrev pub storage_in : App → List ℕ → Option StoreKind → Result FoundStorage PerError
 storage_in a name kind = found_in a.says a.states name kind
 
 -- where it is stored, and what it is allowed
-abbrev pub shape_in : ℕ → Found → Shape
+abbrev pub shape_in : ℕ → FoundStorage → Shape
 shape_in app f = storage_shape app f.bank f.number f.config
 
 -- the application with this state of that storage
-abbrev pub with_storage_state : App → Found → State → App
+abbrev pub with_storage_state : App → FoundStorage → State → App
 with_storage_state a f state = record a { states = slice_set a.states f.number state }

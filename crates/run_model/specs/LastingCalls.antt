@@ -21,6 +21,7 @@ use Rattle.element_state.specs.declared.shapes.Shape.{Shape}
 use Rattle.element_state.specs.declared.shapes.View.{View}
 use Rattle.element_state.specs.States.{State, Opens, Corrupt, mended_view, mended_entry, mended_by}
 use Rattle.element_state.specs.Views.{element_of, judged_entry}
+use Rattle.key_maps.specs.TwoMaps.{TwoMaps}
 use Rattle.kvs_core.specs.Calls as kvs
 use Rattle.migrate_fns.specs.Rules.{Rule, Answers}
 use Rattle.command_text.specs.declared.calls.Call.{Call}
@@ -31,9 +32,9 @@ use Rattle.command_text.specs.declared.replies.Answer.TheVariants as answer
 use Rattle.command_text.specs.declared.replies.Reply.{Reply}
 use Rattle.deploy_laws.specs.Apps.{Says, nothing, absent, installed, App, app_at}
 use Rattle.deploy_rows.specs.Rows.{◌>>=◌}
-use Rattle.run_model.specs.Found.{Found, of_kind, found_with, found_at, found_in, storage_in, shape_in}
+use Rattle.run_model.specs.Found.{FoundStorage, of_kind, found_with, found_at, found_in, storage_in, shape_in}
 use Rattle.run_model.specs.Found.{with_storage_state}
-use Rattle.run_model.specs.Sessions.{Session, keys, files, KeySession, shows, changes, seen_in, session_of, on_keys}
+use Rattle.run_model.specs.Sessions.{Session, keys, files, shows, changes, seen_in, session_of, on_keys}
 use Rattle.run_model.specs.Sessions.{on_working, in_session, made_durable}
 use Rattle.run_model.specs.Worlds.{Application, Stage, to_open, at_rest, updating, is_to_open, Sessions, Doubt, World}
 use Rattle.run_model.specs.Worlds.{no_app, or_idle, app_of, with_app}
@@ -203,19 +204,19 @@ SameSynced (files s) (files t) = t.synced ≡ s.synced
 SameSynced (keys s) (files t) = ⊥
 SameSynced (files s) (keys t) = ⊥
 
-abbrev pub KeysStay : KeySession → Answer × KeySession → Type 0
+abbrev pub KeysStay : TwoMaps → Answer × TwoMaps → Type 0
 KeysStay s a = a.1.synced ≡ s.synced
 
-shows_stays : (s : KeySession) (form : Tree → Answer) (row : Result Tree PerError)
+shows_stays : (s : TwoMaps) (form : Tree → Answer) (row : Result Tree PerError)
     → IfOk (shows s form row) (KeysStay s)
 shows_stays s form (Ok x) = refl
 shows_stays s form (Err e) = tt
 
-changes_stays : (s : KeySession) (row : Result Map PerError) → IfOk (changes s row) (KeysStay s)
+changes_stays : (s : TwoMaps) (row : Result Map PerError) → IfOk (changes s row) (KeysStay s)
 changes_stays s (Ok m) = refl
 changes_stays s (Err e) = tt
 
-keys_stay : (c : StorageData) (s : KeySession) (l : Call) → IfOk (on_keys c s l) (KeysStay s)
+keys_stay : (c : StorageData) (s : TwoMaps) (l : Call) → IfOk (on_keys c s l) (KeysStay s)
 unfolding on_keys
 keys_stay c s (call.Size n) = refl
 keys_stay c s (call.Keys n) = refl
@@ -314,7 +315,8 @@ failure_lasts rules answers w w' app c reply none world fails = with_so w w' app
 
 -- ---- the storage that a call names
 
-pub record IsFoundStorage (says : Says) (states : List State) (kind : Option StoreKind) (f : Found) : Type 0 where
+pub record IsFoundStorage (says : Says) (states : List State) (kind : Option StoreKind)
+    (f : FoundStorage) : Type 0 where
   pub config : slice_get (active_storages says) f.number ≡ Some f.config
   pub state : slice_get states f.number ≡ Some f.state
   pub kind_is : of_kind kind f.config.kind ≡ true
@@ -348,7 +350,7 @@ found_so (installed g active previous) states name kind = at (storage_number act
     at None = tt
     at (Some number) = both number (slice_get active.deployment.storages number) (slice_get states number) refl refl
 
-abbrev pub IsFoundIn : Application → Option StoreKind → Found → Type 0
+abbrev pub IsFoundIn : Application → Option StoreKind → FoundStorage → Type 0
 IsFoundIn r kind f = IsFoundStorage r.disk.says r.disk.states kind f
 
 pub stored_so : (r : Application) (name : List ℕ) (kind : Option StoreKind)
@@ -392,7 +394,7 @@ opened_on kinds.Files shape v = sym (mended_seen kinds.Files shape v)
 pub rest_so : (stage : Stage) (says : Says) (ss : Sessions) → stage ≡ at_rest → IsStageOn stage says ss
 rest_so stage says ss rests = subst (λ at. IsStageOn at says ss) (sym rests) tt
 
-opened_so : (app : ℕ) (r : Application) (kind : Option StoreKind) (f : Found) (state : State) → IsApplication r
+opened_so : (app : ℕ) (r : Application) (kind : Option StoreKind) (f : FoundStorage) (state : State) → IsApplication r
     → r.stage ≡ at_rest → IsFoundIn r kind f → Lasts (storage_opened app r f state)
 opened_so app r kind f (Opens v others) is rests found = record {
   room = set_length r.sessions f.number (Some (session_of f.config.kind v)) ∙ is.room;
@@ -414,7 +416,7 @@ open_row app r name kind is rests = on_ok (IsFoundIn r (Some kind)) Lasts (stora
 
 -- ---- recovering and resetting
 
-pub rebuild_row : (r : Application) (name : List ℕ) (state_of : Found → Result State PerError) → IsApplication r
+pub rebuild_row : (r : Application) (name : List ℕ) (state_of : FoundStorage → Result State PerError) → IsApplication r
     → IfOk (rebuild_step r name state_of) Lasts
 rebuild_row r name state_of is = on_ok (λ f. ⊤) Lasts (storage_in r.disk name None)
     (λ f. unless_open r f (state_of f >>= λ state. Ok (answered answer.Done
@@ -437,7 +439,7 @@ unless_held_so None row has = has
 unless_held_so (Some h) row has = tt
 
 -- a session that is made durable and ends
-ended_so : (r : Application) (f : Found) (s t : Session) (state : State) → IsApplication r
+ended_so : (r : Application) (f : FoundStorage) (s t : Session) (state : State) → IsApplication r
     → session_at r f.number ≡ Some s → IsFoundIn r None f
     → IsApplication (without_session (with_session (record r { disk = with_storage_state r.disk f state }) f.number t)
     f.number)
@@ -452,7 +454,7 @@ ended_so r f s t state is open_there found = record {
       (stage_set r.stage r.disk.says r.sessions f.number s None is.stage open_there);
 }
 
-dropped_so : (r : Application) (f : Found) (s : Session) → IsApplication r → session_at r f.number ≡ Some s
+dropped_so : (r : Application) (f : FoundStorage) (s : Session) → IsApplication r → session_at r f.number ≡ Some s
     → IsApplication (without_session r f.number)
 dropped_so r f s is open_there = record {
   room = set_length r.sessions f.number None ∙ is.room;
@@ -461,8 +463,8 @@ dropped_so r f s is open_there = record {
   stage = stage_set r.stage r.disk.says r.sessions f.number s None is.stage open_there;
 }
 
-closing_so : (app : ℕ) (r : Application) (f : Found) (s : Session) → IsApplication r → session_at r f.number ≡ Some s
-    → IsFoundIn r None f
+closing_so : (app : ℕ) (r : Application) (f : FoundStorage) (s : Session) → IsApplication r
+    → session_at r f.number ≡ Some s → IsFoundIn r None f
     → IfOk (closing app r f s >>= λ after. Ok (answered answer.Done (without_session after f.number))) Lasts
 unfolding durable
 closing_so app r f (keys s) is open_there found = dropped_so r f (keys s) is open_there

@@ -21,7 +21,7 @@ use Rattle.command_text.specs.declared.replies.Reply.{Reply}
 use Rattle.deploy_laws.specs.Apps.{Says, nothing, absent, installed, App, app_at}
 use Rattle.deploy_rows.specs.Rows.{◌>>=◌, installing, finishing, rolling_back, wiping}
 use Rattle.deploy_rows.specs.Recovering.{recovering, resetting}
-use Rattle.run_model.specs.Found.{Found, storage_in, shape_in, with_storage_state}
+use Rattle.run_model.specs.Found.{FoundStorage, storage_in, shape_in, with_storage_state}
 use Rattle.run_model.specs.Sessions.{Session, keys, files, seen_in, synced_in_session, seen_of, made_durable}
 use Rattle.run_model.specs.Worlds.{Application, Stage, to_open, at_rest, updating, is_to_open, update_in, Sessions}
 use Rattle.run_model.specs.Worlds.{World, app_of}
@@ -44,7 +44,7 @@ use Rattle.run_model.specs.Steps.{root_opened, Step, FailsElsewhere, FailsAs, de
 
 -- what is open shows, once it is on the disk, what it shows now
 abbrev pub AreSeenAgain : ℕ → Application → Type 0
-AreSeenAgain app r = (f : Found) (s : Session) (v : View) (others : List View)
+AreSeenAgain app r = (f : FoundStorage) (s : Session) (v : View) (others : List View)
     → slice_get (active_storages r.disk.says) f.number ≡ Some f.config → f.state ≡ Opens v others
     → session_at r f.number ≡ Some s → seen_in f.config.kind (view_once_synced (shape_in app f) v (synced_in_session s)
     (seen_of s))
@@ -74,8 +74,8 @@ on_there (s ∷ ss) (c ∷ cs) (x ∷ states) (suc n) config state are config_is
     on_there ss cs states n config state are.1 config_is state_is
 
 -- what a sync makes of the state and of the session of one storage
-durable_on : (app : ℕ) (f : Found) (s : Session) (kind : StoreKind) (state : State) → IsSessionOn (Some s) kind state
-    → ((v : View) (others : List View) → state ≡ Opens v others
+durable_on : (app : ℕ) (f : FoundStorage) (s : Session) (kind : StoreKind) (state : State)
+    → IsSessionOn (Some s) kind state → ((v : View) (others : List View) → state ≡ Opens v others
     → seen_in kind (view_once_synced (shape_in app f) v (synced_in_session s) (seen_of s)) ≡ seen_of s)
     → IfOk (durable_state app f state s) (λ new. IsSessionOn (Some (made_durable s)) kind new)
 durable_on app f (keys s) kinds.Keys (Opens v []) on again =
@@ -93,7 +93,7 @@ durable_on app f (files s) kinds.Files (Opens v (x ∷ xs)) on again = absurd on
 durable_on app f (files s) kinds.Files (Corrupt salvage others) on again = absurd on
 durable_on app f (files s) kinds.Keys state on again = absurd on
 
-durable_so : (app : ℕ) (r : Application) (kind : Option StoreKind) (f : Found) (s : Session) → IsApplication r
+durable_so : (app : ℕ) (r : Application) (kind : Option StoreKind) (f : FoundStorage) (s : Session) → IsApplication r
     → AreSeenAgain app r → IsFoundIn r kind f → session_at r f.number ≡ Some s
     → IfOk (durable app r f s >>= λ after. Ok (answered answer.Done after)) Lasts
 unfolding durable
@@ -238,10 +238,10 @@ stage_ends (updating p) (installed g active None) ss n on =
 stage_ends (updating p) (installed g active (Some previous)) ss n on = absurd on
 
 -- what was read is what was there, but for the state of one storage
-abbrev pub IsReadBeside : Application → Found → App → Type 0
+abbrev pub IsReadBeside : Application → FoundStorage → App → Type 0
 IsReadBeside r f a = (state : State) × (a ≡ with_storage_state r.disk f state)
 
-ends_so : (r : Application) (f : Found) (a : App) → IsApplication r → IsFoundIn r None f → IsReadBeside r f a
+ends_so : (r : Application) (f : FoundStorage) (a : App) → IsApplication r → IsFoundIn r None f → IsReadBeside r f a
     → IsApplication (after_failure a r (Some (Ok f)))
 ends_so r f a is found read = subst (λ (b : App). IsApplication (record (without_session r f.number) { disk = b }))
     (sym read.1) (record {
@@ -254,7 +254,7 @@ ends_so r f a is found read = subst (λ (b : App). IsApplication (record (withou
 -- a command on a storage: the root's failure ends all, and its own the session, where the other storages are as they
 -- were
 pub named_failure_lasts : (rules : List Rule) (answers : Answers) (w w' : World) (app : ℕ) (c : Call) (reply : Reply)
-    (name : List ℕ) (f : Found) → device_storage c ≡ Some name
+    (name : List ℕ) (f : FoundStorage) → device_storage c ≡ Some name
     → storage_in (root_opened (app_of w app)).disk name None ≡ Ok f
     → (fails : FailsElsewhere rules answers w (event.App app c) reply w')
     → IsReadBeside (root_opened (app_of w app)) f (app_at fails.2.left app) → IsWorld w → IsWorld w'
@@ -262,8 +262,8 @@ named_failure_lasts rules answers w w' app c reply name f named found fails read
     with_so w w' app fails.0 _ world (by fails.3) fails.6
   where
     is_found : IsFoundIn (root_opened (app_of w app)) None f
-    is_found = subst (λ (row : Result Found PerError). IfOk row (IsFoundIn (root_opened (app_of w app)) None)) found
-        (stored_so (root_opened (app_of w app)) name None)
+    is_found = subst (λ (row : Result FoundStorage PerError). IfOk row (IsFoundIn (root_opened (app_of w app)) None))
+        found (stored_so (root_opened (app_of w app)) name None)
 
     by : FailsAs app w.now (app_at fails.2.left app) (app_of w app) c fails.0 → IsApplication fails.0
     by (inl root) = subst (λ (r : Application). IsApplication r) (sym root.1)
@@ -272,7 +272,7 @@ named_failure_lasts rules answers w w' app c reply name f named found fails read
         (sym (itself.1 ∙ (ap (λ (n : Option (List ℕ)). after_failure (app_at fails.2.left app)
         (root_opened (app_of w app)) (option_map (λ m. storage_in (root_opened (app_of w app)).disk m None)
         n)) named
-        ∙ ap (λ (row : Result Found PerError). after_failure (app_at fails.2.left app) (root_opened (app_of w app))
-        (Some row)) found)))
+        ∙ ap (λ (row : Result FoundStorage PerError). after_failure (app_at fails.2.left app)
+        (root_opened (app_of w app)) (Some row)) found)))
         (ends_so (root_opened (app_of w app)) f (app_at fails.2.left app) (root_so (app_of w app) (app_so w app world))
         is_found read)

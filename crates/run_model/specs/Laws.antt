@@ -25,7 +25,7 @@ use Rattle.run_model.specs.Decided.{one_storage, OpensAsEither}
 use Rattle.run_model.specs.Moments.{Between, IsReady, StepKeeps, IsMomentOf, IsDecided}
 use Rattle.run_model.specs.KeepLaws.{StaysOnTheWay}
 use Rattle.run_model.specs.Starting.{OpenedUpTo}
-use Rattle.run_model.specs.Found.{Found, storage_in, with_storage_state}
+use Rattle.run_model.specs.Found.{FoundStorage, storage_in, with_storage_state}
 use Rattle.run_model.specs.Calls.{session_at}
 use Rattle.run_model.specs.Worlds.{Disks, Doubt, World, disks, disk_at, app_of, world_at, after_start, without_doubt}
 use Rattle.run_model.specs.Steps.{Step, StepsTo, SyncFails, FailsElsewhere, calls_device, root_opened, device_storage}
@@ -62,14 +62,14 @@ DoubtStaysLaw rules answers = (w w' : World) (app : ℕ) (c : Call) (reply : Rep
 
 -- A command on a storage that failed at the device ends its session.
 abbrev pub SessionEndsLaw : List Rule → Answers → Type 0
-SessionEndsLaw rules answers = (w w' : World) (app : ℕ) (c : Call) (reply : Reply) (name : List ℕ) (f : Found)
+SessionEndsLaw rules answers = (w w' : World) (app : ℕ) (c : Call) (reply : Reply) (name : List ℕ) (f : FoundStorage)
     → app < length w.apps → device_storage c ≡ Some name
     → storage_in (app_of w app).disk name None ≡ Ok f → FailsElsewhere rules answers w (event.App app c) reply w'
     → session_at (app_of w' app) f.number ≡ None
 
 -- A storage in another state comes later, as each row of a deployment does.
 abbrev pub StorageLaterLaw : Type 0
-StorageLaterLaw = (a : App) (f : Found) (state : State) → IsLater a (with_storage_state a f state)
+StorageLaterLaw = (a : App) (f : FoundStorage) (state : State) → IsLater a (with_storage_state a f state)
 
 -- ---- what is so of every world
 
@@ -98,8 +98,8 @@ FailureLastsLaw rules answers = (w w' : World) (app : ℕ) (c : Call) (reply : R
 
 -- and one on a storage, where what was read is what was there but for that storage.
 abbrev pub StorageFailureLastsLaw : List Rule → Answers → Type 0
-StorageFailureLastsLaw rules answers = (w w' : World) (app : ℕ) (c : Call) (reply : Reply) (name : List ℕ) (f : Found)
-    → device_storage c ≡ Some name
+StorageFailureLastsLaw rules answers = (w w' : World) (app : ℕ) (c : Call) (reply : Reply) (name : List ℕ)
+    (f : FoundStorage) → device_storage c ≡ Some name
     → storage_in (root_opened (app_of w app)).disk name None ≡ Ok f
     → (fails : FailsElsewhere rules answers w (event.App app c) reply w')
     → IsReadBeside (root_opened (app_of w app)) f (app_at fails.2.left app) → IsWorld w → IsWorld w'

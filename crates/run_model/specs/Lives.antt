@@ -3,7 +3,7 @@ use Rattle.std.specs.Prelude.{◌≡◌, ◌⊎◌, ◌<◌, ℕ, List, [], ◌�
 use Rattle.std.proofs.Common.{refl, sym, ap, ◌∙◌, subst, inl, inr, ⊎_elim, le_refl, arith}
 use Rattle.std.proofs.lemmas.List.Elements.{Contains-append_left, Contains-append_right}
 use Rattle.disk_model.specs.Case.{Case, IsSettledAt}
-use Rattle.disk_model.specs.Damage.{AtLeast, DecaysFor}
+use Rattle.disk_model.specs.Damage.{DecaysFor}
 use Rattle.disk_model.specs.Frame.{IsSettledOn}
 use Rattle.disk_model.specs.Image.{Image}
 use Rattle.disk_model.specs.Laws.{cases_on}
@@ -15,7 +15,7 @@ use Rattle.migrate_fns.specs.Rules.{Rule, Answers}
 use Rattle.deploy_laws.specs.Apps.{App, Says, absent, app_at, installed, nothing, IsCleanApp}
 use Rattle.deploy_laws.specs.Pieces.{DecaysApp, IsPlaceOn, IsSoundApp}
 use Rattle.deploy_laws.specs.Places.{IsFileOf, IsNoFileOf}
-use Rattle.deploy_laws.specs.Stands.{IsRootSpared, Stands, StandsCase, same_root}
+use Rattle.deploy_laws.specs.Stands.{Stands, StandsCase, same_root, HasEnoughRoot}
 use Rattle.deploy_rows.specs.Rows.{reopened}
 use Rattle.run_model.specs.AppLaws.{AppLaws}
 use Rattle.run_model.specs.Endings.{Ending}
@@ -36,7 +36,7 @@ use Rattle.run_model.specs.RunLaws.{imaged_last}
 use Rattle.run_model.specs.Starting.{at_entry, between_worlds}
 use Rattle.run_model.specs.Lines.{lines_of}
 use Rattle.run_model.specs.Runs.{DiskSide, Run, Progress, starting, between, within}
-use Rattle.run_model.specs.Turns.{Bytes, Turn, bytes_now, worlds_of}
+use Rattle.run_model.specs.Turns.{DiskBytes, Turn, bytes_now, worlds_of}
 use Rattle.run_model.specs.Worlds.{Disks, Doubt, World, after_start, disk_at, disks, world_at}
 
 -- ---- the pairs between which an application may stand
@@ -89,7 +89,7 @@ BeginImaged app (p ∷ ps) = ((start : Image) × (p.before ≡ app_at start app)
 
 -- all damage since leaves two copies of the root that the application did not lack
 abbrev pub IsRooted : ℕ → Pair → Type 0
-IsRooted app p = ¬ (p.before.says ≡ nothing) → AtLeast (IsRootSpared app p.damaged p.before.lacking) 3 2
+IsRooted app p = ¬ (p.before.says ≡ nothing) → HasEnoughRoot app p.damaged p.before.lacking
 
 -- so it does whichever of them it is, and with these files damaged too
 abbrev pub HasRoot : ℕ → (damaged : List ℕ) → List Pair → Type 0
@@ -339,19 +339,19 @@ entry_imaged : (app : ℕ) → app < 8 → (image : Image) → IsWorldImaged app
 unfolding world_at
 entry_imaged app lt image = ((image, at_entry image app lt), tt)
 
-behind_imaged : (app : ℕ) (entry : World) (reached : List World) (next : Disks) (earlier : List Pair)
+after_imaged : (app : ℕ) (entry : World) (reached : List World) (next : Disks) (earlier : List Pair)
     → IsWorldImaged app entry → AreImaged app reached → BeginImaged app earlier
     → BeginImaged app (pairs_after app entry reached next earlier)
-behind_imaged app entry [] next earlier is are more =
+after_imaged app entry [] next earlier is are more =
     (is.0, imaged_both app (doubt_pairs app entry.doubt) earlier (side_pairs app entry.doubt is.1) more)
-behind_imaged app entry (w ∷ ws) next earlier is are more =
+after_imaged app entry (w ∷ ws) next earlier is are more =
     last_imaged app (last_of w ws) next (imaged_last app w ws are.0 are.1)
 
-behind_rooted : (app : ℕ) (entry : World) (reached : List World) (next : Disks) (earlier : List Pair)
+after_rooted : (app : ℕ) (entry : World) (reached : List World) (next : Disks) (earlier : List Pair)
     → AreRooted app earlier → AreRooted app (pairs_after app entry reached next earlier)
-behind_rooted app entry [] next earlier more =
+after_rooted app entry [] next earlier more =
     (inl refl, rooted_both app (doubt_pairs app entry.doubt) earlier (side_rooted app entry.doubt) more)
-behind_rooted app entry (w ∷ ws) next earlier more = (inl refl, side_rooted app (last_of w ws).doubt)
+after_rooted app entry (w ∷ ws) next earlier more = (inl refl, side_rooted app (last_of w ws).doubt)
 
 doubt_moment : (app : ℕ) (d : Option Doubt) (c : Case) → InDoubt app d c → StandsAmong app (doubt_pairs app d) c
 doubt_moment app None c is = absurd is
@@ -370,20 +370,20 @@ last_moment app w next c (inl stands) = (
 )
 last_moment app w next c (inr doubt) = let (q, at, stands) = doubt_moment app w.doubt c doubt in (q, inr at, stands)
 
-moment_behind : (app : ℕ) (entry : World) (reached : List World) (next : Disks) (earlier : List Pair) (c : Case)
+moment_after : (app : ℕ) (entry : World) (reached : List World) (next : Disks) (earlier : List Pair) (c : Case)
     → ((reached ≡ []) × StandsAmong app earlier c) ⊎ IsMomentOf app (last_of entry reached) [] next c
     → StandsAmong app (pairs_after app entry reached next earlier) c
-moment_behind app entry [] next earlier c (inl was) =
+moment_after app entry [] next earlier c (inl was) =
     let (q, at, stands) = among_rest app (doubt_pairs app entry.doubt) earlier c was.1 in (q, inr at, stands)
-moment_behind app entry [] next earlier c (inr moment) = among_front app (last_pairs app entry next) earlier c
+moment_after app entry [] next earlier c (inr moment) = among_front app (last_pairs app entry next) earlier c
     (last_moment app entry next c moment)
-moment_behind app entry (w ∷ ws) next earlier c (inl was) = absurd (let no : 1 ≡ 0 = ap length_of was.0 in
+moment_after app entry (w ∷ ws) next earlier c (inl was) = absurd (let no : 1 ≡ 0 = ap length_of was.0 in
     omega (arith, no))
   where
     length_of : List World → ℕ
     length_of [] = 0
     length_of (x ∷ xs) = 1
-moment_behind app entry (w ∷ ws) next earlier c (inr moment) = last_moment app (last_of w ws) next c moment
+moment_after app entry (w ∷ ws) next earlier c (inr moment) = last_moment app (last_of w ws) next c moment
 
 -- what is settled stands as it was
 still_there : AppLaws → (app : ℕ) (image : Image) (pairs : List Pair) (c : Case) → app < 8 → IsCleanApp app image
@@ -399,7 +399,7 @@ pub behind : {rules : List Rule} {answers : Answers} → AppLaws → (app : ℕ)
     → app < 8 → (job : Job rules answers app old new) → Known app old earlier → (c : Case) → JobMayLeave old new job c
     → StandsAmong app (pairs_of app old new job earlier) c
 behind laws app old new earlier lt (runs run) known c at =
-    moment_behind app (world_at old.image) run.disk.reached run.disk.next earlier c
+    moment_after app (world_at old.image) run.disk.reached run.disk.next earlier c
     (⊎_elim (λ none. inl (none.0, known.stands c (none.1.now c at))) (λ moment. inr moment)
     (run.disk.everywhen.at_exit app lt known.clean run.sound c at))
 behind laws app old new earlier lt (looks look) known c at = ⊎_elim
@@ -419,7 +419,7 @@ behind laws app old new earlier lt (imports_beside other differs settled) known 
 job_imaged : {rules : List Rule} {answers : Answers} (app : ℕ) (old new : Medium) (earlier : List Pair) → app < 8
     → (job : Job rules answers app old new) → BeginImaged app earlier
     → BeginImaged app (pairs_of app old new job earlier)
-job_imaged app old new earlier lt (runs run) more = behind_imaged app (world_at old.image) run.disk.reached
+job_imaged app old new earlier lt (runs run) more = after_imaged app (world_at old.image) run.disk.reached
     run.disk.next earlier (entry_imaged app lt old.image) (run.disk.imaged app lt) more
 job_imaged app old new earlier lt (looks look) more = ((old.image, refl), more)
 job_imaged app old new earlier lt (imports next stands) more = ((old.image, refl), more)
@@ -428,7 +428,7 @@ job_imaged app old new earlier lt (imports_beside other differs settled) more = 
 job_rooted : {rules : List Rule} {answers : Answers} (app : ℕ) (old new : Medium) (earlier : List Pair)
     → (job : Job rules answers app old new) → AreRooted app earlier → AreRooted app (pairs_of app old new job earlier)
 job_rooted app old new earlier (runs run) more =
-    behind_rooted app (world_at old.image) run.disk.reached run.disk.next earlier more
+    after_rooted app (world_at old.image) run.disk.reached run.disk.next earlier more
 job_rooted app old new earlier (looks look) more = (inl refl, more)
 job_rooted app old new earlier (imports next stands) more = (inl refl, more)
 job_rooted app old new earlier (imports_beside other differs settled) more = (inl refl, more)
@@ -448,7 +448,7 @@ something (installed g active previous) = inr (λ e. let no : 1 ≡ 0 = ap code 
 
 -- damage that leaves two copies of the root leaves clean places
 pub damaged_clean : (app : ℕ) (image : Image) (damaged : List ℕ) (before after : App)
-    → (¬ (before.says ≡ nothing) → AtLeast (IsRootSpared app damaged before.lacking) 3 2)
+    → (¬ (before.says ≡ nothing) → HasEnoughRoot app damaged before.lacking)
     → Stands app image damaged before after → IsCleanApp app image
 damaged_clean app image damaged before after spared stands = record {
   root = stands.clean_root;
@@ -588,7 +588,7 @@ abbrev pub HasFirst : (start : World) → (reached : List World) → (next : Dis
 HasFirst start reached next = ((reached ≡ []) × (next ≡ disks start)) ⊎ ((ws : List World) × (reached ≡ start ∷ ws))
 
 first_of : (rules : List Rule) (answers : Answers) (how : Ending) (start : World) (lines all : List (List ℕ))
-    (turns : List Turn) (before now : Option (List ℕ)) (reached : List World) (next : Disks) (begun held : Bytes)
+    (turns : List Turn) (before now : Option (List ℕ)) (reached : List World) (next : Disks) (begun held : DiskBytes)
     → Progress rules answers how start lines all turns before now reached next begun held
     → HasFirst start reached next
 first_of rules answers _ start lines all turns before now reached next begun held (starting a b c d none is e) =
@@ -675,9 +675,9 @@ looks_idle told old new lawful time look quiet = record {
     here c s = ⊎_elim (λ was. quiet c was) (λ settled. settled) (look.during c s)
 
 -- After a sync that succeeded each moment is one that might have come before it, or one of those after it.
-pub behind_sync : {told : Bool} {old mid new : Medium} (P : Case → Type 0) → IsLawful told mid → Elapses old mid
+pub after_sync : {told : Bool} {old mid new : Medium} (P : Case → Type 0) → IsLawful told mid → Elapses old mid
     → WritesNothing old mid → Elapses mid new → EachCase P mid new → EachCase (OrBefore old P) old new
-behind_sync {mid = mid} P lawful time calls later each c s = ⊎_elim
+after_sync {mid = mid} P lawful time calls later each c s = ⊎_elim
     (λ first. ⊎_elim
     (λ was. inl was)
     (λ now. inr (each c (later.keeps mid.moment c (le_refl mid.moment)

@@ -10,7 +10,7 @@ use Rattle.command_text.specs.declared.calls.Event.TheVariants as event
 use Rattle.command_text.specs.declared.replies.Reply.{Reply}
 use Rattle.deploy_laws.specs.Apps.{App, app_at}
 use Rattle.deploy_rows.specs.Rows.{reopened}
-use Rattle.run_model.specs.Found.{Found, storage_in}
+use Rattle.run_model.specs.Found.{FoundStorage, storage_in}
 use Rattle.run_model.specs.Sessions.{Session}
 use Rattle.run_model.specs.Worlds.{Application, World, Stage, to_open, at_rest, updating, is_to_open, update_in}
 use Rattle.run_model.specs.Worlds.{or_idle, app_of, with_app}
@@ -176,7 +176,7 @@ found_reopened : (r : Application) (name : List ℕ) → storage_in (root_opened
 found_reopened r name = found_by r.disk r.stage r.sessions name
 
 pub session_ends : (rules : List Rule) (answers : Answers) (w w' : World) (app : ℕ) (c : Call) (reply : Reply)
-    (name : List ℕ) (f : Found) → app < length w.apps
+    (name : List ℕ) (f : FoundStorage) → app < length w.apps
     → device_storage c ≡ Some name → storage_in (app_of w app).disk name None ≡ Ok f
     → FailsElsewhere rules answers w (event.App app c) reply w'
     → session_at (app_of w' app) f.number ≡ None
@@ -188,8 +188,8 @@ session_ends rules answers w w' app c reply name f less named found fails =
     ended : FailsAs app w.now (app_at fails.2.left app) (app_of w app) c fails.0 → session_at fails.0 f.number ≡ None
     ended (inl root) = ap (λ (r : Application). session_at r f.number) root.1 ∙ none_there 16 f.number
     ended (inr call) = ap (λ (r : Application). session_at r f.number) call.1
-        ∙ ap (λ (found' : Option (Result Found PerError)).
+        ∙ ap (λ (found' : Option (Result FoundStorage PerError)).
         session_at (after_failure (app_at fails.2.left app) (root_opened (app_of w app)) found') f.number)
         (ap (λ (n : Option (List ℕ)). option_map (λ m. storage_in (root_opened (app_of w app)).disk m None) n) named
-        ∙ ap (λ (r : Result Found PerError). Some r) (found_reopened (app_of w app) name ∙ found))
+        ∙ ap (λ (r : Result FoundStorage PerError). Some r) (found_reopened (app_of w app) name ∙ found))
         ∙ none_set (root_opened (app_of w app)).sessions f.number

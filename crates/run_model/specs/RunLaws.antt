@@ -40,7 +40,8 @@ use Rattle.run_model.specs.Runtimes.{Running, Memory, with_disk, world_of, Steps
 use Rattle.run_model.specs.Runtimes.{StartKeeps, IsUnwritten, writes_none}
 use Rattle.run_model.specs.Bounds.{AreBounded, IsBounded, IsBegunWithin, StartsWithin, bytes_after}
 use Rattle.run_model.specs.Endings.{Ending, HasStarted, HasEnded, has_started}
-use Rattle.run_model.specs.Turns.{Bytes, Turn, Follow, bytes_now, turn, worlds_of, replies_text, IsBlamed, AreBlamed}
+use Rattle.run_model.specs.Turns.{DiskBytes, Turn, Follow, bytes_now, turn, worlds_of, replies_text, IsBlamed}
+use Rattle.run_model.specs.Turns.{AreBlamed}
 use Rattle.run_model.specs.Runs.{AreCases, IsCaseOfDoubt, IsReadSince, Everywhen, IsSettled, starting, between, within}
 use Rattle.run_model.specs.Runs.{DiskSide}
 
@@ -80,7 +81,7 @@ pub record Going (rules : List Rule) (answers : Answers) (entry start : World) (
   pub stayed : (app : ℕ) → app < 8 → IsCleanApp app old.image → AreSoundDoubts app (worlds_of turns)
       → Stayed app entry start (worlds_of turns) old now
   -- what each command wrote, from the bytes that the start left on
-  pub begun : Bytes
+  pub begun : DiskBytes
   pub starts : StartsWithin (bytes_now old) begun
   pub bounded : AreBounded start begun turns
   pub held : bytes_now now ≡ bytes_after begun turns
@@ -192,11 +193,11 @@ read_now told old now new tells lawful time later c at left =
 
 -- ---- what was written
 
-behind_on : (b : Bytes) (ts : List Turn) (t : Turn) → bytes_after b (ts ++ t ∷ []) ≡ t.bytes
-behind_on b [] t = refl
-behind_on b (u ∷ us) t = behind_on u.bytes us t
+after_on : (b : DiskBytes) (ts : List Turn) (t : Turn) → bytes_after b (ts ++ t ∷ []) ≡ t.bytes
+after_on b [] t = refl
+after_on b (u ∷ us) t = after_on u.bytes us t
 
-bounded_on : (w : World) (b : Bytes) (ts : List Turn) (t : Turn) → AreBounded w b ts
+bounded_on : (w : World) (b : DiskBytes) (ts : List Turn) (t : Turn) → AreBounded w b ts
     → IsBounded (last_of w (worlds_of ts)) t.event
     (writes_none (last_of w (worlds_of ts)) t.event t.reply) (bytes_after b ts) t.bytes
     → AreBounded w b (ts ++ t ∷ [])
@@ -217,7 +218,7 @@ module _ (rules : List Rule) (answers : Answers) (entry start : World) (calm : s
   bounded_here turns e reply memory memory' doubt old now new time going s =
       subst (λ (w : World). IsBounded w e (writes_none w e reply) (bytes_after going.begun turns) (bytes_now new))
       (sym going.last)
-      (subst (λ (b : Bytes). IsBounded (world_of now.image memory doubt) e
+      (subst (λ (b : DiskBytes). IsBounded (world_of now.image memory doubt) e
       (writes_none (world_of now.image memory doubt) e reply) b (bytes_now new)) going.held (record {
         elsewhere = s.aside.elsewhere;
         place = s.place;
@@ -233,7 +234,8 @@ module _ (rules : List Rule) (answers : Answers) (entry start : World) (calm : s
       → IsBegunWithin (last_of start (worlds_of turns)) e (bytes_after going.begun turns) (bytes_now new)
   begun_here turns e memory doubt old now new time going s =
       subst (λ (w : World). IsBegunWithin w e (bytes_after going.begun turns) (bytes_now new)) (sym going.last)
-      (subst (λ (b : Bytes). IsBegunWithin (world_of now.image memory doubt) e b (bytes_now new)) going.held (record {
+      (subst (λ (b : DiskBytes). IsBegunWithin (world_of now.image memory doubt) e b (bytes_now new))
+      going.held (record {
         elsewhere = s.aside.elsewhere;
         place = s.place;
         unwritten = λ none. same_bytes now new (s.unwritten none);
@@ -297,7 +299,7 @@ module _ (rules : List Rule) (answers : Answers) (entry start : World) (calm : s
         starts = going.starts;
         bounded = bounded_on start going.begun turns t going.bounded (bounded_here turns e reply memory memory' doubt
             old now new time going s);
-        held = sym (behind_on going.begun turns t);
+        held = sym (after_on going.begun turns t);
         time = elapses_on going.time time;
       }
 

@@ -15,7 +15,8 @@ use Rattle.run_model.specs.Lasting.{IsWorld}
 use Rattle.run_model.specs.Lines.{lines_of, Give}
 use Rattle.run_model.specs.Moments.{AreImaged, IsMomentOf, OrBefore, last_of, AreSoundDoubts, AreDecided}
 use Rattle.run_model.specs.Steps.{Leads}
-use Rattle.run_model.specs.Turns.{Bytes, Turn, bytes_now, events_of, worlds_of, replies_text, Follow, CountsFailures}
+use Rattle.run_model.specs.Turns.{DiskBytes, Turn, bytes_now, events_of, worlds_of, replies_text, Follow}
+use Rattle.run_model.specs.Turns.{CountsFailures}
 use Rattle.run_model.specs.Worlds.{Disks, Doubt, World, disks, world_at, after_start, after_run}
 
 -- ---- doubts
@@ -58,7 +59,7 @@ pub record IsSettled (w : World) (new : Medium) : Type 0 where
 
 -- a command in progress is that of the next line, and leads there; it began at the bytes `left`
 pub record IsInProgress (rules : List Rule) (answers : Answers) (w : World) (lines all : List (List ℕ))
-    (next : Disks) (left now : Bytes) : Type 0 where
+    (next : Disks) (left now : DiskBytes) : Type 0 where
   pub text : List ℕ
   pub others : List (List ℕ)
   pub event : Event
@@ -72,7 +73,7 @@ pub record IsInProgress (rules : List Rule) (answers : Answers) (w : World) (lin
 -- and are `held` at the end.
 pub data Progress (rules : List Rule) (answers : Answers) (ending : Ending) (start : World) (lines all : List (List ℕ))
     (turns : List Turn) (before now : Option (List ℕ))
-    (reached : List World) (next : Disks) (begun held : Bytes) : Type 0 where
+    (reached : List World) (next : Disks) (begun held : DiskBytes) : Type 0 where
   -- the start did not end: no line was taken, and nothing was handled
   starting : ¬ (HasStarted ending) → lines ≡ [] → all ≡ [] → turns ≡ [] → reached ≡ [] → next ≡ disks start
       → held ≡ begun → Progress rules answers ending start lines all turns before now reached next begun held
@@ -100,7 +101,7 @@ pub record DiskSide (rules : List Rule) (answers : Answers) (ending : Ending) (l
   pub reached : List World
   pub next : Disks
   -- what the start and each command wrote; `begun` are the bytes that the start left, however it ended
-  pub begun : Bytes
+  pub begun : DiskBytes
   pub starts : StartsWithin (bytes_now old) begun
   pub bounded : AreBounded (after_start (world_at old.image)) begun turns
   pub progress : Progress rules answers ending (after_start (world_at old.image)) lines all turns before now reached

@@ -24,7 +24,7 @@ use Rattle.command_text.specs.declared.replies.Reply.{Reply}
 use Rattle.deploy_laws.specs.Apps.{App, app_at, IsCleanApp}
 use Rattle.deploy_laws.specs.Places.{IsBeside, IsNoFileOf, root_place}
 use Rattle.run_model.specs.Calls.{session_at}
-use Rattle.run_model.specs.Found.{Found, shape_in}
+use Rattle.run_model.specs.Found.{FoundStorage, shape_in}
 use Rattle.run_model.specs.Lasting.{IsWorld}
 use Rattle.run_model.specs.Sessions.{Session, synced_in_session, seen_of}
 use Rattle.run_model.specs.Worlds.{Application, Stage, is_to_open, Sessions, Disks, Doubt, World, app_of, disks}
@@ -110,7 +110,7 @@ pub record StaysAside (e : Event) (doubt : Option Doubt) (old new : Medium) : Ty
 abbrev pub IsBesideNamed : World → Event → ℕ → Type 0
 IsBesideNamed w (event.Now t) file = ⊤
 IsBesideNamed w (event.App app c) file = (is_to_open (app_of w app).stage ≡ false)
-    × ((f : Found) × (found_named (app_of w app) c ≡ Some (Ok f)) × IsBeside app f.bank f.number file)
+    × ((f : FoundStorage) × (found_named (app_of w app) c ≡ Some (Ok f)) × IsBeside app f.bank f.number file)
 
 -- no byte is written, and reads give what they gave
 abbrev pub IsUnwritten : (old new : Medium) → Type 0
@@ -156,20 +156,20 @@ is_durable other = false
 
 -- nothing where both maps are the same; and never more, in each copy, than the contents that are new or differ and the
 -- next index
-pub record CostsWithin (app : ℕ) (f : Found) (s : Session) (before now : ℕ) : Type 0 where
+pub record CostsWithin (app : ℕ) (f : FoundStorage) (s : Session) (before now : ℕ) : Type 0 where
   pub same : same_map (synced_in_session s) (seen_of s) ≡ true → now ≡ before
   pub at_most : (v : View) (others : List View) → f.state ≡ Opens v others
       → IsWithin (shape_in app f).place.copies (map_cost f.config.kind (synced_in_session s) (seen_of s))
       (index_length f.config.kind (view_once_synced (shape_in app f) v (synced_in_session s) (seen_of s)).entries)
       before now
 
-abbrev pub WritesWithin : (app : ℕ) → Found → Session → (old new : Medium) → Type 0
+abbrev pub WritesWithin : (app : ℕ) → FoundStorage → Session → (old new : Medium) → Type 0
 WritesWithin app f s old new = CostsWithin app f s old.written new.written
 
 -- however a call ends that is to make an open storage durable
 abbrev pub CostsBy : World → Event → (before now : ℕ) → Type 0
 CostsBy w (event.Now t) before now = ⊤
-CostsBy w (event.App app c) before now = is_durable c ≡ true → (f : Found) (s : Session)
+CostsBy w (event.App app c) before now = is_durable c ≡ true → (f : FoundStorage) (s : Session)
     → found_named (app_of w app) c ≡ Some (Ok f)
     → session_at (app_of w app) f.number ≡ Some s → CostsWithin app f s before now
 

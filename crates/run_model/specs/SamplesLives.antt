@@ -46,31 +46,31 @@ setting = world_after (with_installed formatted 0 0 in_three) (on (call.OpenKvs 
 abbrev pub synced : World
 synced = world_after setting (on (call.Sync fav) ∷ [])
 
-abbrev pub behind_first : List Pair
-behind_first = last_pairs 0 setting (disks synced)
+abbrev pub after_first : List Pair
+after_first = last_pairs 0 setting (disks synced)
 
-killed_in_sync : seen behind_first ≡ (was, is, []) ∷ []
+killed_in_sync : seen after_first ≡ (was, is, []) ∷ []
 unfolding computed
 killed_in_sync = refl
 
 -- the contents of its first copy are damaged while writes are pending
-damaged_meanwhile : seen (all_aged (1026 ∷ []) behind_first) ≡ (was, is, 1026 ∷ []) ∷ []
+damaged_meanwhile : seen (all_aged (1026 ∷ []) after_first) ≡ (was, is, 1026 ∷ []) ∷ []
 unfolding computed
 damaged_meanwhile = refl
 
 -- ---- the second run: reads give the new value, and it is killed before its start has synchronised the disk
 
-abbrev pub behind_second : List Pair
-behind_second = pairs_after 0 (after_run synced) [] (disks (after_start (after_run synced)))
-    (all_aged (1026 ∷ []) behind_first)
+abbrev pub after_second : List Pair
+after_second = pairs_after 0 (after_run synced) [] (disks (after_start (after_run synced)))
+    (all_aged (1026 ∷ []) after_first)
 
 -- so what the first one left may be there still, with its damage
-killed_at_once : seen behind_second ≡ (is, is, []) ∷ (was, is, 1026 ∷ []) ∷ []
+killed_at_once : seen after_second ≡ (is, is, []) ∷ (was, is, 1026 ∷ []) ∷ []
 unfolding computed
 killed_at_once = refl
 
 -- after another damage both count of what the first one left
-damaged_again : seen (all_aged (1031 ∷ []) behind_second) ≡ (is, is, 1031 ∷ []) ∷ (was, is, 1026 ∷ 1031 ∷ []) ∷ []
+damaged_again : seen (all_aged (1031 ∷ []) after_second) ≡ (is, is, 1031 ∷ []) ∷ (was, is, 1026 ∷ 1031 ∷ []) ∷ []
 unfolding computed
 damaged_again = refl
 

@@ -22,7 +22,7 @@ use Rattle.manifest.specs.Rules.{says_read_only, read_only_is_said, has_redundan
 use Rattle.manifest.specs.Rules.{has_counts, redundancies_have_counts, has_few_elements, elements_are_few}
 use Rattle.manifest.specs.Rules.{has_element_members, elements_have_known_members, has_different_elements}
 use Rattle.manifest.specs.Rules.{elements_differ, has_type, keys_have_types, may_start, initials_are_read, has_strategy}
-use Rattle.manifest.specs.Rules.{elements_have_strategies, initial_size, has_room, initials_fit, least_broken}
+use Rattle.manifest.specs.Rules.{elements_have_strategies, initial_size, has_room, initials_fit, first_violated}
 use Rattle.serde_json.specs.Read.{number_of as number_of_read}
 use Rattle.value_text.specs.Limits.{keeps_limits}
 use Rattle.value_text.specs.Parsing.{scalar_at, list_kind_at, fields_kind_at, kind_here, kind_at, kind_in, text_at}
@@ -52,12 +52,10 @@ unfolding computed deployment_of digits chars is_utf8 encode scan_numeral elemen
     says_read_only read_only_is_said has_redundancy redundancies_are_objects has_counts redundancies_have_counts
     has_few_elements elements_are_few has_element_members elements_have_known_members has_different_elements
     elements_differ has_type keys_have_types may_start initials_are_read has_strategy elements_have_strategies
-    initial_size has_room initials_fit least_broken keeps_limits scalar_at list_kind_at fields_kind_at kind_here kind_at
-    kind_in text_at value_content_at scalar_tree_at items_at list_tree_at fields_tree_at tree_here tree_at tree_in
-    value_in
-    number_of number_at unsigned_at signed_at hex_bytes_at quoted_at separated unsigned_in signed_in bytes_in
-    number_of_read
-    items members value lex punctuate code_unit short_escape content after_number word
+    initial_size has_room initials_fit first_violated keeps_limits scalar_at list_kind_at fields_kind_at kind_here
+    kind_at kind_in text_at value_content_at scalar_tree_at items_at list_tree_at fields_tree_at tree_here tree_at
+    tree_in value_in number_of number_at unsigned_at signed_at hex_bytes_at quoted_at separated unsigned_in signed_in
+    bytes_in number_of_read items members value lex punctuate code_unit short_escape content after_number word
 manifests_read = 0
 
 -- ---- what the texts say

@@ -8,7 +8,7 @@ use Rattle.per_base.specs.declared.errors.PerError.TheVariants as error
 use Rattle.per_base.specs.Maps.{Map, has, names_of, size_of}
 use Rattle.value_model.specs.Trees.{Tree}
 use Rattle.deployment_model.specs.Data.{StorageData}
-use Rattle.deployment_model.specs.Lookups.{initial_of}
+use Rattle.deployment_model.specs.Lookups.{initial_content}
 use Rattle.value_code.specs.Reading.{is_encoding}
 use Rattle.kvs_core.specs.Calls as kvs
 use Rattle.file_handles.specs.declared.storage.Storage.{Storage}
@@ -20,16 +20,12 @@ use Rattle.file_handles.specs.Whole as whole
 use Rattle.element_state.specs.declared.shapes.View.{View}
 use Rattle.element_state.specs.Views.{map_of}
 use Rattle.element_maps.specs.Sessions.{synchronised}
+use Rattle.key_maps.specs.TwoMaps.{TwoMaps}
 use Rattle.command_text.specs.declared.calls.Call.{Call}
 use Rattle.command_text.specs.declared.calls.Call.TheVariants as call
 use Rattle.command_text.specs.declared.replies.Answer.{Answer}
 use Rattle.command_text.specs.declared.replies.Answer.TheVariants as answer
 use Rattle.deploy_rows.specs.Rows.{◌>>=◌}
-
--- an open storage of keys: what is on the disk, and what the calls see
-pub record KeySession : Type 0 where
-  pub synced : Map
-  pub visible : Map
 
 -- an open storage of files: what is on the disk, and the working files with the handles on them
 pub record FileSession : Type 0 where
@@ -37,7 +33,7 @@ pub record FileSession : Type 0 where
   pub working : handles.Session
 
 pub data Session : Type 0 where
-  keys : KeySession → Session
+  keys : TwoMaps → Session
   files : FileSession → Session
 
 -- what is seen of a view where a storage is opened: bytes of a key that encode no value are unreadable, and no salvage
@@ -61,14 +57,14 @@ Answered S = Result (Answer × S) PerError
 -- ---- keys
 
 -- what is answered of a result, the session being the same
-abbrev pub shows : KeySession → {A : Type 0} → (A → Answer) → Result A PerError → Answered KeySession
+abbrev pub shows : TwoMaps → {A : Type 0} → (A → Answer) → Result A PerError → Answered TwoMaps
 shows s {A} form row = row >>= λ x. Ok (form x, s)
 
 -- the calls see another map
-abbrev pub changes : KeySession → Result Map PerError → Answered KeySession
+abbrev pub changes : TwoMaps → Result Map PerError → Answered TwoMaps
 changes s row = row >>= λ m. Ok (answer.Done, record s { visible = m })
 
-unfoldable pub on_keys : StorageData → KeySession → Call → Answered KeySession
+unfoldable pub on_keys : StorageData → TwoMaps → Call → Answered TwoMaps
 on_keys c s (call.Size n) = Ok (answer.Number (size_of s.visible), s)
 on_keys c s (call.Keys n) = Ok (answer.Names (names_of s.visible), s)
 on_keys c s (call.Exists n k) = Ok (answer.Truth (has s.visible k), s)
@@ -124,8 +120,8 @@ on_working c now w (call.Eof n h) = sees w answer.Truth (handling.is_eof w h)
 on_working c now w (call.SizeOf n f) = sees w answer.Number (by_name.current_file_size w.files f)
 on_working c now w (call.Info n f) = sees w answer.Info (by_name.file_info w.files f)
 on_working c now w (call.Delete n f) = works (by_name.delete_file (storage_of c) w f)
-on_working c now w (call.RecoverFile n f) = works (by_name.recover_file (storage_of c) w f now (initial_of c f))
-on_working c now w (call.ResetFile n f) = works (by_name.reset_file (storage_of c) w f now (initial_of c f))
+on_working c now w (call.RecoverFile n f) = works (by_name.recover_file (storage_of c) w f now (initial_content c f))
+on_working c now w (call.ResetFile n f) = works (by_name.reset_file (storage_of c) w f now (initial_content c f))
 on_working c now w (call.Cat n f) = moves answer.Octets (whole.cat (storage_of c) w f now)
 on_working c now w (call.Put n f bytes) = works (whole.put_whole (storage_of c) w f bytes now)
 -- no other call comes to a storage of files

@@ -14,7 +14,7 @@ use Rattle.command_text.specs.declared.replies.Answer.TheVariants as answer
 use Rattle.command_text.specs.declared.replies.Reply.{Reply}
 use Rattle.deploy_laws.specs.Apps.{App, app_at}
 use Rattle.deploy_rows.specs.Rows.{◌>>=◌, reopened, offered}
-use Rattle.run_model.specs.Found.{Found, storage_in}
+use Rattle.run_model.specs.Found.{FoundStorage, storage_in}
 use Rattle.run_model.specs.Calls.{Outcome, StepBeside, without_session, unless_open, local_on, least_open}
 use Rattle.run_model.specs.Calls.{beside_update, app_step}
 use Rattle.run_model.specs.Worlds.{Application, none_open, to_open, at_rest, is_to_open, update_in, Disks, Doubt, World}
@@ -80,12 +80,12 @@ device_storage (call.RecoverStorage n) = Some n
 device_storage (call.ResetStorage n) = Some n
 device_storage other = None
 
-abbrev pub found_named : Application → Call → Option (Result Found PerError)
+abbrev pub found_named : Application → Call → Option (Result FoundStorage PerError)
 found_named r c = option_map (λ n. storage_in r.disk n None) (device_storage c)
 
 -- A failure in a storage that is named ends its session. Any other, and one in opening the root, ends all sessions and
 -- the update, and the root is to be opened again. What is on the disk is what reads then give.
-abbrev pub after_failure : App → Application → Option (Result Found PerError) → Application
+abbrev pub after_failure : App → Application → Option (Result FoundStorage PerError) → Application
 after_failure a r None = record { disk = a; stage = to_open; sessions = none_open }
 after_failure a r (Some (Err e)) = record r { disk = a }
 after_failure a r (Some (Ok f)) = record (without_session r f.number) { disk = a }

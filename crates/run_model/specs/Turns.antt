@@ -14,11 +14,11 @@ use Rattle.run_model.specs.Steps.{StepsTo}
 use Rattle.run_model.specs.Worlds.{World}
 
 -- the bytes of a disk at one moment: what reads give, and how many were written up to then
-pub record Bytes : Type 0 where
+pub record DiskBytes : Type 0 where
   pub image : Image
   pub written : ℕ
 
-abbrev pub bytes_now : Medium → Bytes
+abbrev pub bytes_now : Medium → DiskBytes
 bytes_now m = record { image = m.image; written = m.written }
 
 -- a command that was answered: its reply, and the world after it
@@ -28,7 +28,7 @@ pub record Turn : Type 0 where
   -- the disk's count of failures after it
   pub faults : ℕ
   -- the disk's bytes after it
-  pub bytes : Bytes
+  pub bytes : DiskBytes
   pub world : World
 
 -- the turn that ends here
@@ -66,7 +66,7 @@ AreBlamed before (t ∷ ts) after = IsBlamed before t.faults t.reply × AreBlame
 
 -- The failures of a run: those of its answered commands, and after the last of them none where the run was whole.
 pub record CountsFailures (Whole : Type 0) (before : ℕ) (turns : List Turn) (after : ℕ) : Type 0 where
-  pub behind : ℕ
-  pub blamed : AreBlamed before turns behind
-  pub later : behind ≤ after
-  pub passes : Whole → after ≡ behind
+  pub last : ℕ
+  pub blamed : AreBlamed before turns last
+  pub later : last ≤ after
+  pub passes : Whole → after ≡ last

@@ -52,8 +52,8 @@ pub fn answers_keep_worlds(migrations: &Migrations)
     ensures answered { AnswersLastLaw (rules_of migrations.now) (answers_of migrations.now) }
 {}
 
-/// And so does a command whose device failed: in the sync of a doubt, in a call that names no storage, and in one on a
-/// storage where what was read is what was there but for that storage.
+/// A command whose device failed keeps what is so of every world, too: in the sync that ends a doubt, in a call that
+/// names no storage, and in one on a storage, whose state alone may be another than what was there before.
 pub fn failures_keep_worlds(migrations: &Migrations)
     ensures sync { FailedSyncLastsLaw }
     ensures call { FailureLastsLaw (rules_of migrations.now) (answers_of migrations.now) }

@@ -3,7 +3,7 @@
 use disk_model::Disk;
 use folder_disk::FolderDisk;
 use per_base::{Sink, Source};
-use per_system::{Access, Content, HostSystem, StdSink, StdSource};
+use per_system::{Access, DeviceKind, HostSystem, StdSink, StdSource};
 use std::alloc::Global;
 use std::fs::{self, File};
 use std::io;
@@ -60,7 +60,7 @@ fn disk_in<'a, R: Files<File = File>>(
     alloc: Global,
     dir: String,
 ) -> anyhow::Result<FolderDisk<HostSystem<'a, R>>> {
-    let system = HostSystem::hold(rt, alloc, dir, Content::Disk, Access::Write).map_err(
+    let system = HostSystem::hold(rt, alloc, dir, DeviceKind::Disk, Access::Write).map_err(
         |failure| failure.error,
     )?;
     match FolderDisk::open(alloc, system) {

@@ -169,7 +169,7 @@ impl Session {
         Ok(Some(format!(in self.alloc; "{shown}{told}")?))
     }
 
-    /// Plans the calls of the disk that a row among the lines that wait tells to fail.
+    /// Plans the calls of the disk that are to fail by a row among the lines that wait.
     fn plan_disk(&mut self, migrations: &Migrations) -> Result<(), RowError> {
         if let Some((place, failure)) = failure_in(&self.rows) {
             let next = match failure {

@@ -34,7 +34,7 @@ use Rattle.element_laws.specs.Refused.{one}
 use Rattle.element_store.specs.declared.store.Store.{Store}
 use Rattle.element_store.specs.Committing.{index_in}
 use Rattle.element_store.specs.Creates.{IsUntorn}
-use Rattle.element_store.specs.Stores.{IsUsed, shape_of, view_in}
+use Rattle.element_store.specs.Stores.{IsUsed, store_shape, view_in}
 
 -- ---- what is written
 
@@ -62,13 +62,14 @@ FailureAsNoMemory = (result : Result Store StoreError) (before after : ℕ)
 -- only enough copies have the index
 abbrev pub FewCopies : Type 0
 FewCopies = (told : Bool) (image : Image) (s : Store) (copy : ℕ) → IsUsed told image s → IsTrue told
-    → copy < (shape_of s).place.copies
-    → ¬ (¬ (Holds image (shape_of s).place copy (view_in s).generation (index_text (index_in s))))
+    → copy < (store_shape s).place.copies
+    → ¬ (¬ (Holds image (store_shape s).place copy (view_in s).generation (index_text (index_in s))))
 
 -- only enough copies have a content, or a copy that lacked it is not mended
 abbrev pub CopyLacks : Type 0
 CopyLacks = (told : Bool) (image : Image) (s : Store) (v : View) (others : List View) (e : Entry)
-    (value rest : List ℕ) (copy : ℕ) → IsUsed told image s → IsTrue told → store_at image (shape_of s) ≡ Opens v others
+    (value rest : List ℕ) (copy : ℕ) → IsUsed told image s → IsTrue told
+    → store_at image (store_shape s) ≡ Opens v others
     → Contains v.entries e → e.content ≡ Good value → ¬ (e.lacking ≡ copy ∷ rest)
 
 -- ---- what a stop leaves

@@ -1,7 +1,7 @@
 //! The trait of a system: the calls for the files of one folder, and what each says of bytes, names and power losses.
 
-ghost use Rattle.std.specs.Prelude.{◌≡◌, ◌≢◌, ◌⊎◌, ◌↔◌, ℕ, ◌≤◌, ◌+◌, Bool, IsTrue, IfOk, OnOk, OnErr, IfSome, IfNone};
-ghost use Rattle.std.specs.Prelude.{length, take, Contains};
+ghost use Rattle.std.specs.Prelude.{◌≡◌, ◌≢◌, ◌⊎◌, ◌↔◌, ℕ, ◌≤◌, ◌+◌, Bool, IsTrue, IsFalse, IfOk, OnOk, OnErr};
+ghost use Rattle.std.specs.Prelude.{IfSome, IfNone, [], length, take, Contains};
 ghost use Rattle.disk_model.specs.Image.{put_image};
 ghost use Rattle.disk_model.specs.Case.{Case, Follows};
 ghost use Rattle.disk_model.specs.Medium.{Quiet, IsLawful, Elapses, OnlyReads, WritesNothing};
@@ -36,10 +36,20 @@ pub trait System {
             → IsAbsent (medium self.new) f) }
         ensures looks { Looks (medium self.old) (medium self.new) };
 
+    /// Whether what stands in the place of the file is one. What is none may hold up whoever opens it.
+    fn is_file(&mut self, file: u32) -> io::Result<bool>
+        ensures absent { IsTrue told → IfOk result (λ is. IsFalse is → IsAbsent (medium self.new) file) }
+        ensures looks { Looks (medium self.old) (medium self.new) };
+
     /// Opens the file for reading and writing, if the folder has it.
     fn open(&mut self, file: u32) -> io::Result<Option<Self::File>>
         ensures number { IfOk result (λ found. IfSome found (λ it. number it ≡ file)) }
         ensures absent { IsTrue told → IfOk result (λ found. IfNone found (IsAbsent (medium self.new) file)) }
+        ensures looks { Looks (medium self.old) (medium self.new) };
+
+    /// Gives what stands in the place of the file, and cannot be read, another name.
+    fn set_aside(&mut self, file: u32) -> io::Result<()>
+        requires { IsTrue told → (medium self.old).disk.image file ≡ [] }
         ensures looks { Looks (medium self.old) (medium self.new) };
 
     /// Makes the file, which the folder does not have, and opens it. Its name is durable after `sync_folder`.
@@ -126,25 +136,28 @@ pub trait System {
         ensures time { Elapses (medium self.old).disk (medium self.new).disk };
 
     /// Notes that the writes to come serve this one. It changes no byte; an operating system has nothing to do.
-    fn announce(&mut self, file: u32, at: u64, bytes: &[u8])
+    fn announce(&mut self, file: u32, at: u64, bytes: &[u8]) -> io::Result<()>
         ensures image { (medium self.new).disk.image ≡ (medium self.old).disk.image }
-        ensures now { Follows (AnnounceCase file at bytes.now) (medium self.old).disk.now (medium self.new).disk.now }
+        ensures now { OnOk result (Follows (AnnounceCase file at bytes.now) (medium self.old).disk.now
+            (medium self.new).disk.now) }
         ensures during { (c : Case) → (medium self.new).disk.since (medium self.old).disk.moment c
             → (medium self.old).disk.now c ⊎ (medium self.new).disk.now c }
         ensures time { Elapses (medium self.old).disk (medium self.new).disk }
         ensures named { (f : ℕ) → (medium self.old).named f → (medium self.new).named f }
         ensures free { (f i : ℕ) → (medium self.new).free f i ↔ (medium self.old).free f i }
-        ensures lost { (f i : ℕ) → (medium self.new).lost f i → (medium self.old).lost f i };
+        ensures lost { (f i : ℕ) → (medium self.new).lost f i → (medium self.old).lost f i }
+        ensures failed { OnErr result (Looks (medium self.old) (medium self.new)) };
 
     /// Notes that all that was announced is durable. It changes no byte; an operating system has nothing to do.
-    fn settle(&mut self)
+    fn settle(&mut self) -> io::Result<()>
         requires { IsTrue told → (f : ℕ) → IsSafe (medium self.old).disk f }
-        ensures quiet { Quiet (medium self.new).disk }
+        ensures quiet { OnOk result (Quiet (medium self.new).disk) }
         ensures writes_nothing { WritesNothing (medium self.old).disk (medium self.new).disk }
         ensures time { Elapses (medium self.old).disk (medium self.new).disk }
         ensures named { (f : ℕ) → (medium self.old).named f → (medium self.new).named f }
         ensures free { (f i : ℕ) → (medium self.new).free f i ↔ (medium self.old).free f i }
-        ensures lost { (f i : ℕ) → (medium self.new).lost f i → (medium self.old).lost f i };
+        ensures lost { (f i : ℕ) → (medium self.new).lost f i → (medium self.old).lost f i }
+        ensures failed { OnErr result (Looks (medium self.old) (medium self.new)) };
 
     ghost lawful: { (system : Self) → IsLawful told (medium system).disk };
 }

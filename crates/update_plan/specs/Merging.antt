@@ -23,9 +23,9 @@ both e c = record { name = e.name; stored = Some e; configured = Some c }
 
 -- the entry before, with or after the first of the configured elements
 abbrev pub by_order : Ordering → List Item → List Item → List Item → List Item
-by_order Less first same behind = first
-by_order Equal first same behind = same
-by_order Greater first same behind = behind
+by_order Less first same after = first
+by_order Equal first same after = same
+by_order Greater first same after = after
 
 abbrev pub with_entry : Entry → (List ElementData → List Item) → List ElementData → List Item
 with_entry e others [] = only_stored e ∷ others []

@@ -25,7 +25,7 @@ pub(crate) const INSTALLED: u64 = 1;
 pub(crate) enum Harm {
     /// It cannot be read.
     Unreadable,
-    /// Its last byte is lost, and nothing tells of it.
+    /// Its last byte is lost, and nothing says so.
     Shortened,
 }
 

@@ -1,5 +1,5 @@
-pub mod Fronts
 pub mod KindLaws
 pub mod Lengths
+pub mod Starts
 pub mod TreeLaws
 pub mod ValueLaws

@@ -80,7 +80,7 @@ meant_by b = if b == 34 then Some 34 else (if b == 92 then Some 92 else (if b ==
 
 -- The text up to the quote that ends it. Whether the byte before was a backslash is the first argument.
 unfoldable pub quoted_at : Bool → List ℕ → Option (List ℕ × List ℕ)
-quoted_at behind [] = None
+quoted_at is_escaped [] = None
 quoted_at true (b ∷ bytes) = meant_by b >>= λ m. with_front (m ∷ []) (quoted_at false bytes)
 quoted_at false (b ∷ bytes) = if b == 34 then Some ([], bytes) else
     (if b == 92 then quoted_at true bytes else (if b == 10 then None else with_front (b ∷ []) (quoted_at false bytes)))
@@ -96,5 +96,5 @@ unfoldable pub separated : {A : Type 0} → (List ℕ → Option (A × List ℕ)
 separated thing close zero bytes = None
 separated thing close (suc n) bytes = do
   x ← thing bytes
-  behind ← punctuation_at close x.1
-  if behind.0 then Some (x.0 ∷ [], behind.1) else with_front (x.0 ∷ []) (separated thing close n behind.1)
+  after ← punctuation_at close x.1
+  if after.0 then Some (x.0 ∷ [], after.1) else with_front (x.0 ∷ []) (separated thing close n after.1)

@@ -34,19 +34,19 @@ fn unescaped(alloc: Global, bytes: &[u8]) -> Result<(Vec<u8>, &[u8]), DecodeErro
     ensures { Gives (λ x. (x.0.items, x.1.now)) result (quoted_at false bytes.now) }
 {
     let mut text = Vec::new(alloc);
-    let mut is_behind = false;
+    let mut is_escaped = false;
     for i in 0..bytes.len() {
         let byte = bytes[i];
-        if is_behind {
+        if is_escaped {
             text.push(meant_by(byte)?)?;
-            is_behind = false;
+            is_escaped = false;
             continue;
         }
         if byte == QUOTE {
             return Ok((text, &bytes[i + 1..]));
         }
         if byte == BACKSLASH {
-            is_behind = true;
+            is_escaped = true;
             continue;
         }
         if byte == LINE_FEED {

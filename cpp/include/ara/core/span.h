@@ -8,7 +8,7 @@
 
 namespace ara::core {
 
-/// Items of another object that lie one after the other. It owns nothing, and is good for as long as they are there.
+/// Items of another object, stored one after the other. It owns nothing, and is good for as long as they are there.
 template <class T>
 class Span final {
   // A container lends its items where a pointer to them is one to T, const or not.

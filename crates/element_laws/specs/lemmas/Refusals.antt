@@ -64,8 +64,8 @@ index_first shape g was is le k =
           bad_good None is (both.0 is refl (inr (all_left shape le)))
     ]
 
-pub index_first_anew : IndexFirstRebuilt
-index_first_anew shape g salvage is le k =
+pub index_first_rebuilt : IndexFirstRebuilt
+index_first_rebuilt shape g salvage is le k =
     let becomes = k.stays (one g (Bad None)) [] refl in
     bad_good None is (becomes.1.0 is refl (inr (all_left shape le)))
 

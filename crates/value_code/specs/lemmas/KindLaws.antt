@@ -9,7 +9,7 @@ use Rattle.value_model.specs.Kinds.{text_kind, bytes_kind, list_kind, fields_kin
 use Rattle.value_model.specs.Kinds.{count_kinds, kind_depth, kinds_depth, kind_fits, kinds_fit, type_code, type_codes}
 use Rattle.value_code.specs.Reading.{scalars, find_code, scalar_of, scalar_kind, kinds_by, list_kind_by}
 use Rattle.value_code.specs.Reading.{group_kind_by, kind_at}
-use Rattle.value_code.specs.lemmas.Fronts.{bind_some, some_is, let_pass, either_way, Takes, Takes-then, byte_takes}
+use Rattle.value_code.specs.lemmas.Starts.{bind_some, some_is, let_pass, either_way, Takes, Takes-then, byte_takes}
 
 -- a kind of at most depth d that was read from bytes, with the bytes after it
 pub record KindRead (d : ℕ) (bytes : List ℕ) (k : Kind) (rest : List ℕ) : Type 0 where

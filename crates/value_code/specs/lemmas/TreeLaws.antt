@@ -20,10 +20,10 @@ use Rattle.value_model.specs.Validity.{AllOf, AllTyped, IsTyped, AllInRange, InR
 use Rattle.value_model.specs.lemmas.Members.{count_types}
 use Rattle.value_code.specs.Reading.{number_at, counted_at, text_of, truth_of, trees_by, tree_at}
 use Rattle.value_code.specs.Reading.{trees_at}
-use Rattle.value_code.specs.lemmas.Fronts.{bind_some, some_is, let_pass, either_way, Takes, Takes-then}
-use Rattle.value_code.specs.lemmas.Fronts.{byte_takes}
-use Rattle.value_code.specs.lemmas.Fronts.{number_takes, number_again, counted_takes, counted_again, text_takes}
-use Rattle.value_code.specs.lemmas.Fronts.{text_of-IsUtf8}
+use Rattle.value_code.specs.lemmas.Starts.{bind_some, some_is, let_pass, either_way, Takes, Takes-then}
+use Rattle.value_code.specs.lemmas.Starts.{byte_takes}
+use Rattle.value_code.specs.lemmas.Starts.{number_takes, number_again, counted_takes, counted_again, text_takes}
+use Rattle.value_code.specs.lemmas.Starts.{text_of-IsUtf8}
 use Rattle.value_code.specs.lemmas.Lengths.{list_few}
 use Rattle.per_base.specs.Fields.{◌>>=◌, byte_at, AreBytes}
 

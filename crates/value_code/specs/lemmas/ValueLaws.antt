@@ -17,7 +17,7 @@ use Rattle.value_model.specs.Validity.{IsTyped, AllTyped, IsValue}
 use Rattle.value_model.specs.lemmas.Members.{count_types}
 use Rattle.value_model.specs.Decoding.{Gives}
 use Rattle.value_code.specs.Reading.{kind_at, tree_at, if_whole, decoded}
-use Rattle.value_code.specs.lemmas.Fronts.{bind_some, some_is, let_pass, not_stopped, Takes-then}
+use Rattle.value_code.specs.lemmas.Starts.{bind_some, some_is, let_pass, not_stopped, Takes-then}
 use Rattle.value_code.specs.lemmas.KindLaws.{kind_takes, kind_again}
 use Rattle.value_code.specs.lemmas.TreeLaws.{tree_takes, tree_again}
 

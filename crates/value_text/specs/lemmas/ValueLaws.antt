@@ -54,8 +54,8 @@ length-trees_list (tree_then t ts) = ap suc (length-trees_list ts)
 -- ---- what is read is spelled so
 
 -- a type's word, a colon and what was read after it spell the tree
-abbrev SpelledBehind : Kind → List ℕ → Tree × List ℕ → Type 0
-SpelledBehind k bytes x = (type_text k ++ 58 ∷ bytes ≡ value_text x.0 ++ x.1) × InRange x.0
+abbrev SpelledAfter : Kind → List ℕ → Tree × List ℕ → Type 0
+SpelledAfter k bytes x = (type_text k ++ 58 ∷ bytes ≡ value_text x.0 ++ x.1) × InRange x.0
 
 -- what was read spells the tree, whose numbers, texts and bytes are in range
 abbrev Spelled : List ℕ → Tree × List ℕ → Type 0
@@ -71,26 +71,26 @@ fits_mag two z lt = record { sfits = lt }
 fits_mag four z lt = record { sfits = lt }
 fits_mag eight z lt = record { sfits = lt }
 
-bool_takes : (bytes : List ℕ) (x : Tree × List ℕ) → bool_at bytes ≡ Some x → SpelledBehind bool_kind bytes x
+bool_takes : (bytes : List ℕ) (x : Tree × List ℕ) → bool_at bytes ≡ Some x → SpelledAfter bool_kind bytes x
 bool_takes bytes x e =
     elim (branch_some (literal_at (codes "true") bytes) (λ rest. Some (bool_tree true, rest))
     (literal_at (codes "false") bytes >>= λ rest. Some (bool_tree false, rest)) x e) [
-      | inl p ↦ subst (λ (y : Tree × List ℕ). SpelledBehind bool_kind bytes y) (some_is (bool_tree true, p.0) x p.2)
+      | inl p ↦ subst (λ (y : Tree × List ℕ). SpelledAfter bool_kind bytes y) (some_is (bool_tree true, p.0) x p.2)
           (ap (λ (t : List ℕ). codes "bool:" ++ t) (literal_takes (codes "true") bytes p.0 p.1), tt)
       | inr p ↦
           let a = bind_some (literal_at (codes "false") bytes) (λ rest. Some (bool_tree false, rest)) x p.1 in
-          subst (λ (y : Tree × List ℕ). SpelledBehind bool_kind bytes y) (some_is (bool_tree false, a.0) x a.2)
+          subst (λ (y : Tree × List ℕ). SpelledAfter bool_kind bytes y) (some_is (bool_tree false, a.0) x a.2)
           (ap (λ (t : List ℕ). codes "bool:" ++ t) (literal_takes (codes "false") bytes a.0 a.1), tt)
     ]
 
 content_takes : (k : Kind) (bytes : List ℕ) (x : Tree × List ℕ) → value_content_at k bytes ≡ Some x
-    → SpelledBehind k bytes x
+    → SpelledAfter k bytes x
 unfolding value_content_at
 content_takes bool_kind bytes x e = bool_takes bytes x e
 content_takes (unsigned_kind s) bytes x e =
     let a = bind_some (unsigned_at (unsigned_limit s) bytes) (λ n. Some (unsigned_tree s n.0, n.1)) x e in
     let number = unsigned_takes (unsigned_limit s) bytes a.0 a.1 in
-    subst (λ (y : Tree × List ℕ). SpelledBehind (unsigned_kind s) bytes y)
+    subst (λ (y : Tree × List ℕ). SpelledAfter (unsigned_kind s) bytes y)
     (some_is (unsigned_tree s a.0.0, a.0.1) x a.2) (
       ap (λ (t : List ℕ). type_text (unsigned_kind s) ++ 58 ∷ t) number.0
           ∙ sym (labelled (type_text (unsigned_kind s)) (decimal a.0.0) a.0.1),
@@ -99,7 +99,7 @@ content_takes (unsigned_kind s) bytes x e =
 content_takes (signed_kind s) bytes x e =
     let a = bind_some (signed_at (signed_limit s) bytes) (λ z. Some (signed_tree s z.0, z.1)) x e in
     let number = signed_takes (signed_limit s) bytes a.0 a.1 in
-    subst (λ (y : Tree × List ℕ). SpelledBehind (signed_kind s) bytes y) (some_is (signed_tree s a.0.0, a.0.1) x a.2) (
+    subst (λ (y : Tree × List ℕ). SpelledAfter (signed_kind s) bytes y) (some_is (signed_tree s a.0.0, a.0.1) x a.2) (
       ap (λ (t : List ℕ). type_text (signed_kind s) ++ 58 ∷ t) number.0
           ∙ sym (labelled (type_text (signed_kind s)) (signed_decimal a.0.0) a.0.1),
       fits_mag s a.0.0 number.1,
@@ -107,7 +107,7 @@ content_takes (signed_kind s) bytes x e =
 content_takes text_kind bytes x e =
     let a = bind_some (text_at bytes) (λ t. Some (text_tree t.0, t.1)) x e in
     let text = text_takes bytes a.0 a.1 in
-    subst (λ (y : Tree × List ℕ). SpelledBehind text_kind bytes y) (some_is (text_tree a.0.0, a.0.1) x a.2) (
+    subst (λ (y : Tree × List ℕ). SpelledAfter text_kind bytes y) (some_is (text_tree a.0.0, a.0.1) x a.2) (
       ap (λ (t : List ℕ). codes "text:" ++ t) text.0 ∙ ap (λ (t : List ℕ). codes "text:\"" ++ t)
           (sym (append_assoc (escaped a.0.0) (codes "\"") a.0.1)),
       text.1,
@@ -115,7 +115,7 @@ content_takes text_kind bytes x e =
 content_takes bytes_kind bytes x e =
     let a = bind_some (hex_bytes_at (length bytes) bytes) (λ b. Some (bytes_tree b.0, b.1)) x e in
     let hex = bytes_takes (length bytes) bytes a.0 a.1 in
-    subst (λ (y : Tree × List ℕ). SpelledBehind bytes_kind bytes y) (some_is (bytes_tree a.0.0, a.0.1) x a.2)
+    subst (λ (y : Tree × List ℕ). SpelledAfter bytes_kind bytes y) (some_is (bytes_tree a.0.0, a.0.1) x a.2)
     (ap (λ (t : List ℕ). codes "bytes:" ++ t) hex.0, hex.1)
 content_takes (list_kind k) bytes x e = absurd cc
 content_takes (fields_kind ks) bytes x e = absurd cc

@@ -1,12 +1,12 @@
-use Rattle.element_laws.specs.lemmas.Refusals.{index_first, index_first_anew, old_overwritten, other_value, planted}
+use Rattle.element_laws.specs.lemmas.Refusals.{index_first, index_first_rebuilt, old_overwritten, other_value, planted}
 use Rattle.element_laws.specs.lemmas.Refusals.{copy_eaten, other_raised, salvage_raised, salvage_lost}
 use Rattle.element_laws.proofs.laws.outcomes_are_refused.Goals as goal
 
 pub returns-clause-index_first : goal.returns-clause-index_first
 returns-clause-index_first c = index_first
 
-pub returns-clause-index_first_anew : goal.returns-clause-index_first_anew
-returns-clause-index_first_anew c = index_first_anew
+pub returns-clause-index_first_rebuilt : goal.returns-clause-index_first_rebuilt
+returns-clause-index_first_rebuilt c = index_first_rebuilt
 
 pub returns-clause-old_overwritten : goal.returns-clause-old_overwritten
 returns-clause-old_overwritten c = old_overwritten

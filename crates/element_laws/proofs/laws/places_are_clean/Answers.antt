@@ -1,4 +1,4 @@
-use Rattle.element_laws.specs.lemmas.AnewLaws.{clean_alone, clean_adopted, settled_sound, settled_kept}
+use Rattle.element_laws.specs.lemmas.RebuildingLaws.{clean_alone, clean_adopted, settled_sound, settled_kept}
 use Rattle.element_laws.proofs.laws.places_are_clean.Goals as goal
 
 pub returns-clause-alone : goal.returns-clause-alone

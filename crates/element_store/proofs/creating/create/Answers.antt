@@ -12,7 +12,7 @@ use Rattle.element_store.specs.Creates.{IsUntorn}
 use Rattle.element_store.specs.Plans.{IsWrittenEntry, blocks_of_all}
 use Rattle.element_store.specs.Spelled.{IsTextOf, ShowsFresh}
 use Rattle.element_store.proofs.Ruled.{blocks_enough}
-use Rattle.element_store.proofs.RebuiltKept.{anew_opens, contents_elsewhere, index_elsewhere}
+use Rattle.element_store.proofs.RebuiltKept.{rebuilding_opens, contents_elsewhere, index_elsewhere}
 use Rattle.element_store.proofs.GivenUp.{kept_names_nothing, untorn_sound, still_untorn, given_up_outside}
 use Rattle.element_store.proofs.GivenUp.{given_up_untorn, put_elsewhere, put_outside, put_untorn, made_outside}
 use Rattle.element_store.proofs.GivenUp.{made_untorn, most_kept, most_put, made_written, most_made}
@@ -275,7 +275,7 @@ returns-clause-sound g c = λ tells quiet x past. untorn_sound c.args.shape.plac
     (returns-clause-untorn g c tells quiet x past)
 
 pub returns-clause-opens : goal.returns-clause-opens
-returns-clause-opens g c = λ tells. anew_opens (g.D.Disk.medium c.put_contents.new.disk).image
+returns-clause-opens g c = λ tells. rebuilding_opens (g.D.Disk.medium c.put_contents.new.disk).image
     (g.D.Disk.medium c.format_cell.new.disk).image c.args.shape 1 c.args.contents.items c.in_ok-cell.cell
     c.in_ok-spelled.spelled.index c.as_slice-2.result.now
     c.requires.shape c.in_ok-cell.ensures.cell

@@ -9,8 +9,8 @@ use Rattle.element_store.specs.Plans.{blocks_of_all}
 use Rattle.element_store.specs.Spelled.{ShowsFresh, IsTextOf}
 use Rattle.element_store.proofs.Created.{created_clean}
 use Rattle.element_store.proofs.Ruled.{blocks_enough}
-use Rattle.element_store.proofs.RebuiltKept.{contents_anew, index_anew, contents_elsewhere, index_elsewhere}
-use Rattle.element_store.proofs.RebuiltKept.{contents_outside, index_outside, anew_in_use, anew_opens}
+use Rattle.element_store.proofs.RebuiltKept.{contents_rebuilt, index_rebuilt, contents_elsewhere, index_elsewhere}
+use Rattle.element_store.proofs.RebuiltKept.{contents_outside, index_outside, rebuilding_in_use, rebuilding_opens}
 use Rattle.element_store.proofs.rebuilding.rebuild.Goals as goal
 
 pub returns-in_err-used-clause-any_moment : goal.returns-in_err-used-clause-any_moment
@@ -38,7 +38,7 @@ put_contents-requires-clause-free g c =
 
 pub returns-in_err-spelled-clause-any_moment : goal.returns-in_err-spelled-clause-any_moment
 returns-in_err-spelled-clause-any_moment g c = λ tells.
-    contents_anew c.args.shape.now c.in_ok-used.field-0.used c.in_ok-used.field-0.generation c.args.contents.items
+    contents_rebuilt c.args.shape.now c.in_ok-used.field-0.used c.in_ok-used.field-0.generation c.args.contents.items
     (g.D.Disk.medium c.args.disk.now) (g.D.Disk.medium c.prepare.new.disk) c.in_ok-used.ensures.time
     (c.in_ok-used.ensures.kept tells) (c.in_ok-used.ensures.ready tells) c.in_ok-used.ensures.quiet
     (g.D.Disk.medium c.put_contents.new.disk) c.in_err-spelled.ensures.time
@@ -72,7 +72,7 @@ adopt-requires-clause-short g c =
     omega (arith, short, a, b)
 
 pub returns-in_err-adopt-clause-any_moment : goal.returns-in_err-adopt-clause-any_moment
-returns-in_err-adopt-clause-any_moment g c = λ tells. index_anew c.args.shape.now c.in_ok-used.field-0.used
+returns-in_err-adopt-clause-any_moment g c = λ tells. index_rebuilt c.args.shape.now c.in_ok-used.field-0.used
     c.in_ok-used.field-0.generation c.args.contents.items (g.D.Disk.medium c.args.disk.now)
     (g.D.Disk.medium c.prepare.new.disk) c.in_ok-used.ensures.time (c.in_ok-used.ensures.kept tells)
     (c.in_ok-used.ensures.ready tells) c.in_ok-used.ensures.quiet (g.D.Disk.medium c.put_contents.new.disk)
@@ -107,7 +107,7 @@ returns-in_err-adopt-clause-outside g c = λ tells quiet.
     c.in_ok-spelled.ensures.quiet)
 
 pub returns-clause-any_moment : goal.returns-clause-any_moment
-returns-clause-any_moment g c = λ tells. index_anew c.args.shape.now c.in_ok-used.field-0.used
+returns-clause-any_moment g c = λ tells. index_rebuilt c.args.shape.now c.in_ok-used.field-0.used
     c.in_ok-used.field-0.generation c.args.contents.items (g.D.Disk.medium c.args.disk.now)
     (g.D.Disk.medium c.prepare.new.disk) c.in_ok-used.ensures.time (c.in_ok-used.ensures.kept tells)
     (c.in_ok-used.ensures.ready tells) c.in_ok-used.ensures.quiet (g.D.Disk.medium c.put_contents.new.disk)
@@ -141,7 +141,7 @@ returns-clause-outside g c = λ tells quiet. index_outside c.args.shape.now.plac
     c.in_ok-spelled.ensures.quiet)
 
 pub returns-clause-opens : goal.returns-clause-opens
-returns-clause-opens g c = λ tells. anew_opens (g.D.Disk.medium c.put_contents.new.disk).image
+returns-clause-opens g c = λ tells. rebuilding_opens (g.D.Disk.medium c.put_contents.new.disk).image
     (g.D.Disk.medium c.adopt.new.disk).image c.args.shape.now c.in_ok-used.field-0.generation c.args.contents.items
     c.in_ok-adopt.field-0 c.in_ok-spelled.spelled.index c.as_slice.result.now
     c.requires.shape c.in_ok-adopt.ensures.cell
@@ -155,7 +155,7 @@ returns-clause-opens g c = λ tells. anew_opens (g.D.Disk.medium c.put_contents.
     (c.in_ok-used.ensures.generation tells)
 
 pub returns-clause-in_use : goal.returns-clause-in_use
-returns-clause-in_use g c = λ tells. anew_in_use (g.D.Disk.medium c.put_contents.new.disk).image
+returns-clause-in_use g c = λ tells. rebuilding_in_use (g.D.Disk.medium c.put_contents.new.disk).image
     (g.D.Disk.medium c.adopt.new.disk).image c.args.shape.now c.in_ok-used.field-0.generation c.args.contents.items
     c.in_ok-adopt.field-0 c.in_ok-spelled.spelled.index c.as_slice.result.now
     c.requires.shape c.in_ok-adopt.ensures.cell

@@ -9,7 +9,7 @@ use Rattle.file_handles.specs.Sessions.{Session}
 use Rattle.file_handles.specs.Tables.{AreFiles, Table}
 use Rattle.element_state.specs.declared.shapes.Shape.{Shape}
 use Rattle.element_state.specs.Views.{element_of}
-use Rattle.element_store.specs.Stores.{shape_of}
+use Rattle.element_store.specs.Stores.{store_shape}
 use Rattle.element_maps.specs.Storages.{IsConfigured}
 use Rattle.file_storage.specs.FileSessions.{storage_of, stored_in}
 use Rattle.file_storage.specs.StoredFiles.{IsStoredFile}
@@ -60,7 +60,7 @@ invariant_of-files g c =
     ∙ ap (map element_of) c.into_vec-entries.ensures) in
     record {
       valid = subst (λ (d : StorageData). IsStorage d) (sym c.in_ok-config.ensures) c.requires.valid;
-      configured = subst (λ (d : StorageData). IsConfigured Files d (shape_of c.in_ok-opened.opened.store))
+      configured = subst (λ (d : StorageData). IsConfigured Files d (store_shape c.in_ok-opened.opened.store))
           (sym c.in_ok-config.ensures)
           (subst (λ (sh : Shape). IsConfigured Files (storage_data c.args.config.now) sh)
           (sym c.in_ok-opened.ensures.shape) c.requires.configured);

@@ -4,8 +4,9 @@ use Rattle.deployment_model.specs.Conditions.{IsStorage}
 use Rattle.deployment_model.specs.Data.{storage_data}
 use Rattle.deployment_model.specs.declared.configs.Deployment.{Deployment}
 use Rattle.deployment_model.specs.declared.configs.StorageConfig.{StorageConfig}
+use Rattle.deploy_laws.specs.Places.{version_in_bank}
 use Rattle.per_audit.specs.Audits.{listed_of, of_storage}
-use Rattle.per_audit.specs.Noted.{AddsNotes, of_previous, over_storages, version_in_bank}
+use Rattle.per_audit.specs.Noted.{AddsNotes, of_previous, over_storages}
 use Rattle.per_audit.proofs.Applications.{adds_nothing, kept_some}
 use Rattle.per_audit.proofs.Remaining.{few_storages}
 use Rattle.per_audit.proofs.auditing.audit_previous.Goals as goal

@@ -6,8 +6,9 @@ use Rattle.disk_model.specs.Image.{Image}
 use Rattle.deployment_model.specs.Conditions.{IsStorage}
 use Rattle.deployment_model.specs.Data.{deployment_data, storage_data}
 use Rattle.deployment_model.specs.declared.configs.StorageConfig.{StorageConfig}
+use Rattle.deploy_laws.specs.Places.{version_in_bank}
 use Rattle.per_audit.specs.Audits.{damaged_by, listed_of, of_storage, unless_sole}
-use Rattle.per_audit.specs.Noted.{AddsNotes, of_previous, over_storages, version_in_bank}
+use Rattle.per_audit.specs.Noted.{AddsNotes, of_previous, over_storages}
 use Rattle.per_audit.proofs.Applications.{adds_on, shown_active, shown_previous}
 use Rattle.per_audit.proofs.Remaining.{few_storages}
 use Rattle.per_audit.proofs.auditing.audit_versions.Goals as goal

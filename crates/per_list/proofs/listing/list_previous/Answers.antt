@@ -5,7 +5,8 @@ use Rattle.deployment_model.specs.Conditions.{IsStorage}
 use Rattle.deployment_model.specs.Data.{storage_data}
 use Rattle.deployment_model.specs.declared.configs.Deployment.{Deployment}
 use Rattle.deployment_model.specs.declared.configs.StorageConfig.{StorageConfig}
-use Rattle.per_list.specs.Seen.{previous_seen, storages_seen, previous_in_bank}
+use Rattle.deploy_laws.specs.Places.{version_in_bank}
+use Rattle.per_list.specs.Seen.{previous_seen, storages_seen}
 use Rattle.per_list.proofs.Storages.{few_storages, kept_some}
 use Rattle.per_list.proofs.listing.list_previous.Goals as goal
 
@@ -14,7 +15,7 @@ returns-in_default-clause-adds g c = λ tells.
     let old = (g.D.Disk.medium c.args.disk.now).image in
     let start = string_bytes c.args.out.now in
     subst (λ (o : Option Deployment). start
-    ≡ start ++ previous_seen c.args.form old c.args.app (previous_in_bank c.args.bank o)) (sym c.in_default.is)
+    ≡ start ++ previous_seen c.args.form old c.args.app (version_in_bank c.args.bank o)) (sym c.in_default.is)
     (sym (append-nil start))
 
 pub list_storages-requires-clause-few : goal.list_storages-requires-clause-few
@@ -35,7 +36,7 @@ returns-clause-adds g c = λ tells.
     let old = (g.D.Disk.medium c.args.disk.now).image in
     let start = string_bytes c.args.out.now in
     subst (λ (o : Option Deployment). string_bytes c.list_storages.new.out
-    ≡ start ++ previous_seen c.args.form old c.args.app (previous_in_bank c.args.bank o)) (sym c.in-Some.is)
+    ≡ start ++ previous_seen c.args.form old c.args.app (version_in_bank c.args.bank o)) (sym c.in-Some.is)
     (c.in_ok-list_storages.ensures.adds tells
     ∙ ap (λ (ds : List StorageConfig). start
     ++ storages_seen c.args.form old c.args.app c.args.bank 0 (map storage_data ds)) c.as_slice.ensures)

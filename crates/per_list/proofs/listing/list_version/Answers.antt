@@ -5,8 +5,9 @@ use Rattle.disk_model.specs.Image.{Image}
 use Rattle.deployment_model.specs.Conditions.{IsStorage}
 use Rattle.deployment_model.specs.Data.{deployment_data, storage_data}
 use Rattle.deployment_model.specs.declared.configs.StorageConfig.{StorageConfig}
+use Rattle.deploy_laws.specs.Places.{version_in_bank}
 use Rattle.per_list.specs.Listings.{list_end, next_list, version_head, version_number}
-use Rattle.per_list.specs.Seen.{previous_seen, storages_seen, previous_in_bank}
+use Rattle.per_list.specs.Seen.{previous_seen, storages_seen}
 use Rattle.per_list.proofs.Storages.{few_storages, number_named, shown_active, shown_previous}
 use Rattle.per_list.proofs.Texts.{five}
 use Rattle.per_list.proofs.listing.list_version.Goals as goal
@@ -15,14 +16,14 @@ pub list_storages-requires-clause-bank : goal.list_storages-requires-clause-bank
 list_storages-requires-clause-bank g c =
     let s = c.args.state.now in
     let placed = shown_active (record { bank = s.bank; deployment = deployment_data s.active })
-    (previous_in_bank (1 - s.bank) s.previous) s.lacking s.sole c.requires.versions in
+    (version_in_bank (1 - s.bank) s.previous) s.lacking s.sole c.requires.versions in
     placed.in_bank
 
 pub list_storages-requires-clause-few : goal.list_storages-requires-clause-few
 list_storages-requires-clause-few g c =
     let s = c.args.state.now in
     let placed = shown_active (record { bank = s.bank; deployment = deployment_data s.active })
-    (previous_in_bank (1 - s.bank) s.previous) s.lacking s.sole c.requires.versions in
+    (version_in_bank (1 - s.bank) s.previous) s.lacking s.sole c.requires.versions in
     subst (λ (ds : List StorageConfig). length ds ≤ 16) (sym c.as_slice.ensures)
     (few_storages s.active.storages placed.keeps.few)
 
@@ -30,7 +31,7 @@ pub list_storages-requires-clause-each : goal.list_storages-requires-clause-each
 list_storages-requires-clause-each g c =
     let s = c.args.state.now in
     let placed = shown_active (record { bank = s.bank; deployment = deployment_data s.active })
-    (previous_in_bank (1 - s.bank) s.previous) s.lacking s.sole c.requires.versions in
+    (version_in_bank (1 - s.bank) s.previous) s.lacking s.sole c.requires.versions in
     subst (λ (ds : List StorageConfig). AllByRecursion IsStorage (map storage_data ds)) (sym c.as_slice.ensures)
     placed.keeps.each
 
@@ -46,7 +47,7 @@ returns-clause-adds g c = λ tells.
     let old = (g.D.Disk.medium c.args.disk.now).image in
     let form = c.args.form in
     let app = c.args.app in
-    let before = previous_in_bank (1 - s.bank) s.previous in
+    let before = version_in_bank (1 - s.bank) s.previous in
     let head = λ (p : Option ℕ). version_head form app s.bank s.active.version p in
     let seen = λ (ds : List StorageConfig). storages_seen form old app s.bank 0 (map storage_data ds) in
     five (string_bytes c.args.out.now) (string_bytes c.push_version_head.new.out)

@@ -5,7 +5,7 @@ use Rattle.migrate_fns.specs.Stored.{answers_of, rules_of}
 use Rattle.command_text.specs.Generated.{generated_lines}
 use Rattle.per_runtime.specs.Memories.{IsRuntime, memory_of}
 use Rattle.per_run.specs.Steps.{Counted}
-use Rattle.per_run.proofs.Tallied.{number_behind}
+use Rattle.per_run.proofs.Tallied.{number_after}
 use Rattle.per_run.proofs.generating.handle_generated.Given as goal
 
 pub record Made (Counts InUse Later : Type 0) (x behind : ℕ) : Type 0 where
@@ -25,4 +25,4 @@ invariant-loop-index g l = Made
     (memory_of l.batch.runtime) l.batch.tally (g.D.Disk.medium l.disk))
     (IsRuntime g.D.Disk.told (g.D.Disk.medium l.disk) l.batch.runtime)
     (Elapses (g.D.Disk.medium l.initial.disk) (g.D.Disk.medium l.disk))
-    l.x (number_behind l.number l.index)
+    l.x (number_after l.number l.index)

@@ -1,6 +1,7 @@
 -- Each job, and why it ended so.
 use Rattle.std.proofs.Common.{ℕ, ◌<◌, ◌∙◌, ap, arith, refl, subst, sym}
-use Rattle.per_run.specs.declared.words.JobKind.TheVariants.{Run, Serve, Format, Generate, Audit, Export, Import}
+use Rattle.per_run.specs.declared.words.JobKind.TheVariants.{Run, Serve, Format, Generate, Audit, Listing, Export}
+use Rattle.per_run.specs.declared.words.JobKind.TheVariants.{Import, RecoverRoot}
 use Rattle.per_run.specs.Steps.{IsInRange}
 use Rattle.per_run.proofs.Caused.{caused_as, done_as, run_caused, serve_caused, written_caused}
 use Rattle.per_run.proofs.job.run_job.Goals as goal
@@ -44,6 +45,15 @@ returns-in-Audit-clause-job g c =
 pub returns-in-Audit-clause-caused : goal.returns-in-Audit-clause-caused
 returns-in-Audit-clause-caused g c = caused_as _ Audit _ _ _ c.in-Audit.is (c.audit_disk.ensures.caused _)
 
+pub returns-in-Listing-clause-job : goal.returns-in-Listing-clause-job
+returns-in-Listing-clause-job g c =
+    done_as _ g.D.Disk.medium _ (Listing c.in-Listing.form) _ _ _ _ _ _ _ _ _ _ _ c.in-Listing.is
+    c.list_disk.ensures.job
+
+pub returns-in-Listing-clause-caused : goal.returns-in-Listing-clause-caused
+returns-in-Listing-clause-caused g c =
+    caused_as _ (Listing c.in-Listing.form) _ _ _ c.in-Listing.is (c.list_disk.ensures.caused _)
+
 pub export_storage-requires : goal.export_storage-requires
 export_storage-requires g c =
     let within : c.in-Export.application < 8 = subst IsInRange c.in-Export.is c.requires in
@@ -75,3 +85,17 @@ pub returns-in-Import-clause-caused : goal.returns-in-Import-clause-caused
 returns-in-Import-clause-caused g c = caused_as _ (Import c.from-in-Import.result c.in-Import.name) _ _ _
     (c.in-Import.is ∙ ap (λ (app : ℕ). Import app c.in-Import.name) (sym c.from-in-Import.ensures))
     c.import_storage.ensures.caused
+
+pub recover-requires : goal.recover-requires
+recover-requires g c =
+    let within : c.in-RecoverRoot.application < 8 = subst IsInRange c.in-RecoverRoot.is c.requires in
+    omega (arith, within, c.from-in-RecoverRoot.ensures)
+
+pub returns-in-RecoverRoot-clause-job : goal.returns-in-RecoverRoot-clause-job
+returns-in-RecoverRoot-clause-job g c =
+    done_as _ g.D.Disk.medium _ (RecoverRoot c.from-in-RecoverRoot.result) _ _ _ _ _ _ _ _ _ _ _
+    (c.in-RecoverRoot.is ∙ ap RecoverRoot (sym c.from-in-RecoverRoot.ensures)) c.recover.ensures.job
+
+pub returns-in-RecoverRoot-clause-caused : goal.returns-in-RecoverRoot-clause-caused
+returns-in-RecoverRoot-clause-caused g c = caused_as _ (RecoverRoot c.from-in-RecoverRoot.result) _ _ _
+    (c.in-RecoverRoot.is ∙ ap RecoverRoot (sym c.from-in-RecoverRoot.ensures)) (c.recover.ensures.caused _)

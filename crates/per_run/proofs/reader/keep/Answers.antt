@@ -1,4 +1,4 @@
--- The front of a line with more bytes: it is full, or it grows.
+-- The start of a line with more bytes: it is full, or it grows.
 use Rattle.std.proofs.Common.{◌∙◌, arith}
 use Rattle.per_run.proofs.Fronts.{keeps_front}
 use Rattle.per_run.proofs.reader.keep.Goals as goal

@@ -32,5 +32,7 @@ returns c =
     let audit = c.in_ok-arg-5.ensures.shape c.flag-2.ensures.global ∙ ap₂ with_rule generate c.flag-2.ensures.rule in
     let export = c.in_ok-arg-6.ensures.shape c.option-4.ensures.global ∙ ap₂ with_rule audit c.option-4.ensures.rule in
     let import = c.in_ok-arg-7.ensures.shape c.option-5.ensures.global ∙ ap₂ with_rule export c.option-5.ensures.rule in
-    IfOk-weaker c.arg-8.result _ _ (λ r adds. adds.shape c.flag-3.ensures.global
-    ∙ ap₂ with_rule import c.flag-3.ensures.rule) c.arg-8.ensures
+    let serve = c.in_ok-arg-8.ensures.shape c.flag-3.ensures.global ∙ ap₂ with_rule import c.flag-3.ensures.rule in
+    let list = c.in_ok-arg-9.ensures.shape c.option-6.ensures.global ∙ ap₂ with_rule serve c.option-6.ensures.rule in
+    IfOk-weaker c.arg-10.result _ _ (λ r adds. adds.shape c.option-7.ensures.global
+    ∙ ap₂ with_rule list c.option-7.ensures.rule) c.arg-10.ensures

@@ -16,5 +16,7 @@ returns c = reads_as c.only_mode.result _ _
     (c.get_str-4.ensures ∙ first_value-rows (found_of c.args.matches.now) (codes "export"))
     (c.get_str-5.ensures ∙ first_value-rows (found_of c.args.matches.now) (codes "import"))
     (c.is_set-3.ensures ∙ ap is_set (c.get_str-6.ensures
-    ∙ first_value-rows (found_of c.args.matches.now) (codes "serve"))))
+    ∙ first_value-rows (found_of c.args.matches.now) (codes "serve")))
+    (c.get_str-7.ensures ∙ first_value-rows (found_of c.args.matches.now) (codes "list"))
+    (c.get_str-8.ensures ∙ first_value-rows (found_of c.args.matches.now) (codes "recover-root")))
     c.only_mode.ensures

@@ -1,4 +1,4 @@
-use Rattle.value_code.specs.lemmas.Fronts.{text_of-IsUtf8, text_of-not}
+use Rattle.value_code.specs.lemmas.Starts.{text_of-IsUtf8, text_of-not}
 use Rattle.value_code.proofs.fields.text_of.Goals as goal
 
 pub returns-in-Ok : goal.returns-in-Ok

@@ -5,4 +5,4 @@ use Rattle.value_text.proofs.strings.unescaped.Given as goal
 
 -- the text so far, and what is left of it
 abbrev pub invariant-loop-i : goal.invariant-loop-i
-invariant-loop-i l = with_front l.text.items (quoted_at l.is_behind (drop l.i l.bytes)) ≡ quoted_at false l.bytes
+invariant-loop-i l = with_front l.text.items (quoted_at l.is_escaped (drop l.i l.bytes)) ≡ quoted_at false l.bytes

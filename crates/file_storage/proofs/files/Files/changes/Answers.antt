@@ -5,7 +5,7 @@ use Rattle.file_handles.specs.Tables.{IsTable}
 use Rattle.deployment_model.specs.Data.{storage_data}
 use Rattle.element_state.specs.Views.{element_of}
 use Rattle.element_maps.specs.Sessions.{IsSync}
-use Rattle.element_store.specs.Stores.{shape_of, view_in}
+use Rattle.element_store.specs.Stores.{store_shape, view_in}
 use Rattle.file_storage.specs.FileSessions.{AreAsStored, FilesInUse, storage_of, stored_in}
 use Rattle.file_storage.specs.Walks.{walked}
 use Rattle.file_storage.proofs.Synced.{is_sync}
@@ -19,7 +19,7 @@ returns c =
     c.invariants.ensures.unreadable in
     let made = c.in_ok-list.ensures ∙ ap (λ (m : Map). walked m (map element_of c.entries.result.now)) c.files.ensures
     ∙ ap (λ es. walked c.self.inside.table.session.files (map element_of es)) c.entries.ensures in
-    subst (λ (s : FilesInUse). IsSync (shape_of s.store) (λ bytes. true) (view_in s.store) (stored_in s.store)
+    subst (λ (s : FilesInUse). IsSync (store_shape s.store) (λ bytes. true) (view_in s.store) (stored_in s.store)
     s.session.files c.in_ok-list.list.items) c.self.view_is
     (is_sync c.views_are_maps.ensures.untested (storage_data c.self.inside.config) c.self.inside.store
     c.self.inside.table.session.files c.self.inside.table.session.handles c.in_ok-list.list.items

@@ -4,7 +4,7 @@ use Rattle.deployment_model.specs.Data.{storage_data}
 use Rattle.element_state.specs.States.{Opens, greatest_generation}
 use Rattle.element_maps.specs.Sessions.{IsSync}
 use Rattle.element_maps.specs.Storages.{IsStoring}
-use Rattle.element_store.specs.Stores.{shape_of, view_in}
+use Rattle.element_store.specs.Stores.{store_shape, view_in}
 use Rattle.file_storage.specs.FileSessions.{FilesInUse, stored_in}
 use Rattle.file_storage.specs.Syncs.{IsSynced, WritesAtMost, is_synced, synced_view}
 use Rattle.file_storage.proofs.Synced.{commit_at_most, commit_storing, commit_synced, open_later, stored_then}
@@ -12,16 +12,16 @@ use Rattle.file_storage.proofs.files.Files.commit.Goals as goal
 
 pub commit-requires-clause-changes : goal.commit-requires-clause-changes
 commit-requires-clause-changes g c =
-    let sync = subst (λ (s : FilesInUse). IsSync (shape_of s.store) (λ bytes. true) (view_in s.store)
+    let sync = subst (λ (s : FilesInUse). IsSync (store_shape s.store) (λ bytes. true) (view_in s.store)
     (stored_in s.store) s.session.files c.args.changes.items) (sym c.self.view_is) c.requires.changes in
     let left = subst (λ (s : FilesInUse). (view_in s.store).generation < greatest_generation) (sym c.self.view_is)
     c.requires.not_worn in
-    c.changes_make_maps.ensures.taken (shape_of c.self.inside.store) (λ bytes. true) (view_in c.self.inside.store)
+    c.changes_make_maps.ensures.taken (store_shape c.self.inside.store) (λ bytes. true) (view_in c.self.inside.store)
     (stored_in c.self.inside.store) c.self.inside.table.session.files c.args.changes.items sync left
 
 pub invariant_of-result : goal.invariant_of-result
 invariant_of-result g c =
-    let sync = subst (λ (s : FilesInUse). IsSync (shape_of s.store) (λ bytes. true) (view_in s.store)
+    let sync = subst (λ (s : FilesInUse). IsSync (store_shape s.store) (λ bytes. true) (view_in s.store)
     (stored_in s.store) s.session.files c.args.changes.items) (sym c.self.view_is) c.requires.changes in
     open_later (storage_data c.self.inside.config) c.self.inside.store c.in-Ok.store c.self.inside.table.storage
     c.self.inside.table.session.files c.self.invariant c.in-Ok.ensures.shape
@@ -31,7 +31,7 @@ invariant_of-result g c =
 
 pub returns-in-Ok-clause-synced : goal.returns-in-Ok-clause-synced
 returns-in-Ok-clause-synced g c =
-    let sync = subst (λ (s : FilesInUse). IsSync (shape_of s.store) (λ bytes. true) (view_in s.store)
+    let sync = subst (λ (s : FilesInUse). IsSync (store_shape s.store) (λ bytes. true) (view_in s.store)
     (stored_in s.store) s.session.files c.args.changes.items) (sym c.self.view_is) c.requires.changes in
     let differ = subst (λ (s : FilesInUse). is_synced s ≡ false) (sym c.self.view_is) c.requires.differ in
     let before : FilesInUse = record {
@@ -53,7 +53,7 @@ returns-in-Ok-clause-synced g c =
 
 pub returns-in-Ok-clause-at_most : goal.returns-in-Ok-clause-at_most
 returns-in-Ok-clause-at_most g c =
-    let sync = subst (λ (s : FilesInUse). IsSync (shape_of s.store) (λ bytes. true) (view_in s.store)
+    let sync = subst (λ (s : FilesInUse). IsSync (store_shape s.store) (λ bytes. true) (view_in s.store)
     (stored_in s.store) s.session.files c.args.changes.items) (sym c.self.view_is) c.requires.changes in
     let differ = subst (λ (s : FilesInUse). is_synced s ≡ false) (sym c.self.view_is) c.requires.differ in
     let before : FilesInUse = record {
@@ -71,7 +71,7 @@ returns-in-Ok-clause-at_most g c =
 
 pub returns-in-Ok-clause-storing : goal.returns-in-Ok-clause-storing
 returns-in-Ok-clause-storing g c =
-    let sync = subst (λ (s : FilesInUse). IsSync (shape_of s.store) (λ bytes. true) (view_in s.store)
+    let sync = subst (λ (s : FilesInUse). IsSync (store_shape s.store) (λ bytes. true) (view_in s.store)
     (stored_in s.store) s.session.files c.args.changes.items) (sym c.self.view_is) c.requires.changes in
     let differ = subst (λ (s : FilesInUse). is_synced s ≡ false) (sym c.self.view_is) c.requires.differ in
     let before : FilesInUse = record {
@@ -81,7 +81,7 @@ returns-in-Ok-clause-storing g c =
       session = c.self.inside.table.session;
       moment = c.self.inside.table.moment;
     } in
-    subst (λ (s : FilesInUse). IsStoring g.D.Disk.told (shape_of s.store) (Opens (synced_view s) [])
+    subst (λ (s : FilesInUse). IsStoring g.D.Disk.told (store_shape s.store) (Opens (synced_view s) [])
     (g.D.Disk.medium c.args.disk.now) (g.D.Disk.medium c.commit.new.disk)) c.self.view_is
     (commit_storing before c.args.changes.items sync differ c.changes_make_maps.ensures.committed g.D.Disk.told
     (g.D.Disk.medium c.args.disk.now) (g.D.Disk.medium c.commit.new.disk)
@@ -89,7 +89,7 @@ returns-in-Ok-clause-storing g c =
 
 pub returns-in-Err-Device-clause-at_most : goal.returns-in-Err-Device-clause-at_most
 returns-in-Err-Device-clause-at_most g c =
-    let sync = subst (λ (s : FilesInUse). IsSync (shape_of s.store) (λ bytes. true) (view_in s.store)
+    let sync = subst (λ (s : FilesInUse). IsSync (store_shape s.store) (λ bytes. true) (view_in s.store)
     (stored_in s.store) s.session.files c.args.changes.items) (sym c.self.view_is) c.requires.changes in
     let differ = subst (λ (s : FilesInUse). is_synced s ≡ false) (sym c.self.view_is) c.requires.differ in
     let before : FilesInUse = record {
@@ -107,7 +107,7 @@ returns-in-Err-Device-clause-at_most g c =
 
 pub returns-in-Err-Device-clause-storing : goal.returns-in-Err-Device-clause-storing
 returns-in-Err-Device-clause-storing g c =
-    let sync = subst (λ (s : FilesInUse). IsSync (shape_of s.store) (λ bytes. true) (view_in s.store)
+    let sync = subst (λ (s : FilesInUse). IsSync (store_shape s.store) (λ bytes. true) (view_in s.store)
     (stored_in s.store) s.session.files c.args.changes.items) (sym c.self.view_is) c.requires.changes in
     let differ = subst (λ (s : FilesInUse). is_synced s ≡ false) (sym c.self.view_is) c.requires.differ in
     let before : FilesInUse = record {
@@ -117,7 +117,7 @@ returns-in-Err-Device-clause-storing g c =
       session = c.self.inside.table.session;
       moment = c.self.inside.table.moment;
     } in
-    subst (λ (s : FilesInUse). IsStoring g.D.Disk.told (shape_of s.store) (Opens (synced_view s) [])
+    subst (λ (s : FilesInUse). IsStoring g.D.Disk.told (store_shape s.store) (Opens (synced_view s) [])
     (g.D.Disk.medium c.args.disk.now) (g.D.Disk.medium c.commit.new.disk)) c.self.view_is
     (commit_storing before c.args.changes.items sync differ c.changes_make_maps.ensures.committed g.D.Disk.told
     (g.D.Disk.medium c.args.disk.now) (g.D.Disk.medium c.commit.new.disk)
@@ -126,7 +126,7 @@ returns-in-Err-Device-clause-storing g c =
 
 pub returns-in-Err-OutOfMemory-clause-at_most : goal.returns-in-Err-OutOfMemory-clause-at_most
 returns-in-Err-OutOfMemory-clause-at_most g c =
-    let sync = subst (λ (s : FilesInUse). IsSync (shape_of s.store) (λ bytes. true) (view_in s.store)
+    let sync = subst (λ (s : FilesInUse). IsSync (store_shape s.store) (λ bytes. true) (view_in s.store)
     (stored_in s.store) s.session.files c.args.changes.items) (sym c.self.view_is) c.requires.changes in
     let differ = subst (λ (s : FilesInUse). is_synced s ≡ false) (sym c.self.view_is) c.requires.differ in
     let before : FilesInUse = record {
@@ -144,7 +144,7 @@ returns-in-Err-OutOfMemory-clause-at_most g c =
 
 pub returns-in-Err-OutOfMemory-clause-storing : goal.returns-in-Err-OutOfMemory-clause-storing
 returns-in-Err-OutOfMemory-clause-storing g c =
-    let sync = subst (λ (s : FilesInUse). IsSync (shape_of s.store) (λ bytes. true) (view_in s.store)
+    let sync = subst (λ (s : FilesInUse). IsSync (store_shape s.store) (λ bytes. true) (view_in s.store)
     (stored_in s.store) s.session.files c.args.changes.items) (sym c.self.view_is) c.requires.changes in
     let differ = subst (λ (s : FilesInUse). is_synced s ≡ false) (sym c.self.view_is) c.requires.differ in
     let before : FilesInUse = record {
@@ -154,7 +154,7 @@ returns-in-Err-OutOfMemory-clause-storing g c =
       session = c.self.inside.table.session;
       moment = c.self.inside.table.moment;
     } in
-    subst (λ (s : FilesInUse). IsStoring g.D.Disk.told (shape_of s.store) (Opens (synced_view s) [])
+    subst (λ (s : FilesInUse). IsStoring g.D.Disk.told (store_shape s.store) (Opens (synced_view s) [])
     (g.D.Disk.medium c.args.disk.now) (g.D.Disk.medium c.commit.new.disk)) c.self.view_is
     (commit_storing before c.args.changes.items sync differ c.changes_make_maps.ensures.committed g.D.Disk.told
     (g.D.Disk.medium c.args.disk.now) (g.D.Disk.medium c.commit.new.disk)

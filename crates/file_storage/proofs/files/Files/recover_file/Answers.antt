@@ -5,7 +5,7 @@ use Rattle.per_base.specs.declared.errors.PerError.TheVariants.{OutOfMemory}
 use Rattle.per_base.specs.Maps.{element_at}
 use Rattle.per_base.specs.Refusals.{IsDue, IsRefusal}
 use Rattle.file_handles.specs.ByName as calls
-use Rattle.deployment_model.specs.Lookups.{initial_of}
+use Rattle.deployment_model.specs.Lookups.{initial_content}
 use Rattle.deployment_model.specs.Data.{storage_data}
 use Rattle.file_storage.specs.FileSessions.{FilesInUse, storage_of}
 use Rattle.file_storage.proofs.Keeping.{recover_keeps, stays_open}
@@ -22,7 +22,7 @@ invariant_of-self c = stays_open c.self.inside.table c.recover_file.new.self c.r
 pub returns-clause-refused : goal.returns-clause-refused
 returns-clause-refused c = subst (λ (s : FilesInUse).
     IfErr c.recover_file.result (λ error. IsRefusal (calls.recover_file (storage_of s.config) s.session
-    c.args.name.now c.args.now (initial_of s.config c.args.name.now)) error)) c.self.view_is
+    c.args.name.now c.args.now (initial_content s.config c.args.name.now)) error)) c.self.view_is
     (subst (λ initial. IfErr c.recover_file.result (λ error.
     IsRefusal (calls.recover_file (storage_of (storage_data c.self.inside.config)) c.self.inside.table.session
     c.args.name.now c.args.now initial) error)) c.initial_content-initial.ensures.initial
@@ -34,7 +34,7 @@ returns-clause-refused c = subst (λ (s : FilesInUse).
 pub returns-clause-memory : goal.returns-clause-memory
 returns-clause-memory c = subst (λ (s : FilesInUse). IfErr c.recover_file.result
     (λ error. error ≡ OutOfMemory → IsDue (calls.recover_file (storage_of s.config) s.session c.args.name.now
-    c.args.now (initial_of s.config c.args.name.now)))) c.self.view_is
+    c.args.now (initial_content s.config c.args.name.now)))) c.self.view_is
     (subst (λ initial. IfErr c.recover_file.result (λ error. error ≡ OutOfMemory
     → IsDue (calls.recover_file (storage_of (storage_data c.self.inside.config)) c.self.inside.table.session
     c.args.name.now c.args.now initial))) c.initial_content-initial.ensures.initial
@@ -46,7 +46,7 @@ returns-clause-memory c = subst (λ (s : FilesInUse). IfErr c.recover_file.resul
 pub returns-clause-copies : goal.returns-clause-copies
 returns-clause-copies c = subst (λ (s : FilesInUse). IfErr c.recover_file.result
     (λ error. error ≡ OutOfMemory → (file : Element) → element_at s.session.files c.args.name.now ≡ Some file
-    → calls.TakesInitial (initial_of s.config c.args.name.now) file.content)) c.self.view_is
+    → calls.TakesInitial (initial_content s.config c.args.name.now) file.content)) c.self.view_is
     (subst (λ initial. IfErr c.recover_file.result (λ error. error ≡ OutOfMemory → (file : Element)
     → element_at c.self.inside.table.session.files c.args.name.now ≡ Some file
     → calls.TakesInitial initial file.content)) c.initial_content-initial.ensures.initial

@@ -1,6 +1,6 @@
 use Rattle.std.proofs.Common.{[]}
 use Rattle.element_state.specs.States.{Opens}
-use Rattle.element_store.specs.Stores.{shape_of}
+use Rattle.element_store.specs.Stores.{store_shape}
 use Rattle.file_storage.specs.Syncs.{synced_view}
 use Rattle.file_storage.proofs.Synced.{none_storing, none_written}
 use Rattle.file_storage.proofs.files.Files.sync_to_file.Goals as goal
@@ -10,5 +10,5 @@ returns-in-Some-clause-at_most g c = none_written c.args.self (g.D.Disk.medium c
 
 pub returns-in-Some-clause-storing : goal.returns-in-Some-clause-storing
 returns-in-Some-clause-storing g c = none_storing c.untouched_is_kept.ensures.untouched g.D.Disk.told
-    (shape_of c.args.self.store) (Opens (synced_view c.args.self) []) (g.D.Disk.medium c.args.disk.now)
+    (store_shape c.args.self.store) (Opens (synced_view c.args.self) []) (g.D.Disk.medium c.args.disk.now)
     c.requires.memory.shape (g.met.D.Disk.lawful c.args.disk.now)

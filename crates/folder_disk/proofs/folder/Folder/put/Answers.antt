@@ -13,6 +13,6 @@ returns-then-note-clause-knows g c =
     let e = c.announce.ensures in
     let w = c.write_all-progress.ensures in
     let r : Range = record { file = c.args.file; at = c.args.at; len = c.write_all-progress.result.done } in
-    knows_noted told c.args.file c.args.at c.args.bytes.now c.write_all-progress.result.done w.count a b d e.image e.now
-    e.during e.time w.writes self.ranges.items self.is_fresh self.is_grown self.is_lost c.requires.knows e.named e.free
-    e.lost r refl refl refl c.note.new.ranges.items (c.note.ensures.noted c.if-note.true)
+    knows_noted told c.args.file c.args.at c.args.bytes.now c.write_all-progress.result.done w.count a b d e.image
+    c.in_ok-announce.ensures.now e.during e.time w.writes self.ranges.items self.is_fresh self.is_grown self.is_lost
+    c.requires.knows e.named e.free e.lost r refl refl refl c.note.new.ranges.items (c.note.ensures.noted c.if-note.true)

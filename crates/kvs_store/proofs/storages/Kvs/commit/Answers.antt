@@ -4,7 +4,7 @@ use Rattle.element_state.specs.States.{Opens, greatest_generation}
 use Rattle.element_maps.specs.Differences.{MakeInto}
 use Rattle.element_maps.specs.Storages.{IsStoring}
 use Rattle.element_store.specs.declared.store.Store.{Store}
-use Rattle.element_store.specs.Stores.{shape_of, view_in}
+use Rattle.element_store.specs.Stores.{store_shape, view_in}
 use Rattle.key_maps.specs.KeyElements.{is_encoding}
 use Rattle.key_maps.specs.TwoMaps.{AreTwoMaps}
 use Rattle.kvs_core.specs.Sessions.{HasRoom, Session}
@@ -31,7 +31,7 @@ commit-requires-clause-changes g c =
     (sym c.self.view_is) c.requires.changes in
     let left = subst (λ (s : KvsSession). (view_in s.store).generation < greatest_generation) (sym c.self.view_is)
     c.requires.not_worn in
-    c.changes_make_maps.ensures.taken (shape_of before.store) is_encoding (view_in before.store) before.session.synced
+    c.changes_make_maps.ensures.taken (store_shape before.store) is_encoding (view_in before.store) before.session.synced
     before.session.visible c.args.changes.items
     (is_sync before c.self.invariant c.invariants-2.ensures maps room c.args.changes.items made) left
 
@@ -112,7 +112,7 @@ returns-in-Ok-clause-storing g c =
     (sym c.self.view_is) c.requires.changes in
     let differ = subst (λ (s : KvsSession). is_synced s ≡ false) (sym c.self.view_is) c.requires.differ in
     let sync = is_sync before c.self.invariant c.invariants-2.ensures maps room c.args.changes.items made in
-    subst (λ (s : KvsSession). IsStoring g.D.Disk.told (shape_of s.store) (Opens (synced_view s) [])
+    subst (λ (s : KvsSession). IsStoring g.D.Disk.told (store_shape s.store) (Opens (synced_view s) [])
     (g.D.Disk.medium c.args.disk.now) (g.D.Disk.medium c.commit.new.disk)) c.self.view_is
     (commit_storing before c.args.changes.items sync differ c.changes_make_maps.ensures.committed g.D.Disk.told
     (g.D.Disk.medium c.args.disk.now) (g.D.Disk.medium c.commit.new.disk)
@@ -152,7 +152,7 @@ returns-in-Err-Device-clause-storing g c =
     (sym c.self.view_is) c.requires.changes in
     let differ = subst (λ (s : KvsSession). is_synced s ≡ false) (sym c.self.view_is) c.requires.differ in
     let sync = is_sync before c.self.invariant c.invariants-2.ensures maps room c.args.changes.items made in
-    subst (λ (s : KvsSession). IsStoring g.D.Disk.told (shape_of s.store) (Opens (synced_view s) [])
+    subst (λ (s : KvsSession). IsStoring g.D.Disk.told (store_shape s.store) (Opens (synced_view s) [])
     (g.D.Disk.medium c.args.disk.now) (g.D.Disk.medium c.commit.new.disk)) c.self.view_is
     (commit_storing before c.args.changes.items sync differ c.changes_make_maps.ensures.committed g.D.Disk.told
     (g.D.Disk.medium c.args.disk.now) (g.D.Disk.medium c.commit.new.disk)
@@ -193,7 +193,7 @@ returns-in-Err-OutOfMemory-clause-storing g c =
     (sym c.self.view_is) c.requires.changes in
     let differ = subst (λ (s : KvsSession). is_synced s ≡ false) (sym c.self.view_is) c.requires.differ in
     let sync = is_sync before c.self.invariant c.invariants-2.ensures maps room c.args.changes.items made in
-    subst (λ (s : KvsSession). IsStoring g.D.Disk.told (shape_of s.store) (Opens (synced_view s) [])
+    subst (λ (s : KvsSession). IsStoring g.D.Disk.told (store_shape s.store) (Opens (synced_view s) [])
     (g.D.Disk.medium c.args.disk.now) (g.D.Disk.medium c.commit.new.disk)) c.self.view_is
     (commit_storing before c.args.changes.items sync differ c.changes_make_maps.ensures.committed g.D.Disk.told
     (g.D.Disk.medium c.args.disk.now) (g.D.Disk.medium c.commit.new.disk)

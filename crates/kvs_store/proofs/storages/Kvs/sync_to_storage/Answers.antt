@@ -2,7 +2,7 @@ use Rattle.std.proofs.Common.{◌≡◌, [], length, true, sym, ◌∙◌}
 use Rattle.index_text.specs.Spelling.{index_text}
 use Rattle.element_state.specs.States.{Opens}
 use Rattle.element_store.specs.Committing.{index_in}
-use Rattle.element_store.specs.Stores.{shape_of}
+use Rattle.element_store.specs.Stores.{store_shape}
 use Rattle.kvs_store.specs.Synced.{is_synced, synced_view}
 use Rattle.kvs_store.proofs.Synced.{none_durable, none_marked, none_storing, none_written, same_view}
 use Rattle.kvs_store.proofs.storages.Kvs.sync_to_storage.Goals as goal
@@ -26,7 +26,7 @@ returns-then-is_synced-clause-at_most g c = none_written c.args.self (g.D.Disk.m
 
 pub returns-then-is_synced-clause-storing : goal.returns-then-is_synced-clause-storing
 returns-then-is_synced-clause-storing g c = none_storing c.untouched_is_kept.ensures.untouched g.D.Disk.told
-    (shape_of c.args.self.store) (Opens (synced_view c.args.self) []) (g.D.Disk.medium c.args.disk.now)
+    (store_shape c.args.self.store) (Opens (synced_view c.args.self) []) (g.D.Disk.medium c.args.disk.now)
     c.requires.memory.shape (g.met.D.Disk.lawful c.args.disk.now)
 
 pub returns-then-generation-clause-at_most : goal.returns-then-generation-clause-at_most
@@ -34,7 +34,7 @@ returns-then-generation-clause-at_most g c = none_written c.args.self (g.D.Disk.
 
 pub returns-then-generation-clause-storing : goal.returns-then-generation-clause-storing
 returns-then-generation-clause-storing g c = none_storing c.untouched_is_kept.ensures.untouched g.D.Disk.told
-    (shape_of c.args.self.store) (Opens (synced_view c.args.self) []) (g.D.Disk.medium c.args.disk.now)
+    (store_shape c.args.self.store) (Opens (synced_view c.args.self) []) (g.D.Disk.medium c.args.disk.now)
     c.requires.memory.shape (g.met.D.Disk.lawful c.args.disk.now)
 
 pub returns-in-Err-clause-at_most : goal.returns-in-Err-clause-at_most
@@ -42,5 +42,5 @@ returns-in-Err-clause-at_most g c = none_written c.args.self (g.D.Disk.medium c.
 
 pub returns-in-Err-clause-storing : goal.returns-in-Err-clause-storing
 returns-in-Err-clause-storing g c = none_storing c.untouched_is_kept.ensures.untouched g.D.Disk.told
-    (shape_of c.args.self.store) (Opens (synced_view c.args.self) []) (g.D.Disk.medium c.args.disk.now)
+    (store_shape c.args.self.store) (Opens (synced_view c.args.self) []) (g.D.Disk.medium c.args.disk.now)
     c.requires.memory.shape (g.met.D.Disk.lawful c.args.disk.now)

@@ -2,7 +2,7 @@ use Rattle.std.proofs.Common.{◌≡◌, [], true, sym, ◌∙◌, ap, subst}
 use Rattle.std.specs.Prelude.{Some, Ok, Result}
 use Rattle.per_base.specs.declared.errors.PerError.{PerError}
 use Rattle.element_state.specs.States.{Opens}
-use Rattle.element_store.specs.Stores.{shape_of}
+use Rattle.element_store.specs.Stores.{store_shape}
 use Rattle.deploy.specs.declared.errors.Stop.{Stop}
 use Rattle.file_storage.specs.declared.syncing.Closed.{Closed}
 use Rattle.per_base.specs.declared.faults.Fault.{Fault}
@@ -13,14 +13,14 @@ use Rattle.open_storages.specs.declared.opens.Open.TheVariants.{Files}
 use Rattle.open_storages.specs.declared.closing.Closing.{Closing}
 use Rattle.open_storages.specs.declared.closing.Closing.TheVariants as left
 use Rattle.open_storages.specs.Opens.{store_in}
-use Rattle.open_storages.specs.Refusals.{close_refused, durable_view, is_still}
+use Rattle.open_storages.specs.Refusals.{close_refused, durable_view, has_nothing_pending}
 use Rattle.open_storages.proofs.Flushed.{not_both, same_refusal, some_or}
 use Rattle.open_storages.proofs.Idle.{none_storing}
 use Rattle.open_storages.proofs.opens.Open.close.Goals as goal
 
 pub returns-in-Keys-clause-storing : goal.returns-in-Keys-clause-storing
 returns-in-Keys-clause-storing g c = none_storing c.untouched_is_kept.ensures.untouched g.D.Disk.told
-    (shape_of (store_in c.args.self)) (Opens (durable_view c.args.self) []) (g.D.Disk.medium c.args.disk.now)
+    (store_shape (store_in c.args.self)) (Opens (durable_view c.args.self) []) (g.D.Disk.medium c.args.disk.now)
     c.requires.used.memory.shape.some (g.met.D.Disk.lawful c.args.disk.now)
 
 pub returns-in-Ok-Done-clause-quiet : goal.returns-in-Ok-Done-clause-quiet
@@ -60,7 +60,7 @@ returns-in-Err-OutOfMemory-clause-due g c = λ error due. absurd (not_both c.clo
 
 pub returns-in-Err-OutOfMemory-clause-unchanged : goal.returns-in-Err-OutOfMemory-clause-unchanged
 returns-in-Err-OutOfMemory-clause-unchanged g c = λ still.
-    let synced = subst (λ (x : Open). is_still x ≡ true) c.in-Files.is still in
+    let synced = subst (λ (x : Open). has_nothing_pending x ≡ true) c.in-Files.is still in
     absurd (some_or (below.close_refused c.in-Files.files)
     (λ none. not_both c.close_storage.result _ _ (c.close_storage.ensures.unchanged synced none).0
     c.in-Err-OutOfMemory.is)

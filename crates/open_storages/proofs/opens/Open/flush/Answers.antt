@@ -3,7 +3,7 @@ use Rattle.std.specs.Prelude.{Option, Some, Ok, Result, IsSome, IsTrue}
 use Rattle.per_base.specs.declared.errors.PerError.{PerError}
 use Rattle.element_state.specs.Clean.{IsClean}
 use Rattle.element_state.specs.States.{Opens}
-use Rattle.element_store.specs.Stores.{shape_of}
+use Rattle.element_store.specs.Stores.{store_shape}
 use Rattle.deploy.specs.declared.errors.Stop.{Stop}
 use Rattle.file_storage.specs.Syncs.{sync_refused}
 use Rattle.open_storages.specs.declared.opens.Open.{Open}
@@ -20,7 +20,7 @@ use Rattle.open_storages.proofs.opens.Open.flush.Goals as goal
 
 pub returns-in-Keys-clause-storing : goal.returns-in-Keys-clause-storing
 returns-in-Keys-clause-storing g c = none_storing c.untouched_is_kept.ensures.untouched g.D.Disk.told
-    (shape_of (store_in c.args.self)) (Opens (durable_view c.args.self) []) (g.D.Disk.medium c.args.disk.now)
+    (store_shape (store_in c.args.self)) (Opens (durable_view c.args.self) []) (g.D.Disk.medium c.args.disk.now)
     c.requires.used.memory.shape.some (g.met.D.Disk.lawful c.args.disk.now)
 
 pub returns-in-Ok-clause-done : goal.returns-in-Ok-clause-done
@@ -62,8 +62,8 @@ returns-in-Ok-clause-quiet g c = λ quiet. made_or c.in-Ok.field-0.refused
 
 pub returns-in-Ok-clause-clean : goal.returns-in-Ok-clause-clean
 returns-in-Ok-clause-clean g c = subst (λ (x : Open). IsTrue g.D.Disk.told
-    → IsClean (shape_of (store_in x)) (g.D.Disk.medium c.args.disk.now).image
-    → IsClean (shape_of (store_in x)) (g.D.Disk.medium c.sync_to_file.new.disk).image) (sym c.in-Files.is)
+    → IsClean (store_shape (store_in x)) (g.D.Disk.medium c.args.disk.now).image
+    → IsClean (store_shape (store_in x)) (g.D.Disk.medium c.sync_to_file.new.disk).image) (sym c.in-Files.is)
     (λ tells clean. made_or c.in-Ok.field-0.refused
     (λ none. (c.in-Ok.ensures.durable none).clean tells clean)
     (λ some. rw (c.sync_to_file.ensures.due (subst (λ (r : Option PerError). IsSome r) c.in-Ok.ensures.refused some)).1

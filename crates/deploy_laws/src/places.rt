@@ -1,0 +1,17 @@
+//! Where a root is stored.
+
+ghost use Rattle.std.specs.Prelude.{◌≡◌, ◌<◌};
+ghost use Rattle.deploy_laws.specs.Places.{root_place};
+
+use disk_model::Place;
+
+/// The files of an application's root.
+pub fn root_place(app: u32) -> Place
+    requires { app < 8 }
+    ensures { result ≡ root_place app }
+{
+    Place {
+        first: 4096 * app,
+        copies: 3,
+    }
+}

@@ -1,6 +1,0 @@
-use Rattle.guarded_cell.proofs.Putfronts.{IsPutting}
-use Rattle.guarded_cell.proofs.fronts.put_fronts.Given as goal
-
-abbrev pub invariant-loop-copy : goal.invariant-loop-copy
-invariant-loop-copy g l = IsPutting l.place l.parity l.copy l.chosen l.bytes g.D.Disk.told
-    (g.D.Disk.medium l.initial.disk) (g.D.Disk.medium l.disk)

@@ -1,0 +1,5 @@
+mod Puts
+mod Copies
+mod Moments
+mod Told
+mod Done

@@ -1,0 +1,24 @@
+-- A folder in memory: what it is as a system.
+use Rattle.std.specs.Prelude.{◌≡◌, List, ◌++◌, ◌∷◌, []}
+use Rattle.disk_model.specs.History.{image_of}
+use Rattle.system_model.specs.SystemMedium.{SystemMedium}
+use Rattle.mem_system.specs.declared.memory.MemSystem.{MemSystem}
+use Rattle.mem_system.specs.declared.record.Call.{Call}
+use Rattle.mem_system.specs.History.{folder_after}
+
+-- what is said of it as a system
+abbrev pub mem_medium : MemSystem → SystemMedium
+mem_medium system = folder_after (image_of system.start) system.history.items
+
+-- its record is this one, and began at the same files
+pub record HasRecord (old new : MemSystem) (calls : List Call) : Type 0 where
+  pub start_is : new.start ≡ old.start
+  pub calls_are : new.history.items ≡ calls
+
+-- nothing but counts changed
+abbrev pub SameRecord : MemSystem → MemSystem → Type 0
+SameRecord old new = HasRecord old new old.history.items
+
+-- a call was added
+abbrev pub AddsCall : Call → MemSystem → MemSystem → Type 0
+AddsCall call old new = HasRecord old new (old.history.items ++ call ∷ [])

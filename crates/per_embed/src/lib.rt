@@ -1,0 +1,26 @@
+//! A storage of keys on a disk of its own: for a program that embeds one.
+//!
+//! [`KeyStorage`] owns a disk and the storage that is open on it. [`KeyStorage::open`] formats a disk that never was,
+//! installs a manifest where nothing is installed, and opens one storage by its name; [`installed`] is its first half.
+//! Then [`KeyStorage::get`] and [`KeyStorage::set`] read and write what the calls see, and [`KeyStorage::sync`] makes
+//! it durable. [`open_folder`] gives a folder as a disk.
+//!
+//! The promises are those of the calls below, and a caller owes nothing: what is got is what was set; a sync that
+//! answers Ok has made what the calls see the content of the storage; a stop at any moment leaves each value of before
+//! or the one of after. A call that is refused has changed nothing. Once a call of the disk failed the storage is
+//! closed, and each call answers `PhysicalStorageFailure`, until the storage is opened again.
+//!
+//! Limits: application 0 of the disk, one storage at a time, and the limits of `kvs_store` and `deploy`.
+#![tactic(auto)]
+
+mod folders;
+mod installing;
+mod opening;
+mod reading;
+mod storages;
+mod syncing;
+mod writing;
+
+pub use folders::{open_folder, seconds};
+pub use installing::installed;
+pub use storages::KeyStorage;
