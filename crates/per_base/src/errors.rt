@@ -80,7 +80,7 @@ pub enum PerError {
     NotInstalled,
     /// 21: a deployment is installed.
     AlreadyInstalled,
-    /// 22: the manifest breaks a rule, the least of which is carried.
+    /// 22: the manifest breaks a rule; the first violated rule is carried.
     ManifestRejected { rule: u32 },
     /// 23: there is no previous version.
     NoPreviousVersion,
