@@ -86,13 +86,14 @@ total_stands (Some kvs) before after old new same has keeps = λ clean c since s
 abbrev pub ShowsElse : (before shown : Option KvsSession) → Type 0
 ShowsElse before shown = IsSomeAnd before (λ kvs. IsSomeAnd shown (λ later. later ≡ showing kvs later.session.visible))
 
-pub shows_else : (before shown : Option KvsSession) (name : List ℕ) (value : Tree)
+pub shows_else : (before shown : Option KvsSession) (name : List ℕ) (tree : ℕ → Tree) (total : ℕ)
+    → tree ≡ unsigned_tree four
     → IsSomeAnd before (λ kvs. IsSomeAnd shown (λ later.
-    set_value kvs.config kvs.session.visible name value ≡ Ok later.session.visible))
+    set_value kvs.config kvs.session.visible name (tree total) ≡ Ok later.session.visible))
     → IfSome before (λ kvs. IsSomeAnd shown (λ later. later ≡ showing kvs later.session.visible))
     → ShowsElse before shown
-shows_else None shown name value ok beside = absurd ok
-shows_else (Some kvs) shown name value ok beside = beside
+shows_else None shown name tree total of_tree ok beside = absurd ok
+shows_else (Some kvs) shown name tree total of_tree ok beside = beside
 
 pub total_kept : (before shown : Option KvsSession) (total : ℕ) → ShowsElse before shown
     → IfSome before (HasTotal total) → IfSome shown (HasTotal total)

@@ -37,7 +37,8 @@ returns-clause-total g c =
 pub returns-clause-stays : goal.returns-clause-stays
 returns-clause-stays g c =
     let shows : ShowsElse c.args.storage.now.kvs c.set.new.self.kvs = shows_else c.args.storage.now.kvs
-    c.set.new.self.kvs c.args.key.now _ c.in_ok-set.ensures.ok c.in_ok-set.ensures.beside in
+    c.set.new.self.kvs c.args.key.now _ c.args.total c.scalars_have_trees.ensures.u32.1 c.in_ok-set.ensures.ok
+    c.in_ok-set.ensures.beside in
     total_left c.args.storage.now.kvs c.set.new.self c.sync.new.self c.sync.result
     (λ total has. total_kept c.args.storage.now.kvs c.set.new.self.kvs total shows has) c.sync.ensures.unchanged
 
@@ -45,7 +46,8 @@ pub returns-clause-any_moment : goal.returns-clause-any_moment
 returns-clause-any_moment g c = λ tells before has.
     let value = number_is_value _ c.args.total c.scalars_have_trees.ensures.u32.1 c.ranges.total.fits in
     let shows : ShowsElse c.args.storage.now.kvs c.set.new.self.kvs = shows_else c.args.storage.now.kvs
-    c.set.new.self.kvs c.args.key.now _ c.in_ok-set.ensures.ok c.in_ok-set.ensures.beside in
+    c.set.new.self.kvs c.args.key.now _ c.args.total c.scalars_have_trees.ensures.u32.1 c.in_ok-set.ensures.ok
+    c.in_ok-set.ensures.beside in
     let same : g.D.Disk.medium c.set.new.self.disk ≡ g.D.Disk.medium c.args.storage.now.disk =
     rw c.in_ok-set.ensures.disk refl in
     total_throughout c.args.storage.now.kvs c.set.new.self.kvs (g.D.Disk.medium c.args.storage.now.disk)
@@ -56,7 +58,8 @@ returns-clause-any_moment g c = λ tells before has.
 pub returns-clause-cause : goal.returns-clause-cause
 returns-clause-cause g c = λ is.
     let shows : ShowsElse c.args.storage.now.kvs c.set.new.self.kvs = shows_else c.args.storage.now.kvs
-    c.set.new.self.kvs c.args.key.now _ c.in_ok-set.ensures.ok c.in_ok-set.ensures.beside in
+    c.set.new.self.kvs c.args.key.now _ c.args.total c.scalars_have_trees.ensures.u32.1 c.in_ok-set.ensures.ok
+    c.in_ok-set.ensures.beside in
     let same : g.D.Disk.medium c.set.new.self.disk ≡ g.D.Disk.medium c.args.storage.now.disk =
     rw c.in_ok-set.ensures.disk refl in
     failed_open c.args.storage.now.kvs c.set.new.self.kvs (g.D.Disk.medium c.args.storage.now.disk)
