@@ -1,9 +1,10 @@
--- What an open storage leaves of its values: it reads so on the disk, and a stop in a sync leaves one or the other.
+-- What an open storage leaves of its values: it reads so on the disk, a stop while the disk is not called leaves them,
+-- and a stop in a sync leaves one or the other.
 use Rattle.std.proofs.Common.{ℕ, List, [], Bool, subst}
 use Rattle.std.specs.Prelude.{IfOk, IfSome, IsSomeAnd, IsTrue, Option, Some, None, Result, Ok, Err}
 use Rattle.per_base.specs.Maps.{Map}
 use Rattle.per_base.specs.declared.errors.PerError.{PerError}
-use Rattle.disk_model.specs.Medium.{Medium}
+use Rattle.disk_model.specs.Medium.{IsLawful, Medium}
 use Rattle.value_model.specs.Kinds.{Kind}
 use Rattle.value_model.specs.Trees.{Tree}
 use Rattle.element_state.specs.States.{Opens}
@@ -11,9 +12,9 @@ use Rattle.element_store.specs.Stores.{store_shape}
 use Rattle.element_maps.specs.Storages.{IsStoring}
 use Rattle.kvs_store.specs.Storages.{KvsSession}
 use Rattle.kvs_store.specs.Synced.{synced_view}
-use Rattle.kvs_laws.specs.Laws.{OpensWithValue, ReadsLaw, SyncLaw}
+use Rattle.kvs_laws.specs.Laws.{OpensWithValue, ReadsLaw, StillLaw, SyncLaw}
 use Rattle.kvs_laws.specs.Values.{HasValue, ReadsAs}
-use Rattle.per_embed.specs.Owned.{IsOpenOn, IsSaved, KeepsValues, asked_of}
+use Rattle.per_embed.specs.Owned.{IsOpenOn, IsSaved, KeepsSynced, KeepsValues, ReadsSynced, asked_of}
 
 opens_with : (told : Bool) (m : Medium) (kvs : KvsSession) (name : List ℕ) (kind : Kind) (value : Tree) → IsTrue told
     → IsOpenOn told m kvs → HasValue (asked_of kvs name kind) kvs.session.synced value
@@ -25,6 +26,19 @@ opens_with told m kvs name kind value tells is has = record {
   shown = is.shown;
   value_is = has;
 }
+
+pub reads_synced : ReadsLaw → (told : Bool) (storage : Option KvsSession) (m : Medium)
+    → IfSome storage (IsOpenOn told m) → IsTrue told → IfSome storage (λ kvs. ReadsSynced kvs m.image)
+reads_synced reads told None m is tells = tt
+reads_synced reads told (Some kvs) m is tells = λ name kind value has.
+    reads (asked_of kvs name kind) m.image kvs value (opens_with told m kvs name kind value tells is has)
+
+pub keeps_synced : StillLaw → (told : Bool) (storage : Option KvsSession) (m : Medium) → IsLawful told m
+    → IfSome storage (IsOpenOn told m) → IsTrue told → IfSome storage (λ kvs. KeepsSynced kvs m)
+keeps_synced still told None m lawful is tells = tt
+keeps_synced still told (Some kvs) m lawful is tells = λ name kind value has clean c since.
+    still (asked_of kvs name kind) m.image kvs value value c (opens_with told m kvs name kind value tells is has) clean
+    (is.quiet c (lawful.only_now c since))
 
 pub keeps_values : SyncLaw → (told : Bool) (storage : Option KvsSession) (old new : Medium)
     → IfSome storage (IsOpenOn told old)

@@ -1,9 +1,10 @@
 //! A storage of keys on a disk of its own.
 
-ghost use Rattle.std.specs.Prelude.{◌≡◌, IfSome, option_map};
-ghost use Rattle.per_embed.specs.Owned.{IsOpenOn};
+ghost use Rattle.std.specs.Prelude.{◌≡◌, IfSome, IsTrue, option_map};
+ghost use Rattle.per_embed.specs.Owned.{IsOpenOn, KeepsSynced, ReadsSynced};
 
 use disk_model::Disk;
+use kvs_laws::values_stand;
 use kvs_store::Kvs;
 use per_base::Report;
 use std::marker::Model;
@@ -35,10 +36,15 @@ impl<D: Disk + Drop> Model for KeyStorage<D> {
 }
 
 impl<D: Disk + Drop> KeyStorage<D> {
-    /// What always holds: while it is open it is in use on its disk, on which nothing is pending.
+    /// What always holds: while it is open it is in use on its disk, on which nothing is pending. What is synchronised
+    /// of each key is what the disk reads, and what a stop leaves while no call is in progress.
     pub fn invariants(&self)
-        ensures { IfSome self.now.kvs (IsOpenOn D.told (D.medium self.now.disk)) }
+        ensures open { IfSome self.now.kvs (IsOpenOn D.told (D.medium self.now.disk)) }
+        ensures reads { IsTrue D.told → IfSome self.now.kvs (λ kvs.
+            ReadsSynced kvs (D.medium self.now.disk).image) }
+        ensures keeps { IsTrue D.told → IfSome self.now.kvs (λ kvs. KeepsSynced kvs (D.medium self.now.disk)) }
     {
+        values_stand();
         let _kvs = &self.kvs;
     }
 
