@@ -91,6 +91,7 @@ returns-in-Ok-clause-sound g c told usable_now =
       no_rivals = c.has_rivals-self.ensures.no_rivals;
       rivals = c.has_rivals-self.ensures.rivals;
       full = l.step.fill.0 ∙ (f.step.fill.0 ∙ (e.step.fill.0 ∙ c.requires.full));
+      uncleared = refl;
     })
     (limit ∙ c.requires.limit) room (λ file. ap (λ m. len_in m file) lens ∙ c.requires.empty.lens file)
     (subst (λ b. b < blocks) (sym l.spare) finds.0)
