@@ -1,6 +1,6 @@
 use Rattle.std.specs.Prelude.{vec_capacity}
 use Rattle.flash_disk.specs.Counted.{IsCountedTable}
-use Rattle.std.proofs.Common.{◌≡◌, ◌<◌, ◌≤◌, true, false, sym, ap, inl, inr, ◌∙◌, subst, arith}
+use Rattle.std.proofs.Common.{◌≡◌, ◌<◌, ◌≤◌, true, false, sym, ap, inl, inr, ◌∙◌, subst, arith, refl}
 use Rattle.std.specs.HashMap.{spare}
 use Rattle.flash_disk.specs.Newest.{FindsSpare, IsSpare, places}
 use Rattle.flash_disk.specs.Known.{limit_of, page_len, len_in}
