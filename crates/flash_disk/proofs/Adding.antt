@@ -134,6 +134,7 @@ module _ (m now : FlashMedium) (s u : LayerState) (place : FlashPage) (r : PageR
     rivals = sound.rivals;
     apart = sound.apart;
     fresh = λ more. absurd (omega (arith, more));
+    empty = sound.empty;
   }
 
   entering : (w : Option FlashPage) (left : Pages) → TornPage place.block place.page pages left

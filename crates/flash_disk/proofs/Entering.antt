@@ -21,6 +21,7 @@ use Rattle.flash_disk.specs.Learnt.{number, Led, LedOf, IsLed, AddsRecord, HasPl
 use Rattle.flash_disk.specs.FlashFiles.{file_len, IsFileLen}
 use Rattle.flash_disk.proofs.FlashFilesLaws.{file_len_is, one_len}
 use Rattle.flash_disk.specs.Sound.{Sound, IsSoundLayer, Enters, Pends, PendsAt, IsDescribedBy}
+use Rattle.flash_disk.specs.Emptied.{IsEmptyBlock}
 use Rattle.flash_disk.proofs.Standing.{HasSameRecords, records_known, records_tops, records_alike, records_spare}
 use Rattle.flash_disk.proofs.Standing.{records_count, records_agreed, same_said_strayless}
 use Rattle.flash_disk.proofs.Tearing.{torn_same, torn_page}
@@ -138,13 +139,49 @@ as_said pages blocks s t sound more = record {
         fresh.apart;
     blank = fresh.blank;
   };
+  empty = sound.empty;
 }
+
+-- whether the spare block is known to be blank is said where it is
+pub as_cleared : (pages : Pages) (blocks : ℕ) (s : LayerState) (cleared : Bool) → Sound pages blocks s
+    → (IsTrue cleared → IsEmptyBlock pages s.spare) → Sound pages blocks (record s { cleared = cleared })
+as_cleared pages blocks s cleared sound empty = record {
+  knows = sound.knows;
+  tops = sound.tops;
+  strays = sound.strays;
+  limit = sound.limit;
+  files = sound.files;
+  measured = sound.measured;
+  counted = sound.counted;
+  count = sound.count;
+  memory = sound.memory;
+  within = sound.within;
+  is_spare = sound.is_spare;
+  agreed = sound.agreed;
+  rivals = sound.rivals;
+  apart = sound.apart;
+  fresh = λ room. let fresh = sound.fresh room in record {
+    agreed = fresh.agreed;
+    within = fresh.within;
+    apart =
+        fresh.apart;
+    blank = fresh.blank;
+  };
+  empty = empty;
+}
+
+-- a torn page elsewhere leaves a blank block so
+pub still_empty : (old new : Pages) (block page spare : ℕ) → TornPage block page old new → block ≢ spare
+    → IsEmptyBlock old spare → IsEmptyBlock new spare
+still_empty old new block page spare torn apart empty p small =
+    torn spare p (inl (λ same. apart (sym same))) ∙ empty p small
 
 -- pages with the same records, and blank where blank ones are to be filled
 pub same_sound : (old new : Pages) (blocks : ℕ) (s : LayerState) → Sound old blocks s → IsFalse s.has_rivals
     → HasSameRecords old new
-    → ((p : ℕ) → s.fill ≤ p → p < 64 → new s.current p ≡ old s.current p) → Sound new blocks s
-same_sound old new blocks s sound no_rivals same blank = record {
+    → ((p : ℕ) → s.fill ≤ p → p < 64 → new s.current p ≡ old s.current p)
+    → (IsTrue s.cleared → IsEmptyBlock new s.spare) → Sound new blocks s
+same_sound old new blocks s sound no_rivals same blank empty = record {
   knows = records_known old new same (places blocks) s.table sound.knows;
   tops = records_tops old new same (places blocks) s.sequence sound.tops;
   strays = same_said_strayless old new (places blocks) (records_alike old new same (places blocks)) s.stray_end
@@ -166,6 +203,7 @@ same_sound old new blocks s sound no_rivals same blank = record {
     apart = fresh.apart;
     blank = blank s.fill (omega arith) room ∙ fresh.blank;
   };
+  empty = empty;
 }
 
 -- a torn page before the blank ones leaves them so
@@ -223,7 +261,9 @@ module _ (m now : FlashMedium) (s t : LayerState) (place : FlashPage) (described
       (torn_same described.sure m.state.pages (number place) (record_at m.state.pages (number place)) pends.nothing
       (torn_page described.sure place.block place.page m.state.pages pends.elsewhere) (at_place ∙ none))
       (still_blank described.sure m.state.pages place.block place.page t.current t.fill pends.elsewhere
-      (subst (λ (q : LayerState). place.block ≡ q.current → place.page < q.fill) (sym state) pends.behind)))
+      (subst (λ (q : LayerState). place.block ≡ q.current → place.page < q.fill) (sym state) pends.behind))
+      (λ cleared. still_empty described.sure m.state.pages place.block place.page t.spare pends.elsewhere
+      (subst (λ (q : LayerState). place.block ≢ q.spare) (sym state) pends.apart) (was_sound.empty cleared)))
 
   -- a record came to be in it
   pub one_there : (r : PageRecord) → record_in page ≡ Some r → (after : LayerState)
@@ -390,4 +430,6 @@ module _ (old new : Pages) (blocks : ℕ) (s : LayerState) (place : FlashPage) (
       blank = still_blank old new place.block place.page s.current s.fill enters.elsewhere enters.behind s.fill
           (omega arith) room ∙ fresh.blank;
     };
+    empty = λ cleared. still_empty old new place.block place.page s.spare enters.elsewhere enters.apart
+        (sound.empty cleared);
   }

@@ -212,7 +212,7 @@ pub none_apart : (copy : ℕ) (told : Bool) (m : FlashMedium) → IsLawfulFlash 
 none_apart copy told m lawful = look_apart copy m m refl (λ c past. lawful.only_now c past)
 
 module _ (copy : ℕ) (a b c : FlashMedium) (first : FlashElapses a b) (second : FlashElapses b c) where
-  mix_early : MayMix copy a b → MayMix copy a c
+  pub mix_early : MayMix copy a b → MayMix copy a c
   mix_early mix = (mix.0, second.keeps a.moment mix.0 first.later mix.1, mix.2)
 
   mix_late : MayMix copy b c → MayMix copy a c

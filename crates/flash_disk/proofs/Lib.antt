@@ -23,6 +23,7 @@ pub mod Spreading
 pub mod Missing
 pub mod Adding
 pub mod Moving
+mod Clearing
 pub mod Moved
 mod Looking
 mod Turning

@@ -1,5 +1,5 @@
 -- The loss of pages of a block costs the files of one copy.
-use Rattle.std.proofs.Common.{◌≡◌, ◌≢◌, ℕ, ◌/◌, ◌%◌, map, refl, sym, ap, subst, ◌∙◌}
+use Rattle.std.proofs.Common.{◌≡◌, ◌≢◌, ◌⊎◌, ℕ, ◌/◌, ◌%◌, map, refl, sym, ap, subst, ◌∙◌, inl}
 use Rattle.std.proofs.Common.{⊎_elim, arith, true≢false}
 use Rattle.std.specs.Prelude.{Option, Some, None, Bool, false, is_some}
 use Rattle.std.specs.List.{range_with_len}
@@ -8,17 +8,20 @@ use Rattle.std.proofs.lemmas.Option.{none-some}
 use Rattle.std.proofs.lemmas.Bool.{cases_eq}
 use Rattle.flash_model.specs.Pages.{Pages}
 use Rattle.flash_record.specs.PageRecord.{PageRecord, record_in}
-use Rattle.flash_disk.specs.Newest.{Placed, record_at, newest, places, IsNewest, IsNewestOf}
+use Rattle.flash_disk.specs.Newest.{Placed, record_at, newest, places, IsNewest, IsNewestOf, IsUsable}
 use Rattle.flash_disk.specs.FlashFiles.{file_byte, file_len, flash_files}
 use Rattle.flash_disk.specs.Standing.{said, IsAgreed}
 use Rattle.flash_disk.specs.declared.table.FilePage.{FilePage}
 use Rattle.flash_disk.specs.declared.table.Table.{Table}
 use Rattle.flash_disk.specs.Learnt.{number, IsLed}
 use Rattle.flash_disk.specs.Apart.{copy_of, IsOfCopy, IsApart, LosesPages, CostsOneCopy}
+use Rattle.flash_disk.specs.Emptied.{HasEmptyBlock, LosesAnyPages}
 use Rattle.flash_disk.specs.LedApart.{IsLedApart}
 use Rattle.flash_disk.proofs.Entering.{entry_of}
 use Rattle.flash_disk.proofs.NewestLaws.{newest_is}
-use Rattle.flash_disk.proofs.Standing.{IsSaid, FileSaysAlike, newest_said, file_said_byte, file_said_len}
+use Rattle.flash_disk.proofs.PageCount.{count_loses}
+use Rattle.flash_disk.proofs.Clearing.{empty_none}
+use Rattle.flash_disk.proofs.Standing.{IsSaid, FileSaysAlike, is_newest_of, newest_said, file_said_byte, file_said_len}
 
 module _ (old new : Pages) (n block copy : ℕ) (agreed : IsAgreed old n) (of_copy : IsOfCopy old n block copy)
     (loses : LosesPages block old new) where
@@ -93,3 +96,32 @@ led_apart pages blocks table led owns block = (
 pub none_there : {T : Type 0} (o : Option T) {b : Bool} → b ≡ is_some o → b ≡ false → o ≡ None
 none_there None is none = refl
 none_there (Some x) is none = absurd (true≢false (sym is ∙ none))
+
+-- ---- and leaves the flash usable
+
+module _ (old new : Pages) (loses : LosesAnyPages old new) where
+  -- a record that is there was there
+  still_there : (j : ℕ) (q : PageRecord) → record_at new j ≡ Some q → record_at old j ≡ Some q
+  still_there j q there = ⊎_elim
+      (λ same. sym (ap record_in same) ∙ there)
+      (λ lost. absurd (none-some q (sym lost ∙ there)))
+      (loses (j / 64) (j % 64))
+
+  -- an empty block is spare, whatever was lost
+  pub stays_usable : (blocks : ℕ) → IsUsable old blocks → HasEmptyBlock old blocks → IsUsable new blocks
+  stays_usable blocks usable empty = record {
+    fits = (let before = usable.fits in let less = count_loses old new (places blocks) still_there in
+        omega (arith, before, less));
+    block = empty.0;
+    within = empty.1;
+    spare = λ x needed at.
+        let is = is_newest_of new x.says.file x.says.page (places blocks) x needed.newest_is in
+        none-some x.says (sym (empty_none old empty.0 empty.2 x.place at) ∙ still_there x.place x.says is.there);
+  }
+
+-- a loss in one block is one
+pub loses_any : (old new : Pages) (block : ℕ) → LosesPages block old new → LosesAnyPages old new
+loses_any old new block loses b p = ⊎_elim
+    (λ here. subst (λ k. (new k p ≡ old k p) ⊎ (record_in (new k p) ≡ None)) (sym here) (loses.here p))
+    (λ apart. inl (loses.elsewhere b p apart))
+    (cases_eq b block)

@@ -213,6 +213,7 @@ module _ (m : FlashMedium) (s : LayerState) (from to : ℕ) (moving : IsMoving m
         apart = λ same. moving.apart (sym same);
         blank = moving.blank fill (omega (arith, more, fill_is)) more;
       };
+      empty = λ cleared. absurd (true≢false (sym cleared ∙ moving.uncleared));
     }
 
     -- a page that had a place has one

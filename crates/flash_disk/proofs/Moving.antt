@@ -2,7 +2,7 @@
 use Rattle.std.proofs.Common.{◌≡◌, ◌≢◌, ◌⊎◌, ℕ, ◌+◌, ◌*◌, ◌/◌, ◌<◌, ◌≤◌, Bool, true, false, cond, slice_index_or}
 use Rattle.std.proofs.Common.{List, [], ◌∷◌, ◌++◌, length, Result, Ok, Err, OnOk, OnErr, refl, sym, ap, subst, ◌∙◌}
 use Rattle.std.proofs.Common.{inl, inr, ⊎_elim, arith, eq-eqb, length-append}
-use Rattle.std.specs.Prelude.{Option, Some, None, IsFalse, All, nat_eq, ◌&&◌, not, vec_capacity}
+use Rattle.std.specs.Prelude.{Option, Some, None, IsTrue, IsFalse, All, nat_eq, ◌&&◌, not, vec_capacity}
 use Rattle.std.proofs.lemmas.Bool.{cases_lt, cases_Bool, eqb-true, and_parts, and_from, true≢false}
 use Rattle.std.proofs.lemmas.Option.{same_Some, none-some}
 use Rattle.std.proofs.lemmas.List.Elements.{All-push}
@@ -22,7 +22,8 @@ use Rattle.flash_disk.specs.Known.{same_page, page_of, known}
 use Rattle.flash_disk.specs.Learnt.{number, Led, LedOf, IsLed, HasPlace}
 use Rattle.flash_disk.specs.Does.{Does}
 use Rattle.flash_disk.specs.Standing.{DenotesFiles, KeepsRecords}
-use Rattle.flash_disk.specs.Sound.{Sound, IsSoundLayer, FitsIn, MayBeAdded, ShowsSame}
+use Rattle.flash_disk.specs.Sound.{Sound, IsSoundLayer, HasFreshPage, FitsIn, MayBeAdded, ShowsSame}
+use Rattle.flash_disk.specs.Emptied.{IsEmptyBlock}
 use Rattle.flash_disk.specs.Moving.{IsMoved, HasKey, IsMoving, StandsMoved}
 use Rattle.flash_disk.specs.Apart.{copy_of, KeepsHeld, HoldsOnly}
 use Rattle.flash_disk.specs.LedApart.{LeadsOnly}
@@ -62,11 +63,12 @@ record_of pages n table led key e is =
     )
 
 -- what counts is kept, and what the table leads to stands where it stood
-pub kept_sound : (old new : Pages) (blocks : ℕ) (s : LayerState) → Sound old blocks s → IsFalse s.has_rivals → 64 ≤ s.fill
-    → KeepsRecords old new (places blocks)
+pub kept_sound : (old new : Pages) (blocks : ℕ) (s : LayerState) → Sound old blocks s → IsFalse s.has_rivals
+    → KeepsRecords old new (places blocks) → (s.fill < 64 → HasFreshPage new blocks s)
+    → (IsTrue s.cleared → IsEmptyBlock new s.spare)
     → ((key : FilePage) (e : Newest) → known s.table key ≡ Some e
     → record_at new (number e.place) ≡ record_at old (number e.place)) → Sound new blocks s
-kept_sound old new blocks s sound agreed full keeps there =
+kept_sound old new blocks s sound agreed keeps fresh empty there =
     let n = places blocks in
     let all_agree = sound.agreed agreed in
     let knows = keeps_known old new n all_agree keeps s.table there sound.knows in record {
@@ -84,7 +86,8 @@ kept_sound old new blocks s sound agreed full keeps there =
       agreed = λ _. keeps_agreed old new n all_agree keeps;
       rivals = λ has_rivals. absurd (true≢false (sym has_rivals ∙ agreed));
       apart = sound.apart;
-      fresh = λ room. absurd (omega (arith, room, full));
+      fresh = fresh;
+      empty = empty;
     }
 
 -- the pages denote the files that they denoted
@@ -155,97 +158,6 @@ moved_then table from to a b c first second early late =
     })
     late)
 
--- ---- the spare block is erased
-
-module _ (m now : FlashMedium) (s : LayerState) (sound : IsSoundLayer m s) (agreed : IsFalse s.has_rivals) (full : 64
-    ≤ s.fill)
-  where
-    abbrev pages : Pages
-    pages = m.state.pages
-
-    abbrev n : ℕ
-    n = places m.blocks
-
-    loses_keeps : (left : Pages) → LosesIn s.spare pages left → KeepsRecords pages left n
-    loses_keeps left loses = erase_keeps pages left n s.spare (lies_elsewhere pages m.blocks s sound agreed) loses
-
-    loses_sound : (left : Pages) → LosesIn s.spare pages left → Sound left m.blocks s
-    loses_sound left loses = kept_sound pages left m.blocks s sound agreed full (loses_keeps left loses) (λ key e is.
-        (let found = record_of pages n s.table sound.knows.led key e is in
-        let small = found.1.leads.small in
-        loses.apart (number e.place) (λ same. sound.apart agreed key e is
-        (let b : e.place.block ≡ s.spare = omega (arith, same, small) in b))))
-
-    loses_stands : (left : Pages) → LosesIn s.spare pages left → DenotesFiles m left
-    loses_stands left loses = kept_stands m left s sound agreed (loses_keeps left loses) (loses_sound left loses)
-
-    pub erase_stands : {T E : Type 0} → (result : Result T E)
-        → OnOk result (now.state ≡ erased m.state s.spare)
-        → OnErr result (FailsToErase s.spare m.state now.state)
-        → EachFlashCase (λ c. IsStill m.state c ⊎ (IsStill now.state c ⊎ EraseCase s.spare m.state c)) m now
-        → Does (DenotesFiles m) m now
-    erase_stands result done failed cases = erase_does m now (DenotesFiles m) s.spare result done failed cases
-        (stands_now m s sound)
-        (loses_stands (erase_block pages s.spare) (whole_erase pages s.spare))
-        (λ left torn plain. loses_stands left (torn_erase pages s.spare left torn plain))
-
-    loses_held : (copy home : ℕ) (left : Pages) → LosesIn s.spare pages left → KeepsHeld copy home n pages left
-    loses_held copy home left loses = held_lost pages left copy home n
-        (keeps_said pages left n (sound.agreed agreed) (loses_keeps left loses)) loses.only
-
-    -- whatever a block held alone it still does
-    pub erase_held : (copy : ℕ) → {T E : Type 0} → (result : Result T E)
-        → OnOk result (now.state ≡ erased m.state s.spare)
-        → OnErr result (FailsToErase s.spare m.state now.state)
-        → EachFlashCase (λ c. IsStill m.state c ⊎ (IsStill now.state c ⊎ EraseCase s.spare m.state c)) m now
-        → Does (λ left. (home : ℕ) → KeepsHeld copy home n pages left) m now
-    erase_held copy result done failed cases =
-        erase_does m now (λ left. (home : ℕ) → KeepsHeld copy home n pages left) s.spare result done failed cases
-        (λ home. held_refl copy home n pages)
-        (λ home. loses_held copy home (erase_block pages s.spare) (whole_erase pages s.spare))
-        (λ left torn plain home. loses_held copy home left (torn_erase pages s.spare left torn plain))
-
-    -- and the erased block holds nothing of any other copy
-    pub erased_holds : (copy : ℕ) → now.state ≡ erased m.state s.spare → now.blocks ≡ m.blocks
-        → HoldsOnly now.state.pages (places now.blocks) s.spare copy
-    erased_holds copy done blocks = λ file page x found j inside at there.
-        absurd (none-some x.says (sym (nothing_left pages s.spare j at)
-        ∙ subst (λ (z : FlashState). record_at z.pages j ≡ Some x.says) done there))
-
-    pub erase_failed : FailsToErase s.spare m.state now.state → now.blocks ≡ m.blocks → IsSoundLayer now s
-    erase_failed failed blocks = subst (λ b. Sound now.state.pages b s) (sym blocks)
-        (loses_sound now.state.pages (torn_erase pages s.spare now.state.pages failed.torn failed.plain))
-
-    pub erase_failed_keeps : FailsToErase s.spare m.state now.state → KeepsRecords pages now.state.pages n
-    erase_failed_keeps failed = loses_keeps now.state.pages
-        (torn_erase pages s.spare now.state.pages failed.torn failed.plain)
-
-    pub erase_keeps_all : now.state ≡ erased m.state s.spare → KeepsRecords pages now.state.pages n
-    erase_keeps_all done = subst (λ (z : FlashState). KeepsRecords pages z.pages n) (sym done)
-        (loses_keeps (erase_block pages s.spare) (whole_erase pages s.spare))
-
-    -- nothing is copied yet
-    pub moving_none : now.state ≡ erased m.state s.spare → now.blocks ≡ m.blocks → (t : LayerState)
-        → t ≡ record s { moved = t.moved } → vec_capacity s.moved ≤ vec_capacity t.moved → t.moved.items ≡ []
-        → (from to : ℕ) → to ≡ s.spare → from < m.blocks → from ≢ to → IsMoving now.state.pages now.blocks t from to 0
-    moving_none done blocks t state memory none from to spare within apart =
-        let empty : length t.moved.items ≡ 0 = ap (λ l. length l) none in
-        subst (λ b. IsMoving now.state.pages b t from to 0) (sym blocks)
-        (subst (λ (z : FlashState). IsMoving z.pages m.blocks t from to 0) (sym done) (record {
-          sound = subst (Sound (erase_block pages s.spare) m.blocks) (sym state)
-              (as_said (erase_block pages s.spare) m.blocks s (record s { moved = t.moved })
-              (loses_sound (erase_block pages s.spare) (whole_erase pages s.spare)) memory);
-          agreed = subst (λ (q : LayerState). IsFalse q.has_rivals) (sym state) agreed;
-          full = subst (λ (q : LayerState). 64 ≤ q.fill) (sym state) full;
-          spare = subst (λ (q : LayerState). q.spare ≡ to) (sym state) (sym spare);
-          within = within;
-          apart = apart;
-          count = omega (arith, empty);
-          blank = λ p past small. ap (λ b. cond b blank_page (pages to p)) (eq-eqb to s.spare spare);
-          moved = λ k d inside. absurd (omega (arith, inside, empty));
-          all = λ key e is at below. absurd (omega (arith, below));
-        }))
-
 -- ---- a record is copied
 
 both_same : (a b x y : ℕ) → a ≡ b → x ≡ y → (nat_eq a b && nat_eq x y) ≡ true
@@ -308,6 +220,7 @@ module _ (m : FlashMedium) (s : LayerState) (from to done : ℕ) (moving : IsMov
   passed_over none = record {
     sound = moving.sound;
     agreed = moving.agreed;
+    uncleared = moving.uncleared;
     full = moving.full;
     spare = moving.spare;
     within = moving.within;
@@ -356,7 +269,9 @@ module _ (m : FlashMedium) (s : LayerState) (from to done : ℕ) (moving : IsMov
     left_sound : (left : Pages) → TornPage to count m.state.pages left
         → KeepsRecords m.state.pages left (places m.blocks)
         → Sound left m.blocks s
-    left_sound left torn keeps = kept_sound m.state.pages left m.blocks s moving.sound moving.agreed moving.full keeps
+    left_sound left torn keeps = kept_sound m.state.pages left m.blocks s moving.sound moving.agreed keeps
+        (λ room. let full = moving.full in absurd (omega (arith, room, full)))
+        (λ cleared. absurd (true≢false (sym cleared ∙ moving.uncleared)))
         (λ k e found. torn_elsewhere m.state.pages to count left torn (number e.place) (apart_of k e found))
 
     abbrev written : Pages
@@ -489,6 +404,7 @@ module _ (m : FlashMedium) (s : LayerState) (from to done : ℕ) (moving : IsMov
               (as_said written m.blocks s (record s { moved = t.moved }) (left_sound written written_torn written_keeps)
               memory);
           agreed = subst (λ (q : LayerState). IsFalse q.has_rivals) (sym state) moving.agreed;
+          uncleared = subst (λ (q : LayerState). IsFalse q.cleared) (sym state) moving.uncleared;
           full = subst (λ (q : LayerState). 64 ≤ q.fill) (sym state) moving.full;
           spare = subst (λ (q : LayerState). q.spare ≡ to) (sym state) moving.spare;
           within = moving.within;

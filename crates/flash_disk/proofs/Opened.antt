@@ -1,5 +1,5 @@
 -- What is kept fits the pages once the flash was opened.
-use Rattle.std.proofs.Common.{◌≡◌, ℕ, ◌+◌, ◌<◌, ◌≤◌, sym, ap, subst, ◌∙◌, ⊎_elim, arith}
+use Rattle.std.proofs.Common.{◌≡◌, ℕ, ◌+◌, ◌<◌, ◌≤◌, sym, ap, subst, ◌∙◌, ⊎_elim, arith, true≢false}
 use Rattle.std.specs.Prelude.{Bool, Some, None, IsTrue, IsFalse, vec_capacity}
 use Rattle.std.specs.HashMap.{get, hash_map_len, spare}
 use Rattle.flash_model.specs.Pages.{Pages}
@@ -40,6 +40,7 @@ pub record Measures (left : Table) (s : LayerState) : Type 0 where
   pub no_rivals : IsFalse s.has_rivals → (key : FilePage) (e : Newest) → known s.table key ≡ Some e → IsFalse e.rivalled
   pub rivals : IsTrue s.has_rivals → (key : FilePage) × (e : Newest) × (known s.table key ≡ Some e) × IsTrue e.rivalled
   pub full : s.fill ≡ 64
+  pub uncleared : IsFalse s.cleared
 
 module _ (pages : Pages) (blocks : ℕ) (s : LayerState) (left : Table)
     (leaving : IsLeaving pages (places blocks) s.spare 64 left) (measures : Measures left s)
@@ -85,6 +86,7 @@ module _ (pages : Pages) (blocks : ℕ) (s : LayerState) (left : Table)
         some.1 (before some.0 some.1 some.2) some.3;
     apart = λ no_rivals key e is. left_out pages (places blocks) s.spare left leaving key e (before key e is);
     fresh = λ less. (let full = measures.full in absurd (omega (arith, less, full)));
+    empty = λ cleared. absurd (true≢false (sym cleared ∙ measures.uncleared));
   }
 
 -- what is kept fits all pages

@@ -1,5 +1,5 @@
 -- How many pages have a record, and what records that come or go make of it.
-use Rattle.std.proofs.Common.{◌≡◌, ℕ, zero, suc, ◌+◌, Bool, true, false, cond, List, [], ◌∷◌, length, refl, sym, ap}
+use Rattle.std.proofs.Common.{◌≡◌, ℕ, zero, suc, ◌+◌, ◌≤◌, Bool, true, false, cond, List, [], ◌∷◌, length, refl, sym, ap}
 use Rattle.std.proofs.Common.{subst, ◌∙◌, arith}
 use Rattle.std.specs.Prelude.{Option, Some, None, is_some, is_none, nat_lt, ◌||◌}
 use Rattle.std.specs.Bool.{Decides}
@@ -8,7 +8,7 @@ use Rattle.std.specs.List.{AllByRecursion, IsDistinct, list_any}
 use Rattle.std.specs.Set.{is_member}
 use Rattle.std.proofs.lemmas.Bool.{true≢false}
 use Rattle.std.proofs.lemmas.Map.Keys.{IsDistinct-cons}
-use Rattle.std.proofs.lemmas.Map.Made.{length-from_same_keys}
+use Rattle.std.proofs.lemmas.Map.Made.{length-from_same_keys, length-le_from_is_member}
 use Rattle.flash_model.specs.Pages.{Pages}
 use Rattle.flash_record.specs.PageRecord.{PageRecord}
 use Rattle.flash_disk.specs.declared.table.FilePage.{FilePage}
@@ -143,6 +143,15 @@ same_pages count count' best best' opened opened' has has' same =
     sym has.0 ∙ (length-from_same_keys page_laws opened opened' has.1 has'.1
     (λ key. has.2 key ∙ (same key ∙ sym (has'.2 key))) ∙ has'.0)
 
+-- the pages of one are pages of the other
+fewer_pages : (count count' : ℕ) (best best' : FilePage → Option Placed) (opened opened' : List FilePage)
+    → HasPages count best opened → HasPages count' best' opened'
+    → ((key : FilePage) → is_some (best key) ≡ true → is_some (best' key) ≡ true) → count ≤ count'
+fewer_pages count count' best best' opened opened' has has' some =
+    let less = length-le_from_is_member page_laws opened opened' has.1
+    (λ key is. has'.2 key ∙ some key (sym (has.2 key) ∙ is)) in
+    let long = has.0 in let long' = has'.0 in omega (arith, less, long, long')
+
 -- no page came or went
 count_same : (old new : Pages) (n : ℕ) → ((file page : ℕ)
     → is_none (newest new file page n) ≡ is_none (newest old file page n)) → page_count new n ≡ page_count old n
@@ -191,6 +200,23 @@ module _ (old new : Pages) (n : ℕ) (keeps : KeepsRecords old new n) where
   count_keeps = count_same old new n (λ file page. kept_page file page (newest old file page n) (newest new file page n)
       refl
       (newest_is old file page n) (newest_is new file page n))
+
+module _ (old new : Pages) (n : ℕ)
+    (were : (j : ℕ) (q : PageRecord) → record_at new j ≡ Some q → record_at old j ≡ Some q) where
+  page_was : (file page : ℕ) (was is : Option Placed) → IsNewestOf old file page n was → IsNewestOf new file page n is
+      → is_some is ≡ true → is_some was ≡ true
+  page_was file page None None before after some = some
+  page_was file page None (Some x) before after some =
+      absurd (before x.place x.says after.within (were x.place x.says after.there) after.of_page)
+  page_was file page (Some x) is before after some = refl
+
+  -- records were lost, and none came
+  pub count_loses : page_count new n ≤ page_count old n
+  count_loses = fewer_pages (page_count new n) (page_count old n) (λ key. newest new key.file key.page n)
+      (λ key. newest old key.file key.page n) (opened_pages new n) (opened_pages old n) (opened_is new n)
+      (opened_is old n)
+      (λ key. page_was key.file key.page (newest old key.file key.page n) (newest new key.file key.page n)
+      (newest_is old key.file key.page n) (newest_is new key.file key.page n))
 
 -- ---- the entries of a table
 

@@ -213,7 +213,7 @@ pub record LosesIn (block : ℕ) (old left : Pages) : Type 0 where
   pub apart : (j : ℕ) → j / 64 ≢ block → record_at left j ≡ record_at old j
 
 module _ (old : Pages) (block : ℕ) where
-  erased_page : (b p : ℕ) → b ≡ block → erase_block old block b p ≡ blank_page
+  pub erased_page : (b p : ℕ) → b ≡ block → erase_block old block b p ≡ blank_page
   erased_page b p here = ap (λ t. cond t blank_page (old b p)) (eq-eqb b block here)
 
   -- done whole it changes no more than cut short
@@ -224,7 +224,7 @@ module _ (old : Pages) (block : ℕ) where
   pub nothing_left : (j : ℕ) → j / 64 ≡ block → record_at (erase_block old block) j ≡ None
   nothing_left j here = ap record_in (erased_page (j / 64) (j % 64) here) ∙ blank_is_none
 
-  torn_only : (left : Pages) → TornBlock block old left → IsPlain old (erase_block old block) left
+  pub torn_only : (left : Pages) → TornBlock block old left → IsPlain old (erase_block old block) left
       → (j : ℕ) (q : PageRecord) → record_at left j ≡ Some q → record_at old j ≡ Some q
   torn_only left torn plain j q there = ⊎_elim
       (λ here. ⊎_elim

@@ -33,6 +33,7 @@ HasKey key (e ∷ es) = (same_page e.0 key ≡ true) ⊎ HasKey key es
 pub record IsMoving (pages : Pages) (blocks : ℕ) (s : LayerState) (from to done : ℕ) : Type 0 where
   pub sound : Sound pages blocks s
   pub agreed : IsFalse s.has_rivals
+  pub uncleared : IsFalse s.cleared
   pub full : 64 ≤ s.fill
   pub spare : s.spare ≡ to
   pub within : from < blocks

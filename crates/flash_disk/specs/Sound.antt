@@ -19,6 +19,7 @@ use Rattle.flash_disk.specs.FlashFiles.{file_byte, file_len, flash_files}
 use Rattle.flash_disk.specs.Standing.{IsAgreed, HasRivals, IsStrayless, MayGrow, StaysAgreed}
 use Rattle.flash_disk.specs.PutPart.{PutOrNot}
 use Rattle.flash_disk.specs.Apart.{copy_of, KeepsHeld}
+use Rattle.flash_disk.specs.Emptied.{IsEmptyBlock}
 
 abbrev pub files_on : FlashMedium → Image
 files_on m = flash_files m.state.pages m.blocks
@@ -58,6 +59,7 @@ pub record Sound (pages : Pages) (blocks : ℕ) (s : LayerState) : Type 0 where
   pub rivals : IsTrue s.has_rivals → HasRivals pages (places blocks)
   pub apart : IsFalse s.has_rivals → LeavesOut s.table s.spare
   pub fresh : s.fill < 64 → HasFreshPage pages blocks s
+  pub empty : IsTrue s.cleared → IsEmptyBlock pages s.spare
 
 abbrev pub IsSoundLayer : FlashMedium → LayerState → Type 0
 IsSoundLayer m s = Sound m.state.pages m.blocks s

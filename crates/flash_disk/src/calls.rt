@@ -18,6 +18,7 @@ impl<F: Flash> Disk for FlashDisk<F> {
     ghost use Rattle.flash_disk.specs.Throughout.{KeepsUsable, KeepsAgreed};
     ghost use Rattle.flash_disk.specs.Apart.{copy_of};
     ghost use Rattle.flash_disk.specs.KeepsApart.{KeepsApart};
+    ghost use Rattle.flash_disk.specs.Emptied.{HasEmptyBlock};
     ghost use Rattle.flash_disk.specs.FlashDiskLaws.{disk_is_lawful};
 
     ghost told = { F.told };
@@ -96,6 +97,10 @@ impl<F: Flash> Disk for FlashDisk<F> {
         // At every moment a crash leaves what can be opened, and no rivals come.
         ensures usable { IsTrue F.told → KeepsUsable (F.medium self.old.flash) (F.medium self.new.flash) }
         ensures agreed { IsTrue F.told → KeepsAgreed (F.medium self.old.flash) (F.medium self.new.flash) }
+
+        // One that succeeds leaves a block empty, so that the flash can be opened after any loss of pages.
+        ensures empty { IsTrue F.told → OnOk result (0 < length bytes.now
+            → HasEmptyBlock (F.medium self.new.flash).state.pages (F.medium self.new.flash).blocks) }
 
         // Where the copies stand apart they do so at every moment, as long as there is room for the file's.
         ensures apart { IsTrue F.told → KeepsApart (copy_of file) (F.medium self.old.flash) (F.medium self.new.flash) }

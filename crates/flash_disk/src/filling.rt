@@ -17,6 +17,7 @@ ghost use Rattle.flash_disk.specs.Standing.{DenotesFiles, KeepsRecords};
 ghost use Rattle.flash_disk.specs.Accounts.{Accounts};
 ghost use Rattle.flash_disk.specs.Apart.{copy_of};
 ghost use Rattle.flash_disk.specs.KeepsApart.{KeepsApart, HasHome};
+ghost use Rattle.flash_disk.specs.Emptied.{IsEmptyBlock, Empties};
 
 use crate::layer::Layer;
 use crate::opening::newest_at;
@@ -96,6 +97,7 @@ impl<F: Flash> Layer<F> {
         ensures entries { IsTrue F.told → OnOk result (Occupies self.old.state.table self.new.state.table
             (record { file = file; page = page })) }
         ensures no_rivals { IsTrue F.told → OnOk result (IsFalse self.old.state.has_rivals) }
+        ensures cleared { OnOk result (IsTrue self.new.state.cleared) }
     {
         self.make_room(file)?;
         self.add(file, page, len, bytes)
@@ -120,6 +122,7 @@ impl<F: Flash> Layer<F> {
         ensures entries { IsTrue F.told → OnOk result (Occupies self.old.state.table self.new.state.table
             (record { file = file; page = page })) }
         ensures no_rivals { IsTrue F.told → OnOk result (IsFalse self.old.state.has_rivals) }
+        ensures cleared { self.new.state.cleared ≡ self.old.state.cleared }
     {
         let sequence = self.next_sequence()?;
         let place = FlashPage {
@@ -161,6 +164,7 @@ impl<F: Flash> Layer<F> {
             → IsFalse self.old.state.has_rivals
             → Enters old new blocks self.old.state place (stated found.entry) → Sound new blocks self.new.state }
         ensures has_rivals { self.new.state.has_rivals ≡ self.old.state.has_rivals }
+        ensures cleared { self.new.state.cleared ≡ self.old.state.cleared }
         ensures entries { (old new : Pages) (blocks : ℕ) → Sound old blocks self.old.state
             → IsFalse self.old.state.has_rivals
             → Enters old new blocks self.old.state place (stated found.entry)
@@ -175,9 +179,87 @@ impl<F: Flash> Layer<F> {
         }
     }
 
+    // Finds the page that is to be filled next with a record of a file, and makes the spare block blank.
+    fn make_room(&mut self, file: u32) -> Result<(), DiskFailed>
+        requires ready { IsSure F.told F.medium self.old }
+        ensures ready { IsSure F.told F.medium self.new }
+        ensures room { OnOk result (self.new.state.fill < 64) }
+        ensures fits { IsTrue F.told → (file page len : ℕ) (bytes : _)
+            → FitsIn (F.medium self.old.flash) self.old.state file page len bytes
+            → FitsIn (F.medium self.new.flash) self.new.state file page len bytes }
+        ensures does { IsTrue F.told → Does (DenotesFiles (F.medium self.old.flash))
+            (F.medium self.old.flash) (F.medium self.new.flash) }
+        ensures shown { IsTrue F.told → OnOk result (ShowsSame (F.medium self.old.flash) (F.medium self.new.flash)) }
+        ensures apart { IsTrue F.told → KeepsApart (copy_of file) (F.medium self.old.flash) (F.medium self.new.flash) }
+        ensures home { IsTrue F.told → OnOk result (HasHome (copy_of file) (F.medium self.old.flash)
+            (F.medium self.new.flash) self.new.state.current) }
+        ensures sequence { self.new.state.sequence ≡ self.old.state.sequence }
+        ensures accounts { Accounts F.told F.medium 0 self.old self.new result }
+        ensures own { IsTrue F.told → IsFalse self.old.state.has_rivals → self.new.own ≡ self.old.own }
+        ensures entries { IsTrue F.told → OnOk result (SameEntries self.old.state.table self.new.state.table) }
+        ensures cleared { OnOk result (IsTrue self.new.state.cleared) }
+    {
+        self.find_room(file)?;
+        self.clear_spare()
+    }
+
+    // Makes the spare block blank, if it is not known to be, so that no record in it counts again where a newer one is
+    // lost.
+    fn clear_spare(&mut self) -> Result<(), DiskFailed>
+        requires ready { IsSure F.told F.medium self.old }
+        ensures does { IsTrue F.told → Does (Empties self.old.state.spare (F.medium self.old.flash).state.pages)
+            (F.medium self.old.flash) (F.medium self.new.flash) }
+        ensures cleared { OnOk result (IsTrue self.new.state.cleared) }
+        ensures blank { IsTrue F.told → IsTrue self.new.state.cleared → IsEmptyBlock
+            (F.medium self.new.flash).state.pages self.old.state.spare }
+        ensures state { self.new.state ≡ record self.old.state { cleared = self.new.state.cleared } }
+        ensures accounts { Accounts F.told F.medium 0 self.old self.new result }
+        ensures own { IsTrue F.told → self.new.own ≡ self.old.own }
+    {
+        if self.state.cleared {
+            return Ok(());
+        }
+        self.empty_block(self.state.spare)?;
+        self.state.cleared = true;
+        Ok(())
+    }
+
+    // Makes a block blank, if it is not.
+    fn empty_block(&mut self, block: u32) -> Result<(), DiskFailed>
+        requires { IsTrue F.told → block < (F.medium self.old.flash).blocks }
+        ensures does { IsTrue F.told → Does (Empties block (F.medium self.old.flash).state.pages)
+            (F.medium self.old.flash) (F.medium self.new.flash) }
+        ensures blank { IsTrue F.told → OnOk result (IsEmptyBlock (F.medium self.new.flash).state.pages block) }
+        ensures state { self.new.state ≡ self.old.state }
+        ensures accounts { Accounts F.told F.medium 0 self.old self.new result }
+        ensures own { IsTrue F.told → self.new.own ≡ self.old.own }
+    {
+        let empty = self.is_empty_block(block)?;
+        if empty {
+            return Ok(());
+        }
+        self.erase_block(block)
+    }
+
+    // Whether each page of a block is blank.
+    fn is_empty_block(&mut self, block: u32) -> Result<bool, DiskFailed>
+        ensures reads { LearnsNothing F.told F.medium self.old self.new result }
+        ensures empty { IsTrue F.told → block < (F.medium self.old.flash).blocks → IfOk result (λ empty. IsTrue empty
+            → IsEmptyBlock (F.medium self.old.flash).state.pages block) }
+    {
+        let mut bytes = BLANK_PAGE;
+        for page in 0..BLOCK_PAGES {
+            self.read_page(FlashPage { block, page }, &mut bytes)?;
+            if !is_blank(&bytes) {
+                return Ok(false);
+            }
+        }
+        Ok(true)
+    }
+
     // Finds the page that is to be filled next with a record of a file: the one after the last of the same copy, or
     // one of a block that is made free.
-    fn make_room(&mut self, file: u32) -> Result<(), DiskFailed>
+    fn find_room(&mut self, file: u32) -> Result<(), DiskFailed>
         requires ready { IsSure F.told F.medium self.old }
         ensures ready { IsSure F.told F.medium self.new }
         ensures room { OnOk result (self.new.state.fill < 64) }
@@ -276,7 +358,8 @@ impl<F: Flash> Layer<F> {
         if self.state.has_rivals || victim == target {
             return Err(self.fault());
         }
-        self.erase_block(target)?;
+        self.clear_spare()?;
+        self.state.cleared = false;
         self.state.moved.clear();
         self.copy_needed(victim, target)?;
         self.state.table.put_all(&self.state.moved);

@@ -6,6 +6,7 @@ ghost use Rattle.flash_disk.specs.Newest.{places, IsUsable, IsUnusable};
 ghost use Rattle.flash_disk.specs.Standing.{IsAgreed, HasRivals};
 ghost use Rattle.flash_disk.specs.Fresh.{IsBlankFlash};
 ghost use Rattle.flash_disk.specs.Apart.{copy_of, IsApart, StandApart, IsOfCopy, LosesPages, CostsOneCopy};
+ghost use Rattle.flash_disk.specs.Emptied.{HasEmptyBlock, LosesAnyPages};
 
 /// A fresh flash can be opened, has no rivals, and keeps the copies apart. No call makes rivals where the records
 /// agree, and where they agree there are none: so on a flash that only such disks wrote, no write fails for rivals.
@@ -16,6 +17,7 @@ pub fn fresh_flashes_open()
     ensures stand { (pages : Pages) (blocks : ℕ) → IsBlankFlash pages blocks → StandApart pages blocks }
     ensures no_rivals { (pages : Pages) (blocks : ℕ) → IsAgreed pages (places blocks) → HasRivals pages (places blocks)
         → ⊥ }
+    ensures empty { (pages : Pages) (blocks : ℕ) → 0 < blocks → IsBlankFlash pages blocks → HasEmptyBlock pages blocks }
 {}
 
 /// A flash that can be opened is not refused as unusable.
@@ -32,4 +34,13 @@ pub fn lost_pages_cost_one_copy()
         → LosesPages block old new → (copy : ℕ) × CostsOneCopy copy blocks old new }
     ensures stand { (pages : Pages) (blocks : ℕ) → StandApart pages blocks → IsApart pages blocks }
     ensures copies { (first copy k : ℕ) → first % 32 ≡ 0 → copy < 8 → k < 4 → copy_of (first + 4 * copy + k) ≡ copy }
+{}
+
+/// A flash that can be opened and has an empty block, as each write that succeeds leaves one (`write_at.empty`), can be
+/// opened after any loss of pages: some block can be spared then. So can one that lost pages of one block.
+pub fn lost_pages_leave_it_usable()
+    ensures any { (old new : Pages) (blocks : ℕ) → IsUsable old blocks → HasEmptyBlock old blocks
+        → LosesAnyPages old new → IsUsable new blocks }
+    ensures of_block { (old new : Pages) (blocks block : ℕ) → IsUsable old blocks → HasEmptyBlock old blocks
+        → LosesPages block old new → IsUsable new blocks }
 {}

@@ -33,6 +33,8 @@ pub struct LayerState {
     pub current: u32,
     pub fill: u32,
     pub spare: u32,
+    /// Whether that block is known to be blank.
+    pub cleared: bool,
     /// The greatest sequence number that was used.
     pub sequence: u64,
     /// A page that a failed call may have left anything in.

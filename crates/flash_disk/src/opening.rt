@@ -118,6 +118,7 @@ fn empty_state(alloc: Global, blocks: u32) -> Result<LayerState, AllocError>
         current: 0,
         fill: BLOCK_PAGES,
         spare: 0,
+        cleared: false,
         sequence: 0,
         unsure: None,
         moved: Vec::with_capacity(alloc, BLOCK_PAGES as usize)?,
@@ -168,6 +169,7 @@ impl<F: Flash> Layer<F> {
         self.state.table.measure();
         self.state.stray_end = self.state.table.stray_end();
         self.state.has_rivals = self.state.table.has_rivals();
+        self.state.cleared = false;
         self.streams.leave_mixed(&self.state.table);
         match self.flash.settle() {
             Ok(()) => Ok(true),

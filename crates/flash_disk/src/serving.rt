@@ -79,6 +79,7 @@ impl<F: Flash> Layer<F> {
         ensures entries { IsTrue F.told → OnOk result (Occupies self.old.state.table self.new.state.table
             (record { file = file; page = page })) }
         ensures no_rivals { IsTrue F.told → OnOk result (IsFalse self.old.state.has_rivals) }
+        ensures cleared { OnOk result (IsTrue self.new.state.cleared) }
     {
         let key = FilePage {
             file,
@@ -173,6 +174,7 @@ impl<F: Flash> Layer<F> {
         ensures apart { IsTrue F.told → KeepsApart (copy_of file) (F.medium self.old.flash) (F.medium self.new.flash) }
         ensures rises { OnOk result (length bytes.now + 256 * self.old.state.sequence ≤ 256 * self.new.state.sequence) }
         ensures no_rivals { IsTrue F.told → OnOk result (0 < length bytes.now → IsFalse self.old.state.has_rivals) }
+        ensures cleared { OnOk result (0 < length bytes.now → IsTrue self.new.state.cleared) }
         ensures takes { IsTrue F.told → OnOk result (page_len self.new.state.table
             ≤ page_len self.old.state.table + missing self.old.state.table file (at / 256)
             (div_ceil (at + length bytes.now) 256 - at / 256)) }
@@ -214,6 +216,7 @@ impl<F: Flash> Layer<F> {
         ensures allowed { IsTrue F.told → OnOk result (IsAllowed (F.medium self.old.flash) file at (length bytes.now)) }
         ensures takes { IsTrue F.told → OnOk result (TakesPages (F.medium self.old.flash) (F.medium self.new.flash) file
             at (length bytes.now)) }
+        ensures cleared { OnOk result (IsTrue self.new.state.cleared) }
         ensures refused { IsTrue F.told → EndsTooLate at (length bytes.now)
             ⊎ WantsTooMany (F.medium self.old.flash) file at (length bytes.now)
             → (F.medium self.new.flash).state ≡ (F.medium self.old.flash).state }
@@ -251,6 +254,7 @@ impl<F: Flash> Layer<F> {
         ensures allowed { IsTrue F.told → OnOk result (IsAllowed (F.medium self.old.flash) file at (length bytes.now)) }
         ensures takes { IsTrue F.told → OnOk result (TakesPages (F.medium self.old.flash) (F.medium self.new.flash) file
             at (length bytes.now)) }
+        ensures cleared { OnOk result (IsTrue self.new.state.cleared) }
     {
         if self.flash.announce(file, at, bytes).is_err() {
             return Err(DiskFailed);

@@ -17,3 +17,6 @@ returns-clause-stand c pages blocks blank = blank_stands_apart pages blocks blan
 
 pub returns-clause-no_rivals : goal.returns-clause-no_rivals
 returns-clause-no_rivals c pages blocks = agreed_has_no_rivals pages (places blocks)
+
+pub returns-clause-empty : goal.returns-clause-empty
+returns-clause-empty c pages blocks some blank = (0, some, λ p small. blank 0 p some small)

@@ -18,6 +18,7 @@ use Rattle.std.specs.Int.{div_ceil}
 use Rattle.flash_disk.specs.Apart.{copy_of}
 use Rattle.flash_disk.specs.KeepsApart.{KeepsApart}
 use Rattle.flash_disk.proofs.Holding.{none_apart, look_apart, apart_then}
+use Rattle.flash_disk.proofs.Clearing.{cleared_empty}
 use Rattle.flash_disk.proofs.calls.FlashDiskDisk.write_at.Goals as goal
 
 abbrev medium_of : {F : Type 0} → Bool → (F → FlashMedium) → FlashView F → Medium
@@ -382,3 +383,10 @@ returns-clause-apart g c told =
     subst (λ v. KeepsApart copy (g.F.Flash.medium v.flash) m2) c.self.view_is
     (apart_then copy m0 m1 m2 (e.accounts.time told) (w.accounts.time told)
     (look_apart copy m0 m1 (e.unchanged told) e.during) (w.apart told))
+
+pub returns-clause-empty : goal.returns-clause-empty
+returns-clause-empty g c told some =
+    let m2 = g.F.Flash.medium c.write_file.new.self.flash in
+    let state = c.write_file.new.self.state in
+    let described = c.write_file.ensures.described told in
+    (state.spare, described.sound.within, cleared_empty m2 state described c.in_ok-write_file.ensures.cleared)

@@ -290,3 +290,15 @@ pub returns-in-Err-clause-accounts : goal.returns-in-Err-clause-accounts
 returns-in-Err-clause-accounts g c =
     accounts_here refl refl refl refl (accounts_on 1 0 1 (omega arith)
     (accounts_here refl refl refl refl c.in_ok-sequence.ensures.accounts) c.in-Err.ensures.accounts)
+
+pub returns-in_err-sequence-clause-cleared : goal.returns-in_err-sequence-clause-cleared
+returns-in_err-sequence-clause-cleared g c = ap (λ (q : LayerState). q.cleared) c.in_err-sequence.ensures.none
+
+pub returns-in-Ok-clause-cleared : goal.returns-in-Ok-clause-cleared
+returns-in-Ok-clause-cleared g c =
+    c.enter.ensures.cleared ∙ (ap (λ (q : LayerState). q.cleared) c.program_page.ensures.state
+    ∙ ap (λ q. q.state.cleared) c.in_ok-sequence.ensures.next.1)
+
+pub returns-in-Err-clause-cleared : goal.returns-in-Err-clause-cleared
+returns-in-Err-clause-cleared g c = ap (λ (q : LayerState). q.cleared) c.program_page.ensures.state
+    ∙ ap (λ q. q.state.cleared) c.in_ok-sequence.ensures.next.1

@@ -9,6 +9,7 @@ use Rattle.flash_disk.proofs.Adding.{puts_then, puts_not, shown_after, added_put
 use Rattle.flash_disk.proofs.Holding.{apart_if, does_apart}
 use Rattle.flash_disk.proofs.Accounting.{accounts_fails, accounts_more, accounts_on}
 use Rattle.flash_disk.proofs.Steps.{sure_fails}
+use Rattle.flash_disk.proofs.Topmost.{on_ok}
 use Rattle.flash_disk.proofs.layer.Layer.append.Goals as goal
 
 pub returns-in_err-make_room-clause-does : goal.returns-in_err-make_room-clause-does
@@ -92,3 +93,6 @@ returns-clause-adds g c = record {
       (c.add.ensures.own told))
       (cases_Bool c.args.self.now.state.has_rivals);
 }
+
+pub returns-clause-cleared : goal.returns-clause-cleared
+returns-clause-cleared g c = on_ok c.add.result (c.add.ensures.cleared ∙ c.in_ok-make_room.ensures.cleared)

@@ -1,6 +1,6 @@
 use Rattle.std.specs.Prelude.{vec_capacity}
 use Rattle.flash_disk.specs.Counted.{IsCountedTable}
-use Rattle.std.proofs.Common.{◌≡◌, ◌<◌, ◌≤◌, true, false, sym, ap, inl, inr, ◌∙◌, subst, arith}
+use Rattle.std.proofs.Common.{◌≡◌, ◌<◌, ◌≤◌, true, false, sym, ap, inl, inr, ◌∙◌, subst, arith, refl}
 use Rattle.std.specs.HashMap.{spare}
 use Rattle.flash_disk.specs.Newest.{FindsSpare, IsSpare, places}
 use Rattle.flash_disk.specs.Known.{limit_of, page_len, len_in}
@@ -91,6 +91,7 @@ returns-in-Ok-clause-sound g c told usable_now =
       no_rivals = c.has_rivals-self.ensures.no_rivals;
       rivals = c.has_rivals-self.ensures.rivals;
       full = l.step.fill.0 ∙ (f.step.fill.0 ∙ (e.step.fill.0 ∙ c.requires.full));
+      uncleared = refl;
     })
     (limit ∙ c.requires.limit) room (λ file. ap (λ m. len_in m file) lens ∙ c.requires.empty.lens file)
     (subst (λ b. b < blocks) (sym l.spare) finds.0)

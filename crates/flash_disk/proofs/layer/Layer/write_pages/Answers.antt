@@ -29,6 +29,7 @@ loop-done-init g c =
       numbered = omega arith;
       counts = counted_none 0 c.args.self.now lawful;
       no_rivals = λ told some. absurd (omega (arith, some));
+      cleared = λ some. absurd (omega (arith, some));
       affords = r.affords;
       as_many = λ told. refl;
     }
@@ -82,6 +83,7 @@ loop-done-preserved g c =
           (start / 256) (omega arith) (omega arith)
           (e.entries told) (i.affords told);
       no_rivals = λ told some. sym i.counts.has_rivals ∙ e.no_rivals told;
+      cleared = λ some. e.cleared;
       as_many = λ told. as_many c.args.file (c.args.at / 256) c.loop-done.self.state.table
           c.write_page.new.self.state.table
           (div_ceil (c.args.at + length c.args.bytes.now) 256 - c.args.at / 256) (start / 256 - c.args.at / 256)
@@ -120,3 +122,7 @@ returns-in_err-write_page-clause-apart g c told =
     let e = c.write_page.ensures in
     apart_then (copy_of c.args.file) a b d (i.counts.time told) (e.adds.accounts.time told) (i.apart told)
     (e.apart told)
+
+pub returns-clause-cleared : goal.returns-clause-cleared
+returns-clause-cleared g c some =
+    let past = c.loop-done-test.false in c.loop-done.invariant.cleared (omega (arith, past, some))

@@ -1,5 +1,5 @@
 use Rattle.std.proofs.Common.{◌≡◌, ◌<◌, ◌≤◌, ◌+◌, ◌*◌, ◌-◌, ◌/◌, length, true}
-use Rattle.std.specs.Prelude.{IsFalse}
+use Rattle.std.specs.Prelude.{IsTrue, IsFalse}
 use Rattle.std.specs.Int.{div_ceil}
 use Rattle.flash_disk.specs.Apart.{copy_of}
 use Rattle.flash_disk.specs.KeepsApart.{KeepsApart}
@@ -29,6 +29,7 @@ invariant-loop-done g l = record {
   numbered : l.done + 256 * l.initial.self.state.sequence ≤ 256 * l.self.state.sequence;
   counts : Counted g.F.Flash.told g.F.Flash.medium l.done l.initial.self l.self;
   no_rivals : g.F.Flash.told ≡ true → 0 < l.done → IsFalse l.initial.self.state.has_rivals;
+  cleared : 0 < l.done → IsTrue l.self.state.cleared;
   affords : g.F.Flash.told ≡ true → Affords l.self.state.table l.file (l.at / 256)
       (div_ceil (l.at + length l.bytes) 256 - l.at / 256);
   as_many : g.F.Flash.told ≡ true

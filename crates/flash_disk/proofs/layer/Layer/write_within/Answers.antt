@@ -127,3 +127,7 @@ returns-clause-apart g c told =
     (failed_apart copy a b c.announce.result _ (c.announce.ensures.state told) (c.announce.ensures.failed told)
     c.announce.ensures.during refl)
     (apart_then copy b w d (e.adds.accounts.time told) (f.adds.accounts.time told) (e.apart told) (f.apart told))
+
+pub returns-clause-cleared : goal.returns-clause-cleared
+returns-clause-cleared g c =
+    on_ok_weaker c.write_pages.result (λ cleared. cleared c.requires.some) c.write_pages.ensures.cleared
