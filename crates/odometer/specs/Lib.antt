@@ -1,1 +1,2 @@
 pub mod Odometers
+pub mod Refusals
