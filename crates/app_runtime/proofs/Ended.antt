@@ -30,6 +30,7 @@ use Rattle.deploy_rows.specs.Rows as rows
 use Rattle.deploy_rows.specs.Rows.{after}
 use Rattle.run_model.specs.Calls.{active_storages, first_open, least_open, session_at}
 use Rattle.run_model.specs.Found.{FoundStorage, storage_in}
+use Rattle.run_model.specs.Needs.{CallNeedsMemory, RowNeedsMemory}
 use Rattle.run_model.specs.Runtimes.{IsUnwritten, WritesWithin, is_durable, is_refusal, only_plans}
 use Rattle.run_model.specs.Sessions.{Session}
 use Rattle.run_model.specs.Steps.{after_failure, device_storage, found_named, uses_device}
@@ -175,6 +176,9 @@ module _ (told : Bool) (rules : List Rule) (answers : Answers) (now : ℕ) (c : 
       time = m.time;
     }
 
+  starved_made : (e : Stop) → e ≡ stop.OutOfMemory → IsErrOf {T = Outcome} (Err e) stop.OutOfMemory
+  starved_made e is = ap (λ (x : Stop). let made : Result Outcome Stop = Err x in made) is
+
   module _ (after' : Running) (app : after'.app ≡ b.app) (stage : after'.stage ≡ ToOpen) (none : NoneOpen after'.slots)
     where
       device_promises : Made told row b.app root Untouched old new (Err stop.Device)
@@ -208,13 +212,15 @@ module _ (told : Bool) (rules : List Rule) (answers : Answers) (now : ℕ) (c : 
       }
 
       memory_promises : Made told row b.app root Untouched old new (Err stop.OutOfMemory)
+          → (IsTrue told → RowNeedsMemory b.app r now c)
           → Promises told rules answers now c before after' Untouched old new (Err stop.OutOfMemory)
-      memory_promises m = record {
+      memory_promises m needed = record {
         app = app;
         memory = λ fed. absurd (fed refl);
         answered = λ tells. tt;
         failed = λ tells bad. absurd cc;
         stopped = λ tells bad. record {
+          needs = (refl, needed tells);
           next = after r.disk (row r.disk);
           leads = row_leads told rules answers b.app now c r row word tells;
           later = row_later told rules answers b.app now c r row word;
@@ -234,21 +240,23 @@ module _ (told : Bool) (rules : List Rule) (answers : Answers) (now : ℕ) (c : 
       }
 
       stopped_promises : (e : Stop) → Made told row b.app root Untouched old new (Err e)
+          → (IsTrue told → e ≡ stop.OutOfMemory → RowNeedsMemory b.app r now c)
           → Promises told rules answers now c before after' Untouched old new (Err e)
-      stopped_promises stop.Device m = device_promises m
-      stopped_promises stop.OutOfMemory m = memory_promises m
+      stopped_promises stop.Device m needed = device_promises m
+      stopped_promises stop.OutOfMemory m needed = memory_promises m (λ tells. needed tells refl)
 
   pub rowed_promises : (made : Result Outcome Stop) → Made told row b.app root Untouched old new made
+      → (IsTrue told → IsErrOf made stop.OutOfMemory → RowNeedsMemory b.app r now c)
       → IfOk made (λ o. o.refused ≡ None → AreOpenOn told new.image b.app (root_says o.root) b.slots)
       → (after' : Running) (result : Result Reply Stop) → ConcludesCall made (record b { stage = ToOpen }) after' result
       → Promises told rules answers now c before after' Untouched old new result
-  rowed_promises (Ok o) m kept after' result s = subst (λ (x : Running).
+  rowed_promises (Ok o) m needed kept after' result s = subst (λ (x : Running).
       Promises told rules answers now c before x Untouched old new result) (sym s.0)
       (subst (λ (x : Result Reply Stop). Promises told rules answers now c before (record b { stage = AtRest o.root })
       Untouched old new x) (sym s.1) (done_promises o m kept))
-  rowed_promises (Err e) m kept after' result s = subst
+  rowed_promises (Err e) m needed kept after' result s = subst
       (λ (x : Result Reply Stop). Promises told rules answers now c before after' Untouched old new x) (sym s.3)
-      (stopped_promises after' s.0 s.1 s.2 e m)
+      (stopped_promises after' s.0 s.1 s.2 e m (λ tells is. needed tells (starved_made e is)))
 
 -- ---- the same of what is in memory
 
@@ -270,14 +278,16 @@ module _ (told : Bool) (rules : List Rule) (answers : Answers) (now : ℕ) (c : 
     (taken_is : taken ≡ record s { stage = ToOpen }) (in_use : RootInUseLaw) (row : App → Result App PerError) where
   pub word_promises : IsWord told rules answers s.app now c (resting_with old.image s.app s.slots) row
       → (made : Result Outcome Stop) → Made told row s.app root Untouched old new made
+      → (IsTrue told → IsErrOf made stop.OutOfMemory
+      → RowNeedsMemory s.app (resting_with old.image s.app s.slots) now c)
       → IfOk made (λ o. o.refused ≡ None → AreOpenOn told new.image s.app (root_says o.root) s.slots)
       → (after' : Running) (result : Result Reply Stop) → ConcludesCall made taken after' result
       → Promises told rules answers now c s after' Untouched old new result
-  word_promises word made m kept after' result settles =
+  word_promises word made m needed kept after' result settles =
       subst (λ (x : Running). Promises told rules answers now c x after' Untouched old new result)
       (stage_back s root rest root_is)
       (rowed_promises told rules answers now c s root old new Untouched unwritten
-      (resting_in told old.image s root is rest root_is) in_use row word made m kept after' result
+      (resting_in told old.image s root is rest root_is) in_use row word made m needed kept after' result
       (subst (λ (x : Running). ConcludesCall made x after' result) taken_is settles))
 
 -- what is so of every end is so of one that ended well
@@ -327,15 +337,17 @@ module _ (told : Bool) (rules : List Rule) (answers : Answers) (now : ℕ) (c : 
   }
 
   -- memory ran out before anything was done
-  pub starved_promises : (after' : Running) → after'.app ≡ s.app → (result : Result Reply Stop)
+  pub starved_promises : (IsTrue told → CallNeedsMemory s.app (application m.image s) now c) → (after' : Running)
+      → after'.app ≡ s.app → (result : Result Reply Stop)
       → result ≡ Err stop.OutOfMemory → Promises told rules answers now c s after' Untouched m m result
-  starved_promises after' app result failed = subst (λ (x : Result Reply Stop).
+  starved_promises needed after' app result failed = subst (λ (x : Result Reply Stop).
       Promises told rules answers now c s after' Untouched m m x) (sym failed) (record {
         app = app;
         memory = λ fed. absurd (fed refl);
         answered = λ tells. tt;
         failed = λ tells bad. absurd cc;
         stopped = λ tells bad. record {
+          needs = needed tells;
           next = app_at m.image s.app;
           leads = inl refl;
           later = still (app_at m.image s.app);

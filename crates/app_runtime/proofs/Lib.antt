@@ -11,3 +11,5 @@ mod Steps
 mod StorageCalls
 mod KnownCalls
 mod Arms
+mod Needed
+mod RootRefusals

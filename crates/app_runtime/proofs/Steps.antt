@@ -36,6 +36,7 @@ use Rattle.deploy_rows.specs.Rows.{◌>>=◌, InProgress, installing, updated_ap
 use Rattle.run_model.specs.Calls as calls
 use Rattle.run_model.specs.Calls.{StepBeside, answered, app_step, beside_update, done_with, next_step, commit_step}
 use Rattle.run_model.specs.Calls.{abort_step, progress_of, remaining, concluded}
+use Rattle.run_model.specs.Needs.{reaching_needs}
 use Rattle.run_model.specs.Runtimes.{IsUnwritten, is_durable, is_refusal, only_plans}
 use Rattle.run_model.specs.Steps.{after_failure, device_storage, reaches_device, uses_device}
 use Rattle.run_model.specs.Worlds.{Application}
@@ -337,7 +338,13 @@ module _ (told : Bool) (rules : List Rule) (answers : Answers) (now : ℕ) (b : 
       memory = λ fed. absurd (fed refl);
       answered = λ tells. tt;
       failed = λ tells bad. absurd cc;
-      stopped = λ tells bad. record { next = next; leads = leads tells; later = later tells; calls = calls tells };
+      stopped = λ tells bad. record {
+        needs = reaching_needs b.app r now c (reaches tells);
+        next = next;
+        leads = leads tells;
+        later = later tells;
+        calls = calls tells;
+      };
       quiet = λ quiet. tt;
       idle = λ tells calm. absurd (true≢false (sym uses ∙ calm));
       unwritten = tt;

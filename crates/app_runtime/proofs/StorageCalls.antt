@@ -130,6 +130,7 @@ module _ (told : Bool) (rules : List Rule) (answers : Answers) (now : ℕ) (c : 
       calls = f.calls;
     };
     stopped = λ tells bad. let f = s.stopped tells bad in record {
+      needs = (refl, f.needs);
       next = f.next;
       leads = leads f.next f.leads;
       later = later f.next f.leads;

@@ -39,11 +39,13 @@ use Rattle.deploy_rows.specs.Rows.{offer_over, offered, updated_app}
 use Rattle.run_model.specs.Calls as calls
 use Rattle.run_model.specs.Calls.{active_storages, answered, with_update_begun, first_open, least_open, concluded}
 use Rattle.run_model.specs.Calls.{with_update}
+use Rattle.run_model.specs.Needs.{NeedsReading}
 use Rattle.run_model.specs.Runtimes.{IsUnwritten, is_refusal}
 use Rattle.run_model.specs.Steps.{after_failure}
 use Rattle.run_model.specs.Worlds.{Application}
 use Rattle.run_model.specs.Worlds as worlds
 use Rattle.app_storages.specs.Answers.{CallsTo}
+use Rattle.app_storages.specs.declared.slots.OpenSlots.{OpenSlots}
 use Rattle.app_storages.specs.Slots.{AreOpenOn, IsResting, resting_with, sessions_in}
 use Rattle.app_runtime.specs.declared.running.Running.{Running}
 use Rattle.app_runtime.specs.declared.running.Stage.{Stage}
@@ -88,7 +90,8 @@ begins_free rules answers now busy text a p begins = begins_by rules answers now
 
 -- what `update` promises
 pub record Updates (told : Bool) (rules : List Rule) (answers : Answers) (now : ℕ) (text : List ℕ) (app : ℕ)
-    (root : Root) (busy : Option (List ℕ)) (old new : Medium) (made : Result Outcome Stop) : Type 0 where
+    (root : Root) (slots : OpenSlots) (busy : Option (List ℕ)) (old new : Medium) (made : Result Outcome Stop) : Type 0
+  where
   pub root_at : IfOk made (λ o. RootAt told new.image app o.root)
   pub updates : IfOk made (IsUpdated told (BeginsUpdate rules answers now busy text) app old.image new.image root)
   pub clean : IsTrue told → IfOk made (λ o. IsCleanApp app old.image → IsCleanApp app new.image)
@@ -98,6 +101,8 @@ pub record Updates (told : Bool) (rules : List Rule) (answers : Answers) (now : 
   pub cause : IsErrOf made stop.Device → Rose old.faults new.faults
   pub passes : OnOk made (new.faults ≡ old.faults)
   pub device_only : IsErrOf made stop.Device → IsOk (offered busy text (root_app root []))
+  pub needs : IsTrue told → IsErrOf made stop.OutOfMemory
+      → NeedsReading (offered (least_open (resting_with old.image app slots)) text (app_at old.image app))
   pub outside : Leaves told (IsBesideNext app (free_bank root)) old new
   pub any_moment : IsTrue told → LeadsTo app (rows.UpdateMayLead rules answers now busy text (app_at old.image app))
       made old
@@ -191,7 +196,7 @@ module _ (told : Bool) (rules : List Rule) (answers : Answers) (now : ℕ) (text
     updated_row tells (Some e) a' (Err f) answers is = ap (λ (d : App). (reply_of (Some e), record r { disk = d })) is
         ∙ ap (λ (x : PerError). answered (answer.Error x) r) (sym answers)
 
-    module _ (o : Outcome) (u : Updates told rules answers now text b.app root busy old new (Ok o)) where
+    module _ (o : Outcome) (u : Updates told rules answers now text b.app root b.slots busy old new (Ok o)) where
       taken_free : (refused : Option PerError) (row : Result InProgress PerError) → rows.AnswersRow refused row
           → refused ≡ None → BeginsUpdate rules answers now busy text (root_app root u.updates.states) row → busy ≡ None
       taken_free None (Ok p) answers_row none begins = begins_free rules answers now busy text
@@ -267,14 +272,14 @@ module _ (told : Bool) (rules : List Rule) (answers : Answers) (now : ℕ) (text
 
     module _ (after' : Running) (app : after'.app ≡ b.app) (stage : after'.stage ≡ ToOpen)
         (none : NoneOpen after'.slots) where
-      calls_next : (e : Stop) (u : Updates told rules answers now text b.app root busy old new (Err e))
+      calls_next : (e : Stop) (u : Updates told rules answers now text b.app root b.slots busy old new (Err e))
           (tells : IsTrue told) → CallsTo b.app (u.any_moment tells).next old new
       calls_next e u tells =
           let leads = u.any_moment tells in
           calls_to told b.app leads.next (IsBesideNext b.app (free_bank root)) old new tells
           (λ f is. beside_next b.app (free_bank root) f resting.below (free_low root) is) u.outside leads.throughout
 
-      device_promises : Updates told rules answers now text b.app root busy old new (Err stop.Device)
+      device_promises : Updates told rules answers now text b.app root b.slots busy old new (Err stop.Device)
           → Promises told rules answers now (call.Update text) before after' Untouched old new (Err stop.Device)
       device_promises u = record {
         app = app;
@@ -302,7 +307,7 @@ module _ (told : Bool) (rules : List Rule) (answers : Answers) (now : ℕ) (text
         time = u.time;
       }
 
-      memory_promises : Updates told rules answers now text b.app root busy old new (Err stop.OutOfMemory)
+      memory_promises : Updates told rules answers now text b.app root b.slots busy old new (Err stop.OutOfMemory)
           → Promises told rules answers now (call.Update text) before after' Untouched old new (Err stop.OutOfMemory)
       memory_promises u = record {
         app = app;
@@ -310,6 +315,7 @@ module _ (told : Bool) (rules : List Rule) (answers : Answers) (now : ℕ) (text
         answered = λ tells. tt;
         failed = λ tells bad. absurd cc;
         stopped = λ tells bad. record {
+          needs = (refl, u.needs tells refl);
           next = (u.any_moment tells).next;
           leads = (may_lead tells (u.any_moment tells).next (u.any_moment tells).may).0;
           later = (may_lead tells (u.any_moment tells).next (u.any_moment tells).may).1;
@@ -328,12 +334,12 @@ module _ (told : Bool) (rules : List Rule) (answers : Answers) (now : ℕ) (text
         time = u.time;
       }
 
-      stopped_promises : (e : Stop) → Updates told rules answers now text b.app root busy old new (Err e)
+      stopped_promises : (e : Stop) → Updates told rules answers now text b.app root b.slots busy old new (Err e)
           → Promises told rules answers now (call.Update text) before after' Untouched old new (Err e)
       stopped_promises stop.Device u = device_promises u
       stopped_promises stop.OutOfMemory u = memory_promises u
 
-    pub updated_promises : (made : Result Outcome Stop) → Updates told rules answers now text b.app root busy old new
+    pub updated_promises : (made : Result Outcome Stop) → Updates told rules answers now text b.app root b.slots busy old new
         made → (after' : Running) (result : Result Reply Stop)
         → ConcludesCall made (record b { stage = ToOpen }) after' result
         → Promises told rules answers now (call.Update text) before after' Untouched old new result
@@ -347,7 +353,8 @@ module _ (told : Bool) (rules : List Rule) (answers : Answers) (now : ℕ) (text
 
 -- what `begin_update` promises
 pub record Beginning (told : Bool) (rules : List Rule) (answers : Answers) (now : ℕ) (text : List ℕ) (app : ℕ)
-    (root : Root) (busy : Option (List ℕ)) (old new : Medium) (made : Result Begin Stop) : Type 0 where
+    (root : Root) (slots : OpenSlots) (busy : Option (List ℕ)) (old new : Medium) (made : Result Begin Stop) : Type 0
+  where
   pub begins : IfOk made (λ x. (states : List State) × (IsTrue told → (app_at old.image app).states ≡ states)
       × BeginsUpdate rules answers now busy text (root_app root states) (begun_as x))
   pub staged : IfOk made (IsUpdateBegun told new.image app root)
@@ -357,6 +364,8 @@ pub record Beginning (told : Bool) (rules : List Rule) (answers : Answers) (now 
   pub cause : IsErrOf made stop.Device → Rose old.faults new.faults
   pub passes : OnOk made (new.faults ≡ old.faults)
   pub device_only : IsErrOf made stop.Device → IsOk (offered busy text (root_app root []))
+  pub needs : IsTrue told → IsErrOf made stop.OutOfMemory
+      → NeedsReading (offered (least_open (resting_with old.image app slots)) text (app_at old.image app))
   pub any_moment : IsTrue told → StandsThroughout app (app_at old.image app) old new
   pub time : Elapses old new
 
@@ -381,7 +390,7 @@ module _ (told : Bool) (rules : List Rule) (answers : Answers) (now : ℕ) (text
     same_clean : IsCleanApp b.app old.image → IsCleanApp b.app new.image
     same_clean clean = subst (λ (i : Image). IsCleanApp b.app i) (sym same) clean
 
-  module _ (made : Result Begin Stop) (x : Beginning told rules answers now text b.app root busy old new made) where
+  module _ (made : Result Begin Stop) (x : Beginning told rules answers now text b.app root b.slots busy old new made) where
     calls_still : IsTrue told → CallsTo b.app here.disk old new
     calls_still tells = calls_reading b.app here.disk old new x.image x.idle (x.any_moment tells)
 
@@ -394,7 +403,7 @@ module _ (told : Bool) (rules : List Rule) (answers : Answers) (now : ℕ) (text
     quiet_after : Quiet old → Quiet new
     quiet_after quiet = (x.idle quiet).quiet
 
-  ready_promises : (s : Staged) → Beginning told rules answers now text b.app root busy old new (Ok (begin.Ready s))
+  ready_promises : (s : Staged) → Beginning told rules answers now text b.app root b.slots busy old new (Ok (begin.Ready s))
       → Promises told rules answers now c first (record b { stage = Updating s }) Untouched old new (Ok (reply_of None))
   ready_promises s x = record {
     app = refl;
@@ -441,7 +450,7 @@ module _ (told : Bool) (rules : List Rule) (answers : Answers) (now : ℕ) (text
     time = x.time;
   }
 
-  refused_promises : (same : Root) (e : PerError) → Beginning told rules answers now text b.app root busy old new
+  refused_promises : (same : Root) (e : PerError) → Beginning told rules answers now text b.app root b.slots busy old new
       (Ok (begin.Refused same e))
       → Promises told rules answers now c first (record b { stage = AtRest same }) Untouched old new
       (Ok (reply_of (Some e)))
@@ -492,7 +501,7 @@ module _ (told : Bool) (rules : List Rule) (answers : Answers) (now : ℕ) (text
 
   module _ (after' : Running) (app : after'.app ≡ b.app) (stage : after'.stage ≡ ToOpen) (none : NoneOpen after'.slots)
     where
-      begin_stopped : (e : Stop) → Beginning told rules answers now text b.app root busy old new (Err e)
+      begin_stopped : (e : Stop) → Beginning told rules answers now text b.app root b.slots busy old new (Err e)
           → Promises told rules answers now c first after' Untouched old new (Err e)
       begin_stopped stop.Device x = record {
         app = app;
@@ -526,6 +535,7 @@ module _ (told : Bool) (rules : List Rule) (answers : Answers) (now : ℕ) (text
         answered = λ tells. tt;
         failed = λ tells bad. absurd cc;
         stopped = λ tells bad. record {
+          needs = (refl, x.needs tells refl);
           next = here.disk;
           leads = inl refl;
           later = still here.disk;
@@ -544,7 +554,7 @@ module _ (told : Bool) (rules : List Rule) (answers : Answers) (now : ℕ) (text
         time = x.time;
       }
 
-  pub begun_promises : (made : Result Begin Stop) → Beginning told rules answers now text b.app root busy old new made
+  pub begun_promises : (made : Result Begin Stop) → Beginning told rules answers now text b.app root b.slots busy old new made
       → (after' : Running) (result : Result Reply Stop)
       → ConcludesBegun made (record b { stage = ToOpen }) after' result
       → Promises told rules answers now c first after' Untouched old new result

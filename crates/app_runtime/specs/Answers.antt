@@ -8,6 +8,7 @@ use Rattle.deploy_laws.specs.Apps.{App, app_at, IsCleanApp}
 use Rattle.deploy_laws.specs.Stands.{IsLater}
 use Rattle.run_model.specs.Worlds.{Application, update_in}
 use Rattle.run_model.specs.Calls.{Outcome, StepBeside, beside_update}
+use Rattle.run_model.specs.Needs.{CallNeedsMemory}
 use Rattle.run_model.specs.Steps.{reaches_device, after_failure, found_named}
 use Rattle.app_storages.specs.Answers.{CallsTo}
 
@@ -39,6 +40,8 @@ pub record HasFailed (rules : List Rule) (answers : Answers) (app now : ℕ) (c 
 
 pub record HasStopped (rules : List Rule) (answers : Answers) (app now : ℕ) (c : Call) (before : Application)
     (old new : Medium) : Type 0 where
+  -- memory ran out, which it needs: no other refusal gives way
+  pub needs : CallNeedsMemory app before now c
   pub next : App
   pub leads : MayLead rules answers app now c before next
   pub later : IsLater before.disk next

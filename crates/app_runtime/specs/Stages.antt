@@ -65,6 +65,26 @@ without_update nothing = error.IntegrityCorrupted unit.Root
 without_update (absent g) = error.NotInstalled
 without_update (installed g active previous) = error.NoUpdateInProgress
 
+-- why nothing is rolled back, where the root alone decides it: no name is copied for it
+abbrev pub unless_previous : Option Named → Option PerError
+unless_previous None = Some error.NoPreviousVersion
+unless_previous (Some previous) = None
+
+abbrev pub rollback_refused : Says → Option PerError
+rollback_refused nothing = Some (error.IntegrityCorrupted unit.Root)
+rollback_refused (absent g) = Some error.NotInstalled
+rollback_refused (installed g active previous) = unless_previous previous
+
+-- and why no update begins
+abbrev pub beside_previous : Option Named → Option PerError
+beside_previous None = None
+beside_previous (Some previous) = Some (error.UpdateNotFinished previous.deployment.version)
+
+abbrev pub update_refused : Says → Option PerError
+update_refused nothing = Some (error.IntegrityCorrupted unit.Root)
+update_refused (absent g) = Some error.NotInstalled
+update_refused (installed g active previous) = beside_previous previous
+
 -- The root that a call leaves is kept in memory, and the reply is built; where the call failed, all sessions end.
 abbrev pub ConcludesCall : Result Outcome Stop → (before after : Running) → Result Reply Stop → Type 0
 ConcludesCall (Ok o) before after result = (after ≡ record before { stage = AtRest o.root })

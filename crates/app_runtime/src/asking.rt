@@ -1,7 +1,7 @@
 //! What is known in memory of an application: which calls go on beside an update, which call the device, and the
 //! status.
 
-ghost use Rattle.std.specs.Prelude.{◌≡◌, Bool, IfOk, IsTrue, Some, false, is_ok, is_some, option_map};
+ghost use Rattle.std.specs.Prelude.{◌≡◌, ◌≢◌, Bool, IfOk, IsTrue, None, OnErr, Some, false, is_ok, is_some, option_map};
 ghost use Rattle.per_base.specs.declared.elements.StoreKind.{StoreKind};
 ghost use Rattle.disk_model.specs.Image.{Image};
 ghost use Rattle.deploy.specs.Roots.{root_says};
@@ -11,7 +11,8 @@ ghost use Rattle.run_model.specs.Found.{storage_in};
 ghost use Rattle.run_model.specs.Worlds.{is_to_open, update_in};
 ghost use Rattle.app_storages.specs.Slots.{sessions_in};
 ghost use Rattle.app_runtime.specs.Running.{IsRunning, stage_in};
-ghost use Rattle.app_runtime.specs.Stages.{installed_parts, reply_with, says_status, stage_root, without_update};
+ghost use Rattle.app_runtime.specs.Stages.{installed_parts, reply_with, rollback_refused, says_status, stage_root};
+ghost use Rattle.app_runtime.specs.Stages.{update_refused, without_update};
 
 use crate::running::{Running, Stage};
 use command_text::{Answer, AppStatus, Call, Reply};
@@ -66,6 +67,28 @@ fn versions_of(installed: &Installed) -> AppStatus
             Some(previous) => Some(previous.deployment.version),
             None => None,
         },
+    }
+}
+
+// Why no version is made active again, where something is installed.
+fn unless_previous(installed: &Installed) -> Option<PerError>
+    ensures { result ≡ rollback_refused (root_says (Root.Installed installed.now)) }
+{
+    match &installed.previous {
+        Some(_) => None,
+        None => Some(PerError::NoPreviousVersion),
+    }
+}
+
+// Why no update begins, where something is installed.
+fn beside_previous(installed: &Installed) -> Option<PerError>
+    ensures { result ≡ update_refused (root_says (Root.Installed installed.now)) }
+{
+    match &installed.previous {
+        Some(previous) => Some(PerError::UpdateNotFinished {
+            previous: previous.deployment.version,
+        }),
+        None => None,
     }
 }
 
@@ -140,10 +163,38 @@ impl Running {
         self.refuse(error)
     }
 
-    // The name of the open storage with the least name, by the root whose storages are open.
+    // Why nothing is rolled back, where the root alone decides it. Does not allocate.
+    pub(crate) fn rollback_refused(&self) -> Option<PerError>
+        ensures { result ≡ rollback_refused (root_says (stage_root self.now.stage)) }
+    {
+        if let Some(installed) = self.installed() {
+            return unless_previous(installed);
+        }
+        match &self.stage {
+            Stage::AtRest(Root::Absent(_)) => Some(PerError::NotInstalled),
+            _ => Some(PerError::IntegrityCorrupted { unit: Unit::Root }),
+        }
+    }
+
+    // Why no update begins, where the root alone decides it. Does not allocate.
+    pub(crate) fn update_refused(&self) -> Option<PerError>
+        ensures { result ≡ update_refused (root_says (stage_root self.now.stage)) }
+    {
+        if let Some(installed) = self.installed() {
+            return beside_previous(installed);
+        }
+        match &self.stage {
+            Stage::AtRest(Root::Absent(_)) => Some(PerError::NotInstalled),
+            _ => Some(PerError::IntegrityCorrupted { unit: Unit::Root }),
+        }
+    }
+
+    // The name of the open storage with the least name, by the root whose storages are open. Allocates where one is.
     pub(crate) fn busy(&self, root: &Root) -> Result<Option<Name>, AllocError>
-        ensures { IfOk result (λ busy. busy ≡ first_open (sessions_in self.now.slots)
+        ensures least { IfOk result (λ busy. busy ≡ first_open (sessions_in self.now.slots)
             (active_storages (root_says root.now))) }
+        ensures memory { OnErr result (first_open (sessions_in self.now.slots) (active_storages (root_says root.now))
+            ≢ None) }
     {
         match self.slots.least_open(root) {
             Some(name) => Ok(Some(name.copy()?)),

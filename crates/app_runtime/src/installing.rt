@@ -84,7 +84,7 @@ impl Running {
         self.conclude(made)
     }
 
-    /// Makes the previous version active again, where no storage is open.
+    /// Makes the previous version active again, where no storage is open. What the root alone refuses does not allocate.
     pub(crate) fn rollback<D: Disk>(
         &mut self,
         disk: &mut D,
@@ -100,6 +100,9 @@ impl Running {
         rows_read_the_root();
         roots_in_use();
         untouched_stands();
+        if let Some(refused) = self.rollback_refused() {
+            return Ok(self.refuse(refused));
+        }
         let root = self.take_root();
         let busy = self.busy(&root)?;
         let made = rollback(self.alloc, disk, root, busy.as_ref());

@@ -17,7 +17,8 @@ use disk_model::Disk;
 use migrate_fns::Migrations;
 
 impl Running {
-    /// Updates to the version that a manifest describes, in one call, where no storage is open.
+    /// Updates to the version that a manifest describes, in one call, where no storage is open. What the root
+    /// alone refuses does not allocate.
     pub(crate) fn update<D: Disk>(
         &mut self,
         disk: &mut D,
@@ -35,6 +36,9 @@ impl Running {
         rows_read_the_root();
         roots_in_use();
         untouched_stands();
+        if let Some(refused) = self.update_refused() {
+            return Ok(self.refuse(refused));
+        }
         let root = self.take_root();
         let busy = self.busy(&root)?;
         let made = update(
@@ -50,7 +54,7 @@ impl Running {
         self.conclude(made)
     }
 
-    /// Begins an update in steps, where no storage is open.
+    /// Begins an update in steps, where no storage is open. What the root alone refuses does not allocate.
     pub(crate) fn begin_update<D: Disk>(
         &mut self,
         disk: &mut D,
@@ -68,6 +72,9 @@ impl Running {
         rows_read_the_root();
         roots_in_use();
         untouched_stands();
+        if let Some(refused) = self.update_refused() {
+            return Ok(self.refuse(refused));
+        }
         let root = self.take_root();
         let busy = self.busy(&root)?;
         let begun = begin_update(

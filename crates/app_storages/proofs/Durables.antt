@@ -239,7 +239,8 @@ module _ (laws : StorageLaws) (texts : TextLaw) (told : Bool) (app now : ℕ) (r
         time = storing.time;
       }
       stopped_handled is emptied OutOfMemory none cause = record {
-        ends = stopped laws told app now root c was is old new l located resting next storing (leads none);
+        ends = stopped laws told app now root c was is old new l located resting next storing
+            (λ tells. reaches tells (answered answer.Done after) (row_ok none tells)) (leads none);
         idle = idle;
         written = written;
         place = in_place;

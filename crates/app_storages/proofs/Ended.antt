@@ -23,6 +23,7 @@ use Rattle.open_storages.specs.declared.opens.Open.{Open}
 use Rattle.open_storages.specs.Opens.{session_in}
 use Rattle.run_model.specs.Calls.{app_step, concluded}
 use Rattle.run_model.specs.Found.{FoundStorage, with_storage_state}
+use Rattle.run_model.specs.Needs.{RowNeedsMemory, reaching_needs}
 use Rattle.run_model.specs.Sessions.{Session}
 use Rattle.run_model.specs.Steps.{after_failure, found_named, reaches_device}
 use Rattle.run_model.specs.Worlds.{Application, Stage, at_rest}
@@ -92,10 +93,12 @@ module _ (laws : StorageLaws) (told : Bool) (app now : ℕ) (root : Root) (c : C
     time = elapses_none law;
   }
 
-  -- memory ran out
-  pub starved_handled : (is : OpenSlots) → IsStorageCallHandled told app now root c was is m m Same (Err OutOfMemory)
-  starved_handled is = record {
+  -- memory ran out, which it needs
+  pub starved_handled : (IsTrue told → RowNeedsMemory app (resting_with m.image app was) now c) → (is : OpenSlots)
+      → IsStorageCallHandled told app now root c was is m m Same (Err OutOfMemory)
+  starved_handled needs is = record {
     ends = λ tells. record {
+      needs = needs tells;
       next = app_at m.image app;
       leads = inl refl;
       calls =
@@ -162,9 +165,15 @@ module _ (laws : StorageLaws) (told : Bool) (app now : ℕ) (root : Root) (c : C
       (subst (λ (h : FoundStorage). IsBeside app h.bank h.number file)
       (same_found (found_named before c) f g (named tells) is) beside)))
 
-  pub stopped : (IsTrue told → StorageCallMayLead app now c before next_app) → IsTrue told
+  pub stopped : (IsTrue told → IsTrue (reaches_device app before now c))
+      → (IsTrue told → StorageCallMayLead app now c before next_app) → IsTrue told
       → HasStorageCallStopped app now c before old new
-  stopped leads tells = record { next = next_app; leads = leads tells; calls = calls tells }
+  stopped reaches leads tells = record {
+    needs = (reaching_needs app before now c (reaches tells)).1;
+    next = next_app;
+    leads = leads tells;
+    calls = calls tells;
+  }
 
   -- the application as its row has it
   module _ (tells : IsTrue told) (there : store_at new.image (shape_at l) ≡ next) where

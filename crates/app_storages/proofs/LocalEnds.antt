@@ -40,7 +40,7 @@ use Rattle.app_storages.specs.declared.finding.Located.{Located}
 use Rattle.app_storages.specs.declared.slots.OpenSlots.{OpenSlots}
 use Rattle.app_storages.proofs.Ended.{TextLaw, starved_handled}
 use Rattle.app_storages.proofs.Handled.{none_written, refused_row}
-use Rattle.app_storages.proofs.LocalRows.{answers_plainly, is_error, local_answered, local_refused}
+use Rattle.app_storages.proofs.LocalRows.{answers_plainly, is_error, local_answered, local_opens, local_refused}
 use Rattle.app_storages.proofs.SlotLaws.{none_there, session_slot, sessions_set, set_same, there}
 use Rattle.app_storages.proofs.Storing.{idle_calls, open_there, resting_after}
 
@@ -210,7 +210,9 @@ module _ (laws : StorageLaws) (texts : TextLaw) (told : Bool) (app now : ℕ) (r
       refused_in e reply refused.0 refused.1 row unfailed unchanged
   refuses_handled e (Err Device) refused row unfailed unchanged = absurd refused
   refuses_handled e (Err OutOfMemory) refused row unfailed unchanged =
-      starved_handled laws told app now root c was m Same same law resting is
+      starved_handled laws told app now root c was m Same same law resting
+      (λ tells. local_opens app now before c name kind on (found_on m.image l)
+      (found m.image (resting.root_at.disk tells)) (session_in o) session_is) is
 
   -- as the call on the storage was answered
   pub local_handled : (given : Result Answer PerError) (result : Result Reply Stop) → TellsAnswer given result

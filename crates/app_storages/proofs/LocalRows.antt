@@ -1,6 +1,6 @@
 -- The row of a call on an open storage that touches no disk, and what it never answers.
 use Rattle.std.proofs.Common.{◌≡◌, ℕ, List, Bool, true, false, refl, sym, ap, ◌∙◌, true≢false}
-use Rattle.std.specs.Prelude.{Option, Some, None, Result, Ok, Err, is_some}
+use Rattle.std.specs.Prelude.{Option, Some, None, Result, Ok, Err, is_ok, is_some}
 use Rattle.per_base.specs.Maps.{Map}
 use Rattle.per_base.specs.declared.elements.StoreKind.{StoreKind}
 use Rattle.per_base.specs.declared.errors.PerError.{PerError}
@@ -15,6 +15,7 @@ use Rattle.deploy_rows.specs.Rows.{◌>>=◌}
 use Rattle.run_model.specs.Calls.{answered, app_step, found_or, local_on, local_step, opened_session, session_at}
 use Rattle.run_model.specs.Calls.{with_session}
 use Rattle.run_model.specs.Found.{FoundStorage, storage_in}
+use Rattle.run_model.specs.Needs.{RowNeedsMemory, due_needs, open_for}
 use Rattle.run_model.specs.Sessions.{Answered, Session, Working, changes, files, in_session, keys, moves}
 use Rattle.run_model.specs.Sessions.{on_keys, on_working, sees, shows, works}
 use Rattle.run_model.specs.Runtimes.{is_durable}
@@ -43,6 +44,28 @@ local_is app now r (call.ResetStorage n) is = absurd (true≢false (sym is))
 local_is app now r (call.Sync n) is = absurd (true≢false (sym is))
 local_is app now r (call.Flush n h) is = absurd (true≢false (sym is))
 local_is app now r other is = refl
+
+-- it needs memory where its storage is open
+local_needs : (app now : ℕ) (r : Application) (c : Call) → is_some (local_on c) ≡ true
+    → is_ok (open_for r (local_on c)) ≡ true → RowNeedsMemory app r now c
+local_needs app now r call.Status is opens = absurd (true≢false (sym is))
+local_needs app now r (call.Install t) is opens = absurd (true≢false (sym is))
+local_needs app now r (call.Update t) is opens = absurd (true≢false (sym is))
+local_needs app now r call.Finish is opens = absurd (true≢false (sym is))
+local_needs app now r call.Rollback is opens = absurd (true≢false (sym is))
+local_needs app now r call.Wipe is opens = absurd (true≢false (sym is))
+local_needs app now r (call.UpdateBegin t) is opens = absurd (true≢false (sym is))
+local_needs app now r call.UpdateNext is opens = absurd (true≢false (sym is))
+local_needs app now r call.UpdateCommit is opens = absurd (true≢false (sym is))
+local_needs app now r call.UpdateAbort is opens = absurd (true≢false (sym is))
+local_needs app now r (call.OpenKvs n) is opens = absurd (true≢false (sym is))
+local_needs app now r (call.OpenFiles n) is opens = absurd (true≢false (sym is))
+local_needs app now r (call.Close n) is opens = absurd (true≢false (sym is))
+local_needs app now r (call.RecoverStorage n) is opens = absurd (true≢false (sym is))
+local_needs app now r (call.ResetStorage n) is opens = absurd (true≢false (sym is))
+local_needs app now r (call.Sync n) is opens = absurd (true≢false (sym is))
+local_needs app now r (call.Flush n h) is opens = absurd (true≢false (sym is))
+local_needs app now r other is opens = due_needs (open_for r (local_on other)) opens
 
 pub local_not_durable : (c : Call) → is_some (local_on c) ≡ true → is_durable c ≡ false
 local_not_durable (call.Close n) is = absurd (true≢false (sym is))
@@ -89,6 +112,12 @@ module _ (app now : ℕ) (r : Application) (c : Call) (name : List ℕ) (kind : 
       pub local_refused : (e : PerError) → in_session f.config now s c ≡ Err e → app_step app r now c ≡ Err e
       local_refused e is = local_open ∙ ap (λ (row : Answered Session). row >>= λ a.
           Ok (answered a.0 (with_session r f.number a.1))) is
+
+      pub local_opens : RowNeedsMemory app r now c
+      local_opens = local_needs app now r c (is_some_at (local_on c) (name, kind) on)
+          (ap (λ (o : Option (List ℕ × Option StoreKind)). is_ok (open_for r o)) on
+          ∙ (ap (λ (row : Result FoundStorage PerError). is_ok (row >>= λ g. opened_session r g)) found
+          ∙ ap (λ (o : Option Session). is_ok (found_or o error.NotOpen)) there))
 
 -- ---- an answer is no refusal
 

@@ -6,11 +6,12 @@ use Rattle.per_base.specs.declared.elements.StoreKind.TheVariants.{Keys, Files}
 use Rattle.per_base.specs.declared.errors.Holder.TheVariants as holder
 use Rattle.per_base.specs.declared.errors.PerError.{PerError}
 use Rattle.per_base.specs.declared.errors.PerError.TheVariants as error
-use Rattle.per_base.specs.Refusals.{refuse}
+use Rattle.per_base.specs.Refusals.{NeedsMemory, refuse}
 use Rattle.deploy_laws.specs.Apps.{App}
 use Rattle.deploy_rows.specs.Rows.{◌>>=◌}
 use Rattle.run_model.specs.Calls.{Outcome, app_step, beside_update, open_step, session_at, storage_opened, unless_open}
 use Rattle.run_model.specs.Found.{FoundStorage, storage_in}
+use Rattle.run_model.specs.Needs.{RowNeedsMemory}
 use Rattle.run_model.specs.Runtimes.{is_durable}
 use Rattle.run_model.specs.Steps.{found_named, passes_refusals, reaches_device, uses_device}
 use Rattle.run_model.specs.Worlds.{Application, Stage, at_rest, update_in}
@@ -36,6 +37,12 @@ open_goes : (app now : ℕ) (r : Application) (kind : StoreKind) (name : List �
     → passes_refusals app r now (open_call kind name) ≡ is_ok (app_step app r now (open_call kind name))
 open_goes app now r Keys name = refl
 open_goes app now r Files name = refl
+
+-- what it needs memory for
+pub open_needs : (app now : ℕ) (r : Application) (kind : StoreKind) (name : List ℕ)
+    → NeedsMemory (app_step app r now (open_call kind name)) → RowNeedsMemory app r now (open_call kind name)
+open_needs app now r Keys name needs = needs
+open_needs app now r Files name needs = needs
 
 pub open_named : (r : Application) (kind : StoreKind) (name : List ℕ)
     → found_named r (open_call kind name) ≡ Some (storage_in r.disk name None)

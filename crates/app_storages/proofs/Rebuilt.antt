@@ -12,7 +12,7 @@ use Rattle.per_base.specs.declared.errors.Holder.TheVariants as holder
 use Rattle.per_base.specs.declared.errors.Limit.TheVariants as limit
 use Rattle.per_base.specs.declared.errors.PerError.{PerError}
 use Rattle.per_base.specs.declared.errors.PerError.TheVariants as error
-use Rattle.per_base.specs.Refusals.{refuse}
+use Rattle.per_base.specs.Refusals.{NeedsMemory, refuse}
 use Rattle.disk_model.specs.Image.{Image}
 use Rattle.disk_model.specs.Medium.{Elapses, Medium, Quiet}
 use Rattle.disk_model.specs.Place.{IsOutside}
@@ -40,6 +40,7 @@ use Rattle.deploy.specs.declared.roots.Root.{Root}
 use Rattle.deploy.specs.Roots.{root_says}
 use Rattle.run_model.specs.Calls.{Outcome, answered, app_step, rebuild_step, session_at, concluded, unless_open}
 use Rattle.run_model.specs.Found.{FoundStorage, storage_in, with_storage_state}
+use Rattle.run_model.specs.Needs.{closed_for}
 use Rattle.run_model.specs.Runtimes.{IsUnwritten, is_durable, is_refusal}
 use Rattle.run_model.specs.Steps.{found_named, reaches_device, uses_device}
 use Rattle.run_model.specs.Worlds.{Application}
@@ -198,7 +199,7 @@ module _ (laws : StorageLaws) (texts : TextLaw) (told : Bool) (app now : ℕ) (r
       time = rebuilds.time;
     }
     rebuilt_err OutOfMemory err = record {
-      ends = stopped laws told app now root c was was old new l located resting next storing leads;
+      ends = stopped laws told app now root c was was old new l located resting next storing reaches leads;
       idle = idle;
       written = written;
       place = in_place;
@@ -347,6 +348,16 @@ busy_closed image app slots name state_of f found there =
     Ok (answered answer.Done (record (resting_with image app slots)
     { disk = with_storage_state (app_at image app) f state }))))
     (ap is_some (session_slot image app slots f.number) ∙ (is_there (slot_at slots f.number) ∙ there))
+
+-- and its name is copied for that
+pub busy_needs : (image : Image) (app : ℕ) (slots : OpenSlots) (name : List ℕ) (f : FoundStorage)
+    → storage_in (app_at image app) name None ≡ Ok f → is_some (slot_at slots f.number) ≡ true
+    → NeedsMemory (closed_for (resting_with image app slots) name)
+busy_needs image app slots name f found there = subst (λ (row : Result FoundStorage PerError). NeedsMemory row)
+    (sym (ap (λ (x : Result FoundStorage PerError). x >>= λ g. unless_open (resting_with image app slots) g (Ok g))
+    found
+    ∙ ap (λ (b : Bool). refuse {A = FoundStorage} b (error.ResourceBusy (holder.Storage f.config.name)) (Ok f))
+    (ap is_some (session_slot image app slots f.number) ∙ (is_there (slot_at slots f.number) ∙ there)))) tt
 
 pub busy_early : (name : List ℕ) → IsEarly (error.ResourceBusy (holder.Storage name))
 busy_early name = record { no_failure = λ is. absurd cc; no_want = λ is. absurd cc }

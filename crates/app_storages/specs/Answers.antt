@@ -9,6 +9,7 @@ use Rattle.deploy_laws.specs.Apps.{App, app_at, IsCleanApp}
 use Rattle.deploy_laws.specs.Stands.{StandsThroughout}
 use Rattle.run_model.specs.Worlds.{Application}
 use Rattle.run_model.specs.Calls.{local_on, concluded, app_step}
+use Rattle.run_model.specs.Needs.{RowNeedsMemory}
 use Rattle.run_model.specs.Steps.{device_storage, reaches_device, after_failure, found_named}
 
 -- the calls that name a storage
@@ -44,8 +45,9 @@ pub record HasStorageCallFailed (app now : ℕ) (c : Call) (before after : Appli
   pub is_after : after ≡ after_failure (app_at new.image app) before (found_named before c)
   pub calls : CallsTo app next old new
 
--- memory ran out: it is in progress
+-- memory ran out, which it needs: it is in progress
 pub record HasStorageCallStopped (app now : ℕ) (c : Call) (before : Application) (old new : Medium) : Type 0 where
+  pub needs : RowNeedsMemory app before now c
   pub next : App
   pub leads : StorageCallMayLead app now c before next
   pub calls : CallsTo app next old new

@@ -1,6 +1,7 @@
 -- A closed storage that is to be rebuilt, as it is found by its name.
 use Rattle.std.specs.Prelude.{◌≡◌, ℕ, List, None, Result, Ok, Err}
 use Rattle.per_base.specs.declared.errors.PerError.{PerError}
+use Rattle.per_base.specs.Refusals.{NeedsMemory}
 use Rattle.disk_model.specs.Image.{Image}
 use Rattle.element_state.specs.States.{State}
 use Rattle.deploy_laws.specs.Apps.{app_at}
@@ -8,6 +9,7 @@ use Rattle.deploy.specs.declared.roots.Root.{Root}
 use Rattle.deploy.specs.Roots.{IsRootOn, root_says}
 use Rattle.run_model.specs.Calls.{rebuild_step}
 use Rattle.run_model.specs.Found.{FoundStorage, storage_in}
+use Rattle.run_model.specs.Needs.{closed_for}
 use Rattle.app_storages.specs.Finding.{IsEarly, IsLocated, found_on}
 use Rattle.app_storages.specs.Slots.{resting_with, slot_at}
 use Rattle.app_storages.specs.declared.finding.Located.{Located}
@@ -19,6 +21,11 @@ pub record IsClosed (app : ℕ) (root : Root) (name : List ℕ) (slots : OpenSlo
   pub named : (image : Image) → IsRootOn image app root
       → storage_in (app_at image app) name None ≡ Ok (found_on image l)
   pub free : slot_at slots l.number ≡ None
+
+-- the storage of this name is open, and is named by the refusal
+abbrev pub IsNamedOpen : (app : ℕ) → Root → List ℕ → OpenSlots → Type 0
+IsNamedOpen app root name slots = (image : Image) → IsRootOn image app root
+    → NeedsMemory (closed_for (resting_with image app slots) name)
 
 -- whatever is to be made of it, this is the refusal
 pub record IsNoneClosed (app : ℕ) (root : Root) (name : List ℕ) (slots : OpenSlots) (e : PerError) : Type 0 where

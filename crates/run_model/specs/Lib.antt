@@ -3,6 +3,7 @@ pub mod Sessions
 pub mod Worlds
 pub mod Calls
 pub mod Steps
+pub mod Needs
 pub mod Lasting
 pub mod Moments
 pub mod Runtimes

@@ -18,6 +18,7 @@ use Rattle.run_model.specs.AppLaws.{AppLaws}
 use Rattle.run_model.specs.Worlds.{Application, after_start, Disks, Doubt, World, disks, disk_at, resting, all_resting}
 use Rattle.run_model.specs.Worlds.{world_at, after_run}
 use Rattle.run_model.specs.Lasting.{IsWorld, starts_so}
+use Rattle.run_model.specs.Needs.{EventNeedsMemory}
 use Rattle.run_model.specs.Steps.{StepsTo, Leads}
 use Rattle.run_model.specs.Moments.{AtMoment, Between, InDoubt, IsInDoubt, IsMomentOf, StepKeeps, StopKeeps, Stayed}
 use Rattle.run_model.specs.Moments.{
@@ -509,6 +510,7 @@ stops_disk rules answers _ lines all others text turns before after e memory dou
         event = e;
         is_next = is_next;
         spelled = spelled;
+        needs = subst (λ w. EventNeedsMemory w e) (sym going.last) s.needs;
         leads = subst (λ w. Leads rules answers w e s.after) (sym going.last) s.leads;
         bounded = begun_here rules answers (world_at old.image) (after_start (world_at old.image))
             (start_calm old) turns e

@@ -14,6 +14,7 @@ use Rattle.run_model.specs.Endings.{Ending, ending_status, HasStarted, HasEnded,
 use Rattle.run_model.specs.Lasting.{IsWorld}
 use Rattle.run_model.specs.Lines.{lines_of, Give}
 use Rattle.run_model.specs.Moments.{AreImaged, IsMomentOf, OrBefore, last_of, AreSoundDoubts, AreDecided}
+use Rattle.run_model.specs.Needs.{EventNeedsMemory}
 use Rattle.run_model.specs.Steps.{Leads}
 use Rattle.run_model.specs.Turns.{DiskBytes, Turn, bytes_now, events_of, worlds_of, replies_text, Follow}
 use Rattle.run_model.specs.Turns.{CountsFailures}
@@ -57,7 +58,7 @@ pub record IsSettled (w : World) (new : Medium) : Type 0 where
   pub world : world_at new.image ≡ after_run w
   pub quiet : w.doubt ≡ None → Quiet new
 
--- a command in progress is that of the next line, and leads there; it began at the bytes `left`
+-- a command in progress is that of the next line, needs memory, and leads there; it began at the bytes `left`
 pub record IsInProgress (rules : List Rule) (answers : Answers) (w : World) (lines all : List (List ℕ))
     (next : Disks) (left now : DiskBytes) : Type 0 where
   pub text : List ℕ
@@ -65,6 +66,7 @@ pub record IsInProgress (rules : List Rule) (answers : Answers) (w : World) (lin
   pub event : Event
   pub is_next : all ≡ lines ++ text ∷ others
   pub spelled : IsLine text (line.Event event)
+  pub needs : EventNeedsMemory w event
   pub leads : Leads rules answers w event next
   pub bounded : IsBegunWithin w event left now
 

@@ -30,6 +30,7 @@ use Rattle.run_model.specs.Sessions.{Session, synced_in_session, seen_of}
 use Rattle.run_model.specs.Worlds.{Application, Stage, is_to_open, Sessions, Disks, Doubt, World, app_of, disks}
 use Rattle.run_model.specs.Worlds.{world_at, after_start}
 use Rattle.run_model.specs.Steps.{Step, SyncFails, FailsElsewhere, Leads, calls_device, found_named}
+use Rattle.run_model.specs.Needs.{EventNeedsMemory}
 use Rattle.run_model.specs.Moments.{Between, OrBefore, StepKeeps, StopKeeps}
 use Rattle.run_model.specs.Turns.{IsBlamed}
 
@@ -208,6 +209,8 @@ pub record Stepped (rules : List Rule) (answers : Answers) (e : Event) (reply : 
 -- A command for which memory ran out: it is in progress.
 pub record Stopped (rules : List Rule) (answers : Answers) (e : Event) (memory : Memory) (doubt : Option Doubt)
     (old new : Medium) : Type 0 where
+  -- it is one that needs memory: no other refusal gives way
+  pub needs : EventNeedsMemory (world_of old.image memory doubt) e
   pub after : Disks
   pub leads : Leads rules answers (world_of old.image memory doubt) e after
   pub keeps : (app : ℕ) → app < 8 → StopKeeps app (world_of old.image memory doubt) after old new

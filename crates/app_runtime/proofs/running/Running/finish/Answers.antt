@@ -8,6 +8,7 @@ use Rattle.migrate_fns.specs.Stored.{answers_of, rules_of}
 use Rattle.app_runtime.proofs.Ended.{on_clean, resting_in, word_promises}
 use Rattle.app_runtime.proofs.Frames.{calls_to, no_root}
 use Rattle.app_runtime.proofs.Kept.{finish_kept}
+use Rattle.app_runtime.proofs.Needed.{finish_needs, not_done}
 use Rattle.app_runtime.proofs.Words.{finish_word}
 use Rattle.app_runtime.proofs.running.Running.finish.Goals as goal
 
@@ -51,6 +52,8 @@ returns g c = λ now.
           (c.finish-made.ensures.any_moment tells s.app resting.below resting.root_at);
       time = c.finish-made.ensures.time;
     })
+    (λ tells starved. finish_needs told old.image s.app now root s.slots c.roots_in_use.ensures.app resting tells
+    c.rows_read_the_root.ensures.finish (λ e is. not_done made starved (c.finish-made.ensures.due e is)))
     (finish_kept told s.app old.image new.image root s.slots resting c.places_stand_apart.ensures.frame
     c.files_lie_apart.ensures.storage outside.at_the_end made c.finish-made.ensures.refused
     c.finish-made.ensures.says)

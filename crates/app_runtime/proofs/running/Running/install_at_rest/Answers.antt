@@ -10,6 +10,7 @@ use Rattle.migrate_fns.specs.Stored.{answers_of, rules_of}
 use Rattle.app_runtime.proofs.Ended.{clean_less, resting_in, word_promises}
 use Rattle.app_runtime.proofs.Frames.{beside_next, calls_to}
 use Rattle.app_runtime.proofs.Kept.{install_kept}
+use Rattle.app_runtime.proofs.Needed.{install_needs, not_done}
 use Rattle.app_runtime.proofs.Rowed.{Made}
 use Rattle.app_runtime.proofs.Words.{install_word}
 use Rattle.app_runtime.proofs.running.Running.install_at_rest.Goals as goal
@@ -65,6 +66,9 @@ returns g c =
           (c.install-made.ensures.any_moment tells);
       time = c.install-made.ensures.time;
     }))
+    (λ tells starved. install_needs told old.image s.app c.args.now root s.slots c.roots_in_use.ensures.app resting tells
+    c.args.manifest.now (c.rows_read_the_root.ensures.install c.args.now c.args.manifest.now)
+    (λ e is nothing. not_done made starved (c.install-made.ensures.due e is nothing)))
     (install_kept told s.app old.image new.image root s.slots resting c.args.now c.args.manifest.now made
     c.install-made.ensures.refused)
     c.conclude.new.self c.conclude.result c.conclude.ensures

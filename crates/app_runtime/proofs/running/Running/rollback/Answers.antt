@@ -1,16 +1,23 @@
-use Rattle.std.proofs.Common.{◌≡◌, ◌<◌, ap, refl, sym, subst}
+use Rattle.std.proofs.Common.{◌≡◌, ◌≢◌, ◌<◌, ◌∙◌, None, ap, refl, sym, subst}
 use Rattle.std.specs.Prelude.{option_map}
 use Rattle.deploy.specs.Clauses.{IsNoRootSlot}
-use Rattle.deploy.specs.Roots.{RootAt}
+use Rattle.deploy.specs.declared.roots.Root.{Root}
+use Rattle.deploy.specs.Refusals.{AllocatesNothing}
+use Rattle.deploy.specs.Roots.{RootAt, root_app, root_says}
 use Rattle.deploy_laws.specs.Apps.{IsCleanApp, app_at}
 use Rattle.deploy_rows.specs.Rows.{after, rolling_back}
 use Rattle.command_text.specs.declared.calls.Call.TheVariants as call
 use Rattle.migrate_fns.specs.Stored.{answers_of, rules_of}
+use Rattle.run_model.specs.Calls.{active_storages, first_open}
+use Rattle.app_storages.specs.Slots.{sessions_in}
 use Rattle.app_runtime.specs.declared.running.Running.{Running}
-use Rattle.app_runtime.proofs.Ended.{busy_here, busy_least, clean_less, on_clean, resting_in, starved, starved_promises}
-use Rattle.app_runtime.proofs.Ended.{word_promises}
+use Rattle.app_runtime.specs.Stages.{rollback_refused}
+use Rattle.app_runtime.proofs.Ended.{busy_here, busy_least, clean_less, not_some, on_clean, resting_in, starved}
+use Rattle.app_runtime.proofs.Ended.{starved_promises, word_promises}
 use Rattle.app_runtime.proofs.Frames.{calls_to, no_root}
 use Rattle.app_runtime.proofs.Kept.{rollback_kept}
+use Rattle.app_runtime.proofs.Needed.{none_open_due, rest_needs, rollback_copies, rollback_needs}
+use Rattle.app_runtime.proofs.RootRefusals.{rollback_refuses}
 use Rattle.app_runtime.proofs.Rowed.{Made}
 use Rattle.app_runtime.proofs.Words.{rollback_word}
 use Rattle.app_runtime.proofs.running.Running.rollback.Goals as goal
@@ -21,11 +28,32 @@ rollback-made-requires g c =
     c.take_root-root.result c.requires.memory c.requires.rests c.take_root-root.ensures.root in
     record { root = (c.args.self.now.app, resting.below, resting.root_at) }
 
+pub returns-in-Some : goal.returns-in-Some
+returns-in-Some g c = λ now. rollback_refuses g.D.Disk.told (rules_of c.args.migrations.now)
+    (answers_of c.args.migrations.now) now c.args.self.now (g.D.Disk.medium c.args.disk.now)
+    (g.met.D.Disk.lawful c.args.disk.now) c.untouched_stands.ensures.untouched (c.args.disk.now ≡ c.args.disk.now) refl
+    c.requires.memory c.requires.rests c.roots_in_use.ensures.app c.in-Some.refused c.refuse.result c.refuse.ensures
+    (sym c.rollback_refused.ensures ∙ c.in-Some.is)
+
 pub returns-in_err-busy : goal.returns-in_err-busy
-returns-in_err-busy g c = λ now. starved_promises g.D.Disk.told (rules_of c.args.migrations.now)
+returns-in_err-busy g c = λ now.
+    let told = g.D.Disk.told in
+    let s = c.args.self.now in
+    let taken = c.take_root-root.new.self in
+    let root = c.take_root-root.result in
+    let image = (g.D.Disk.medium c.args.disk.now).image in
+    let resting = resting_in told image s root c.requires.memory c.requires.rests c.take_root-root.ensures.root in
+    starved_promises g.D.Disk.told (rules_of c.args.migrations.now)
     (answers_of c.args.migrations.now) now call.Rollback c.args.self.now (g.D.Disk.medium c.args.disk.now)
     (g.met.D.Disk.lawful c.args.disk.now) c.untouched_stands.ensures.untouched (c.args.disk.now ≡ c.args.disk.now) refl
-    c.requires.memory c.take_root-root.new.self
+    c.requires.memory
+    (λ tells. rest_needs image s now call.Rollback c.requires.rests
+    (rollback_copies told image s.app now root s.slots c.roots_in_use.ensures.app resting tells
+    (subst (λ (x : Running). first_open (sessions_in x.slots) (active_storages (root_says root)) ≢ None)
+    c.take_root-root.ensures.left c.in_err-busy.ensures.memory)
+    (ap (λ (x : Root). rollback_refused (root_says x)) c.take_root-root.ensures.root
+    ∙ (sym c.rollback_refused.ensures ∙ not_some c.rollback_refused.result c.in_default.not-Some))))
+    c.take_root-root.new.self
     (ap (λ (x : Running). x.app) c.take_root-root.ensures.left) c.from_residual.result
     (starved c.from_residual.result c.from_residual.ensures.1)
 
@@ -69,6 +97,13 @@ returns g c = λ now.
           (c.rollback-made.ensures.any_moment tells s.app resting.below resting.root_at);
       time = c.rollback-made.ensures.time;
     })
+    (λ tells starved. rollback_needs told old.image s.app now root s.slots c.roots_in_use.ensures.app resting tells busy
+    (busy_least told old.image s.app root s.slots c.roots_in_use.ensures.app resting busy busy_is tells)
+    (ap (λ (x : Root). rollback_refused (root_says x)) c.take_root-root.ensures.root
+    ∙ (sym c.rollback_refused.ensures ∙ not_some c.rollback_refused.result c.in_default.not-Some))
+    (c.rows_read_the_root.ensures.rollback busy)
+    (none_open_due AllocatesNothing (λ n. n.now) c.as_ref.result made (row (root_app root []))
+    c.rollback-made.ensures.due starved))
     (rollback_kept told s.app old.image new.image root s.slots resting busy busy_is made
     c.rollback-made.ensures.refused)
     c.conclude.new.self c.conclude.result c.conclude.ensures

@@ -1,14 +1,21 @@
-use Rattle.std.proofs.Common.{◌≡◌, ◌<◌, ap, refl, sym, subst}
+use Rattle.std.proofs.Common.{◌≡◌, ◌≢◌, ◌<◌, ◌∙◌, None, ap, refl, sym, subst}
 use Rattle.std.specs.Prelude.{option_map}
-use Rattle.deploy.specs.Roots.{RootAt}
-use Rattle.deploy_laws.specs.Apps.{IsCleanApp}
+use Rattle.deploy.specs.declared.roots.Root.{Root}
+use Rattle.deploy.specs.Roots.{RootAt, root_says}
+use Rattle.deploy_laws.specs.Apps.{IsCleanApp, app_at}
+use Rattle.deploy_rows.specs.Rows.{offered}
 use Rattle.command_text.specs.declared.calls.Call.TheVariants as call
 use Rattle.migrate_fns.specs.Stored.{answers_of, rules_of}
+use Rattle.run_model.specs.Calls.{active_storages, first_open, least_open}
+use Rattle.run_model.specs.Needs.{NeedsReading}
+use Rattle.app_storages.specs.Slots.{resting_with, sessions_in}
 use Rattle.app_runtime.specs.declared.running.Running.{Running}
 use Rattle.app_runtime.specs.declared.running.Stage.TheVariants.{AtRest}
 use Rattle.app_runtime.specs.Promises.{Promises}
-use Rattle.app_runtime.specs.Stages.{ConcludesCall}
-use Rattle.app_runtime.proofs.Ended.{busy_here, on_clean, resting_in, stage_back, starved, starved_promises}
+use Rattle.app_runtime.specs.Stages.{ConcludesCall, update_refused}
+use Rattle.app_runtime.proofs.Ended.{busy_here, busy_least, not_some, on_clean, resting_in, stage_back, starved, starved_promises}
+use Rattle.app_runtime.proofs.Needed.{not_done, offer_copies, offer_needs, rest_needs}
+use Rattle.app_runtime.proofs.RootRefusals.{update_refuses}
 use Rattle.app_runtime.proofs.Updated.{Updates, updated_promises}
 use Rattle.app_runtime.proofs.running.Running.update.Goals as goal
 
@@ -23,12 +30,33 @@ update-made-requires g c =
           resting.root_at;
     }
 
+pub returns-in-Some : goal.returns-in-Some
+returns-in-Some g c = update_refuses g.D.Disk.told (rules_of c.args.migrations.now) (answers_of c.args.migrations.now)
+    c.args.now c.args.self.now (g.D.Disk.medium c.args.disk.now)
+    (g.met.D.Disk.lawful c.args.disk.now) c.untouched_stands.ensures.untouched (c.args.disk.now ≡ c.args.disk.now) refl
+    c.requires.memory c.requires.rests c.roots_in_use.ensures.app c.in-Some.refused c.refuse.result c.refuse.ensures
+    c.args.manifest.now (sym c.update_refused.ensures ∙ c.in-Some.is)
+
 pub returns-in_err-busy : goal.returns-in_err-busy
-returns-in_err-busy g c = starved_promises g.D.Disk.told (rules_of c.args.migrations.now)
+returns-in_err-busy g c =
+    let told = g.D.Disk.told in
+    let s = c.args.self.now in
+    let root = c.take_root-root.result in
+    let image = (g.D.Disk.medium c.args.disk.now).image in
+    let resting = resting_in told image s root c.requires.memory c.requires.rests c.take_root-root.ensures.root in
+    starved_promises g.D.Disk.told (rules_of c.args.migrations.now)
     (answers_of c.args.migrations.now) c.args.now (call.Update c.args.manifest.now) c.args.self.now
     (g.D.Disk.medium c.args.disk.now)
     (g.met.D.Disk.lawful c.args.disk.now) c.untouched_stands.ensures.untouched (c.args.disk.now ≡ c.args.disk.now) refl
-    c.requires.memory c.take_root-root.new.self
+    c.requires.memory
+    (λ tells. rest_needs image s c.args.now (call.Update c.args.manifest.now) c.requires.rests
+    (offer_copies told image s.app c.args.now root s.slots c.roots_in_use.ensures.app resting tells
+    (subst (λ (x : Running). first_open (sessions_in x.slots) (active_storages (root_says root)) ≢ None)
+    c.take_root-root.ensures.left c.in_err-busy.ensures.memory)
+    c.args.manifest.now
+    (ap (λ (x : Root). update_refused (root_says x)) c.take_root-root.ensures.root
+    ∙ (sym c.update_refused.ensures ∙ not_some c.update_refused.result c.in_default.not-Some))))
+    c.take_root-root.new.self
     (ap (λ (x : Running). x.app) c.take_root-root.ensures.left) c.from_residual.result
     (starved c.from_residual.result c.from_residual.ensures.1)
 
@@ -55,7 +83,7 @@ returns g c =
     resting c.roots_in_use.ensures.app c.rows_read_the_root.ensures.offer busy busy_is
     c.rows_lead_on.ensures.update
     made
-    (subst (λ n. Updates told rules answers c.args.now text n root busy old new made)
+    (subst (λ n. Updates told rules answers c.args.now text n root s.slots busy old new made)
     (ap (λ (x : Running). x.app) c.take_root-root.ensures.left) (record {
       root_at = c.update-made.ensures.root;
       updates = c.update-made.ensures.updates;
@@ -66,6 +94,13 @@ returns g c =
       cause = c.update-made.ensures.cause;
       passes = c.update-made.ensures.passes;
       device_only = c.update-made.ensures.device_only;
+      needs = λ tells starved. subst (λ n.
+          NeedsReading (offered (least_open (resting_with old.image n s.slots)) text (app_at old.image n)))
+          (sym (ap (λ (x : Running). x.app) c.take_root-root.ensures.left))
+          (offer_needs told old.image s.app c.args.now root s.slots c.roots_in_use.ensures.app resting tells busy
+          (busy_least told old.image s.app root s.slots c.roots_in_use.ensures.app resting busy busy_is tells) text
+          (c.rows_read_the_root.ensures.offer busy text)
+          (λ e is nothing. not_done made starved (c.update-made.ensures.due e is nothing)));
       outside = c.update-made.ensures.outside;
       any_moment = c.update-made.ensures.any_moment;
       time = c.update-made.ensures.time;

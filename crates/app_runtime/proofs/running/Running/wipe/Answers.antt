@@ -1,16 +1,19 @@
-use Rattle.std.proofs.Common.{◌≡◌, ◌<◌, ap, refl, sym, subst}
+use Rattle.std.proofs.Common.{◌≡◌, ◌≢◌, ◌<◌, None, ap, refl, sym, subst}
 use Rattle.std.specs.Prelude.{option_map}
 use Rattle.deploy.specs.Clauses.{IsNoRootSlot}
-use Rattle.deploy.specs.Roots.{RootAt}
+use Rattle.deploy.specs.Roots.{RootAt, root_says}
 use Rattle.deploy_laws.specs.Apps.{IsCleanApp, app_at}
 use Rattle.deploy_rows.specs.Rows.{after, wiping}
 use Rattle.command_text.specs.declared.calls.Call.TheVariants as call
 use Rattle.migrate_fns.specs.Stored.{answers_of, rules_of}
+use Rattle.run_model.specs.Calls.{active_storages, first_open}
+use Rattle.app_storages.specs.Slots.{sessions_in}
 use Rattle.app_runtime.specs.declared.running.Running.{Running}
 use Rattle.app_runtime.proofs.Ended.{busy_here, busy_least, clean_less, on_clean, resting_in, starved, starved_promises}
 use Rattle.app_runtime.proofs.Ended.{word_promises}
 use Rattle.app_runtime.proofs.Frames.{calls_to, no_root}
 use Rattle.app_runtime.proofs.Kept.{wipe_kept}
+use Rattle.app_runtime.proofs.Needed.{not_done, rest_needs, unmapped, wipe_copies, wipe_needs}
 use Rattle.app_runtime.proofs.Rowed.{Made}
 use Rattle.app_runtime.proofs.Words.{wipe_word}
 use Rattle.app_runtime.proofs.running.Running.wipe.Goals as goal
@@ -27,10 +30,21 @@ wipe-made-requires g c =
     }
 
 pub returns-in_err-busy : goal.returns-in_err-busy
-returns-in_err-busy g c = λ now. starved_promises g.D.Disk.told (rules_of c.args.migrations.now)
+returns-in_err-busy g c = λ now.
+    let told = g.D.Disk.told in
+    let s = c.args.self.now in
+    let root = c.take_root-root.result in
+    let image = (g.D.Disk.medium c.args.disk.now).image in
+    let resting = resting_in told image s root c.requires.memory c.requires.rests c.take_root-root.ensures.root in
+    starved_promises g.D.Disk.told (rules_of c.args.migrations.now)
     (answers_of c.args.migrations.now) now call.Wipe c.args.self.now (g.D.Disk.medium c.args.disk.now)
     (g.met.D.Disk.lawful c.args.disk.now) c.untouched_stands.ensures.untouched (c.args.disk.now ≡ c.args.disk.now) refl
-    c.requires.memory c.take_root-root.new.self
+    c.requires.memory
+    (λ tells. rest_needs image s now call.Wipe c.requires.rests
+    (wipe_copies told image s.app now root s.slots c.roots_in_use.ensures.app resting tells
+    (subst (λ (x : Running). first_open (sessions_in x.slots) (active_storages (root_says root)) ≢ None)
+    c.take_root-root.ensures.left c.in_err-busy.ensures.memory)))
+    c.take_root-root.new.self
     (ap (λ (x : Running). x.app) c.take_root-root.ensures.left) c.from_residual.result
     (starved c.from_residual.result c.from_residual.ensures.1)
 
@@ -76,5 +90,9 @@ returns g c = λ now.
           (c.wipe-made.ensures.any_moment tells);
       time = c.wipe-made.ensures.time;
     }))
+    (λ tells starved. wipe_needs told old.image s.app now root s.slots c.roots_in_use.ensures.app resting tells busy
+    (busy_least told old.image s.app root s.slots c.roots_in_use.ensures.app resting busy busy_is tells)
+    (c.rows_read_the_root.ensures.wipe busy)
+    (λ e is none. not_done made starved (c.wipe-made.ensures.due e is (unmapped (λ n. n.now) c.as_ref.result none))))
     (wipe_kept told s.app old.image new.image root s.slots resting busy busy_is made c.wipe-made.ensures.refused)
     c.conclude.new.self c.conclude.result c.conclude.ensures

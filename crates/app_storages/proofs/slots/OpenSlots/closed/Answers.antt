@@ -3,7 +3,7 @@ use Rattle.per_base.specs.declared.errors.Holder.TheVariants as holder
 use Rattle.per_base.specs.declared.errors.PerError.TheVariants as error
 use Rattle.app_storages.specs.Finding.{found_on}
 use Rattle.app_storages.specs.Slots.{resting_with}
-use Rattle.app_storages.proofs.Rebuilt.{busy_closed, busy_early, none_closed, none_is}
+use Rattle.app_storages.proofs.Rebuilt.{busy_closed, busy_early, busy_needs, none_closed, none_is}
 use Rattle.app_storages.proofs.slots.OpenSlots.closed.Goals as goal
 
 pub returns-in-Err-clause-refused : goal.returns-in-Err-clause-refused
@@ -29,3 +29,9 @@ returns-clause-closed c = record {
   named = c.in-Ok.ensures.named;
   free = none_is _ (sym c.is_open.ensures ∙ c.if-is_open.false);
 }
+
+pub returns-in_err-storage-clause-memory : goal.returns-in_err-storage-clause-memory
+returns-in_err-storage-clause-memory c =
+    let l = c.in-Ok.located in
+    λ image on. busy_needs image c.args.app c.args.self.now c.args.name.now (found_on image l)
+    (c.in-Ok.ensures.named image on) (sym c.is_open.ensures ∙ c.if-is_open.true)

@@ -4,6 +4,7 @@ use Rattle.per_base.specs.declared.errors.PerError.{PerError}
 use Rattle.element_state.specs.declared.shapes.Shape.{Shape}
 use Rattle.command_text.specs.declared.calls.Call.TheVariants as call
 use Rattle.deploy_rows.specs.Recovering.{resetting}
+use Rattle.run_model.specs.Needs.{reaching_needs}
 use Rattle.app_storages.specs.Finding.{config_of}
 use Rattle.app_storages.specs.Rebuilding.{IsClosed, IsNoneClosed}
 use Rattle.app_storages.specs.Slots.{resting_with}
@@ -39,7 +40,7 @@ returns-in-Err g c =
     let name = c.args.name.now in let law = g.met.D.Disk.lawful c.args.disk.now in let laws =
     c.storages_stand.ensures in let texts = c.errors_have_texts.ensures in
     starved_handled laws told app now root (call.ResetStorage name) was m (c.args.disk.now ≡ c.args.disk.now) refl law
-    c.requires was
+    c.requires (λ tells. c.in-Err.ensures.memory m.image (c.requires.root_at.disk tells)) was
 
 pub shape-requires : goal.shape-requires
 shape-requires g c =
@@ -58,8 +59,14 @@ returns-in_default g c =
     c.args.now in let root = c.args.root.now in let was = c.args.self.now in
     let name = c.args.name.now in let law = g.met.D.Disk.lawful c.args.disk.now in let laws =
     c.storages_stand.ensures in let texts = c.errors_have_texts.ensures in
+    let closed : IsClosed app root name was c.in-Ok-Ok.located =
+    subst (λ (x : Result Located PerError). IfOk x (IsClosed app root name was)) c.in-Ok-Ok.field-0-is
+    c.in-Ok-Ok.ensures.closed in
     starved_handled laws told app now root (call.ResetStorage name) was m (c.args.disk.now ≡ c.args.disk.now) refl law
-    c.requires was
+    c.requires
+    (λ tells. (reaching_needs app (resting_with m.image app was) now (call.ResetStorage name)
+    (was_reset_reaches told app now root was m c.in-Ok-Ok.located name
+    (λ told_so. closed.named m.image (c.requires.root_at.disk told_so)) closed.free tells)).1) was
 
 -- ---- it is rebuilt
 
