@@ -11,6 +11,7 @@ use Rattle.command_text.specs.declared.calls.Event.{Event}
 use Rattle.command_text.specs.declared.lines.Line.TheVariants as line
 use Rattle.command_text.specs.declared.replies.Reply.{Reply}
 use Rattle.command_text.specs.Grammar.{IsLine, has_feed}
+use Rattle.command_text.specs.Memory.{Allocates}
 use Rattle.command_text.specs.Replies.{HasText}
 use Rattle.run_model.specs.Endings as endings
 use Rattle.run_model.specs.Endings.{EndsBy, IsInput}
@@ -105,8 +106,9 @@ Came told medium rules answers text before after old new outcome.Bad =
     IsBad text × (after ≡ before) × (new ≡ old)
 Came told medium rules answers text before after old new (outcome.Answered reply) =
     IsLineAnswered told rules answers text before after reply (medium old) (medium new)
+-- in reading it, where it has what is copied, or in its command
 Came told medium rules answers text before after old new outcome.OutOfMemory =
-    (new ≡ old) ⊎ IsStopped told rules answers text before (medium old) (medium new)
+    ((new ≡ old) × Allocates text) ⊎ IsStopped told rules answers text before (medium old) (medium new)
 
 -- ---- the run so far
 

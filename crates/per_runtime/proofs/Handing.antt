@@ -21,7 +21,7 @@ use Rattle.run_model.specs.Lasting.{IsWorld}
 use Rattle.run_model.specs.Worlds.{Application, Doubt, app_of}
 use Rattle.app_runtime.specs.declared.running.Running.{Running}
 use Rattle.app_runtime.specs.Running.{IsRunning, application}
-use Rattle.per_runtime.specs.Handled.{IfEnded, IsCallInProgress, IsCommandAnswered, IsFailed, IsHandled}
+use Rattle.per_runtime.specs.Handled.{IfEnded, IsCallStopped, IsCommandAnswered, IsFailed, IsHandled}
 use Rattle.per_runtime.specs.Memories.{AreRunning}
 use Rattle.per_runtime.proofs.Lifted.{answered_doubtful, answered_sure, failed_sure, is_no, kept, never_fails}
 use Rattle.per_runtime.proofs.Lifted.{stopped_doubtful, stopped_sure}
@@ -119,7 +119,7 @@ module _ (laws : AppLaws) (makes : MakesOne) (stays : StaysInUse) (rules : List 
 
   -- out of memory
 
-  pub stopped_steps : (IsTrue told → IsCallInProgress rules answers a.app now c (application old.image a) old new)
+  pub stopped_steps : (IsTrue told → IsCallStopped rules answers a.app now c (application old.image a) old new)
       → IsTrue told → (doubt : Option Doubt) → IsDoubt (kept now apps b) doubt
       → Stopped rules answers (event.App n c) (kept now apps b) doubt old new
   stopped_steps is tells None sure = stopped_sure laws rules answers told tells old new now n c apps a a' below
@@ -129,4 +129,4 @@ module _ (laws : AppLaws) (makes : MakesOne) (stays : StaysInUse) (rules : List 
   stopped_steps is tells (Some d) sure = stopped_doubtful laws rules answers told tells old new now n c apps a a' below
       are.eight there_is number h.time (λ none. reads (h.idle tells none)) (h.written tells) h.looks
       (h.place tells)
-      d b sure (calm_here sure tells)
+      d b sure (calm_here sure tells) (is tells).needs

@@ -22,6 +22,7 @@ use Rattle.run_model.specs.KeepLaws.{call_fails, call_keeps, each_moment, idle_k
 use Rattle.run_model.specs.Later.{set_length}
 use Rattle.run_model.specs.Lasting.{IsWorld}
 use Rattle.run_model.specs.Moments.{IsReady, KeepsApplication}
+use Rattle.run_model.specs.Needs.{AppNeedsMemory, EventNeedsMemory}
 use Rattle.run_model.specs.Runtimes.{Memory, IsBesideNamed, IsDoubt, IsUnwritten, StaysAside, Stepped, Stopped}
 use Rattle.run_model.specs.Runtimes.{WritesWithin}
 use Rattle.run_model.specs.Runtimes.{WrittenBy, calls_none, is_durable, is_refusal, only_looks, only_plans, opens_root}
@@ -38,7 +39,7 @@ use Rattle.app_storages.specs.Answers.{CallsTo}
 use Rattle.app_storages.specs.Handled.{StaysInPlace}
 use Rattle.app_runtime.specs.declared.running.Running.{Running}
 use Rattle.app_runtime.specs.Running.{application, running_in, stage_in}
-use Rattle.per_runtime.specs.Handled.{IsCallInProgress, IsCommandAnswered, IsFailed, IsLedTo}
+use Rattle.per_runtime.specs.Handled.{IsCallStopped, IsCommandAnswered, IsFailed, IsLedTo}
 use Rattle.per_runtime.specs.Memories.{AreRunning}
 use Rattle.per_runtime.proofs.Places.{none_some, set_same, some_is}
 use Rattle.per_runtime.proofs.Single.{not_opened}
@@ -432,14 +433,22 @@ module _ (laws : AppLaws) (rules : List Rule) (answers : Answers) (told : Bool) 
 
   -- ---- memory ran out
 
-  pub stopped_sure : (b : Bool) → false ≡ b → IsCallInProgress rules answers a.app now c
+  needs_on : (doubt : Option Doubt) → AppNeedsMemory a.app (application old.image a) now c
+      → EventNeedsMemory (before doubt) e
+  unfolding before e
+  needs_on doubt needs = subst (λ (r : Application). AppNeedsMemory n r now c) (sym (it_is doubt))
+      (subst (λ (k : ℕ). AppNeedsMemory k (application old.image a) now c) number needs)
+
+  pub stopped_sure : (b : Bool) → false ≡ b → IsCallStopped rules answers a.app now c
       (application old.image a) old new
       → Quiet old
       → Stopped rules answers (event.App n c) (kept now apps b) None old new
   unfolding before after was e
-  stopped_sure b sure progress quiet =
+  stopped_sure b sure stopped quiet =
+      let progress = stopped.progress in
       let calls : CallsTo n progress.next old new = calls_on progress.next progress.calls in
       record {
+        needs = needs_on None stopped.needs;
         after = after progress.next;
         leads = leads_on progress.next (led_on progress.next progress.leads) None;
         keeps = λ k lt ready c s. inr (each_moment laws n (before None) (after progress.next) old new
@@ -452,11 +461,13 @@ module _ (laws : AppLaws) (rules : List Rule) (answers : Answers) (told : Bool) 
       }
 
   pub stopped_doubtful : (d : Doubt) (b : Bool) → true ≡ b → calls_device (application old.image a) c ≡ false
+      → AppNeedsMemory a.app (application old.image a) now c
       → Stopped rules answers (event.App n c) (kept now apps b) (Some d) old new
   unfolding before was e
-  stopped_doubtful d b sure calm =
+  stopped_doubtful d b sure calm needs =
       let reads : OnlyReads old new = idle calm in
       record {
+        needs = needs_on (Some d) needs;
         after = was;
         leads = inl refl;
         keeps = λ k lt ready c s. inl (tt, reads.during c s);

@@ -37,7 +37,7 @@ use Rattle.app_runtime.specs.declared.running.Running.{Running}
 use Rattle.app_runtime.specs.Running.{IsRunning, application, running_in, stage_in}
 use Rattle.per_runtime.proofs.Places.{none_some}
 use Rattle.per_runtime.proofs.Worlds.{MakesOne}
-use Rattle.per_runtime.specs.Handled.{IfEnded, IsCallInProgress, IsCommandAnswered, IsFailed, IsLedTo}
+use Rattle.per_runtime.specs.Handled.{IfEnded, IsCallInProgress, IsCallStopped, IsCommandAnswered, IsFailed, IsLedTo}
 
 -- ---- a root that is in use
 
@@ -86,7 +86,7 @@ pub called : (told : Bool) (rules : List Rule) (answers : Answers) (now : ℕ) (
     → IfOk result (λ reply. HasText reply.answer)
     → IfEnded result (IsCommandAnswered told rules answers now c a a' old new)
     (IsFailed told rules answers now c a a' old new)
-    (IsTrue told → IsCallInProgress rules answers a.app now c (application old.image a) old new)
+    (IsTrue told → IsCallStopped rules answers a.app now c (application old.image a) old new)
 called told rules answers now c a a' old new (Ok reply) rests app memory answered failed stopped quiet unwritten cause
     passes unfailed text = record {
       app = app;
@@ -128,11 +128,14 @@ called told rules answers now c a a' old new (Err Device) rests app memory answe
 called told rules answers now c a a' old new (Err OutOfMemory) rests app memory answered failed stopped quiet unwritten
     cause passes unfailed text = λ tells.
     let is = stopped tells refl in record {
-      next = is.next;
-      leads = led rules answers a.app now c (application old.image a) is.next
-          (sym (not_opened (application old.image a) rests)) is.leads;
-      later = is.later;
-      calls = is.calls;
+      needs = inr is.needs;
+      progress = record {
+        next = is.next;
+        leads = led rules answers a.app now c (application old.image a) is.next
+            (sym (not_opened (application old.image a) rests)) is.leads;
+        later = is.later;
+        calls = is.calls;
+      };
     }
 
 -- a call that needs no device calls none
@@ -248,7 +251,7 @@ module _ (mend : RootMendLaw) (told : Bool) (rules : List Rule) (answers : Answe
       → (stop ≡ Device → Rose old.faults mid.faults)
       → IfEnded (Err stop) (IsCommandAnswered told rules answers now c a b old mid)
       (IsFailed told rules answers now c a b old mid)
-      (IsTrue told → IsCallInProgress rules answers a.app now c (application old.image a) old mid)
+      (IsTrue told → IsCallStopped rules answers a.app now c (application old.image a) old mid)
   opening_failed Device memory kept way cause = record {
     app = same;
     memory = memory;
@@ -260,7 +263,10 @@ module _ (mend : RootMendLaw) (told : Bool) (rules : List Rule) (answers : Answe
     );
     progress = λ tells. unopened mid tells (way tells);
   }
-  opening_failed OutOfMemory memory kept way cause = λ tells. unopened mid tells (way tells)
+  opening_failed OutOfMemory memory kept way cause = λ tells. record {
+    needs = inl (ap is_to_open marked);
+    progress = unopened mid tells (way tells);
+  }
 
   -- ---- the root is in use, and the call was made
 
@@ -329,10 +335,10 @@ module _ (mend : RootMendLaw) (told : Bool) (rules : List Rule) (answers : Answe
     pub opened_first : (result : Result Reply Stop) → Elapses old mid
         → IfEnded result (IsCommandAnswered told rules answers now c b a' mid new)
         (IsFailed told rules answers now c b a' mid new)
-        (IsTrue told → IsCallInProgress rules answers b.app now c (application mid.image b) mid new)
+        (IsTrue told → IsCallStopped rules answers b.app now c (application mid.image b) mid new)
         → IfEnded result (IsCommandAnswered told rules answers now c a a' old new)
         (IsFailed told rules answers now c a a' old new)
-        (IsTrue told → IsCallInProgress rules answers a.app now c (application old.image a) old new)
+        (IsTrue told → IsCallStopped rules answers a.app now c (application old.image a) old new)
     opened_first (Ok reply) first h = record {
       app = h.app ∙ same;
       memory = h.memory;
@@ -358,4 +364,7 @@ module _ (mend : RootMendLaw) (told : Bool) (rules : List Rule) (answers : Answe
       fails = λ tells. fails_on tells (h.fails tells);
       progress = λ tells. progress_on tells (h.progress tells);
     }
-    opened_first (Err OutOfMemory) first h = λ tells. progress_on tells (h tells)
+    opened_first (Err OutOfMemory) first h = λ tells. record {
+      needs = inl (ap is_to_open marked);
+      progress = progress_on tells (h tells).progress;
+    }

@@ -24,6 +24,7 @@ use Rattle.deploy.specs.declared.errors.Stop.TheVariants.{Device, OutOfMemory}
 use Rattle.deploy_laws.specs.Apps.{IsCleanApp}
 use Rattle.run_model.specs.KeepLaws.{after_sync_keeps, failed_sync_keeps}
 use Rattle.run_model.specs.Moments.{IsMoment, IsReady, StepKeeps, StopKeeps}
+use Rattle.run_model.specs.Needs.{EventNeedsMemory}
 use Rattle.run_model.specs.Runtimes.{Memory, IsDoubt, IsElsewhere, IsUnwritten, StaysAside, Stepped, StepsOn, Stopped}
 use Rattle.run_model.specs.Runtimes.{IsBesideNamed, WrittenBy, WritesWithin, calls_none, only_looks, world_of}
 use Rattle.run_model.specs.Runtimes.{writes_none}
@@ -177,6 +178,7 @@ module _ (rules : List Rule) (answers : Answers) (told : Bool) (n : ℕ) (c : Ca
         → Stopped rules answers (event.App n c) m (Some d) old new
     unfolding before
     stopped s = record {
+      needs = subst (λ (w : World). EventNeedsMemory w (event.App n c)) synced_is s.needs;
       after = s.after;
       leads = subst (λ (w : World). Leads rules answers w (event.App n c) s.after) synced_is s.leads;
       keeps = λ k lt ready x at.

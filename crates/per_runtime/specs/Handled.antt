@@ -16,6 +16,7 @@ use Rattle.run_model.specs.Worlds.{Application, is_to_open}
 use Rattle.run_model.specs.Sessions.{Session}
 use Rattle.run_model.specs.Found.{FoundStorage}
 use Rattle.run_model.specs.Calls.{Outcome, session_at}
+use Rattle.run_model.specs.Needs.{AppNeedsMemory}
 use Rattle.run_model.specs.Steps.{AppStep, FailsAs, calls_device, found_named}
 use Rattle.run_model.specs.Runtimes.{IsUnwritten, WritesWithin, is_refusal, is_durable, only_plans}
 use Rattle.app_storages.specs.Answers.{CallsTo}
@@ -49,6 +50,12 @@ pub record IsCallInProgress (rules : List Rule) (answers : Answers) (app now : �
   pub later : IsLater before.disk next
   pub calls : CallsTo app next old new
 
+-- memory ran out, which the application needs for its root or for the call
+pub record IsCallStopped (rules : List Rule) (answers : Answers) (app now : ℕ) (c : Call) (before : Application)
+    (old new : Medium) : Type 0 where
+  pub needs : AppNeedsMemory app before now c
+  pub progress : IsCallInProgress rules answers app now c before old new
+
 pub record IsCommandAnswered (told : Bool) (rules : List Rule) (answers : Answers) (now : ℕ) (c : Call) (a a' : Running)
     (old new : Medium) (reply : Reply) : Type 0 where
   pub app : a'.app ≡ a.app
@@ -76,7 +83,7 @@ pub record IsHandled (told : Bool) (rules : List Rule) (answers : Answers) (now 
     (Untouched : Type 0) (old new : Medium) (result : Result Reply Stop) : Type 0 where
   pub end : IfEnded result (IsCommandAnswered told rules answers now c a a' old new)
       (IsFailed told rules answers now c a a' old new)
-      (IsTrue told → IsCallInProgress rules answers a.app now c (application old.image a) old new)
+      (IsTrue told → IsCallStopped rules answers a.app now c (application old.image a) old new)
   -- a call that begins an update only plans, however it ends
   pub looks : only_plans c ≡ true → is_to_open (stage_in a.stage) ≡ false → IsUnwritten old new
   -- a call that needs no device calls none

@@ -52,4 +52,4 @@ pub returns-in-OutOfMemory-clause-ends : goal.returns-in-OutOfMemory-clause-ends
 returns-in-OutOfMemory-clause-ends g c = λ laws start before heard others whole front counts hearing.
     service_short _ _ _ _ before g.D.Disk.medium laws heard others _ _ _ _ whole (g.met.D.Disk.lawful _)
     c.answer_line.ensures.time hearing
-    (⊎_elim (λ same. inl same) (λ stopped. inr (stopped_front whole front stopped)) c.in-OutOfMemory.ensures.came)
+    (⊎_elim (λ read. inl read.0) (λ stopped. inr (stopped_front whole front stopped)) c.in-OutOfMemory.ensures.came)

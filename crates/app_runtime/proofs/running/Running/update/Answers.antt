@@ -75,7 +75,7 @@ returns g c =
     let busy = option_map (λ n. n.now) c.as_ref.result in
     let resting = resting_in told old.image s root c.requires.memory c.requires.rests c.take_root-root.ensures.root in
     let busy_is = busy_here s taken root c.as_ref.result c.in_ok-busy.busy c.take_root-root.ensures.left
-    c.as_ref.ensures.value c.in_ok-busy.ensures in
+    c.as_ref.ensures.value c.in_ok-busy.ensures.least in
     subst (λ (x : Running). Promises told rules answers c.args.now (call.Update text) x c.conclude.new.self
     (c.update-made.new.disk ≡ c.args.disk.now) old new c.conclude.result)
     (stage_back s root c.requires.rests c.take_root-root.ensures.root)

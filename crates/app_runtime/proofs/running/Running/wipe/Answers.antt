@@ -62,7 +62,7 @@ returns g c = λ now.
     let resting = resting_in told old.image s root c.requires.memory c.requires.rests c.take_root-root.ensures.root in
     let back = sym (ap (λ (x : Running). x.app) c.take_root-root.ensures.left) in
     let busy_is = busy_here s taken root c.as_ref.result c.in_ok-busy.busy c.take_root-root.ensures.left
-    c.as_ref.ensures.value c.in_ok-busy.ensures in
+    c.as_ref.ensures.value c.in_ok-busy.ensures.least in
     word_promises told (rules_of c.args.migrations.now) (answers_of c.args.migrations.now) now call.Wipe s taken root
     old new (c.wipe-made.new.disk ≡ c.args.disk.now)
     (λ same. (ap (λ d. (g.D.Disk.medium d).image) same, ap (λ d. (g.D.Disk.medium d).written) same))
