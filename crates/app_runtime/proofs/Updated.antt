@@ -92,22 +92,22 @@ begins_free rules answers now busy text a p begins = begins_by rules answers now
 pub record Updates (told : Bool) (rules : List Rule) (answers : Answers) (now : ℕ) (text : List ℕ) (app : ℕ)
     (root : Root) (slots : OpenSlots) (busy : Option (List ℕ)) (old new : Medium) (made : Result Outcome Stop) : Type 0
   where
-  pub root_at : IfOk made (λ o. RootAt told new.image app o.root)
-  pub updates : IfOk made (IsUpdated told (BeginsUpdate rules answers now busy text) app old.image new.image root)
-  pub clean : IsTrue told → IfOk made (λ o. IsCleanApp app old.image → IsCleanApp app new.image)
-  pub quiet : Quiet old → OnOk made (Quiet new)
-  pub unchanged : IfOk made (λ o. (o.refused ≡ None → ⊥)
-      → (new.image ≡ old.image) × (new.written ≡ old.written) × (o.root ≡ root))
-  pub cause : IsErrOf made stop.Device → Rose old.faults new.faults
-  pub passes : OnOk made (new.faults ≡ old.faults)
-  pub device_only : IsErrOf made stop.Device → IsOk (offered busy text (root_app root []))
-  pub needs : IsTrue told → IsErrOf made stop.OutOfMemory
-      → NeedsReading (offered (least_open (resting_with old.image app slots)) text (app_at old.image app))
-  pub outside : Leaves told (IsBesideNext app (free_bank root)) old new
-  pub any_moment : IsTrue told → LeadsTo app (rows.UpdateMayLead rules answers now busy text (app_at old.image app))
-      made old
-      new
-  pub time : Elapses old new
+    pub root_at : IfOk made (λ o. RootAt told new.image app o.root)
+    pub updates : IfOk made (IsUpdated told (BeginsUpdate rules answers now busy text) app old.image new.image root)
+    pub clean : IsTrue told → IfOk made (λ o. IsCleanApp app old.image → IsCleanApp app new.image)
+    pub quiet : Quiet old → OnOk made (Quiet new)
+    pub unchanged : IfOk made (λ o. (o.refused ≡ None → ⊥)
+        → (new.image ≡ old.image) × (new.written ≡ old.written) × (o.root ≡ root))
+    pub cause : IsErrOf made stop.Device → Rose old.faults new.faults
+    pub passes : OnOk made (new.faults ≡ old.faults)
+    pub device_only : IsErrOf made stop.Device → IsOk (offered busy text (root_app root []))
+    pub needs : IsTrue told → IsErrOf made stop.OutOfMemory
+        → NeedsReading (offered (least_open (resting_with old.image app slots)) text (app_at old.image app))
+    pub outside : Leaves told (IsBesideNext app (free_bank root)) old new
+    pub any_moment : IsTrue told → LeadsTo app (rows.UpdateMayLead rules answers now busy text (app_at old.image app))
+        made old
+        new
+    pub time : Elapses old new
 
 pub free_low : (root : Root) → free_bank root ≤ 1
 free_low roots.Bad = omega arith
@@ -355,19 +355,19 @@ module _ (told : Bool) (rules : List Rule) (answers : Answers) (now : ℕ) (text
 pub record Beginning (told : Bool) (rules : List Rule) (answers : Answers) (now : ℕ) (text : List ℕ) (app : ℕ)
     (root : Root) (slots : OpenSlots) (busy : Option (List ℕ)) (old new : Medium) (made : Result Begin Stop) : Type 0
   where
-  pub begins : IfOk made (λ x. (states : List State) × (IsTrue told → (app_at old.image app).states ≡ states)
-      × BeginsUpdate rules answers now busy text (root_app root states) (begun_as x))
-  pub staged : IfOk made (IsUpdateBegun told new.image app root)
-  pub image : new.image ≡ old.image
-  pub written : new.written ≡ old.written
-  pub idle : Quiet old → IsIdle old new
-  pub cause : IsErrOf made stop.Device → Rose old.faults new.faults
-  pub passes : OnOk made (new.faults ≡ old.faults)
-  pub device_only : IsErrOf made stop.Device → IsOk (offered busy text (root_app root []))
-  pub needs : IsTrue told → IsErrOf made stop.OutOfMemory
-      → NeedsReading (offered (least_open (resting_with old.image app slots)) text (app_at old.image app))
-  pub any_moment : IsTrue told → StandsThroughout app (app_at old.image app) old new
-  pub time : Elapses old new
+    pub begins : IfOk made (λ x. (states : List State) × (IsTrue told → (app_at old.image app).states ≡ states)
+        × BeginsUpdate rules answers now busy text (root_app root states) (begun_as x))
+    pub staged : IfOk made (IsUpdateBegun told new.image app root)
+    pub image : new.image ≡ old.image
+    pub written : new.written ≡ old.written
+    pub idle : Quiet old → IsIdle old new
+    pub cause : IsErrOf made stop.Device → Rose old.faults new.faults
+    pub passes : OnOk made (new.faults ≡ old.faults)
+    pub device_only : IsErrOf made stop.Device → IsOk (offered busy text (root_app root []))
+    pub needs : IsTrue told → IsErrOf made stop.OutOfMemory
+        → NeedsReading (offered (least_open (resting_with old.image app slots)) text (app_at old.image app))
+    pub any_moment : IsTrue told → StandsThroughout app (app_at old.image app) old new
+    pub time : Elapses old new
 
 module _ (told : Bool) (rules : List Rule) (answers : Answers) (now : ℕ) (text : List ℕ) (b : Running) (root : Root)
     (old new : Medium) (Untouched : Type 0)
