@@ -1,5 +1,5 @@
 -- Where memory ran out in a call of a deployment, what it is answered needs memory.
-use Rattle.std.proofs.Common.{◌≡◌, ◌≢◌, ◌⊎◌, ◌∙◌, ℕ, List, Bool, true, false, IsTrue, Option, Some, None, IsErrOf, IsOk}
+use Rattle.std.proofs.Common.{◌≡◌, ◌≢◌, ◌⊎◌, ◌∙◌, ℕ, List, [], Bool, true, false, IsTrue, Option, Some, None, IsErrOf, IsOk}
 use Rattle.std.proofs.Common.{is_ok, Result, Ok, Err, refl, sym, ap, subst, inl, inr, true≢false}
 use Rattle.std.specs.Prelude.{option_map}
 use Rattle.per_base.specs.declared.errors.Holder.TheVariants as holder

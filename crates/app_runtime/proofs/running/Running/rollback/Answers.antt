@@ -1,4 +1,5 @@
-use Rattle.std.proofs.Common.{◌≡◌, ◌≢◌, ◌<◌, ◌∙◌, None, ap, refl, sym, subst}
+use Rattle.std.proofs.Common.{◌≡◌, ◌≢◌, ◌<◌, ◌∙◌, ℕ, List, [], None, ap, refl, sym, subst}
+use denote.Ref.{Bor}
 use Rattle.std.specs.Prelude.{option_map}
 use Rattle.deploy.specs.Clauses.{IsNoRootSlot}
 use Rattle.deploy.specs.declared.roots.Root.{Root}
@@ -102,7 +103,7 @@ returns g c = λ now.
     (ap (λ (x : Root). rollback_refused (root_says x)) c.take_root-root.ensures.root
     ∙ (sym c.rollback_refused.ensures ∙ not_some c.rollback_refused.result c.in_default.not-Some))
     (c.rows_read_the_root.ensures.rollback busy)
-    (none_open_due AllocatesNothing (λ n. n.now) c.as_ref.result made (row (root_app root []))
+    (none_open_due AllocatesNothing (λ (n : Bor (List ℕ)). n.now) c.as_ref.result made (row (root_app root []))
     c.rollback-made.ensures.due starved))
     (rollback_kept told s.app old.image new.image root s.slots resting busy busy_is made
     c.rollback-made.ensures.refused)

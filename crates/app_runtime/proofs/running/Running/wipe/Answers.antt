@@ -1,4 +1,5 @@
-use Rattle.std.proofs.Common.{◌≡◌, ◌≢◌, ◌<◌, None, ap, refl, sym, subst}
+use Rattle.std.proofs.Common.{◌≡◌, ◌≢◌, ◌<◌, ℕ, List, None, ap, refl, sym, subst}
+use denote.Ref.{Bor}
 use Rattle.std.specs.Prelude.{option_map}
 use Rattle.deploy.specs.Clauses.{IsNoRootSlot}
 use Rattle.deploy.specs.Roots.{RootAt, root_says}
@@ -93,6 +94,6 @@ returns g c = λ now.
     (λ tells starved. wipe_needs told old.image s.app now root s.slots c.roots_in_use.ensures.app resting tells busy
     (busy_least told old.image s.app root s.slots c.roots_in_use.ensures.app resting busy busy_is tells)
     (c.rows_read_the_root.ensures.wipe busy)
-    (λ e is none. not_done made starved (c.wipe-made.ensures.due e is (unmapped (λ n. n.now) c.as_ref.result none))))
+    (λ e is none. not_done made starved (c.wipe-made.ensures.due e is (unmapped (λ (n : Bor (List ℕ)). n.now) c.as_ref.result none))))
     (wipe_kept told s.app old.image new.image root s.slots resting busy busy_is made c.wipe-made.ensures.refused)
     c.conclude.new.self c.conclude.result c.conclude.ensures
