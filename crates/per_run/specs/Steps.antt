@@ -96,7 +96,8 @@ pub record IsStopped (told : Bool) (rules : List Rule) (answers : Answers) (text
   pub stopped : IsTrue told → (doubt : Option Doubt) → IsDoubt before doubt
       → Stopped rules answers event before doubt old new
 
--- what came of a line, from the memory and the disk before it to those after it
+-- What came of a line, from the memory and the disk before it to those after it. Memory runs out in reading it, where it
+-- has what is copied, or in its command.
 abbrev pub Came : {D : Type 0} → (told : Bool) → (medium : D → Medium) → List Rule → Answers → (text : List ℕ)
     → (before after : Memory) → (old new : D) → Outcome → Type 0
 Came told medium rules answers text before after old new outcome.Nothing =
@@ -106,7 +107,6 @@ Came told medium rules answers text before after old new outcome.Bad =
     IsBad text × (after ≡ before) × (new ≡ old)
 Came told medium rules answers text before after old new (outcome.Answered reply) =
     IsLineAnswered told rules answers text before after reply (medium old) (medium new)
--- in reading it, where it has what is copied, or in its command
 Came told medium rules answers text before after old new outcome.OutOfMemory =
     ((new ≡ old) × Allocates text) ⊎ IsStopped told rules answers text before (medium old) (medium new)
 
