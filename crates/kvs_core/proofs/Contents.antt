@@ -71,6 +71,11 @@ pub text_needs : (asked : Kind) (due : Result Tree PerError) → IsTextRefusal d
 text_needs asked (Ok value) is = absurd is
 text_needs asked (Err error) is = is
 
+-- two types that differ are both named
+pub text_differs : (c : StorageData) (m : Map) (name : List ℕ) (asked : Kind) (value : Tree)
+    → get_any c m name ≡ Ok value → same_kind (type_of value) asked ≡ false → IsTextRefusal (get_as c m name asked)
+text_differs c m name asked value is differs = rw is (rw differs tt)
+
 -- a name that is there has a place
 pub there : (m : Map) (name : List ℕ) (key : Element) → element_at m name ≡ Some key → with_place m name (Ok m) ≡ Ok m
 there m name key is = rw is refl

@@ -1,12 +1,13 @@
 //! Reading keys.
 
-ghost use Rattle.std.specs.Prelude.{◌≡◌, ◌≢◌, IfErr, IfOk, IsTrue};
+ghost use Rattle.std.specs.Prelude.{◌≡◌, ◌≢◌, ◌⊎◌, IfErr, IfOk, IsTrue};
 ghost use Rattle.per_base.specs.declared.errors.Unit.TheVariants.{Part};
 ghost use Rattle.per_base.specs.Maps.{element_at, has, names_of, size_of};
 ghost use Rattle.per_base.specs.Refusals.{IsRefusal, IsTextRefusal, NeedsMemory};
 ghost use Rattle.value_model.specs.Kinds.{kind_fits};
 ghost use Rattle.value_model.specs.Validity.{IsValue};
 ghost use Rattle.value_model.specs.Views.{kind_of};
+ghost use Rattle.per_value.specs.Memory.{Allocates};
 ghost use Rattle.kvs_core.specs.Calls as calls;
 
 use crate::session::KeySession;
@@ -107,8 +108,9 @@ impl KeySession {
     ///
     /// # Errors
     ///
-    /// Those of `get_any`; `DataTypeMismatch` with the stored and the asked type where they differ; `OutOfMemory`.
-    #[tactic(auto, using(crate::proofs::Contents::needs_value, crate::proofs::Contents::text_needs))]
+    /// Those of `get_any`; `DataTypeMismatch` with the stored and the asked type where they differ; `OutOfMemory`, and
+    /// for a truth value or a number this only in the place of a refusal that carries names or texts.
+    #[tactic(auto, using(crate::proofs::Contents::needs_value, crate::proofs::Contents::text_needs, crate::proofs::Contents::text_kept, crate::proofs::Contents::text_differs))]
     pub fn get_value<T: PerValue>(&self, name: &Name) -> Result<T, PerError>
         ensures ok { IfOk result (λ thing. calls.get_as self.now.config self.now.visible name.now T.kind
             ≡ Ok (T.tree thing)) }
@@ -116,6 +118,9 @@ impl KeySession {
             (calls.get_as self.now.config self.now.visible name.now T.kind) error) }
         ensures memory { IfErr result (λ error. error ≡ PerError.OutOfMemory
             → NeedsMemory (calls.get_as self.now.config self.now.visible name.now T.kind)) }
+        // A truth value and a number are not allocated.
+        ensures copies { IfErr result (λ error. error ≡ PerError.OutOfMemory → Allocates T.kind
+            ⊎ IsTextRefusal (calls.get_as self.now.config self.now.visible name.now T.kind)) }
     {
         let value = self.get_any(name)?;
         let Ok(asked) = T::type_of(self.alloc) else {

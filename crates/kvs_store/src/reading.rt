@@ -1,11 +1,12 @@
 //! Reading keys.
 
-ghost use Rattle.std.specs.Prelude.{◌≡◌, IfErr, IfOk, IsTrue};
+ghost use Rattle.std.specs.Prelude.{◌≡◌, ◌⊎◌, IfErr, IfOk, IsTrue};
 ghost use Rattle.per_base.specs.Maps.{has, names_of, size_of};
 ghost use Rattle.per_base.specs.Refusals.{IsRefusal, IsTextRefusal, NeedsMemory};
 ghost use Rattle.value_model.specs.Kinds.{kind_fits};
 ghost use Rattle.value_model.specs.Validity.{IsValue};
 ghost use Rattle.value_model.specs.Views.{kind_of};
+ghost use Rattle.per_value.specs.Memory.{Allocates};
 ghost use Rattle.kvs_core.specs.Calls as calls;
 ghost use Rattle.kvs_store.specs.Storages.{kvs_session};
 
@@ -85,7 +86,8 @@ impl Kvs {
     ///
     /// # Errors
     ///
-    /// Those of `get_any`; `DataTypeMismatch` with the stored and the asked type where they differ; `OutOfMemory`.
+    /// Those of `get_any`; `DataTypeMismatch` with the stored and the asked type where they differ; `OutOfMemory`, and
+    /// for a truth value or a number this only in the place of a refusal that carries names or texts.
     pub fn get_value<T: PerValue>(&self, name: &Name) -> Result<T, PerError>
         ensures ok { IfOk result (λ thing.
             calls.get_as (kvs_session self.now).config (kvs_session self.now).visible name.now T.kind
@@ -95,6 +97,9 @@ impl Kvs {
             error) }
         ensures memory { IfErr result (λ error. error ≡ PerError.OutOfMemory
             → NeedsMemory (calls.get_as (kvs_session self.now).config (kvs_session self.now).visible name.now T.kind)) }
+        // A truth value and a number are not allocated.
+        ensures copies { IfErr result (λ error. error ≡ PerError.OutOfMemory → Allocates T.kind ⊎ IsTextRefusal
+            (calls.get_as (kvs_session self.now).config (kvs_session self.now).visible name.now T.kind)) }
     {
         self.session.get_value(name)
     }
