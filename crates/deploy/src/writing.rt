@@ -29,10 +29,7 @@ use std::alloc::Global;
 /// # Errors
 ///
 /// `OutOfMemory`.
-pub fn read_version(
-    alloc: Global,
-    manifest: &[u8],
-) -> Result<Result<VersionText, PerError>, Stop>
+pub fn read_version(alloc: Global, manifest: &[u8]) -> Result<Result<VersionText, PerError>, Stop>
     ensures told { IfOk result (TellsRow (deployment_of manifest.now)) }
     ensures text { IfOk result (λ version. IfOk version (λ v. v.text ≡ manifest.now)) }
     ensures kept { IfOk result (λ version. IfOk version SaysDeployment) }

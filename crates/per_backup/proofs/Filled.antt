@@ -177,6 +177,7 @@ module _ (storages : List StorageConfig) (texts : List (List ℕ)) (number : ℕ
             → known_first (made_states contents) (states_from [] ts) ≡ Err error.ExportRejected
         by [] some = absurd (omega (arith, some))
         by (t ∷ ts) some = refl
+
         left : (ts : List (List ℕ)) (n : ℕ) → n < length ts → 0 < length (drop n ts)
         left [] n lt = absurd (omega (arith, lt))
         left (t ∷ ts) 0 lt = lt

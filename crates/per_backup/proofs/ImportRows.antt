@@ -299,6 +299,7 @@ each_again taken_law (s ∷ ss) (text ∷ texts) bytes states is = first (import
         (one_again taken_law s (Corrupt None []) text bytes.0 state one)
         ∙ ap (λ (r : Result (List (List ℕ)) PerError). r >>= λ ts. Ok (text ∷ ts))
         (each_again taken_law ss texts bytes.1 more are))
+
     first : (made : Result State PerError) → importing s (Corrupt None []) text ≡ made
         → (made >>= λ state. states_from ss texts >>= λ more. Ok (state ∷ more)) ≡ Ok states
         → texts_from (s ∷ ss) states ≡ Ok (text ∷ texts)
@@ -311,16 +312,17 @@ restored taken_law a b manifest texts bytes is = by (taken a.says) is
   where
     with_states : (d : DeploymentData) (states : Result (List State) PerError) → states_from d.storages texts ≡ states
         → (states >>= λ made. Ok (restored_app (says_generation a.says) d made)) ≡ Ok b → dumping b ≡ Ok texts
-    unfolding dumping
     with_states d (Err e) are is = absurd (no_ok e b is)
     with_states d (Ok made) are is = subst (λ (x : App). dumping x ≡ Ok texts)
         (ok_same (restored_app (says_generation a.says) d made) b is)
         (each_again taken_law d.storages texts bytes made are)
+
     with_version : (said : Result DeploymentData PerError)
         → (said >>= λ d. states_from d.storages texts >>= λ made. Ok (restored_app (says_generation a.says) d made))
         ≡ Ok b → dumping b ≡ Ok texts
     with_version (Err e) is = absurd (no_ok e b is)
     with_version (Ok d) is = with_states d (states_from d.storages texts) refl is
+
     by : (o : Option PerError) → refused_by o (made_from manifest texts (says_generation a.says)) ≡ Ok b
         → dumping b ≡ Ok texts
     by None is = with_version (deployment_of manifest) is

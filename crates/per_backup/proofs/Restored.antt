@@ -1,10 +1,10 @@
 -- What a restore makes of an application, at the end and at every moment.
-use Rattle.std.proofs.Common.{◌≡◌, ℕ, ◌+◌, ◌<◌, Bool, List, [], Option, Some, None, Result, Ok, Err, refl, sym, ap, ◌∙◌}
+use Rattle.std.proofs.Common.{◌≡◌, ℕ, ◌+◌, ◌<◌, ◌≤◌, Bool, List, [], Option, Some, None, Result, Ok, Err, refl, sym, ap, ◌∙◌}
 use Rattle.std.proofs.Common.{subst, inl, arith}
 use Rattle.std.specs.Prelude.{IsErr, IsOk, IsTrue, OnOk, cond, nat_le, true, false}
 use Rattle.per_base.specs.declared.errors.Limit.TheVariants as limit
 use Rattle.per_base.specs.declared.errors.PerError.TheVariants as error
-use Rattle.std.proofs.lemmas.Bool.{leb-false}
+use Rattle.std.proofs.lemmas.Bool.{le-leb, leb-false, lt-leb}
 use Rattle.per_base.specs.declared.errors.PerError.{PerError}
 use Rattle.per_base.specs.Refusals.{refused_by}
 use Rattle.disk_model.specs.Frame.{IsSettledOn, Spares}
@@ -316,6 +316,15 @@ module _ (app : ℕ) (manifest : List ℕ) (texts : List (List ℕ)) where
 pub on_both : {T E P Q R : Type 0} (r : Result T E) → (P → Q → R) → OnOk r P → OnOk r Q → OnOk r R
 on_both (Ok t) less is so = less is so
 on_both (Err e) less is so = tt
+
+pub taken_worn : (g : ℕ) → greatest_generation ≤ g
+    → Some (error.LimitReached limit.Generations) ≡ taken (absent g)
+taken_worn g le = sym (ap (λ (b : Bool). cond b (Some (error.LimitReached limit.Generations)) None)
+    (le-leb greatest_generation g le))
+
+pub taken_not : (g : ℕ) → g < greatest_generation → None ≡ taken (absent g)
+taken_not g lt = sym (ap (λ (b : Bool). cond b (Some (error.LimitReached limit.Generations)) None)
+    (lt-leb greatest_generation g lt))
 
 -- a generation is left of a root over which a version can be installed
 pub generation_left : (g : ℕ) → taken (absent g) ≡ None → g < greatest_generation

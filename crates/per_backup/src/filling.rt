@@ -28,7 +28,7 @@ pub(crate) struct Ready {
 /// What a manifest and the texts of its storages say is to be installed, or the first refusal: `ManifestRejected`; then
 /// by storages in their order `ExportRejected`, also where a storage has no text or a text no storage,
 /// `DataTypeMismatch` and `OutOfStorageSpace` as of an import.
-pub(crate) fn ready(
+pub(crate) fn prepare(
     alloc: Global,
     manifest: &[u8],
     texts: &[Bytes],

@@ -5,7 +5,7 @@ ghost use Rattle.per_base.specs.Causes.{Rose};
 ghost use Rattle.disk_model.specs.Medium.{Elapses, Quiet};
 ghost use Rattle.deployment_model.specs.Data.{storage_data};
 ghost use Rattle.update_plan.specs.Plans.{AllFit};
-ghost use Rattle.deploy_laws.specs.Apps.{App, IsCleanApp, Says, app_at};
+ghost use Rattle.deploy_laws.specs.Apps.{App, IsCleanApp, Says, absent, app_at};
 ghost use Rattle.deploy_laws.specs.Stands.{StandsThroughout};
 ghost use Rattle.deploy_rows.specs.Rows.{AnswersRow};
 ghost use Rattle.deploy.specs.Clauses.{IsBesideNext, Leaves};
@@ -15,7 +15,7 @@ ghost use Rattle.per_backup.specs.Backups.{restoring, taken};
 ghost use Rattle.per_backup.specs.Clauses.{IsAppSeen};
 ghost use Rattle.per_backup.specs.Restores.{IsFreeFor, IsSaid, RestoreKeeps, Restored, RestoresSettled, ready_app};
 
-use crate::filling::{Ready, ready};
+use crate::filling::{Ready, prepare};
 use crate::laws::storages_stand;
 use deploy::{Root, Stop, Versions, install_filled, open_root, view_versions};
 use disk_model::Disk;
@@ -69,20 +69,22 @@ pub fn refusal_of(found: &Option<Versions>) -> Option<PerError>
     match found {
         None => Some(PerError::IntegrityCorrupted { unit: Unit::Root }),
         Some(versions) => match versions.says {
-            RootSays::Absent if versions.generation == u64::MAX => Some(worn_out()),
-            RootSays::Absent => None,
+            RootSays::Absent => refusal_over(versions.generation),
             RootSays::Installed(..) => Some(PerError::AlreadyInstalled),
         },
     }
 }
 
-// No generation is left.
-fn worn_out() -> PerError
-    ensures { result ≡ PerError.LimitReached Limit.Generations }
+// Why nothing is installed over a root of this generation.
+fn refusal_over(generation: u64) -> Option<PerError>
+    ensures { result ≡ taken (absent generation) }
 {
-    PerError::LimitReached {
-        which: Limit::Generations,
+    if generation == u64::MAX {
+        return Some(PerError::LimitReached {
+            which: Limit::Generations,
+        });
     }
+    None
 }
 
 // The same without the sync.
@@ -138,7 +140,7 @@ fn restore_free<D: Disk>(
     ensures time { Elapses (D.medium disk.old) (D.medium disk.new) }
 {
     storages_stand();
-    let ready = match ready(alloc, manifest, texts)? {
+    let ready = match prepare(alloc, manifest, texts)? {
         Ok(ready) => ready,
         Err(error) => return Ok(Some(error)),
     };
@@ -188,8 +190,10 @@ fn cell_of(root: Root) -> Result<Cell, PerError>
 {
     match root {
         Root::Bad => Err(PerError::IntegrityCorrupted { unit: Unit::Root }),
-        Root::Absent(cell) if cell.generation() == u64::MAX => Err(worn_out()),
-        Root::Absent(cell) => Ok(cell),
+        Root::Absent(cell) => match refusal_over(cell.generation()) {
+            Some(error) => Err(error),
+            None => Ok(cell),
+        },
         Root::Installed(_) => Err(PerError::AlreadyInstalled),
     }
 }

@@ -6,7 +6,7 @@ use Rattle.deployment_model.specs.Data.{deployment_data}
 use Rattle.deploy_rows.specs.Rows.{deployment_of}
 use Rattle.deploy.specs.Versions.{TellsRow}
 use Rattle.per_backup.proofs.Filled.{made_ready, manifest_refused, texts_refused}
-use Rattle.per_backup.proofs.filling.ready.Goals as goal
+use Rattle.per_backup.proofs.filling.prepare.Goals as goal
 
 pub returns-in-Err-clause-refused : goal.returns-in-Err-clause-refused
 returns-in-Err-clause-refused c = manifest_refused c.args.manifest.now c.args.texts.now c.in-Err.error
