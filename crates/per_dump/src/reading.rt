@@ -4,7 +4,9 @@ use crate::dumps::{AppNumber, DumpedApplication, DumpedStorage, FORMAT};
 use crate::errors::DumpError;
 use crate::fields::{object_in, text_in};
 use crate::files::file_in;
+use deployment_model::StorageConfig;
 use export_text::{are_exportable, write_export};
+use manifest::{ManifestError, read_manifest};
 use per_base::{Bytes, Fresh, Name, PerError, StoreKind};
 use serde_json::{Map, Value};
 use std::alloc::Global;
@@ -66,11 +68,36 @@ fn application_in(
             Err(error) => return Err(error.within(alloc, "storage", name)),
         }
     }
+    if !are_said(alloc, manifest.as_slice(), storages.as_slice())? {
+        return Err(DumpError::because(alloc, "its storages are not those of its manifest"));
+    }
     Ok(DumpedApplication {
         application,
         manifest,
         storages,
     })
+}
+
+/// Whether these are the storages of the manifest, by their names in order. Of a text that is no manifest a restore says
+/// why.
+fn are_said(alloc: Global, manifest: &[u8], storages: &[DumpedStorage]) -> Result<bool, DumpError> {
+    match read_manifest(alloc, manifest) {
+        Ok(deployment) => Ok(are_named(deployment.storages.as_slice(), storages)),
+        Err(ManifestError::Rejected(_)) => Ok(true),
+        Err(ManifestError::OutOfMemory) => Err(DumpError::OutOfMemory),
+    }
+}
+
+fn are_named(configs: &[StorageConfig], storages: &[DumpedStorage]) -> bool {
+    if configs.len() != storages.len() {
+        return false;
+    }
+    for number in 0..configs.len() {
+        if configs[number].name != storages[number].name {
+            return false;
+        }
+    }
+    true
 }
 
 /// The number of an application, which is one digit.
