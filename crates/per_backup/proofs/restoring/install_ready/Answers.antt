@@ -103,3 +103,54 @@ returns-clause-refused g c =
           c.in_ok-root.ensures.says,
       sym free.1,
     )
+
+-- what is made over it is what is ready
+
+pub returns-in_err-_installed-clause-any_moment : goal.returns-in_err-_installed-clause-any_moment
+returns-in_err-_installed-clause-any_moment g c = λ tells.
+    let old = (g.D.Disk.medium c.args.disk.now).image in
+    let free = ok_so c.cell_of.result c.in-Ok.cell (λ cell. (c.in_ok-root.root ≡ root.Absent cell)
+    × (taken (root_says c.in_ok-root.root) ≡ None)) c.in-Ok.is c.cell_of.ensures.free in
+    then_stands c.storages_stand.ensures.mended c.args.app _ (g.D.Disk.medium c.args.disk.now)
+    (g.D.Disk.medium c.open_root.new.disk) (g.D.Disk.medium c.install_filled.new.disk) c.in_ok-root.ensures.time
+    c.in_err-_installed.ensures.time c.in_ok-root.ensures.quiet (c.in_ok-root.ensures.any_moment tells)
+    (c.in_ok-root.ensures.app tells) (c.in_ok-root.ensures.clean tells)
+    (later_filled (app_at old c.args.app) (deployment_data c.args.ready.version.deployment)
+    c.args.ready.contents.items)
+    (subst (λ (a : App). StandsThroughout c.args.app a (g.D.Disk.medium c.open_root.new.disk)
+    (g.D.Disk.medium c.install_filled.new.disk))
+    (filled_same (generation_of c.in-Ok.cell) (says_generation (app_at old c.args.app).says)
+    (deployment_data c.args.ready.version.deployment) c.deref.result.now c.args.ready.contents.items
+    (sym (ap (λ (r : Root). says_generation (root_says r)) free.0)
+    ∙ ap says_generation (c.in_ok-root.ensures.says tells ∙ sym (says_of old c.args.app))) c.deref.ensures.value)
+    (c.in_err-_installed.ensures.any_moment tells))
+
+pub returns-clause-any_moment : goal.returns-clause-any_moment
+returns-clause-any_moment g c = λ tells.
+    let old = (g.D.Disk.medium c.args.disk.now).image in
+    let free = ok_so c.cell_of.result c.in-Ok.cell (λ cell. (c.in_ok-root.root ≡ root.Absent cell)
+    × (taken (root_says c.in_ok-root.root) ≡ None)) c.in-Ok.is c.cell_of.ensures.free in
+    then_stands c.storages_stand.ensures.mended c.args.app _ (g.D.Disk.medium c.args.disk.now)
+    (g.D.Disk.medium c.open_root.new.disk) (g.D.Disk.medium c.install_filled.new.disk) c.in_ok-root.ensures.time
+    c.in_ok-_installed.ensures.time c.in_ok-root.ensures.quiet (c.in_ok-root.ensures.any_moment tells)
+    (c.in_ok-root.ensures.app tells) (c.in_ok-root.ensures.clean tells)
+    (later_filled (app_at old c.args.app) (deployment_data c.args.ready.version.deployment)
+    c.args.ready.contents.items)
+    (subst (λ (a : App). StandsThroughout c.args.app a (g.D.Disk.medium c.open_root.new.disk)
+    (g.D.Disk.medium c.install_filled.new.disk))
+    (filled_same (generation_of c.in-Ok.cell) (says_generation (app_at old c.args.app).says)
+    (deployment_data c.args.ready.version.deployment) c.deref.result.now c.args.ready.contents.items
+    (sym (ap (λ (r : Root). says_generation (root_says r)) free.0)
+    ∙ ap says_generation (c.in_ok-root.ensures.says tells ∙ sym (says_of old c.args.app))) c.deref.ensures.value)
+    (c.in_ok-_installed.ensures.any_moment tells))
+
+pub returns-clause-app : goal.returns-clause-app
+returns-clause-app g c = λ tells.
+    let old = (g.D.Disk.medium c.args.disk.now).image in
+    let free = ok_so c.cell_of.result c.in-Ok.cell (λ cell. (c.in_ok-root.root ≡ root.Absent cell)
+    × (taken (root_says c.in_ok-root.root) ≡ None)) c.in-Ok.is c.cell_of.ensures.free in
+    c.in_ok-_installed.ensures.app tells
+    ∙ filled_same (generation_of c.in-Ok.cell) (says_generation (app_at old c.args.app).says)
+    (deployment_data c.args.ready.version.deployment) c.deref.result.now c.args.ready.contents.items
+    (sym (ap (λ (r : Root). says_generation (root_says r)) free.0)
+    ∙ ap says_generation (c.in_ok-root.ensures.says tells ∙ sym (says_of old c.args.app))) c.deref.ensures.value
