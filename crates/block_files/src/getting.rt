@@ -1,12 +1,12 @@
 //! What the copies of a content agree on.
 
-ghost use Rattle.std.specs.Prelude.{◌≡◌, ◌≤◌, ◌*◌, min, IsTrue, IfOk, IfSome, IsErrOf, length, OnOk};
+ghost use Rattle.std.specs.Prelude.{◌≡◌, ◌≤◌, ◌*◌, ◌↔◌, min, IsTrue, IfOk, IfSome, IsErrOf, length, OnOk, Some};
 ghost use Rattle.std.specs.Option.{option_copied, option_map};
 ghost use Rattle.per_base.specs.Causes.{Rose};
 ghost use Rattle.disk_model.specs.Medium.{Elapses, OnlyReads};
 ghost use Rattle.m_of_n.specs.Vote.{texts_of, voted};
 ghost use Rattle.block_files.specs.BlockSets.{Ascend};
-ghost use Rattle.block_files.specs.Contents.{contents, first_content, lacking, lacking_in, lacks, AreCopies};
+ghost use Rattle.block_files.specs.Contents.{contents, first_content, lacking, lacking_in, lacks, unvoted, AreCopies};
 
 use crate::errors::BlobError;
 use crate::reading::{Looked, look};
@@ -20,7 +20,7 @@ use std::alloc::{AllocError, Global};
 pub struct Blob {
     /// The bytes on which enough copies agree.
     pub value: Option<Bytes>,
-    /// The bytes of the first copy that has the hash, whatever the others hold.
+    /// Where there is no value, the bytes of the first copy that has the hash, whatever the others hold.
     pub salvage: Option<Bytes>,
     /// The copies that lack the value, counted from 1 and ascending; where there is no value, those that do not have
     /// the hash.
@@ -29,7 +29,8 @@ pub struct Blob {
 
 /// The content of these blocks: a copy counts where its blocks, joined and cut to `len`, with zeros past the area's
 /// end, have this hash. The value is the vote of the counting copies for `m`, and the copies lack it that do not count,
-/// that have other bytes, or whose area does not reach to the end of all of them. No byte changes.
+/// that have other bytes, or whose area does not reach to the end of all of them. Where there is no value, the salvage
+/// is the first content that counts. No byte changes.
 ///
 /// # Errors
 ///
@@ -47,7 +48,7 @@ pub fn get_blob<D: Disk>(
     ensures value { IsTrue D.told → IfOk result (λ blob. blob.value
         ≡ voted m (contents place blocks.now len hash.now (D.medium disk.old).image)) }
     ensures salvage { IsTrue D.told → IfOk result (λ blob. blob.salvage
-        ≡ first_content (contents place blocks.now len hash.now (D.medium disk.old).image)) }
+        ≡ unvoted blob.value (first_content (contents place blocks.now len hash.now (D.medium disk.old).image))) }
     ensures lacking { IsTrue D.told → IfOk result (λ blob. blob.lacking
         ≡ lacking blob.value place blocks.now len hash.now (D.medium disk.old).image) }
 
@@ -65,26 +66,49 @@ pub fn get_blob<D: Disk>(
     ensures fed { IsErrOf result BlobError.OutOfMemory → (D.medium disk.new).faults ≡ (D.medium disk.old).faults }
 {
     let looked = look(alloc, disk, place, blocks, len, hash)?;
-    let blob = judge(alloc, &looked, m)?;
+    let blob = judge(alloc, looked, m)?;
     Ok(blob)
 }
 
-// What the copies agree on, by what each gives.
-fn judge(alloc: Global, looked: &Looked, m: u32) -> Result<Blob, AllocError>
+// What the copies agree on, by what each gives. The first content is moved, and no other copied, where it is the value.
+fn judge(alloc: Global, looked: Looked, m: u32) -> Result<Blob, AllocError>
     requires m { 1 ≤ m }
-    requires copies { (length looked.now.texts.items ≡ length looked.now.inside.items)
-        × (length looked.now.texts.items ≤ 8) }
-    ensures value { IfOk result (λ blob. blob.value ≡ voted m (texts_of looked.now.texts.items)) }
-    ensures salvage { IfOk result (λ blob. blob.salvage ≡ first_content (texts_of looked.now.texts.items)) }
+    requires copies { (length looked.texts.items ≡ length looked.inside.items) × (length looked.texts.items ≤ 8) }
+    ensures value { IfOk result (λ blob. blob.value ≡ voted m (texts_of looked.texts.items)) }
+    ensures salvage { IfOk result (λ blob. blob.salvage
+        ≡ unvoted blob.value (first_content (texts_of looked.texts.items))) }
     ensures lacking { IfOk result (λ blob. blob.lacking
-        ≡ lacking_in blob.value (texts_of looked.now.texts.items) looked.now.inside.items) }
+        ≡ lacking_in blob.value (texts_of looked.texts.items) looked.inside.items) }
 {
     let value = vote(m, &looked.texts);
+    let lacking = list_lacking(alloc, value, &looked)?;
+    let Some(value) = value else {
+        return Ok(Blob {
+            value: None,
+            salvage: take_first(looked.texts),
+            lacking,
+        });
+    };
+    let value = if is_first(&looked.texts, value) {
+        take_first(looked.texts)
+    } else {
+        Some(Bytes::new(Vec::from_slice(alloc, value)?))
+    };
     Ok(Blob {
-        value: copied(alloc, value)?,
-        salvage: copied(alloc, first_text(&looked.texts))?,
-        lacking: list_lacking(alloc, value, looked)?,
+        value,
+        salvage: None,
+        lacking,
     })
+}
+
+// Whether this is the first content that some copy gives.
+fn is_first(texts: &[Option<Vec<u8>>], value: &[u8]) -> bool
+    ensures { IsTrue result ↔ (first_content (texts_of texts.now) ≡ Some value.now) }
+{
+    match first_text(texts) {
+        Some(first) => first == value,
+        None => false,
+    }
 }
 
 // The first content that some copy gives.
@@ -99,17 +123,16 @@ fn first_text(texts: &[Option<Vec<u8>>]) -> Option<&[u8]>
     None
 }
 
-// The same bytes in a list of their own.
-fn copied(alloc: Global, text: Option<&[u8]>) -> Result<Option<Bytes>, AllocError>
-    ensures { IfOk result (λ copy. copy ≡ option_copied text.entry) }
+// The same, moved.
+fn take_first(texts: Vec<Option<Vec<u8>>>) -> Option<Bytes>
+    ensures { result ≡ first_content (texts_of texts.items) }
 {
-    match text {
-        Some(bytes) => {
-            let bytes = Vec::from_slice(alloc, bytes)?;
-            Ok(Some(Bytes::new(bytes)))
+    for text in texts {
+        if let Some(text) = text {
+            return Some(Bytes::new(text));
         }
-        None => Ok(None),
     }
+    None
 }
 
 // The copies that lack the value, counted from 1.

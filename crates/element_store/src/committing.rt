@@ -256,10 +256,9 @@ fn moved(entries: Vec<Entry>, roomy: Vec<Entry>) -> Vec<Entry>
     ensures items { result.items ≡ entries.items }
     ensures capacity { vec_capacity roomy ≤ vec_capacity result }
 {
+    let mut entries = entries;
     let mut roomy = roomy;
-    for entry in entries {
-        let _ = roomy.push(entry);
-    }
+    let _ = roomy.append(&mut entries);
     roomy
 }
 
