@@ -7,12 +7,14 @@ ghost use Rattle.disk_model.specs.Medium.{Elapses, OnlyReads};
 ghost use Rattle.m_of_n.specs.Vote.{texts_of, voted};
 ghost use Rattle.block_files.specs.BlockSets.{Ascend};
 ghost use Rattle.block_files.specs.Contents.{contents, first_content, lacking, lacking_in, lacks, unvoted, AreCopies};
+ghost use Rattle.block_files.specs.States.{AreOfFirst, AreStatesOf};
 
 use crate::errors::BlobError;
-use crate::reading::{Looked, look};
+use crate::reading::{Looked, first_text, look};
 use disk_model::{Disk, Place};
 use m_of_n::vote;
 use per_base::{Bytes, Numbers};
+use sha2::Sha256;
 use std::alloc::{AllocError, Global};
 
 /// What the copies of a content hold.
@@ -22,6 +24,8 @@ pub struct Blob {
     pub value: Option<Bytes>,
     /// Where there is no value, the bytes of the first copy that has the hash, whatever the others hold.
     pub salvage: Option<Bytes>,
+    /// States of the hasher after each 32 KiB of the value, in order; fewer where memory was short.
+    pub states: Vec<Sha256>,
     /// The copies that lack the value, counted from 1 and ascending; where there is no value, those that do not have
     /// the hash.
     pub lacking: Numbers,
@@ -53,6 +57,7 @@ pub fn get_blob<D: Disk>(
         ≡ lacking blob.value place blocks.now len hash.now (D.medium disk.old).image) }
 
     // Whether the disk's bytes are modelled or not.
+    ensures states { IfOk result (λ blob. IfSome blob.value (λ value. AreStatesOf value blob.states.items)) }
     ensures size { IfOk result (λ blob. IfSome blob.value (λ value. length value ≡ min len (256 * length blocks.now))) }
     ensures salvage_size { IfOk result (λ blob. IfSome blob.salvage
         (λ salvage. length salvage ≡ min len (256 * length blocks.now))) }
@@ -74,11 +79,13 @@ pub fn get_blob<D: Disk>(
 fn judge(alloc: Global, looked: Looked, m: u32) -> Result<Blob, AllocError>
     requires m { 1 ≤ m }
     requires copies { (length looked.texts.items ≡ length looked.inside.items) × (length looked.texts.items ≤ 8) }
+    requires states { AreOfFirst (texts_of looked.texts.items) looked.states.items }
     ensures value { IfOk result (λ blob. blob.value ≡ voted m (texts_of looked.texts.items)) }
     ensures salvage { IfOk result (λ blob. blob.salvage
         ≡ unvoted blob.value (first_content (texts_of looked.texts.items))) }
     ensures lacking { IfOk result (λ blob. blob.lacking
         ≡ lacking_in blob.value (texts_of looked.texts.items) looked.inside.items) }
+    ensures states { IfOk result (λ blob. IfSome blob.value (λ value. AreStatesOf value blob.states.items)) }
 {
     let value = vote(m, &looked.texts);
     let lacking = list_lacking(alloc, value, &looked)?;
@@ -86,17 +93,23 @@ fn judge(alloc: Global, looked: Looked, m: u32) -> Result<Blob, AllocError>
         return Ok(Blob {
             value: None,
             salvage: take_first(looked.texts),
+            states: Vec::new(alloc),
             lacking,
         });
     };
-    let value = if is_first(&looked.texts, value) {
-        take_first(looked.texts)
-    } else {
-        Some(Bytes::new(Vec::from_slice(alloc, value)?))
-    };
+    if is_first(&looked.texts, value) {
+        return Ok(Blob {
+            value: take_first(looked.texts),
+            salvage: None,
+            states: looked.states,
+            lacking,
+        });
+    }
+    let value = Vec::from_slice(alloc, value)?;
     Ok(Blob {
-        value,
+        value: Some(Bytes::new(value)),
         salvage: None,
+        states: Vec::new(alloc),
         lacking,
     })
 }
@@ -111,25 +124,13 @@ fn is_first(texts: &[Option<Vec<u8>>], value: &[u8]) -> bool
     }
 }
 
-// The first content that some copy gives.
-fn first_text(texts: &[Option<Vec<u8>>]) -> Option<&[u8]>
-    ensures { option_copied result ≡ first_content (texts_of texts.now) }
-{
-    for text in texts {
-        if let Some(text) = text {
-            return Some(text);
-        }
-    }
-    None
-}
-
-// The same, moved.
+// The first content that some copy gives, moved.
 fn take_first(texts: Vec<Option<Vec<u8>>>) -> Option<Bytes>
     ensures { result ≡ first_content (texts_of texts.items) }
 {
     for text in texts {
-        if let Some(text) = text {
-            return Some(Bytes::new(text));
+        if let Some(bytes) = text {
+            return Some(Bytes::new(bytes));
         }
     }
     None
