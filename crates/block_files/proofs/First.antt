@@ -1,10 +1,10 @@
 -- The first content that some copy gives, and the states that are kept of it.
-use Rattle.std.proofs.Common.{◌≡◌, ◌≢◌, ℕ, List, [], ◌∷◌, ◌++◌, length, Option, Some, None, IfSome, refl, sym, ap, ◌∙◌}
+use Rattle.std.proofs.Common.{◌≡◌, ◌≢◌, ℕ, List, [], ◌∷◌, ◌++◌, length, Option, Some, None, IfSome, refl, sym, ◌∙◌}
 use Rattle.std.proofs.Common.{subst, Vec, Global}
 use Rattle.std.specs.Option.{option_map}
 use Rattle.sha2.specs.declared.Sha256.{Sha256}
-use Rattle.m_of_n.specs.Vote.{texts_of, voted}
-use Rattle.block_files.specs.Contents.{first_content, lacking_in, unvoted, HaveSize}
+use Rattle.m_of_n.specs.Vote.{texts_of}
+use Rattle.block_files.specs.Contents.{first_content, unvoted, HaveSize}
 use Rattle.block_files.specs.States.{AreOfFirst, AreStatesOf}
 use Rattle.block_files.proofs.Counting.{first_size}
 
@@ -45,17 +45,6 @@ pub first_more : (texts : List (Option (Vec ℕ Global))) (text : Option (Vec �
     → AreOfFirst (texts_of (texts ++ text ∷ [])) now.items
 first_more texts text kept next now are fresh none some t is =
     more_by (first_content (texts_of texts)) text kept next now are fresh none some t (sym (first_push texts text) ∙ is)
-
--- ---- where the first is the value
-
-pub first_states : (given : List (Option (List ℕ))) (states : List Sha256) (value : Option (List ℕ))
-    → AreOfFirst given states → value ≡ first_content given → IfSome value (λ v. AreStatesOf v states)
-first_states given states None are is = tt
-first_states given states (Some v) are is = are v (sym is)
-
-pub no_salvage : (value : Option (List ℕ)) (v : List ℕ) (first : Option (List ℕ)) → value ≡ Some v
-    → None ≡ unvoted value first
-no_salvage value v first is = sym (ap (λ o. unvoted o first) is)
 
 -- ---- sizes
 

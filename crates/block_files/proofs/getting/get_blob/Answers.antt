@@ -1,4 +1,4 @@
-use Rattle.std.proofs.Common.{◌*◌, ◌∙◌, ℕ, List, min, length, sym, subst}
+use Rattle.std.proofs.Common.{◌*◌, ◌∙◌, ℕ, List, min, length, sym, ap, subst}
 use Rattle.std.specs.Option.{option_map}
 use Rattle.std.proofs.lemmas.List.{length-map}
 use Rattle.m_of_n.specs.Vote.{texts_of}

@@ -61,11 +61,11 @@ loop-copy-preserved g c =
           subst P (sym c.in_ok-push.ensures.items) (sizes_more n c.loop-copy.texts.items c.in_ok-read.read.text
           c.loop-copy.invariant.size text.size));
       states = (
-          let now = c.first_states.result in
+          let now = c.first_states-states.result in
           let P = λ (xs : List (Option (Vec ℕ Global))). AreOfFirst (texts_of xs) now.items in
           subst P (sym c.in_ok-push.ensures.items) (first_more c.loop-copy.texts.items c.in_ok-read.read.text
           c.loop-copy.states c.in_ok-read.read.states now c.loop-copy.invariant.states text.states
-          (λ none. c.first_states.ensures.next (ap (λ xs. first_content (texts_of xs)) c.deref.ensures.value ∙ none))
-          (λ some. c.first_states.ensures.stay (λ none. some (ap (λ xs. first_content (texts_of xs))
+          (λ none. c.first_states-states.ensures.next (ap (λ xs. first_content (texts_of xs)) c.deref.ensures.value ∙ none))
+          (λ some. c.first_states-states.ensures.stay (λ none. some (ap (λ xs. first_content (texts_of xs))
           (sym c.deref.ensures.value) ∙ none)))));
     }
