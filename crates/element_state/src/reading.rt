@@ -95,12 +95,14 @@ fn read_entry<D: Disk>(
         &entry.hash,
         m,
     )?;
+    let name = entry.name.copy()?;
+    let content = content_of(blob.value, blob.salvage);
     let entry = Entry {
-        name: entry.name.copy()?,
+        name,
         info: entry.info,
         changed: entry.changed,
         len: entry.len,
-        content: content_of(blob.value, blob.salvage),
+        content,
         lacking: blob.lacking,
     };
     Ok(ReadEntry {

@@ -13,9 +13,9 @@ use Rattle.element_state.specs.declared.reading.ReadEntries.{ReadEntries}
 use Rattle.element_state.specs.Fit.{FitText}
 use Rattle.element_state.specs.Views.{entry_view, entries_seen}
 use Rattle.element_state.specs.Chosen.{HasBlocks, IsFit, IsReadBy}
-use Rattle.element_state.specs.Surveys.{IsFirstQualified, IsReadText}
+use Rattle.element_state.specs.Surveys.{AreOfEntry, IsFirstQualified, IsReadText}
 use Rattle.element_state.specs.lemmas.Entrywise.{all_at, all_less}
-use Rattle.element_state.proofs.Finding.{chosen_by, chosen_first, chosen_none, found_chosen, found_read, found_viewed}
+use Rattle.element_state.proofs.Finding.{chosen_by, chosen_first, chosen_none, found_chosen, found_read, found_states, found_viewed}
 use Rattle.element_state.proofs.choosing.choose.Goals as goal
 
 pub returns-in-Some-clause-chosen : goal.returns-in-Some-clause-chosen
@@ -70,6 +70,13 @@ returns-in-Some-clause-found g c =
     found_read shape texts f at (nat_le c.len-sole.result 1) c.in-Some.read.entries among.0 c.in_ok-found.ensures.text
     c.in_ok-found.ensures.view
     c.requires.fit (among.1 (f.seen, f.index))
+
+pub returns-in-Some-clause-states : goal.returns-in-Some-clause-states
+returns-in-Some-clause-states g c =
+    let all = subst (λ (o : Option (ℕ × ReadEntries)). IfSome o (λ f. AllZip AreOfEntry f.1.entries f.1.states.items))
+    c.in-Some.is c.in_ok-at.ensures.states in
+    found_states c.args.shape.now c.in_ok-found.found c.in-Some.read (nat_le c.len-sole.result 1)
+    c.in_ok-found.ensures.view c.in_ok-found.ensures.states all
 
 pub returns-then-is_empty-clause-chosen : goal.returns-then-is_empty-clause-chosen
 returns-then-is_empty-clause-chosen g c = λ tells.
@@ -155,3 +162,7 @@ returns-clause-found g c =
     found_read shape texts f 0 (nat_le c.len-sole.result 1) c.in_ok-read.read.entries lt c.in_ok-found-2.ensures.text
     c.in_ok-found-2.ensures.view
     c.requires.fit (subst (λ (t : FitText). R t.1.entries c.in_ok-read.read.entries) same read)
+
+pub returns-clause-states : goal.returns-clause-states
+returns-clause-states g c = found_states c.args.shape.now c.in_ok-found-2.found c.in_ok-read.read
+    (nat_le c.len-sole.result 1) c.in_ok-found-2.ensures.view c.in_ok-found-2.ensures.states c.in_ok-read.ensures.states

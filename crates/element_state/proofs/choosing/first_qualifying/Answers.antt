@@ -6,7 +6,7 @@ use Rattle.element_state.specs.declared.reading.ReadEntries.{ReadEntries}
 use Rattle.element_state.specs.Fit.{FitText}
 use Rattle.element_state.specs.Views.{qualifies, entries_seen}
 use Rattle.element_state.specs.Chosen.{IsFit, IsReadBy}
-use Rattle.element_state.specs.Surveys.{IsHeldOn, IsTried}
+use Rattle.element_state.specs.Surveys.{AreOfEntry, IsHeldOn, IsTried}
 use Rattle.element_state.specs.lemmas.Entrywise.{read_on, all_at}
 use Rattle.element_state.proofs.Finding.{none_more, found_at}
 use Rattle.element_state.proofs.choosing.first_qualifying.Goals as goal
@@ -57,6 +57,11 @@ returns-in-Some-clause-among g c =
           (subst (λ (o : Option ReadEntries). IfSome o (λ r. AllZip (IsReadBy n) x.1.entries r.entries)) c.in-Some.is
           c.in_ok-tried.ensures.read)),
     )
+
+pub returns-in-Some-clause-states : goal.returns-in-Some-clause-states
+returns-in-Some-clause-states g c =
+    subst (λ (o : Option ReadEntries). IfSome o (λ r. AllZip AreOfEntry r.entries r.states.items)) c.in-Some.is
+    c.in_ok-tried.ensures.states
 
 pub loop-at-preserved : goal.loop-at-preserved
 loop-at-preserved g c =

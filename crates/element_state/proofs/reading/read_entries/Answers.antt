@@ -31,6 +31,13 @@ returns-in_err-push-clause-reads g c = reads_on c.loop-entry.invariant.disk.time
 pub returns-in_err-push-clause-time : goal.returns-in_err-push-clause-time
 returns-in_err-push-clause-time g c = elapses_on c.loop-entry.invariant.disk.time c.read_entry.ensures.time
 
+pub returns-in_err-push-2-clause-reads : goal.returns-in_err-push-2-clause-reads
+returns-in_err-push-2-clause-reads g c = reads_on c.loop-entry.invariant.disk.time c.loop-entry.invariant.disk.reads
+    c.read_entry.ensures.time c.read_entry.ensures.reads
+
+pub returns-in_err-push-2-clause-time : goal.returns-in_err-push-2-clause-time
+returns-in_err-push-2-clause-time g c = elapses_on c.loop-entry.invariant.disk.time c.read_entry.ensures.time
+
 pub loop-entry-preserved : goal.loop-entry-preserved
 loop-entry-preserved g c =
     let entries = c.args.entries.now in
@@ -51,7 +58,7 @@ loop-entry-preserved g c =
           (zip_more (IsReadBy c.args.place.copies) entries c.loop-entry.views.items i c.entry-item.result
           c.in_ok-read.read.entry here c.entry-item.is
           c.loop-entry.invariant.read c.in_ok-read.ensures.read);
-      states = subst (λ (es : List Entry). AllZip AreOfEntry es c.in_ok-push-2.new.self.items)
+      states = subst (λ (es : List Entry). AllZip AreOfEntry es c.push-in-loop-entry.new.self.items)
           (sym c.in_ok-push.ensures.items) (subst (AllZip AreOfEntry (c.loop-entry.views.items ++ c.in_ok-read.read.entry
           ∷ [])) (sym c.in_ok-push-2.ensures.items) (zip_push AreOfEntry c.loop-entry.views.items
           c.loop-entry.states.items c.in_ok-read.read.entry c.in_ok-read.read.states c.loop-entry.invariant.states
