@@ -79,11 +79,7 @@ pub(crate) fn look<D: Disk>(
 }
 
 // The states to keep: those at hand once some text has the hash, and until then those of the next.
-fn first_states(
-    texts: &[Option<Vec<u8>>],
-    states: Vec<Sha256>,
-    next: Vec<Sha256>,
-) -> Vec<Sha256>
+fn first_states(texts: &[Option<Vec<u8>>], states: Vec<Sha256>, next: Vec<Sha256>) -> Vec<Sha256>
     ensures next { first_content (texts_of texts.now) ≡ None → result ≡ next }
     ensures stay { first_content (texts_of texts.now) ≢ None → result ≡ states }
 {

@@ -1,4 +1,4 @@
-use Rattle.std.proofs.Common.{◌+◌, ◌*◌, ◌<◌, ◌∙◌, ℕ, List, Option, Vec, Global, min, sym, ap, subst, length, arith}
+use Rattle.std.proofs.Common.{◌+◌, ◌*◌, ◌∙◌, ℕ, List, Option, Vec, Global, min, sym, ap, subst, length, arith}
 use Rattle.std.proofs.lemmas.List.{length_push}
 use Rattle.m_of_n.specs.Vote.{texts_of}
 use Rattle.block_files.specs.Areas.{has_all_bytes, is_within}
