@@ -27,8 +27,12 @@ one_by : (x v : Option (List ℕ)) → voted 1 (x ∷ []) ≡ v → is_some v �
 one_by None None is = refl
 one_by (Some t) (Some v) is = refl
 one_by None (Some v) is = absurd (omega (arith, voted-held 1 (None ∷ []) v is, holders-cons None [] v))
-one_by (Some t) None is = absurd (omega (arith, voted-none 1 (Some t ∷ []) (omega arith) is t,
-    holders-cons (Some t) [] t, ap (λ b. cond {A = ℕ} b 1 0) ((bytes_eq-Decides t t).1 refl)))
+one_by (Some t) None is = absurd (omega (
+  arith,
+  voted-none 1 (Some t ∷ []) (omega arith) is t,
+  holders-cons (Some t) [] t,
+  ap (λ b. cond {A = ℕ} b 1 0) ((bytes_eq-Decides t t).1 refl),
+))
 
 pub one_voted : (x : Option (List ℕ)) → is_some (voted 1 (x ∷ [])) ≡ is_some x
 one_voted x = one_by x (voted 1 (x ∷ [])) refl

@@ -94,11 +94,7 @@ fn no_hash(alloc: Global) -> Hashed {
 }
 
 // What is kept of elements that were read, each with its states.
-pub(crate) fn kept_of(
-    alloc: Global,
-    entries: &[Entry],
-    states: Vec<Vec<Sha256>>,
-) -> Vec<KeptStates>
+pub(crate) fn kept_of(alloc: Global, entries: &[Entry], states: Vec<Vec<Sha256>>) -> Vec<KeptStates>
     requires ascend { NamesAscend entry_name entries.now }
     requires states { AllZip AreOfEntry entries.now states.items }
     ensures { All (AreOfElement entries.now) result.items }
