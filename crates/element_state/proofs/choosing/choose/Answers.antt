@@ -15,7 +15,8 @@ use Rattle.element_state.specs.Views.{entry_view, entries_seen}
 use Rattle.element_state.specs.Chosen.{HasBlocks, IsFit, IsReadBy}
 use Rattle.element_state.specs.Surveys.{AreOfEntry, IsFirstQualified, IsReadText}
 use Rattle.element_state.specs.lemmas.Entrywise.{all_at, all_less}
-use Rattle.element_state.proofs.Finding.{chosen_by, chosen_first, chosen_none, found_chosen, found_read, found_states, found_viewed}
+use Rattle.element_state.proofs.Finding.{chosen_by, chosen_first, chosen_none}
+use Rattle.element_state.proofs.Finding.{found_chosen, found_read, found_states, found_viewed}
 use Rattle.element_state.proofs.choosing.choose.Goals as goal
 
 pub returns-in-Some-clause-chosen : goal.returns-in-Some-clause-chosen
