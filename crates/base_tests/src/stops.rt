@@ -3,7 +3,6 @@
 use crate::plans::{Plan, plan_of};
 use crate::runs::{restarted, run, step};
 use crate::states::state;
-use crate::usage::{disk_of, stopped};
 use case_words::{Trouble, cut, text};
 use disk_model::MemDisk;
 use std::alloc::Global;
@@ -67,7 +66,7 @@ fn cut_part(text: &str) -> (&str, &str) {
 
 // What an opening finds after these words.
 fn state_after(alloc: Global, plan: Plan, words: &str) -> Result<String, Trouble> {
-    state(alloc, plan, disk_of(run(alloc, plan, words)?))
+    state(alloc, plan, run(alloc, plan, words)?.into_disk())
 }
 
 fn follow_all(alloc: Global, course: Course<'_>) -> Result<String, Trouble> {
@@ -101,9 +100,15 @@ fn follow(alloc: Global, course: Course<'_>, way: &str) -> Result<Option<String>
 
 // The disk on which the word is stopped after that many calls, and whether it succeeded.
 fn stopped_at(alloc: Global, course: Course<'_>, passing: u64) -> Result<(MemDisk, bool), Trouble> {
-    let kept = run(alloc, course.plan, course.earlier)?;
-    let (kept, said) = step(alloc, course.plan, stopped(kept, passing), course.word)?;
-    Ok((disk_of(kept), said.as_str() != "failed"))
+    let mut kept = run(alloc, course.plan, course.earlier)?;
+    kept.disk.stop_after(passing);
+    match step(alloc, course.plan, &mut kept, course.word) {
+        Ok(said) => Ok((kept.into_disk(), said.as_str() != "failed")),
+        Err(trouble) => {
+            drop(kept);
+            Err(trouble)
+        }
+    }
 }
 
 fn is_allowed(course: Course<'_>, is_over: bool, now: &str) -> bool {
