@@ -1,8 +1,8 @@
 //! The lines of a person at a terminal.
 
 use crate::help;
-use crate::reasons::why_no_line;
 use command_text::{LineError, parse_line};
+use per_reasons::why_no_line;
 use std::alloc::Global;
 use std::io::{self, Input, Read};
 

@@ -4,10 +4,12 @@
 //! that is refused no other is given, so that nothing is made durable then. What a reply says is written as a person or
 //! a script wants it: the text of a value alone, the bytes of a file as they are, an error on standard error.
 
-use crate::hearing::line_length;
-use crate::reasons::why_no_call;
+ghost use Rattle.std.specs.Prelude.{◌≤◌, length};
+
 use crate::{NO_DISK, NO_INPUT, NO_MEMORY, REFUSED_CALL, REFUSED_WORDS, program};
 use command_text::LineError;
+use memchr::memchr;
+use per_reasons::why_no_call;
 use per_run::{JobKind, WordsError, read_words};
 use per_words::{
     Shown, call_lines, call_word, content_lines, manifest_lines, options_in, shown_bytes, shown_in,
@@ -288,6 +290,16 @@ impl<'a> Read for LineByLine<'a> {
         self.rest = rest;
         self.in_line = count < length;
         Ok(count)
+    }
+}
+
+/// How many bytes the first line has, with its line feed.
+fn line_length(lines: &[u8]) -> usize
+    ensures { result ≤ length lines.now }
+{
+    match memchr(b'\n', lines) {
+        Some(place) => place + 1,
+        None => lines.len(),
     }
 }
 

@@ -17,7 +17,6 @@
 #![tactic(auto)]
 
 mod asking;
-mod blame;
 mod call;
 mod causes;
 mod demo;
@@ -26,7 +25,6 @@ mod help;
 mod jobs;
 mod listing;
 mod program;
-mod reasons;
 mod telling;
 
 use asking::Asking;

@@ -1,7 +1,7 @@
 //! A run of the program over a folder, or a flash in it, and two streams.
 
 use crate::causes::{Ended, Fault, say, say_foreign};
-use crate::hearing::{ByLine, LastLine};
+use crate::hearing::{LastRead, NotedInput};
 use crate::telling::Telling;
 use crate::{NO_DISK, NO_MEMORY, WRONG_SIZE};
 use flash_disk::erase_all;
@@ -111,9 +111,11 @@ fn run_with<R: Files<File = File> + Eprint, I: Read + Drop, O: Write + Drop>(
         Err(_) => return no_memory(rt),
     };
     let notes = Notes::new();
-    let line = LastLine::new(alloc);
-    let Ok(input) = ByLine::new(alloc, input, target.takes_lines, &line) else {
-        return no_memory(rt);
+    let last = LastRead::new(alloc);
+    let input = NotedInput {
+        input,
+        has_lines: target.takes_lines,
+        last: &last,
     };
     let has_damage = Cell::new(false);
     run_noting(
@@ -126,7 +128,7 @@ fn run_with<R: Files<File = File> + Eprint, I: Read + Drop, O: Write + Drop>(
         &target,
         dir,
         &notes,
-        &line,
+        &last,
         &has_damage,
     )
 }
@@ -142,7 +144,7 @@ fn run_noting<'a, R: Files<File = File> + Eprint, I: Read + Drop, O: Write + Dro
     target: &'a Target,
     dir: String,
     notes: &'a Notes,
-    line: &'a LastLine,
+    last: &'a LastRead,
     has_damage: &'a Cell<bool>,
 ) -> u8 {
     if is_foreign(rt, alloc, target) {
@@ -157,7 +159,7 @@ fn run_noting<'a, R: Files<File = File> + Eprint, I: Read + Drop, O: Write + Dro
         dir: target.dir.as_str(),
         notes,
         otherwise: target.flash.map(|_| Fault::Full),
-        line,
+        last,
         has_damage: target.audits.then_some(has_damage),
         output,
     });

@@ -1,8 +1,8 @@
 //! The output of a run: why the disk failed, and why a line was refused, is told where it is answered.
 
 use crate::causes::{Fault, say_answered};
-use crate::hearing::LastLine;
-use crate::reasons::say_why;
+use crate::hearing::LastRead;
+use per_reasons::why_refused;
 use per_system::Notes;
 use std::alloc::Global;
 use std::cell::Cell;
@@ -20,8 +20,8 @@ pub(crate) struct Telling<'a, R: Eprint, O: Write + Drop> {
     pub(crate) notes: &'a Notes,
     /// Why the disk failed, where no call of the system did.
     pub(crate) otherwise: Option<Fault>,
-    /// The line that is answered.
-    pub(crate) line: &'a LastLine,
+    /// The lines that are answered.
+    pub(crate) last: &'a LastRead,
     /// Where it is noted that a line of an audit says that something is damaged or lost.
     pub(crate) has_damage: Option<&'a Cell<bool>>,
     pub(crate) output: O,
@@ -40,7 +40,11 @@ impl<'a, R: Eprint, O: Write + Drop> Write for Telling<'a, R, O> {
         if let Some(answer) = refusal_in(bytes) {
             let _ = self.say_why(answer);
         }
-        self.output.write(bytes)
+        let count = self.output.write(bytes)?;
+        if count >= bytes.len() {
+            self.last.note_answer();
+        }
+        Ok(count)
     }
 
     fn flush(&mut self) -> io::Result<()> {
@@ -49,11 +53,17 @@ impl<'a, R: Eprint, O: Write + Drop> Write for Telling<'a, R, O> {
 }
 
 impl<'a, R: Eprint, O: Write + Drop> Telling<'a, R, O> {
-    /// Says why the line was refused, where it is known whole.
+    /// Says why the line was refused, where it is known and there is more to say.
+    #[cold]
+    #[inline(never)]
     fn say_why(&self, answer: &[u8]) -> io::Result<()> {
-        match self.line.text() {
-            Some(line) => say_why(self.rt, self.alloc, answer, line.as_slice()),
-            None => Ok(()),
+        let Some(text) = self.last.text() else {
+            return Ok(());
+        };
+        let line = self.last.next_line(text.as_slice());
+        match why_refused(self.alloc, answer, line) {
+            Ok(Some(why)) => eprintln!(self.rt; "per: {why}"),
+            Ok(None) | Err(_) => Ok(()),
         }
     }
 }

@@ -35,7 +35,7 @@ pub fn flaw_in(alloc: Global, line: &[u8]) -> Result<Option<Flaw>, AllocError>
     }
 }
 
-/// The flaw where a text of this size has so many bytes from there on.
+/// The flaw where a text of `size` bytes has `left` bytes from there on.
 fn flaw_at(size: usize, needed: Needed, left: usize) -> Flaw
     requires { size ≤ 2 ^ 63 }
     ensures { result ≡ flaw_at size (needed, left) }

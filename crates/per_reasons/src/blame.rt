@@ -7,7 +7,7 @@ use serde_json::Value;
 use std::alloc::{AllocError, Global};
 use value_text::parse_type;
 
-/// The least rule that is of single elements.
+/// The first rule on single elements.
 const FIRST_OF_ELEMENTS: u32 = 19;
 
 /// How many parts are named at most.
@@ -56,7 +56,7 @@ pub(crate) fn blamed(
 }
 
 impl Rejected<'_> {
-    /// Whether the manifest up to so many elements of a storage breaks the rule.
+    /// Whether the manifest up to this number of elements of a storage breaks the rule.
     fn is_broken(&self, list: usize, place: usize, elements: usize) -> Result<bool, AllocError> {
         let text = self.text_up_to(list, place, elements)?;
         match read_manifest(self.alloc, text.as_bytes()) {
@@ -66,7 +66,7 @@ impl Rejected<'_> {
         }
     }
 
-    /// The text of the manifest up to so many elements of a storage.
+    /// The text of the manifest up to this number of elements of a storage.
     fn text_up_to(&self, list: usize, place: usize, elements: usize) -> Result<String, AllocError> {
         let mut text = String::from_str(self.alloc, "{\"version\":1")?;
         for (other, (word, elements_word)) in LISTS.iter().enumerate() {
@@ -95,7 +95,7 @@ impl Rejected<'_> {
         Ok(text)
     }
 
-    /// Appends a storage with so many of its elements.
+    /// Appends a storage with this number of its elements.
     fn push_storage(
         &self,
         text: &mut String,
@@ -126,7 +126,7 @@ impl Rejected<'_> {
         text.push('}')
     }
 
-    /// Appends the first so many elements.
+    /// Appends the first `count` elements.
     fn push_first(
         &self,
         text: &mut String,
@@ -243,7 +243,7 @@ pub(crate) fn keys_of_type(
     parts.into_text()
 }
 
-/// The storages that may have so many bytes, in words.
+/// The storages that may have `maximum` bytes, in words.
 pub(crate) fn storages_of_size(
     alloc: Global,
     manifest: &[u8],

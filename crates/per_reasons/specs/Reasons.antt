@@ -1,0 +1,84 @@
+-- Why a line was refused, in words.
+use Rattle.std.specs.Prelude.{◌≡◌, ◌-◌, ⊤, ℕ, List, [], ◌∷◌, ◌++◌, codes, drop, Bool, ◌&&◌, nat_eq, if◌then◌else◌}
+use Rattle.std.specs.Prelude.{Option, Some, None, option_map}
+use Rattle.std.specs.List.{ends_with}
+use Rattle.std.specs.Fmt.{decimal}
+use Rattle.std.specs.Str.{IsUtf8}
+use Rattle.per_words.specs.Flaws.{after_space, flaw_in, has_space, leading_word}
+use Rattle.per_words.specs.Words.{is_among}
+use Rattle.per_words.specs.declared.flaws.Flaw.{Flaw}
+use Rattle.per_words.specs.declared.needs.Needed.{Needed}
+use Rattle.per_words.specs.declared.needs.Needed.TheVariants as needed
+
+-- ---- a text that is no line
+
+-- what a line has at a place; none where it has nothing more
+abbrev pub needed_text : Needed → Option (List ℕ)
+needed_text needed.Application = Some (codes "an application, 0 to 7, or now or end")
+needed_text needed.CallWord = Some (codes "the word of a call")
+needed_text needed.Name = Some (codes "a name")
+needed_text needed.Handle = Some (codes "the number of a handle")
+needed_text needed.Number = Some (codes "a number")
+needed_text needed.TypeText = Some (codes "a type, as u8")
+needed_text needed.ValueText = Some (codes "a value, as u8:1 or text:\"a\"")
+needed_text needed.Octets = Some (codes "bytes in two hexadecimal digits each, as 00ff")
+needed_text needed.Octet = Some (codes "a byte in two hexadecimal digits, as 0a")
+needed_text needed.Manifest = Some (codes "a manifest")
+needed_text needed.OpenKind = Some (codes "r, w or rw")
+needed_text needed.OpenMode =
+    Some (codes "none, or some of begin, end, truncate, append in this order, joined by +")
+needed_text needed.Origin = Some (codes "begin, current or end")
+needed_text needed.Offset = Some (codes "a number, as 1 or -1")
+needed_text needed.End = None
+
+-- what is said of a line that ends with a carriage return
+abbrev pub ending_text : List ℕ → List ℕ
+ending_text line =
+    if ends_with nat_eq line (13 ∷ []) then codes ", and the line ends with a carriage return" else []
+
+-- what is needed at the column
+abbrev pub column_text : Option (List ℕ) → (column : ℕ) → (ending : List ℕ) → List ℕ
+column_text None column ending = codes "it is to end before column " ++ (decimal column ++ ending)
+column_text (Some needed) column ending =
+    codes "column " ++ (decimal column ++ (codes " is to be " ++ (needed ++ ending)))
+
+-- where the text stops being a line, and what a line has there
+abbrev pub no_line_text : List ℕ → Option (List ℕ)
+no_line_text line = option_map
+    (λ (flaw : Flaw). column_text (needed_text flaw.needed) flaw.column (ending_text line)) (flaw_in line)
+
+-- ---- words that are no call
+
+-- what is needed in place of these bytes, with which the first wrong word begins
+abbrev pub IsWordText : Option (List ℕ) → (rest text : List ℕ) → Type 0
+IsWordText None rest text = text ≡ codes "it takes fewer words"
+IsWordText (Some needed) [] text = text ≡ codes "what is missing is " ++ needed
+IsWordText (Some needed) (byte ∷ rest) text =
+    (IsUtf8 (byte ∷ rest) → text ≡ (byte ∷ rest) ++ (codes " is to be " ++ needed))
+    × (¬ (IsUtf8 (byte ∷ rest)) → text ≡ codes "what is wrong is to be " ++ needed)
+
+-- which of the words of a call, as they stand in its line, is none of it
+abbrev pub SaysNoCall : List ℕ → Option Flaw → Option (List ℕ) → Type 0
+SaysNoCall line None None = ⊤
+SaysNoCall line (Some flaw) (Some text) = IsWordText (needed_text flaw.needed) (drop (flaw.column - 1) line) text
+SaysNoCall line flaw why = ⊥
+
+-- ---- a line that was answered
+
+abbrev pub takes_manifest : List ℕ → Bool
+takes_manifest = is_among (codes "install" ∷ codes "update" ∷ codes "update-begin" ∷ [])
+
+-- the manifest in a line that has one: after the application, and a word that takes one
+abbrev pub manifest_in : List ℕ → Option (List ℕ)
+manifest_in line =
+    if has_space line && (has_space (after_space line) && takes_manifest (leading_word (after_space line)))
+    then Some (after_space (after_space line)) else None
+
+-- a bad line stops being one there
+abbrev pub bad_text : (answer line : List ℕ) → Option (List ℕ)
+bad_text answer line = option_map (λ why. answer ++ (codes ": " ++ why)) (no_line_text line)
+
+-- the rule that a manifest breaks is named
+abbrev pub NamesRule : ℕ → Option (List ℕ) → Type 0
+NamesRule rule None = ⊥
+NamesRule rule (Some text) = (more : List ℕ) × (text ≡ codes "the manifest breaks rule " ++ (decimal rule ++ more))

@@ -1,0 +1,16 @@
+//! Why a line was refused, in words: what its reply has no room for.
+//!
+//! A reply names the rule that a manifest breaks, or the types that differ, and no more. [`why_refused`] adds in which
+//! storage and element a manifest breaks it, for which keys or storages an update may have been refused, or where a
+//! line stops being one. [`why_no_line`] says this of a line before it is handled, and [`why_no_call`] of the words of a
+//! call from a shell.
+#![tactic(auto)]
+
+mod blame;
+mod lines;
+mod refusals;
+mod rules;
+mod words;
+
+pub use lines::{why_no_call, why_no_line};
+pub use refusals::why_refused;

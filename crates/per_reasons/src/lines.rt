@@ -1,0 +1,114 @@
+//! Where a text stops being a line, in words.
+
+ghost use Rattle.std.specs.Prelude.{◌≡◌, IfOk, option_map, string_bytes};
+ghost use Rattle.value_text.specs.Readers.{Finds};
+ghost use Rattle.per_words.specs.Flaws.{flaw_in};
+ghost use Rattle.per_reasons.specs.Reasons.{IsWordText, SaysNoCall, column_text, ending_text, needed_text, no_line_text};
+
+use per_words::{Needed, flaw_in};
+use std::alloc::{AllocError, Global};
+
+/// Why a text is no line, in words: the first of its words that is not what is needed there, by its column, or its end.
+/// Nothing where no word is wrong.
+///
+/// # Errors
+///
+/// Memory ran out.
+pub fn why_no_line(alloc: Global, line: &[u8]) -> Result<Option<String>, AllocError>
+    ensures { IfOk result (λ why. option_map string_bytes why ≡ no_line_text line.now) }
+{
+    match flaw_in(alloc, line)? {
+        Some(flaw) => Ok(Some(column_text(
+            alloc,
+            needed_text(flaw.needed),
+            flaw.column,
+            ending_text(line),
+        )?)),
+        None => Ok(None),
+    }
+}
+
+/// What is needed at this column, or that the line is to end before it, with what is said of its end.
+fn column_text(
+    alloc: Global,
+    needed: Option<&str>,
+    column: usize,
+    ending: &str,
+) -> Result<String, AllocError>
+    ensures { IfOk result (λ text. string_bytes text
+        ≡ column_text (option_map (λ n. n.now) needed.entry) column ending.now) }
+{
+    match needed {
+        Some(needed) => format!(in alloc; "column {column} is to be {needed}{ending}"),
+        None => format!(in alloc; "it is to end before column {column}{ending}"),
+    }
+}
+
+/// What is said of a line that ends with a carriage return.
+fn ending_text(line: &[u8]) -> &'static str
+    ensures { result.now ≡ ending_text line.now }
+{
+    if line.ends_with(b"\r") {
+        ", and the line ends with a carriage return"
+    } else {
+        ""
+    }
+}
+
+/// Why words are no call by itself, whose line would be this one, in words. Nothing where no word is wrong.
+///
+/// # Errors
+///
+/// Memory ran out.
+pub fn why_no_call(alloc: Global, line: &[u8]) -> Result<Option<String>, AllocError>
+    ensures { IfOk result (λ why. SaysNoCall line.now (flaw_in line.now) (option_map string_bytes why)) }
+{
+    match flaw_in(alloc, line)? {
+        Some(flaw) => {
+            let rest = line.get(flaw.column.saturating_sub(1)..).unwrap_or(&[]);
+            Ok(Some(word_text(alloc, needed_text(flaw.needed), rest)?))
+        }
+        None => Ok(None),
+    }
+}
+
+/// What is needed in place of the first wrong word, with which the rest begins, or that it is one too many.
+fn word_text(alloc: Global, needed: Option<&str>, rest: &[u8]) -> Result<String, AllocError>
+    ensures { IfOk result (λ text. IsWordText (option_map (λ n. n.now) needed.entry) rest.now (string_bytes text)) }
+{
+    let Some(needed) = needed else {
+        return String::from_str(alloc, "it takes fewer words");
+    };
+    if rest.is_empty() {
+        return format!(in alloc; "what is missing is {needed}");
+    }
+    match str::from_utf8(rest) {
+        Ok(rest) => format!(in alloc; "{rest} is to be {needed}"),
+        Err(_) => format!(in alloc; "what is wrong is to be {needed}"),
+    }
+}
+
+/// What a line has at a place; nothing where it ends there.
+fn needed_text(needed: Needed) -> Option<&'static str>
+    ensures { Finds (λ text. text.now) result (needed_text needed) }
+{
+    match needed {
+        Needed::Application => Some("an application, 0 to 7, or now or end"),
+        Needed::CallWord => Some("the word of a call"),
+        Needed::Name => Some("a name"),
+        Needed::Handle => Some("the number of a handle"),
+        Needed::Number => Some("a number"),
+        Needed::TypeText => Some("a type, as u8"),
+        Needed::ValueText => Some("a value, as u8:1 or text:\"a\""),
+        Needed::Octets => Some("bytes in two hexadecimal digits each, as 00ff"),
+        Needed::Octet => Some("a byte in two hexadecimal digits, as 0a"),
+        Needed::Manifest => Some("a manifest"),
+        Needed::OpenKind => Some("r, w or rw"),
+        Needed::OpenMode => Some(
+            "none, or some of begin, end, truncate, append in this order, joined by +",
+        ),
+        Needed::Origin => Some("begin, current or end"),
+        Needed::Offset => Some("a number, as 1 or -1"),
+        Needed::End => None,
+    }
+}

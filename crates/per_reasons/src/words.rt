@@ -1,0 +1,32 @@
+//! The words of a line.
+
+ghost use Rattle.std.specs.Prelude.{◌≡◌, ◌≤◌, IfNone, IfSome, false, length, true};
+ghost use Rattle.per_words.specs.Flaws.{after_space, has_space, leading_length, leading_word};
+
+/// What stands before the first space, and after it.
+pub(crate) fn split(text: &[u8]) -> Option<(&[u8], &[u8])>
+    ensures found { IfSome result (λ parts. (has_space text.now ≡ true) × ((parts.0.now ≡ leading_word text.now)
+        × (parts.1.now ≡ after_space text.now))) }
+    ensures none { IfNone result (has_space text.now ≡ false) }
+{
+    let length = leading_length(text);
+    if length == text.len() {
+        return None;
+    }
+    let (word, _) = text.split_at(length);
+    let (_, rest) = text.split_at(length + 1);
+    Some((word, rest))
+}
+
+/// How many bytes stand before the first space.
+fn leading_length(text: &[u8]) -> usize
+    ensures value { result ≡ leading_length text.now }
+    ensures bound { result ≤ length text.now }
+{
+    for (at, byte) in text.iter().enumerate() {
+        if *byte == b' ' {
+            return at;
+        }
+    }
+    text.len()
+}
