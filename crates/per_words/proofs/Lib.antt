@@ -2,3 +2,4 @@ pub mod Adding
 pub mod Cutting
 pub mod Events
 pub mod Named
+pub mod Written

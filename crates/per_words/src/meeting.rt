@@ -39,7 +39,7 @@ pub(crate) fn meets(alloc: Global, needed: Needed, text: &[u8]) -> Result<bool, 
     }
 }
 
-fn is_name(alloc: Global, text: &[u8]) -> Result<bool, AllocError>
+pub(crate) fn is_name(alloc: Global, text: &[u8]) -> Result<bool, AllocError>
     ensures { IfOk result (λ yes. yes ≡ is_name text.now) }
 {
     let Ok(text) = str::from_utf8(text) else {

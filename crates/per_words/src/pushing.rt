@@ -42,7 +42,7 @@ fn line_with(
 }
 
 /// Appends each word after a space.
-fn push_words(line: &mut Vec<u8>, words: &[&[u8]]) -> Result<(), AllocError>
+pub(crate) fn push_words(line: &mut Vec<u8>, words: &[&[u8]]) -> Result<(), AllocError>
     ensures { OnOk result (line.new.items
         ≡ line.old.items ++ flat_map (λ word. 32 ∷ word) (map (λ word. word.now) words.now)) }
 {

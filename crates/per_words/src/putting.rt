@@ -1,8 +1,9 @@
 //! The lines that write the content of a file.
 
 ghost use Rattle.std.specs.Prelude.{◌≡◌, ◌≢◌, ◌++◌, ◌∷◌, [], IfOk, OnOk, IfSome, IsErrOf, None, Some, map, List};
-ghost use Rattle.std.specs.Prelude.{ℕ, codes};
+ghost use Rattle.std.specs.Prelude.{◌<◌, ◌≤◌, ℕ, codes, length, slice_index, true};
 ghost use Rattle.std.specs.List.{AllByRecursion};
+ghost use Rattle.per_base.specs.Names.{IsName};
 ghost use Rattle.value_text.specs.Texts.{hex_text};
 ghost use Rattle.command_text.specs.declared.errors.LineError.{LineError};
 ghost use Rattle.per_words.specs.Words.{Adds, AreFed, IsOneLine, content_lines, cut_up, durable_lines, file_lines};
@@ -11,14 +12,21 @@ ghost use Rattle.per_words.specs.declared.kinds.CallKind.{CallKind};
 
 use crate::kinds::CallKind;
 use crate::lines::{push_durable, push_opening};
+use crate::meeting::is_name;
 use crate::places::place_in;
-use crate::pushing::push_call;
+use crate::pushing::{push_call, push_words};
 use command_text::LineError;
 use std::alloc::{AllocError, Global};
 use value_text::push_hex;
 
 /// The longest content that one line takes; a longer one is written in pieces of that many bytes.
 const PIECE_BYTES: usize = 65_536;
+
+/// How many bytes a line has at most beside names and digits of the content.
+const WORD_BYTES: usize = 32;
+
+/// How many lines there are beside those of whole pieces.
+const OTHER_LINES: usize = 5;
 
 /// The lines that make a content that of the file, created where it is not there. What is written in pieces becomes
 /// durable with the last line alone.
@@ -40,9 +48,20 @@ pub fn content_lines(
     ensures memory { IsErrOf result LineError.OutOfMemory → content_lines target.now file.now content.now ≢ None }
 {
     let (digit, storage) = place_in(target).ok_or(LineError::NotALine)?;
-    let mut text = Vec::new(alloc);
+    let mut text = Vec::with_capacity(alloc, room(storage, file, content))?;
     push_file(alloc, &mut text, digit, storage, file, content)?;
     Ok(text)
+}
+
+/// How many bytes the lines have at most, as far as that is a number.
+fn room(storage: &[u8], file: &[u8], content: &[u8]) -> usize {
+    let words = WORD_BYTES
+        .saturating_add(storage.len())
+        .saturating_add(file.len());
+    (content.len() / PIECE_BYTES)
+        .saturating_add(OTHER_LINES)
+        .saturating_mul(words)
+        .saturating_add(content.len().saturating_mul(2))
 }
 
 /// Adds all lines of the call.
@@ -177,6 +196,10 @@ fn push_piece(
 ) -> Result<(), LineError>
     ensures { Adds result text.old.items text.new.items (piece_line digit storage.now piece.now ∷ []) }
 {
+    if is_writable(alloc, digit, storage, piece)? {
+        push_written(alloc, text, digit, storage, piece)?;
+        return Ok(());
+    }
     let digits = digits_of(alloc, piece)?;
     push_call(
         alloc,
@@ -185,6 +208,36 @@ fn push_piece(
         &[b"write", storage, b"1", digits.as_slice()],
         &[],
     )
+}
+
+/// Whether it is plain that the line which writes these bytes is one of an event, so that it need not be read.
+fn is_writable(alloc: Global, digit: u8, storage: &[u8], piece: &[u8]) -> Result<bool, AllocError>
+    ensures application { IfOk result (λ yes. yes ≡ true → (48 ≤ digit) × (digit < 56)) }
+    ensures name { IfOk result (λ yes. yes ≡ true → IsName storage.now) }
+    ensures short { IfOk result (λ yes. yes ≡ true → length piece.now ≤ 65536) }
+    ensures bytes { (i : ℕ) → slice_index piece.now i < 256 }
+{
+    if !matches!(digit, b'0'..=b'7') || piece.len() > PIECE_BYTES {
+        return Ok(false);
+    }
+    is_name(alloc, storage)
+}
+
+/// Adds the line that writes these bytes.
+fn push_written(
+    alloc: Global,
+    text: &mut Vec<u8>,
+    digit: u8,
+    storage: &[u8],
+    piece: &[u8],
+) -> Result<(), AllocError>
+    ensures { OnOk result (text.new.items ≡ text.old.items ++ piece_line digit storage.now piece.now ++ 10 ∷ []) }
+{
+    let digits = digits_of(alloc, piece)?;
+    text.push(digit)?;
+    push_words(text, &[b"write", storage, b"1", digits.as_slice()])?;
+    text.push(b'\n')?;
+    Ok(())
 }
 
 /// The bytes in two digits each.
