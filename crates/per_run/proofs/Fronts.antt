@@ -1,5 +1,6 @@
 -- The first line of a piece of the input, the start of a line with more bytes, and how far a piece is handled.
-use Rattle.std.proofs.Common.{ℕ, List, [], ◌∷◌, ◌++◌, length, take, drop, ◌≡◌, ◌<◌, ◌+◌, ◌-◌, min, get_or, add-one}
+use Rattle.std.proofs.Common.{ℕ, zero, suc, List, [], ◌∷◌, ◌++◌, length, take, drop, ◌≡◌, ◌<◌, ◌≤◌, ◌+◌, ◌-◌}
+use Rattle.std.proofs.Common.{min, get_or, add-one, refl}
 use Rattle.std.proofs.Common.{sym, ◌∙◌, ap, subst, arith, ⊎_elim, append_assoc, append-nil, length-append}
 use Rattle.std.proofs.Math.Seq.{drop-cons, take-suc}
 use Rattle.std.proofs.lemmas.List.{length-take, take-append-drop, take_all, take-append-le}
@@ -12,10 +13,18 @@ pub piece_more : (piece : List ℕ) (i : ℕ) → i < length piece
 piece_more piece i within = ap (λ (n : ℕ). take n piece) (add-one i) ∙ take-suc piece i 0 within
 
 -- one byte more that is no line feed
-pub clean_next : (bytes : List ℕ) (i : ℕ) → i < length bytes → (get_or bytes i 0 ≡ 10 → ⊥) → HasNoFeed (take i bytes)
+clean_next : (bytes : List ℕ) (i : ℕ) → i < length bytes → (get_or bytes i 0 ≡ 10 → ⊥) → HasNoFeed (take i bytes)
     → HasNoFeed (take (i + 1) bytes)
 clean_next bytes i within apart clean = subst HasNoFeed (sym (piece_more bytes i within))
     (clean_more (take i bytes) (get_or bytes i 0) clean (ne_eqb _ _ apart))
+
+-- as many bytes as come before the first line feed
+pub clean_upto : (bytes : List ℕ) (n : ℕ) → n ≤ length bytes → ((k : ℕ) → k < n → get_or bytes k 0 ≡ 10 → ⊥)
+    → HasNoFeed (take n bytes)
+clean_upto bytes zero within apart = refl
+clean_upto bytes (suc n) within apart = subst (λ (k : ℕ). HasNoFeed (take k bytes)) (add-one n)
+    (clean_next bytes n (omega (arith, within)) (apart n (omega arith))
+    (clean_upto bytes n (omega (arith, within)) (λ k below. apart k (omega (arith, below)))))
 
 -- ---- what is kept
 

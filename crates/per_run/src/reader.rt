@@ -18,6 +18,7 @@ use crate::endings::Ending;
 use crate::writing::write_made;
 use command_text::{LINE_BYTES, Reply, print_reply};
 use disk_model::Disk;
+use memchr::memchr;
 use migrate_fns::Migrations;
 use per_base::Sink;
 use per_runtime::Runtime;
@@ -95,12 +96,10 @@ pub(crate) fn first_line(bytes: &[u8]) -> Option<(&[u8], &[u8])>
     ensures clean { IfSome result (λ parts. HasNoFeed parts.0.now) }
     ensures none { IfNone result (HasNoFeed bytes.now) }
 {
-    for (at, byte) in bytes.iter().enumerate() {
-        if *byte == b'\n' {
-            return Some((&bytes[..at], &bytes[at + 1..]));
-        }
+    match memchr(b'\n', bytes) {
+        Some(at) => Some((&bytes[..at], &bytes[at + 1..])),
+        None => None,
     }
-    None
 }
 
 /// Handles the last line, where the input ends and no line feed stands after it.
