@@ -1,9 +1,8 @@
 //! The lines that write the content of a file.
 
 ghost use Rattle.std.specs.Prelude.{◌≡◌, ◌≢◌, ◌++◌, ◌∷◌, [], IfOk, OnOk, IfSome, IsErrOf, None, Some, map, List};
-ghost use Rattle.std.specs.Prelude.{◌<◌, ◌≤◌, ℕ, codes, length, slice_index, true};
+ghost use Rattle.std.specs.Prelude.{◌<◌, ◌≤◌, ℕ, codes, false, length, slice_index, true};
 ghost use Rattle.std.specs.List.{AllByRecursion};
-ghost use Rattle.per_base.specs.Names.{IsName};
 ghost use Rattle.value_text.specs.Texts.{hex_text};
 ghost use Rattle.command_text.specs.declared.errors.LineError.{LineError};
 ghost use Rattle.per_words.specs.Words.{Adds, AreFed, IsOneLine, content_lines, cut_up, durable_lines, file_lines};
@@ -212,15 +211,26 @@ fn push_piece(
 
 /// Whether it is plain that the line which writes these bytes is one of an event, so that it need not be read.
 fn is_writable(alloc: Global, digit: u8, storage: &[u8], piece: &[u8]) -> Result<bool, AllocError>
-    ensures application { IfOk result (λ yes. yes ≡ true → (48 ≤ digit) × (digit < 56)) }
-    ensures name { IfOk result (λ yes. yes ≡ true → IsName storage.now) }
-    ensures short { IfOk result (λ yes. yes ≡ true → length piece.now ≤ 65536) }
-    ensures bytes { (i : ℕ) → slice_index piece.now i < 256 }
+    ensures { IfOk result (λ yes. yes ≡ true → IsOneLine (piece_line digit storage.now piece.now)) }
 {
-    if !matches!(digit, b'0'..=b'7') || piece.len() > PIECE_BYTES {
+    let is_none = is_no_piece(digit, piece);
+    if is_none {
         return Ok(false);
     }
-    is_name(alloc, storage)
+    match is_name(alloc, storage) {
+        Ok(yes) => Ok(yes),
+        Err(error) => Err(error),
+    }
+}
+
+/// Whether no application has this digit, or the bytes are too many for one piece.
+fn is_no_piece(digit: u8, piece: &[u8]) -> bool
+    ensures low { result ≡ false → 48 ≤ digit }
+    ensures high { result ≡ false → digit < 56 }
+    ensures short { result ≡ false → length piece.now ≤ 65536 }
+    ensures bytes { (i : ℕ) → slice_index piece.now i < 256 }
+{
+    digit < b'0' || digit > b'7' || piece.len() > PIECE_BYTES
 }
 
 /// Adds the line that writes these bytes.
