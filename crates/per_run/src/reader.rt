@@ -289,10 +289,15 @@ pub fn write_reply<K: Sink>(
         Err(_) => return Err(Ending::OutOfMemory),
     }
     let written = write_text(sink, text.as_str().as_bytes());
+    keep_little(alloc, text);
+    written
+}
+
+/// Lets the room of a long text go.
+fn keep_little(alloc: Global, text: &mut String) {
     if text.capacity() > REPLY_BYTES {
         *text = String::new(alloc);
     }
-    written
 }
 
 /// Answers a line that is outside the grammar, and gives how the handling ends.
