@@ -42,7 +42,7 @@ column_text None column ending = codes "it is to end before column " ++ (decimal
 column_text (Some needed) column ending =
     codes "column " ++ (decimal column ++ (codes " is to be " ++ (needed ++ ending)))
 
--- where the text stops being a line, and what a line has there
+-- where the text stops being a line
 abbrev pub no_line_text : List ℕ → Option (List ℕ)
 no_line_text line = option_map
     (λ (flaw : Flaw). column_text (needed_text flaw.needed) flaw.column (ending_text line)) (flaw_in line)
@@ -57,7 +57,7 @@ IsWordText (Some needed) (byte ∷ rest) text =
     (IsUtf8 (byte ∷ rest) → text ≡ (byte ∷ rest) ++ (codes " is to be " ++ needed))
     × (¬ (IsUtf8 (byte ∷ rest)) → text ≡ codes "what is wrong is to be " ++ needed)
 
--- which of the words of a call, as they stand in its line, is none of it
+-- which word is none of the call with this line
 abbrev pub SaysNoCall : List ℕ → Option Flaw → Option (List ℕ) → Type 0
 SaysNoCall line None None = ⊤
 SaysNoCall line (Some flaw) (Some text) = IsWordText (needed_text flaw.needed) (drop (flaw.column - 1) line) text
@@ -68,13 +68,13 @@ SaysNoCall line flaw why = ⊥
 abbrev pub takes_manifest : List ℕ → Bool
 takes_manifest = is_among (codes "install" ∷ codes "update" ∷ codes "update-begin" ∷ [])
 
--- the manifest in a line that has one: after the application, and a word that takes one
+-- the manifest in a line that has one
 abbrev pub manifest_in : List ℕ → Option (List ℕ)
 manifest_in line =
     if has_space line && (has_space (after_space line) && takes_manifest (leading_word (after_space line)))
     then Some (after_space (after_space line)) else None
 
--- a bad line stops being one there
+-- where a bad line stops being one
 abbrev pub bad_text : (answer line : List ℕ) → Option (List ℕ)
 bad_text answer line = option_map (λ why. answer ++ (codes ": " ++ why)) (no_line_text line)
 
