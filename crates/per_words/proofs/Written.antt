@@ -2,7 +2,7 @@
 use Rattle.std.proofs.Common.{◌≡◌, ◌≤◌, ◌<◌, ◌+◌, ◌-◌, ◌/◌, ◌%◌, ℕ, suc, List, [], ◌∷◌, ◌++◌, codes, length, Bool, true, false}
 use Rattle.std.proofs.Common.{get_or, nat_eq, IsTrue, inl, inr, refl, sym, ap, subst, arith, ◌∙◌, length-append}
 use Rattle.std.specs.List.{list_all, list_any}
-use Rattle.std.specs.Fmt.{decimal}
+use Rattle.std.specs.Fmt.{decimal, digits}
 use Rattle.std.proofs.lemmas.Bool.{cases_lt, lt-ltb, le-ltb, ne_eqb}
 use Rattle.std.proofs.lemmas.Bool.Decides.{nat_tests}
 use Rattle.std.proofs.lemmas.List.{append-nil}
@@ -61,12 +61,14 @@ abbrev written : ℕ → List ℕ → List ℕ → List ℕ
 written a storage piece = line_of (event.App a (call.Write storage 1 piece))
 
 spelled : (a : ℕ) (storage piece : List ℕ) → piece_line (48 + a) storage piece ≡ written a storage piece
+unfolding digits
 spelled a storage piece = ap
     (λ (digits : List ℕ). (48 + a) ∷ 32 ∷ (codes "write" ++ (32 ∷ (storage ++ (32 ∷ (codes "1" ++ (32 ∷ digits)))))))
     (append-nil (hex_text piece))
 
 written_short : (a : ℕ) (storage piece : List ℕ) → IsName storage → length piece ≤ 65536
     → length (written a storage piece) ≤ 262144
+unfolding digits
 written_short a storage piece named few = omega (
   arith,
   few,
@@ -77,6 +79,7 @@ written_short a storage piece named few = omega (
 
 written_clean : (a : ℕ) (storage piece : List ℕ) → IsName storage → ((i : ℕ) → get_or piece i 0 < 256)
     → has_feed (written a storage piece) ≡ false
+unfolding digits
 written_clean a storage piece named bytes = rw (ne_eqb (48 + a) 10 (λ e. omega arith))
     (both_clean storage (32 ∷ (codes "1" ++ (32 ∷ hex_text piece))) (name_clean storage named) (hex_clean piece bytes))
 
