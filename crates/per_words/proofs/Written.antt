@@ -63,7 +63,7 @@ written a storage piece = line_of (event.App a (call.Write storage 1 piece))
 spelled : (a : ℕ) (storage piece : List ℕ) → piece_line (48 + a) storage piece ≡ written a storage piece
 unfolding digits
 spelled a storage piece = ap
-    (λ (digits : List ℕ). (48 + a) ∷ 32 ∷ (codes "write" ++ (32 ∷ (storage ++ (32 ∷ (codes "1" ++ (32 ∷ digits)))))))
+    (λ (text : List ℕ). (48 + a) ∷ 32 ∷ (codes "write" ++ (32 ∷ (storage ++ (32 ∷ (codes "1" ++ (32 ∷ text)))))))
     (append-nil (hex_text piece))
 
 written_short : (a : ℕ) (storage piece : List ℕ) → IsName storage → length piece ≤ 65536
