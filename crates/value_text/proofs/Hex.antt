@@ -1,10 +1,12 @@
 -- Bytes in two digits each, read one by one.
-use Rattle.std.proofs.Common.{◌≡◌, ℕ, zero, suc, ◌<◌, ◌≤◌, ◌+◌, ◌-◌, List, [], ◌∷◌, ◌++◌, length, Option, Some, None}
-use Rattle.std.proofs.Common.{refl, sym, ap, ◌∙◌, arith}
+use Rattle.std.proofs.Common.{◌≡◌, ℕ, zero, suc, ◌<◌, ◌≤◌, ◌+◌, ◌-◌, ◌*◌, ◌/◌, List, [], ◌∷◌, ◌++◌, length, Option}
+use Rattle.std.proofs.Common.{Some, None, refl, sym, ap, ◌∙◌, arith}
+use Rattle.std.specs.List.{prefix_len}
 use Rattle.std.specs.Prelude.{option_map}
 use Rattle.std.proofs.lemmas.List.{append-nil}
 use Rattle.per_base.specs.FieldLoops.{with_front}
-use Rattle.value_text.specs.Readers.{hex_byte_at, hex_bytes_at}
+use Rattle.value_text.specs.Readers.{hex_byte_at, hex_bytes_at, hex_value, is_hex_digit}
+use Rattle.value_text.specs.lemmas.Steps.{some_is}
 use Rattle.value_text.specs.lemmas.Loop.{with_front-with_front}
 
 abbrev Read : Type 0
@@ -37,47 +39,34 @@ all_bytes front n i rest total le so_far =
 
 -- ---- how many there are
 
--- after that many bytes, the number of those that are read and of those
-abbrev pub counted : ℕ → Read → Option ℕ
-counted i read = option_map (λ x. i + length x.0) read
+pair_counted : (b : ℕ) (read : Read) (digits : ℕ) → option_map (λ x. length x.0) read ≡ Some (digits / 2)
+    → option_map (λ x. length x.0) (with_front (b ∷ []) read) ≡ Some ((1 + (1 + digits)) / 2)
+pair_counted b None digits e = absurd cc
+pair_counted b (Some x) digits e = ap (λ (n : ℕ). Some n) (omega (arith, some_is _ _ e))
 
-one_counted : (i b : ℕ) (read : Read) → counted i (with_front (b ∷ []) read) ≡ counted (i + 1) read
-one_counted i b None = refl
-one_counted i b (Some x) = ap (λ (n : ℕ). Some n) (omega arith)
-
-nothing_read : (k : ℕ) (rest : List ℕ) → hex_byte_at rest ≡ None → hex_bytes_at k rest ≡ Some ([], rest)
+two_counted : (n a b : ℕ) (rest : List ℕ) (high low : Option ℕ) → hex_value a ≡ high → hex_value b ≡ low
+    → option_map (λ x. length x.0) (hex_bytes_at n rest) ≡ Some (prefix_len is_hex_digit rest / 2)
+    → option_map (λ x. length x.0) (hex_bytes_at (suc n) (a ∷ b ∷ rest))
+    ≡ Some (prefix_len is_hex_digit (a ∷ b ∷ rest) / 2)
 unfolding hex_bytes_at
-nothing_read zero rest e = refl
-nothing_read (suc k) rest e = rw e refl
+two_counted n a b rest None low p q others = rw p refl
+two_counted n a b rest (Some x) None p q others = rw (p, q) refl
+two_counted n a b rest (Some x) (Some y) p q others = rw (p, q)
+    (pair_counted (16 * x + y) (hex_bytes_at n rest) (prefix_len is_hex_digit rest) others)
 
-pub none_more : (n i : ℕ) (rest : List ℕ) (total : Option ℕ) → hex_byte_at rest ≡ None
-    → counted i (hex_bytes_at (n - i) rest) ≡ total → total ≡ Some i
+one_counted : (n a : ℕ) (high : Option ℕ) → hex_value a ≡ high
+    → option_map (λ x. length x.0) (hex_bytes_at (suc n) (a ∷ [])) ≡ Some (prefix_len is_hex_digit (a ∷ []) / 2)
 unfolding hex_bytes_at
-none_more n i rest total e so_far = sym so_far ∙ ap (counted i) (nothing_read (n - i) rest e)
-    ∙ ap (λ (k : ℕ). Some k) (omega arith)
+one_counted n a None p = rw p refl
+one_counted n a (Some x) p = rw p refl
 
-pub one_more : (n i : ℕ) (rest : List ℕ) (b : ℕ) (others : List ℕ) (total : Option ℕ) → i < n
-    → hex_byte_at rest ≡ Some (b, others) → counted i (hex_bytes_at (n - i) rest) ≡ total
-    → counted (i + 1) (hex_bytes_at (n - (i + 1)) others) ≡ total
+-- two digits are a byte
+pub pairs_counted : (n : ℕ) (bytes : List ℕ) → length bytes ≤ n
+    → option_map (λ x. length x.0) (hex_bytes_at n bytes) ≡ Some (prefix_len is_hex_digit bytes / 2)
 unfolding hex_bytes_at
-one_more n i rest b others total lt e so_far =
-    let k : n - i ≡ suc (n - (i + 1)) = omega arith in
-    let here : hex_bytes_at (n - i) rest ≡ with_front (b ∷ []) (hex_bytes_at (n - (i + 1)) others) = rw (k, e) refl in
-    sym (one_counted i b (hex_bytes_at (n - (i + 1)) others)) ∙ sym (ap (counted i) here) ∙ so_far
-
-pub all_counted : (n i : ℕ) (rest : List ℕ) (total : Option ℕ) → n ≡ i → counted i (hex_bytes_at (n - i) rest) ≡ total
-    → total ≡ Some n
-unfolding hex_bytes_at
-all_counted n i rest total same so_far =
-    let k : n - i ≡ 0 = omega arith in
-    let here : hex_bytes_at (n - i) rest ≡ Some ([], rest) = rw k refl in
-    sym so_far ∙ ap (counted i) here ∙ ap (λ (m : ℕ). Some m) (omega arith)
-
-whole_counted : (read : Read) → counted 0 read ≡ option_map (λ x. length x.0) read
-whole_counted None = refl
-whole_counted (Some x) = ap (λ (n : ℕ). Some n) (omega arith)
-
-pub counted_first : (n : ℕ) (bytes : List ℕ) → counted 0 (hex_bytes_at (n - 0) bytes)
-    ≡ option_map (λ x. length x.0) (hex_bytes_at n bytes)
-counted_first n bytes = let whole : n - 0 ≡ n = omega arith in
-    ap (λ k. counted 0 (hex_bytes_at k bytes)) whole ∙ whole_counted (hex_bytes_at n bytes)
+pairs_counted zero [] fits = refl
+pairs_counted zero (a ∷ bytes) fits = absurd (omega (arith, fits))
+pairs_counted (suc n) [] fits = refl
+pairs_counted (suc n) (a ∷ []) fits = one_counted n a (hex_value a) refl
+pairs_counted (suc n) (a ∷ b ∷ rest) fits = two_counted n a b rest (hex_value a) (hex_value b) refl refl
+    (pairs_counted n rest (omega (arith, fits)))

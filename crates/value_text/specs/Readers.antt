@@ -1,7 +1,7 @@
 -- Readers of words, numbers and lists: each takes what it reads from the start of the bytes, and leaves the rest.
 use Rattle.std.specs.Prelude.{◌≡◌, ℕ, zero, suc, ◌+◌, ◌-◌, ◌*◌, ◌^◌, ℤ, pos, negsuc, List, [], ◌∷◌, length, take}
 use Rattle.std.specs.Prelude.{drop, Bool, true, false, not, ◌&&◌, ◌||◌, nat_lt, nat_le, nat_eq, ◌==◌, if◌then◌else◌}
-use Rattle.std.specs.Prelude.{Option, Some, None, codes}
+use Rattle.std.specs.Prelude.{Option, Some, None, codes, is_some}
 use Rattle.std.specs.List.{prefix_len}
 use Rattle.std.specs.Char.{is_ascii_digit}
 use Rattle.std.specs.Str.Parse.{digits_value}
@@ -61,6 +61,9 @@ signed_at limit bytes = branch (literal_at (codes "-") bytes)
 abbrev pub hex_value : ℕ → Option ℕ
 hex_value b = if nat_le 48 b && nat_le b 57 then Some (b - 48) else
     (if nat_le 97 b && nat_le b 102 then Some (b - 87) else None)
+
+abbrev pub is_hex_digit : ℕ → Bool
+is_hex_digit b = is_some (hex_value b)
 
 -- a byte in two digits
 abbrev pub hex_byte_at : List ℕ → Option (ℕ × List ℕ)

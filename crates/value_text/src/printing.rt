@@ -1,10 +1,10 @@
 //! Types and values as texts, written.
 
-ghost use Rattle.std.specs.Prelude.{◌≡◌, ◌++◌, OnOk, IfOk, IsTrue, string_bytes, encode_utf8};
+ghost use Rattle.std.specs.Prelude.{◌≡◌, ◌<◌, ◌++◌, OnOk, IfOk, IsTrue, string_bytes, encode_utf8};
 ghost use Rattle.value_model.specs.Kinds.{kind_fits};
 ghost use Rattle.value_model.specs.Views.{kind_of, kinds_view, tree_of, trees_view};
-ghost use Rattle.value_text.specs.Texts.{type_text, types_text, escaped, hex_byte_text, hex_text, value_text};
-ghost use Rattle.value_text.specs.Texts.{values_text};
+ghost use Rattle.value_text.specs.Texts.{type_text, types_text, escaped, hex_byte_text, hex_digit, hex_text};
+ghost use Rattle.value_text.specs.Texts.{value_text, values_text};
 
 use std::alloc::{AllocError, Global};
 use std::fmt::Write;
@@ -86,13 +86,28 @@ fn push_escaped(out: &mut String, text: &str) -> Result<(), AllocError>
 fn push_hex_byte(out: &mut String, byte: u8) -> Result<(), AllocError>
     ensures { OnOk result (string_bytes out.new ≡ string_bytes out.old ++ hex_byte_text byte) }
 {
-    write!(out, "{byte:02x}")
+    out.push(hex_digit(byte / 16))?;
+    out.push(hex_digit(byte % 16))
+}
+
+/// The digit of this value.
+fn hex_digit(value: u8) -> char
+    requires { value < 16 }
+    ensures digit { result ≡ hex_digit value }
+    ensures ascii { result < 128 }
+{
+    if value < 10 {
+        (b'0' + value) as char
+    } else {
+        (b'a' + (value - 10)) as char
+    }
 }
 
 /// Appends bytes in two lower-case hexadecimal digits each.
 pub fn push_hex(out: &mut String, bytes: &[u8]) -> Result<(), AllocError>
     ensures { OnOk result (string_bytes out.new ≡ string_bytes out.old ++ hex_text bytes.now) }
 {
+    out.reserve(bytes.len().saturating_mul(2))?;
     for byte in bytes {
         push_hex_byte(out, *byte)?;
     }

@@ -1,8 +1,9 @@
 //! Texts in quotes, and bytes in hexadecimal digits.
 
 ghost use Rattle.std.specs.Prelude.{◌≡◌, false, IfSome, Some, length, option_map, ◌<◌};
+ghost use Rattle.std.specs.List.{prefix_len};
 ghost use Rattle.value_model.specs.Decoding.{Gives};
-ghost use Rattle.value_text.specs.Readers.{Finds, hex_value, hex_byte_at, hex_bytes_at, meant_by, quoted_at};
+ghost use Rattle.value_text.specs.Readers.{Finds, hex_value, hex_byte_at, hex_bytes_at, is_hex_digit, meant_by, quoted_at};
 ghost use Rattle.value_text.specs.Parsing.{text_at};
 
 use crate::readers::after;
@@ -95,18 +96,27 @@ fn byte_at(bytes: &[u8]) -> Option<(u8, &[u8])>
     Some((16 * high + low, rest))
 }
 
+/// How many digits stand at the start.
+fn digit_count(bytes: &[u8]) -> usize
+    ensures { result ≡ prefix_len is_hex_digit bytes.now }
+{
+    bytes
+        .iter()
+        .take_while(|digit| is_hex_digit(**digit))
+        .count()
+}
+
+fn is_hex_digit(digit: u8) -> bool
+    ensures { result ≡ is_hex_digit digit }
+{
+    hex_value(digit).is_some()
+}
+
 /// How many bytes stand at the start in two digits each.
 fn count_at(bytes: &[u8]) -> usize
     ensures { option_map (λ x. length x.0) (hex_bytes_at (length bytes.now) bytes.now) ≡ Some result }
 {
-    let mut rest = bytes;
-    for count in 0..bytes.len() {
-        let Some((_, others)) = byte_at(rest) else {
-            return count;
-        };
-        rest = others;
-    }
-    bytes.len()
+    digit_count(bytes) / 2
 }
 
 /// As many bytes as stand at the start in two digits each, and what follows them. Their room is taken at once.
