@@ -71,7 +71,8 @@ pub cleared_empty : (m : FlashMedium) (s : LayerState) → IsDescribedBy m s →
     → IsEmptyBlock m.state.pages s.spare
 cleared_empty m s described cleared = elsewhere s.unsure described.pends
   where
-    elsewhere : (u : Option FlashPage) → PendsAt described.sure m.state.pages m.blocks s u → IsEmptyBlock m.state.pages s.spare
+    elsewhere : (u : Option FlashPage) → PendsAt described.sure m.state.pages m.blocks s u
+      → IsEmptyBlock m.state.pages s.spare
     elsewhere None same = subst (λ p. IsEmptyBlock p s.spare) (sym same) (described.sound.empty cleared)
     elsewhere (Some place) pends = still_empty described.sure m.state.pages place.block place.page s.spare
         pends.elsewhere pends.apart (described.sound.empty cleared)

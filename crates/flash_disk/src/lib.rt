@@ -8,11 +8,11 @@
 //! with one number it reads the earlier again.
 //!
 //! Some block is spare at all times. When the block that a copy goes on in is full, the records that are needed in
-//! another block are copied into the spare block, which is blank, and that block is erased at once and becomes the spare
-//! one. So a write that succeeds leaves an empty block, and after it no loss of pages leaves none to spare: the flash
-//! opens ([`lost_pages_leave_it_usable`]). What a stop or a failed call left in the spare block is erased by the next
-//! write; a block that is blank is not erased. A page that failed as a record was programmed is read again before the
-//! next use.
+//! another block are copied into the spare block, which is blank, and that block is erased at once and becomes the
+//! spare one. So a write that succeeds leaves an empty block, and after it no loss of pages leaves none to spare: the
+//! flash opens ([`lost_pages_leave_it_usable`]). What a stop or a failed call left in the spare block is erased by the
+//! next write; a block that is blank is not erased. A page that failed as a record was programmed is read again before
+//! the next use.
 //!
 //! On 16 blocks or more each copy goes on in a block of its own: file f is of copy `f / 4 % 8`. The block whose records
 //! are moved for a copy is the one with the fewest of those in which nothing counts but that copy. So where the copies

@@ -2,8 +2,8 @@
 //!
 //! A reply names the rule that a manifest breaks, or the types that differ, and no more. [`why_refused`] adds in which
 //! storage and element a manifest breaks it, for which keys or storages an update may have been refused, or where a
-//! line stops being one. [`why_no_line`] says this of a line before it is handled, and [`why_no_call`] of the words of a
-//! call from a shell.
+//! line stops being one. [`why_no_line`] says this of a line before it is handled, and [`why_no_call`] of the words of
+//! a call from a shell.
 #![tactic(auto)]
 
 mod blame;

@@ -3,7 +3,8 @@
 ghost use Rattle.std.specs.Prelude.{◌≡◌, IfOk, option_map, string_bytes};
 ghost use Rattle.value_text.specs.Readers.{Finds};
 ghost use Rattle.per_words.specs.Flaws.{flaw_in};
-ghost use Rattle.per_reasons.specs.Reasons.{IsWordText, SaysNoCall, column_text, ending_text, needed_text, no_line_text};
+ghost use Rattle.per_reasons.specs.Reasons.{IsWordText, SaysNoCall, column_text, ending_text};
+ghost use Rattle.per_reasons.specs.Reasons.{needed_text, no_line_text};
 
 use per_words::{Needed, flaw_in};
 use std::alloc::{AllocError, Global};
