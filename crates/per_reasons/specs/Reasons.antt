@@ -65,18 +65,18 @@ SaysNoCall line flaw why = ⊥
 
 -- ---- a line that was answered
 
-abbrev pub takes_manifest : List ℕ → Bool
-takes_manifest = is_among (codes "install" ∷ codes "update" ∷ codes "update-begin" ∷ [])
+abbrev pub has_manifest : List ℕ → Bool
+has_manifest = is_among (codes "install" ∷ codes "update" ∷ codes "update-begin" ∷ [])
 
 -- the manifest in a line that has one
-abbrev pub manifest_in : List ℕ → Option (List ℕ)
-manifest_in line =
-    if has_space line && (has_space (after_space line) && takes_manifest (leading_word (after_space line)))
+abbrev pub manifest_of_line : List ℕ → Option (List ℕ)
+manifest_of_line line =
+    if has_space line && (has_space (after_space line) && has_manifest (leading_word (after_space line)))
     then Some (after_space (after_space line)) else None
 
 -- where a bad line stops being one
-abbrev pub bad_text : (answer line : List ℕ) → Option (List ℕ)
-bad_text answer line = option_map (λ why. answer ++ (codes ": " ++ why)) (no_line_text line)
+abbrev pub explained_text : (answer line : List ℕ) → Option (List ℕ)
+explained_text answer line = option_map (λ why. answer ++ (codes ": " ++ why)) (no_line_text line)
 
 -- the rule that a manifest breaks is named
 abbrev pub NamesRule : ℕ → Option (List ℕ) → Type 0
