@@ -1,4 +1,3 @@
 pub mod Contents
 pub mod Recoveries
 pub mod SameKinds
-mod Sizes
