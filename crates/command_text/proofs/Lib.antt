@@ -7,4 +7,3 @@ pub mod CallLaws
 pub mod LineLaws
 pub mod Spelled
 pub mod Titles
-pub mod Frequent
