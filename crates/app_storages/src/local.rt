@@ -26,7 +26,6 @@ impl OpenSlots {
     /// # Errors
     ///
     /// `OutOfMemory` ends the run.
-    #[inline(never)]
     pub(crate) fn local<D: Disk>(
         &mut self,
         alloc: Global,
@@ -69,8 +68,6 @@ fn concluded(alloc: Global, answer: Result<Answer, PerError>) -> Result<Reply, S
     }
 }
 
-#[cold]
-#[inline(never)]
 fn refused(alloc: Global, error: PerError) -> Result<Reply, Stop>
     ensures { TellsRefusal error result }
 {

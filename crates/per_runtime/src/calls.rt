@@ -34,8 +34,6 @@ pub(crate) fn answer<D: Disk>(
 }
 
 // Opens the root, and then answers.
-#[cold]
-#[inline(never)]
 fn open_and_answer<D: Disk>(
     running: &mut Running,
     disk: &mut D,

@@ -139,8 +139,6 @@ impl Runtime {
     }
 
     // Ends the doubt by a sync, and then answers the call. Where the sync fails nothing changes.
-    #[cold]
-    #[inline(never)]
     fn end_doubt<D: Disk>(
         &mut self,
         disk: &mut D,
@@ -206,8 +204,6 @@ fn reply_of(alloc: Global, answer: Answer) -> Reply
 }
 
 // The answer where the device failed.
-#[cold]
-#[inline(never)]
 fn failed_reply(alloc: Global) -> Reply
     ensures { result ≡ failure }
 {
