@@ -1,5 +1,5 @@
 -- The words of calls that are made often are looked for first, and read as every other.
-use Rattle.std.proofs.Common.{◌≡◌, ℕ, List, true, Some, refl, sym, subst}
+use Rattle.std.proofs.Common.{◌≡◌, ℕ, List, Bool, true, Some, refl, sym, subst}
 use Rattle.std.specs.Prelude.{codes}
 use Rattle.std.specs.Str.{bytes_eq}
 use Rattle.std.proofs.lemmas.Slice.Eq.{bytes_eq-Decides}
