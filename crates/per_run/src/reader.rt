@@ -265,7 +265,7 @@ fn handle_text<D: Disk, K: Sink>(
     }
 }
 
-/// Writes the reply of a command.
+/// Writes the reply of a command. Where memory runs out the sink takes nothing of it, and where the sink fails not all.
 pub fn write_reply<K: Sink>(alloc: Global, sink: &mut K, reply: &Reply) -> Result<(), Ending>
     requires { HasText reply.now.answer }
     ensures puts { PutsOutput (reply_text reply.now) (K.written sink.old) (K.written sink.new) result }
