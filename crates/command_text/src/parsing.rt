@@ -28,6 +28,7 @@ pub(crate) fn call(alloc: Global, text: &[u8]) -> Result<Call, LineError>
 }
 
 /// A call that is made often, or another.
+#[tactic(auto, using(crate::proofs::Frequent::of_get, crate::proofs::Frequent::of_set))]
 fn frequent_call(alloc: Global, word: &[u8], text: &[u8]) -> Result<Call, LineError>
     ensures { ReadsLine (λ c. c) result (manifest_call word.now text.now) }
 {
