@@ -272,8 +272,10 @@ fn handle_text<D: Disk, K: Sink>(
     }
 }
 
-/// Writes the reply of a command; its text is made where the one before it stood. Where memory runs out the sink takes
-/// nothing of it, and where the sink fails not all.
+/// Writes the reply of a command.
+///
+/// Its text is made where the one before it stood. Where memory runs out the sink takes nothing of it, and where the
+/// sink fails not all.
 pub fn write_reply<K: Sink>(
     alloc: Global,
     text: &mut String,
