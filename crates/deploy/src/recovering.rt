@@ -20,7 +20,8 @@ ghost use Rattle.element_state.specs.States.{Corrupt, State, salvage_of, store_a
 ghost use Rattle.deploy_rows.specs.Recovering.{after_state, if_contents_fit, is_worn_out, rebuilding};
 ghost use Rattle.deploy_rows.specs.Recovering.{recovered_contents, recovering, rescued, resetting};
 ghost use Rattle.deploy_rows.specs.Rows.{AnswersRow};
-ghost use Rattle.deploy.specs.Clauses.{ChangesNothing, Leaves};
+ghost use Rattle.deploy_laws.specs.Stands.{ChangesNothing};
+ghost use Rattle.deploy.specs.Clauses.{Leaves};
 ghost use Rattle.deploy.specs.Recovered.{AreElements, rescued_entry};
 
 use crate::errors::Stop;
@@ -366,8 +367,8 @@ fn counts(alloc: Global, kind: StoreKind, bytes: &[u8]) -> Result<bool, AllocErr
     }
 }
 
-// The bytes of the names and contents together.
-fn size_of(contents: &[Fresh]) -> u64
+/// The bytes of the names and contents together, which a storage's maximum bounds.
+pub fn size_of(contents: &[Fresh]) -> u64
     requires few { length contents.now ≤ 1024 }
     requires small { AllByRecursion (λ x. length x.bytes ≤ 1048576) contents.now }
     ensures { result ≡ sum_by fresh_size contents.now }

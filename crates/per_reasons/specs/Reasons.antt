@@ -4,8 +4,7 @@ use Rattle.std.specs.Prelude.{Option, Some, None, option_map}
 use Rattle.std.specs.List.{ends_with}
 use Rattle.std.specs.Fmt.{decimal}
 use Rattle.std.specs.Str.{IsUtf8}
-use Rattle.per_words.specs.Flaws.{after_space, flaw_in, has_space, leading_word}
-use Rattle.per_words.specs.Words.{is_among}
+use Rattle.per_words.specs.Flaws.{after_space, flaw_in, has_space, leading_word, takes_text}
 use Rattle.per_words.specs.declared.flaws.Flaw.{Flaw}
 use Rattle.per_words.specs.declared.needs.Needed.{Needed}
 use Rattle.per_words.specs.declared.needs.Needed.TheVariants as needed
@@ -65,13 +64,10 @@ SaysNoCall line flaw why = ⊥
 
 -- ---- a line that was answered
 
-abbrev pub has_manifest : List ℕ → Bool
-has_manifest = is_among (codes "install" ∷ codes "update" ∷ codes "update-begin" ∷ [])
-
 -- the manifest in a line that has one
 abbrev pub manifest_of_line : List ℕ → Option (List ℕ)
 manifest_of_line line =
-    if has_space line && (has_space (after_space line) && has_manifest (leading_word (after_space line)))
+    if has_space line && (has_space (after_space line) && takes_text (leading_word (after_space line)))
     then Some (after_space (after_space line)) else None
 
 -- where a bad line stops being one

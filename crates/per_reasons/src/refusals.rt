@@ -5,7 +5,8 @@ ghost use Rattle.std.specs.Prelude.{true};
 ghost use Rattle.std.specs.Fmt.{decimal};
 ghost use Rattle.std.specs.List.{starts_with};
 ghost use Rattle.std.specs.Str.{IsUtf8, bytes_eq};
-ghost use Rattle.per_reasons.specs.Reasons.{NamesRule, explained_text, manifest_of_line, has_manifest};
+ghost use Rattle.per_words.specs.Flaws.{takes_text};
+ghost use Rattle.per_reasons.specs.Reasons.{NamesRule, explained_text, manifest_of_line};
 
 use crate::blame::{keys_of_type, storages_of_size};
 use crate::lines::why_no_line;
@@ -117,7 +118,7 @@ fn manifest_of_line(line: &[u8]) -> Option<&[u8]>
 
 /// Whether the word is that of a call with a manifest.
 fn has_manifest(word: &[u8]) -> bool
-    ensures { result ≡ has_manifest word.now }
+    ensures { result ≡ takes_text word.now }
 {
     is_word(word, b"install") || is_word(word, b"update") || is_word(word, b"update-begin")
 }
