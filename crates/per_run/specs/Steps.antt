@@ -20,8 +20,8 @@ use Rattle.run_model.specs.Runs.{DiskSide}
 use Rattle.run_model.specs.Runtimes.{Memory, IsDoubt, Starts, Stepped, Stopped}
 use Rattle.run_model.specs.Turns.{Turn, events_of, replies_of, replies_text, IsBlamed, AreBlamed, CountsFailures}
 use Rattle.run_model.specs.Worlds.{Doubt, world_at, after_start, formatted}
-use Rattle.per_run.specs.declared.answering.Outcome.{Outcome}
-use Rattle.per_run.specs.declared.answering.Outcome.TheVariants as outcome
+use Rattle.per_run.specs.declared.answering.LineOutcome.{LineOutcome}
+use Rattle.per_run.specs.declared.answering.LineOutcome.TheVariants as outcome
 use Rattle.per_run.specs.declared.endings.Ending.{Ending}
 use Rattle.per_run.specs.declared.endings.Ending.TheVariants.{AllRead, EndLine, BadLine, OutOfMemory, Source, Sink}
 use Rattle.per_run.specs.declared.endings.Ending.TheVariants.{TooLong}
@@ -96,16 +96,16 @@ pub record IsStopped (told : Bool) (rules : List Rule) (answers : Answers) (text
       → Stopped rules answers event before doubt old new
 
 -- what came of a line, from the memory and the disk before it to those after it
-abbrev pub Came : {D : Type 0} → (told : Bool) → (medium : D → Medium) → List Rule → Answers → (text : List ℕ)
-    → (before after : Memory) → (old new : D) → Outcome → Type 0
-Came told medium rules answers text before after old new outcome.Nothing =
+abbrev pub IsLineAnswered : {D : Type 0} → (told : Bool) → (medium : D → Medium) → List Rule → Answers → (text : List ℕ)
+    → (before after : Memory) → (old new : D) → LineOutcome → Type 0
+IsLineAnswered told medium rules answers text before after old new outcome.Nothing =
     IsLine text line.Nothing × (after ≡ before) × (new ≡ old)
-Came told medium rules answers text before after old new outcome.End = IsLine text line.End × (new ≡ old)
-Came told medium rules answers text before after old new outcome.Bad =
+IsLineAnswered told medium rules answers text before after old new outcome.End = IsLine text line.End × (new ≡ old)
+IsLineAnswered told medium rules answers text before after old new outcome.Bad =
     IsBad text × (after ≡ before) × (new ≡ old)
-Came told medium rules answers text before after old new (outcome.Answered reply) =
+IsLineAnswered told medium rules answers text before after old new (outcome.Answered reply) =
     IsLineAnswered told rules answers text before after reply (medium old) (medium new)
-Came told medium rules answers text before after old new outcome.OutOfMemory =
+IsLineAnswered told medium rules answers text before after old new outcome.OutOfMemory =
     (new ≡ old) ⊎ IsStopped told rules answers text before (medium old) (medium new)
 
 -- ---- the run so far

@@ -6,8 +6,8 @@ ghost use Rattle.migrate_fns.specs.Stored.{answers_of, rules_of};
 ghost use Rattle.command_text.specs.Grammar.{IsEvent, IsLine};
 ghost use Rattle.command_text.specs.declared.lines.Line.{Line};
 ghost use Rattle.per_runtime.specs.Memories.{IsRuntime, memory_of};
-ghost use Rattle.per_run.specs.Steps.{Came};
-ghost use Rattle.per_run.specs.declared.answering.Outcome.{Outcome};
+ghost use Rattle.per_run.specs.Steps.{IsLineAnswered};
+ghost use Rattle.per_run.specs.declared.answering.LineOutcome.{LineOutcome};
 
 use command_text::{Event, Line, LineError, Reply, parse_line};
 use disk_model::Disk;
@@ -17,7 +17,7 @@ use std::alloc::Global;
 
 /// What came of a line.
 #[derive(Drop)]
-pub enum Outcome {
+pub enum LineOutcome {
     /// It says nothing.
     Nothing,
     /// It is the end.
@@ -37,20 +37,20 @@ pub fn answer_line<D: Disk>(
     migrations: &Migrations,
     disk: &mut D,
     text: &[u8],
-) -> Outcome
+) -> LineOutcome
     requires { IsRuntime D.told (D.medium disk.old) runtime.old }
-    ensures came { Came D.told D.medium (rules_of migrations.now) (answers_of migrations.now) text.now
+    ensures answered { IsLineAnswered D.told D.medium (rules_of migrations.now) (answers_of migrations.now) text.now
         (memory_of runtime.old) (memory_of runtime.new)
         disk.old disk.new result }
-    ensures memory { result ≢ Outcome.OutOfMemory → IsRuntime D.told (D.medium disk.new) runtime.new }
+    ensures memory { result ≢ LineOutcome.OutOfMemory → IsRuntime D.told (D.medium disk.new) runtime.new }
     ensures time { Elapses (D.medium disk.old) (D.medium disk.new) }
 {
     match parse_line(alloc, text) {
-        Ok(Line::Nothing) => Outcome::Nothing,
-        Ok(Line::End) => Outcome::End,
+        Ok(Line::Nothing) => LineOutcome::Nothing,
+        Ok(Line::End) => LineOutcome::End,
         Ok(Line::Event(event)) => answer(runtime, migrations, disk, &event),
-        Err(LineError::NotALine) => Outcome::Bad,
-        Err(LineError::OutOfMemory) => Outcome::OutOfMemory,
+        Err(LineError::NotALine) => LineOutcome::Bad,
+        Err(LineError::OutOfMemory) => LineOutcome::OutOfMemory,
     }
 }
 
@@ -61,18 +61,18 @@ fn answer<D: Disk>(
     migrations: &Migrations,
     disk: &mut D,
     event: &Event,
-) -> Outcome
+) -> LineOutcome
     requires event { IsEvent event.now }
     requires memory { IsRuntime D.told (D.medium disk.old) runtime.old }
-    ensures came { (text : List ℕ) → IsLine text (Line.Event event.now)
-        → Came D.told D.medium (rules_of migrations.now) (answers_of migrations.now) text (memory_of runtime.old)
+    ensures answered { (text : List ℕ) → IsLine text (Line.Event event.now)
+        → IsLineAnswered D.told D.medium (rules_of migrations.now) (answers_of migrations.now) text (memory_of runtime.old)
         (memory_of runtime.new)
         disk.old disk.new result }
-    ensures memory { result ≢ Outcome.OutOfMemory → IsRuntime D.told (D.medium disk.new) runtime.new }
+    ensures memory { result ≢ LineOutcome.OutOfMemory → IsRuntime D.told (D.medium disk.new) runtime.new }
     ensures time { Elapses (D.medium disk.old) (D.medium disk.new) }
 {
     match runtime.step(disk, migrations, event) {
-        Ok(reply) => Outcome::Answered(reply),
-        Err(_) => Outcome::OutOfMemory,
+        Ok(reply) => LineOutcome::Answered(reply),
+        Err(_) => LineOutcome::OutOfMemory,
     }
 }

@@ -11,7 +11,7 @@ ghost use Rattle.per_runtime.specs.Memories.{IsRuntime, memory_of};
 ghost use Rattle.per_run.specs.Jobs.{Generates, WritesOutput, summary};
 ghost use Rattle.per_run.specs.Steps.{Counted, Goes, IsServeBegun, Tallies};
 
-use crate::answering::{Outcome, answer_line};
+use crate::answering::{LineOutcome, answer_line};
 use crate::endings::{DEVICE, DONE, OUT_OF_MEMORY};
 use crate::tally::Tally;
 use crate::writing::write_output;
@@ -200,7 +200,7 @@ fn handle_one<D: Disk>(
     ensures time { Elapses (D.medium disk.old) (D.medium disk.new) }
 {
     match answer_line(alloc, &mut batch.runtime, migrations, disk, line) {
-        Outcome::Answered(reply) => {
+        LineOutcome::Answered(reply) => {
             batch.tally.count(&reply);
             Ok(())
         }

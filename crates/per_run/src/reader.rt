@@ -13,7 +13,7 @@ ghost use Rattle.per_run.specs.Steps.{Blamed, Blames, Course, Handled, HasNoFeed
 ghost use Rattle.per_run.specs.Steps.{PutsOutput, Reached};
 ghost use Rattle.per_run.specs.Steps.{ending_of};
 
-use crate::answering::{Outcome, answer_line};
+use crate::answering::{LineOutcome, answer_line};
 use crate::endings::Ending;
 use crate::writing::{write_made, write_text};
 use command_text::{LINE_BYTES, Reply, push_reply};
@@ -264,11 +264,11 @@ fn handle_text<D: Disk, K: Sink>(
     ensures time { Elapses (D.medium disk.old) (D.medium disk.new) }
 {
     match answer_line(alloc, runtime, migrations, disk, text) {
-        Outcome::Nothing => Ok(()),
-        Outcome::Answered(reply) => write_reply(sink, room, &reply),
-        Outcome::End => Err(Ending::EndLine),
-        Outcome::Bad => Err(refuse(alloc, sink, number)),
-        Outcome::OutOfMemory => Err(Ending::OutOfMemory),
+        LineOutcome::Nothing => Ok(()),
+        LineOutcome::Answered(reply) => write_reply(sink, room, &reply),
+        LineOutcome::End => Err(Ending::EndLine),
+        LineOutcome::Bad => Err(refuse(alloc, sink, number)),
+        LineOutcome::OutOfMemory => Err(Ending::OutOfMemory),
     }
 }
 

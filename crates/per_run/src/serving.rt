@@ -12,7 +12,7 @@ ghost use Rattle.per_run.specs.Serves.{Heard, Serves, lines_in, next_line_number
 ghost use Rattle.per_run.specs.Serving.{Hearing, HearsOne, Listened, Served, Service};
 ghost use Rattle.per_run.specs.Steps.{Blamed, Blames, Goes, HasNoFeed, ending_of};
 
-use crate::answering::{Outcome, answer_line};
+use crate::answering::{LineOutcome, answer_line};
 use crate::endings::{DEVICE, Ending, OUT_OF_MEMORY};
 use crate::input::{PIECE_BYTES, read_piece, zeros};
 use crate::preparing::prepare;
@@ -271,10 +271,10 @@ fn serve_text<D: Disk, K: Sink>(
     ensures time { Elapses (D.medium disk.old) (D.medium disk.new) }
 {
     match answer_line(alloc, runtime, migrations, disk, text) {
-        Outcome::Nothing => Ok(()),
-        Outcome::Answered(reply) => write_reply(sink, room, &reply),
-        Outcome::Bad => write_made(sink, print_bad_line(alloc, number)),
-        Outcome::End => Err(Ending::EndLine),
-        Outcome::OutOfMemory => Err(Ending::OutOfMemory),
+        LineOutcome::Nothing => Ok(()),
+        LineOutcome::Answered(reply) => write_reply(sink, room, &reply),
+        LineOutcome::Bad => write_made(sink, print_bad_line(alloc, number)),
+        LineOutcome::End => Err(Ending::EndLine),
+        LineOutcome::OutOfMemory => Err(Ending::OutOfMemory),
     }
 }
