@@ -65,9 +65,8 @@ fn answer<D: Disk>(
     requires event { IsEvent event.now }
     requires memory { IsRuntime D.told (D.medium disk.old) runtime.old }
     ensures answered { (text : List ℕ) → IsLine text (Line.Event event.now)
-        → IsLineAnswered D.told D.medium (rules_of migrations.now) (answers_of migrations.now) text (memory_of runtime.old)
-        (memory_of runtime.new)
-        disk.old disk.new result }
+        → IsLineAnswered D.told D.medium (rules_of migrations.now) (answers_of migrations.now) text
+        (memory_of runtime.old) (memory_of runtime.new) disk.old disk.new result }
     ensures memory { result ≢ LineOutcome.OutOfMemory → IsRuntime D.told (D.medium disk.new) runtime.new }
     ensures time { Elapses (D.medium disk.old) (D.medium disk.new) }
 {
