@@ -14,13 +14,14 @@ use Rattle.deploy_laws.specs.Apps as apps
 use Rattle.deploy_laws.specs.Laws.{AloneLaw}
 use Rattle.deploy_laws.specs.Places.{root_place}
 use Rattle.deploy_laws.specs.Stands.{IsLater, next_root}
-use Rattle.deploy_rows.specs.Rows.{initial_all, installed_app}
+use Rattle.deploy_rows.specs.Rows.{installed_app}
 use Rattle.deploy.specs.declared.roots.Installed.{Installed}
 use Rattle.deploy.specs.declared.roots.Root.TheVariants as root
+use Rattle.deploy.specs.Filled.{filled_app}
 use Rattle.deploy.specs.Next.{next_app}
 use Rattle.deploy.specs.Roots.{IfKept, IsRootOf, IsRootOn, RootAt, SaysDeployment}
 use Rattle.deploy.proofs.InUse.{AgainLaw, in_use}
-use Rattle.deploy.proofs.InstallRow.{installed_next}
+use Rattle.deploy.proofs.InstallRow.{filled_next}
 
 module _ (again : AgainLaw) (alone : AloneLaw) (image : Image) (app : ℕ) (cell : Cell)
     (of : IsRootOf app (root.Absent cell))
@@ -32,12 +33,11 @@ module _ (again : AgainLaw) (alone : AloneLaw) (image : Image) (app : ℕ) (cell
   unfolding shapes_named
   no_states = ap (λ (a : App). a.states) (in_use again alone image app (root.Absent cell) of on)
 
-  -- it is what the row installs
-  pub next_installed : (now : ℕ) (v : Version) (contents : List (List Fresh)) → contents ≡ initial_all now v.deployment
+  -- the version is there with its contents alone
+  pub next_filled : (v : Version) (contents : List (List Fresh))
       → next_app (generation_of cell + 1) 0 v None contents (app_at image app)
-      ≡ installed_app (generation_of cell) now v.deployment
-  next_installed now v contents are = installed_next (generation_of cell) now v contents (app_at image app) no_states
-      are
+      ≡ filled_app (generation_of cell) v.deployment contents
+  next_filled v contents = filled_next (generation_of cell) v contents (app_at image app) no_states
 
   pub comes_later : (now : ℕ) (d : DeploymentData) → IsLater (app_at image app)
       (installed_app (generation_of cell) now d)

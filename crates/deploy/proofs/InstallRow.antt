@@ -15,6 +15,7 @@ use Rattle.deploy_laws.specs.Apps.{App, Says, absent}
 use Rattle.deploy_rows.specs.Rows.{◌>>=◌, deployment_of, initial_all, installed_app, installing, made_states, not_worn}
 use Rattle.deploy.specs.declared.roots.Installed.{Installed}
 use Rattle.deploy.specs.declared.roots.Root.TheVariants as root
+use Rattle.deploy.specs.Filled.{filled_app}
 use Rattle.deploy.specs.Next.{next_app}
 use Rattle.deploy.specs.Roots.{root_app}
 
@@ -60,20 +61,28 @@ module _ (now g : ℕ) (text : List ℕ) (a : App) (is : a.says ≡ absent g) wh
       ∙ ap (λ (r : Result DeploymentData PerError). r >>= (λ d. not_worn g (Ok (installed_app g now d)))) said
       ∙ left g (Ok (installed_app g now d)) lt
 
--- what is installed is the next version, where nothing was
-pub installed_next : (g now : ℕ) (v : Version) (contents : List (List Fresh)) (a : App) → a.states ≡ []
-    → contents ≡ initial_all now v.deployment
-    → next_app (g + 1) 0 v None contents a ≡ installed_app g now v.deployment
-unfolding installed_app
-installed_next g now v contents a none are =
+-- what is filled is the next version, where nothing was
+pub filled_next : (g : ℕ) (v : Version) (contents : List (List Fresh)) (a : App) → a.states ≡ []
+    → next_app (g + 1) 0 v None contents a ≡ filled_app g v.deployment contents
+unfolding filled_app
+filled_next g v contents a none =
     ap (λ (states : List State). record {
       says = (next_app (g + 1) 0 v None contents a).says;
       lacking = [];
       states =
           states;
     })
-    (ap (λ (states : List State). made_states contents ++ states) none ∙ append-nil (made_states contents)
-    ∙ ap made_states are)
+    (ap (λ (states : List State). made_states contents ++ states) none ∙ append-nil (made_states contents))
+
+filled_initially : (g now : ℕ) (d : DeploymentData) → filled_app g d (initial_all now d) ≡ installed_app g now d
+unfolding filled_app installed_app
+filled_initially g now d = refl
+
+-- with the initial contents it is what the row installs
+pub filled_installs : (g now : ℕ) (d : DeploymentData) (contents : List (List Fresh)) → contents ≡ initial_all now d
+    → filled_app g d contents ≡ installed_app g now d
+filled_installs g now d contents are = ap (λ (cs : List (List Fresh)). filled_app g d cs) are
+    ∙ filled_initially g now d
 
 -- ---- over another root
 

@@ -9,6 +9,7 @@ pub mod Views
 pub mod Versions
 pub mod Leaving
 pub mod Next
+pub mod Filled
 pub mod Beginning
 pub mod Laws
 pub mod Recovered

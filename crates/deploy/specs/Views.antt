@@ -2,10 +2,14 @@
 use Rattle.std.specs.Prelude.{ℕ, ◌-◌, List, Bool, Option, Some, None, option_map, ⊤}
 use Rattle.disk_model.specs.Image.{Image}
 use Rattle.deployment_model.specs.Data.{deployment_data}
+use Rattle.root_text.specs.RootText.{IsRoot}
+use Rattle.root_text.specs.Views.{root_said}
 use Rattle.deploy.specs.declared.viewing.RootView.{RootView}
 use Rattle.deploy.specs.declared.viewing.RootView.TheVariants.{Bad, Absent, Installed}
+use Rattle.deploy.specs.declared.viewing.Versions.{Versions}
 use Rattle.deploy_laws.specs.Places.{Named}
 use Rattle.deploy_laws.specs.Apps.{AreInTwoBanks, IsInBank, Says, nothing, absent, installed, app_at, root_sole}
+use Rattle.deploy_laws.specs.Apps.{says_by}
 
 -- nothing counts; or nothing is installed; or these versions; and which copies lack the root, and whether no other text
 -- is held
@@ -35,3 +39,15 @@ ShowsVersions bad = ⊤
 ShowsVersions (no_version lacking sole) = ⊤
 ShowsVersions (versions active None lacking sole) = IsInBank active
 ShowsVersions (versions active (Some previous) lacking sole) = AreInTwoBanks active previous
+
+-- ---- the versions, with the texts of their manifests
+
+-- a bad root has none
+abbrev pub versions_say : Option Versions → Says
+versions_say None = nothing
+versions_say (Some v) = says_by v.generation (Some (root_said v.says))
+
+-- each manifest says its deployment
+abbrev pub AreRead : Option Versions → Type 0
+AreRead None = ⊤
+AreRead (Some v) = IsRoot (root_said v.says)

@@ -17,6 +17,7 @@ ghost use Rattle.deploy_laws.specs.Places.{root_place, shapes_from};
 ghost use Rattle.deploy_laws.specs.Stands.{StandsThroughout};
 ghost use Rattle.deploy_rows.specs.Rows.{AnswersRow, after, installed_app, installing};
 ghost use Rattle.deploy.specs.Clauses.{IsBesideNext, Leaves};
+ghost use Rattle.deploy.specs.Filled.{filled_app};
 ghost use Rattle.deploy.specs.Made.{AreMade};
 ghost use Rattle.deploy.specs.Next.{next_app, root_before};
 ghost use Rattle.deploy.specs.Refusals.{AllocatesNothing};
@@ -190,16 +191,63 @@ fn install_version<D: Disk>(
     roots_say();
     untouched_stands();
     let contents = initial_contents(alloc, &version.deployment, now)?;
-    let cell = make_version(alloc, disk, app, cell, 0, &version, None, &contents, 0)?;
+    let root = install_filled(alloc, disk, app, cell, version, &contents)?;
     Ok(Outcome {
-        root: Root::Installed(Installed {
-            cell,
-            bank: 0,
-            active: version,
-            previous: None,
-        }),
+        root,
         refused: None,
     })
+}
+
+/// Installs a version where nothing is installed, with these contents of its storages in place of the initial ones: the
+/// storages are made in bank 0, and then the root is written.
+///
+/// # Errors
+///
+/// `Device` where the disk fails, and `OutOfMemory`: then the root is to be opened again.
+pub fn install_filled<D: Disk>(
+    alloc: Global,
+    disk: &mut D,
+    app: u32,
+    cell: Cell,
+    version: VersionText,
+    contents: &[Sequence<Fresh>],
+) -> Result<Root, Stop>
+    requires app { app < 8 }
+    requires root { RootAt D.told (D.medium disk.old).image app (Root.Absent cell) }
+    requires not_worn { generation_of cell < greatest_generation }
+    requires version { SaysDeployment version }
+    requires fit { AllFit (map storage_data version.deployment.storages) contents.now }
+
+    ensures root { IfOk result (RootAt D.told (D.medium disk.new).image app) }
+    ensures says { IfOk result (λ root. root_says root ≡ (filled_app (generation_of cell)
+        (deployment_data version.deployment) contents.now).says) }
+    ensures text { IfOk result (λ root. root_texts root ≡ version.text ∷ []) }
+    ensures app { IsTrue D.told → OnOk result
+        (app_at (D.medium disk.new).image app ≡ filled_app (generation_of cell)
+        (deployment_data version.deployment) contents.now) }
+    ensures clean { IsTrue D.told → OnOk result (IsCleanApp app (D.medium disk.new).image) }
+    ensures quiet { OnOk result (Quiet (D.medium disk.new)) }
+    ensures cause { IsErrOf result Stop.Device → Rose (D.medium disk.old).faults (D.medium disk.new).faults }
+    ensures passes { OnOk result ((D.medium disk.new).faults ≡ (D.medium disk.old).faults) }
+    ensures fed { IsErrOf result Stop.OutOfMemory → (D.medium disk.new).faults ≡ (D.medium disk.old).faults }
+
+    // Only slots of the root and files of bank 0 change, and at any moment nothing is installed or the whole version,
+    // filled.
+    ensures outside { Leaves D.told (IsBesideNext app 0) (D.medium disk.old) (D.medium disk.new) }
+    ensures any_moment { IsTrue D.told → StandsThroughout app
+        (filled_app (generation_of cell) (deployment_data version.deployment) contents.now)
+        (D.medium disk.old) (D.medium disk.new) }
+    ensures time { Elapses (D.medium disk.old) (D.medium disk.new) }
+{
+    one_root();
+    roots_say();
+    let cell = make_version(alloc, disk, app, cell, 0, &version, None, contents, 0)?;
+    Ok(Root::Installed(Installed {
+        cell,
+        bank: 0,
+        active: version,
+        previous: None,
+    }))
 }
 
 /// Makes the storages of the next version, from the one with number `built` on, in a bank in which no version is, and

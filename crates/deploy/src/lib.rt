@@ -27,14 +27,15 @@ mod writing;
 
 pub use errors::Stop;
 pub use formatting::format_all;
-pub use installing::install;
+pub use installing::{install, install_filled};
 pub use laws::{in_use_stays, roots_in_use};
 pub use leaving::{finish, rollback};
 pub use opening::open_root;
-pub use recovering::{recover_storage, replace_contents, reset_storage};
+pub use recovering::{recover_storage, replace_contents, reset_storage, size_of};
 pub use roots::{Installed, Outcome, Root};
 pub use shapes::shape_of;
 pub use updating::{Begin, Staged, begin_update};
 pub use updating_whole::update;
-pub use viewing::{RootState, RootView, view_root};
+pub use viewing::{RootState, RootView, Versions, view_root, view_versions};
 pub use wiping::wipe;
+pub use writing::read_version;

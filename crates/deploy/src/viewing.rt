@@ -5,7 +5,8 @@ ghost use Rattle.std.specs.List.{list_any};
 ghost use Rattle.per_base.specs.Causes.{Rose};
 ghost use Rattle.disk_model.specs.Medium.{Elapses, IsIdle, Quiet};
 ghost use Rattle.guarded_cell.specs.Held.{copies_that};
-ghost use Rattle.deploy.specs.Views.{ShowsVersions, root_seen, seen_at};
+ghost use Rattle.deploy_laws.specs.Apps.{says_at};
+ghost use Rattle.deploy.specs.Views.{AreRead, ShowsVersions, root_seen, seen_at, versions_say};
 
 use crate::errors::Stop;
 use crate::standing::{Standing, find_standing};
@@ -80,6 +81,50 @@ pub fn view_root<D: Disk>(alloc: Global, disk: &mut D, app: u32) -> Result<RootV
     } = standing;
     let lacking = lacking_of(alloc, seen.copies.as_slice())?;
     Ok(RootView::of(says, lacking, sole))
+}
+
+/// What a root says, with the generation of its text.
+#[derive(Debug, Drop)]
+pub struct Versions {
+    /// The generation of the root's text.
+    pub generation: u64,
+    /// Nothing is installed, or the active version, and the one before it until it is finished or rolled back.
+    pub says: RootSays,
+}
+
+/// Reads which versions an application has, with the texts of their manifests, and changes nothing. There is none where
+/// the root is bad.
+///
+/// # Errors
+///
+/// `Device` where the disk fails, and `OutOfMemory`.
+pub fn view_versions<D: Disk>(
+    alloc: Global,
+    disk: &mut D,
+    app: u32,
+) -> Result<Option<Versions>, Stop>
+    requires { app < 8 }
+    ensures says { IsTrue D.told → IfOk result (λ found. versions_say found ≡ says_at (D.medium disk.old).image app) }
+    // Whether the disk's bytes are modelled or not.
+    ensures versions { IfOk result AreRead }
+    ensures quiet { OnOk result (Quiet (D.medium disk.new)) }
+    ensures image { (D.medium disk.new).image ≡ (D.medium disk.old).image }
+    ensures idle { Quiet (D.medium disk.old) → IsIdle (D.medium disk.old) (D.medium disk.new) }
+    ensures written { (D.medium disk.new).written ≡ (D.medium disk.old).written }
+    ensures cause { IsErrOf result Stop.Device → Rose (D.medium disk.old).faults (D.medium disk.new).faults }
+    ensures passes { OnOk result ((D.medium disk.new).faults ≡ (D.medium disk.old).faults) }
+    ensures fed { IsErrOf result Stop.OutOfMemory → (D.medium disk.new).faults ≡ (D.medium disk.old).faults }
+    ensures time { Elapses (D.medium disk.old) (D.medium disk.new) }
+{
+    held_is_lawful();
+    let Some(standing) = find_standing(alloc, disk, app)? else {
+        return Ok(None);
+    };
+    let Standing { seen, says, .. } = standing;
+    Ok(Some(Versions {
+        generation: seen.generation,
+        says,
+    }))
 }
 
 impl RootView {

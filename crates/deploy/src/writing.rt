@@ -24,11 +24,12 @@ use per_base::{Bytes, PerError};
 use root_text::{VersionText, one_root, write_installed};
 use std::alloc::Global;
 
-/// The version that a manifest describes, or why it is rejected.
-pub(crate) fn read_version(
-    alloc: Global,
-    manifest: &[u8],
-) -> Result<Result<VersionText, PerError>, Stop>
+/// The version that a manifest describes, or `ManifestRejected` with the first violated rule.
+///
+/// # Errors
+///
+/// `OutOfMemory`.
+pub fn read_version(alloc: Global, manifest: &[u8]) -> Result<Result<VersionText, PerError>, Stop>
     ensures told { IfOk result (TellsRow (deployment_of manifest.now)) }
     ensures text { IfOk result (λ version. IfOk version (λ v. v.text ≡ manifest.now)) }
     ensures kept { IfOk result (λ version. IfOk version SaysDeployment) }

@@ -106,7 +106,8 @@ pub fn info_of(kind: StoreKind, bytes: &[u8]) -> Result<(Option<FileInfo>, &[u8]
     }
 }
 
-fn max_len_of(kind: StoreKind) -> u32
+/// The most bytes of an element of this kind.
+pub fn max_len_of(kind: StoreKind) -> u32
     ensures { result ≡ max_len kind }
 {
     match kind {

@@ -6,7 +6,7 @@
 //! of the bytes in four bytes and the bytes; the SHA-256 of all of this ends it. Numbers stand with their lowest byte
 //! first.
 //!
-//! [`write_export`] gives the one text of an export, and [`read_export`] takes exactly the texts of exports apart.
+//! [`write_export`] gives the one text of an export, [`are_exportable`] tells whether there is one, and [`read_export`] takes exactly the texts of exports apart.
 //! Every export that is read keeps the rules: at most 1,024 elements, names that ascend, an info exactly for files, for
 //! a key the encoding of a value, for a file at most 1,048,576 bytes. Reading goes over the text once for its hash and
 //! once for the elements, and copies each content once. The hash guards against damage, not against malice.
@@ -16,12 +16,14 @@ mod contents;
 mod errors;
 mod exports;
 mod fields;
+mod judging;
 mod laws;
 mod reading;
 mod writing;
 
 pub use errors::ExportError;
 pub use exports::Export;
+pub use judging::are_exportable;
 pub use laws::{export_is_exact, one_export};
 pub use reading::read_export;
 pub use writing::write_export;

@@ -16,23 +16,24 @@ use Rattle.per_base.specs.Refusals.{refused_by}
 use Rattle.per_base.specs.Fields.{AreBytes}
 use Rattle.value_code.specs.Reading.{is_content}
 use Rattle.index_text.specs.Contents.{SuitsKind, fresh_size}
-use Rattle.deployment_model.specs.Data.{StorageData}
+use Rattle.deployment_model.specs.Data.{DeploymentData, StorageData}
 use Rattle.element_state.specs.States.{State, Corrupt, Opens, fresh_entry, fresh_element, fresh_map, fresh_state}
 use Rattle.element_state.specs.States.{next_generation, salvage_of}
 use Rattle.update_plan.specs.Plans.{is_kind}
 use Rattle.deployment_model.specs.Lookups.{storage_number}
 use Rattle.deploy_laws.specs.Places.{Named}
-use Rattle.deploy_laws.specs.Apps.{App, Says, absent, installed, nothing}
+use Rattle.deploy_laws.specs.Apps.{App, Says, absent, installed, nothing, says_generation}
 use Rattle.deploy_rows.specs.Recovering.{if_contents_fit, is_worn_out, rebuilding}
-use Rattle.deploy_rows.specs.Rows.{◌>>=◌}
+use Rattle.deploy_rows.specs.Rows.{◌>>=◌, deployment_of}
 use Rattle.deploy.specs.Recovered.{AreElements}
 use Rattle.export_text.specs.declared.exports.Export.{Export}
 use Rattle.export_text.specs.Exports.{AreExportable, IsExport, IsExportable, export_of, export_text}
 use Rattle.export_text.specs.Exports as exports
 use Rattle.run_model.specs.Found.{FoundStorage, found_at, found_in, found_with, storage_in, with_storage_state}
 use Rattle.per_backup.specs.Backups.{export_for, exported_contents, exported_from, exporting, fresh_of, importing}
-use Rattle.per_backup.specs.Backups.{importing_into, least_mismatch, text_from}
-use Rattle.per_backup.specs.Laws.{AgainLaw, ExportedLaw, ImportsLaw}
+use Rattle.per_backup.specs.Backups.{dumping, importing_into, least_mismatch, made_from, restored_app, restoring}
+use Rattle.per_backup.specs.Backups.{states_from, taken, text_from, texts_from}
+use Rattle.per_backup.specs.Laws.{AgainLaw, ExportedLaw, ImportsLaw, RestoredLaw}
 use Rattle.per_backup.proofs.ExportRows.{fresh_counts}
 use Rattle.per_backup.proofs.Lists.{get_set, no_ok, ok_same, some_same}
 use Rattle.per_backup.proofs.Rows.{exporting_found, importing_found, importing_missing, with_row}
@@ -250,18 +251,24 @@ row_done : (a : App) (f : FoundStorage) (row : Result State PerError) (b : App) 
 row_done a f (Ok next) b is = (next, refl, sym (ok_same (with_storage_state a f next) b is))
 row_done a f (Err e) b is = absurd (no_ok e b is)
 
+-- of one storage
+one_again : TakenLaw → (s : StorageData) (state : State) (text : List ℕ) → AreBytes text → (next : State)
+    → importing s state text ≡ Ok next → text_from s next ≡ Ok text
+one_again taken s state text bytes next is =
+    let made = is_made s state text next is in
+    let spelled = taken text made.spelled bytes made.read in
+    ap (text_from s) made.made
+    ∙ text_again s (next_generation (salvage_of state)) made.spelled spelled.0 made.kind
+    ∙ ap (λ (t : List ℕ). Ok t) (sym spelled.1)
+
 again_found : TakenLaw → (a b : App) (name text : List ℕ) → AreBytes text → (f : FoundStorage)
     → storage_in a name None ≡ Ok f → importing_into a name text ≡ Ok b → exporting b name ≡ Ok text
 again_found taken a b name text bytes f found is =
     let done = row_done a f (importing f.config f.state text) b (sym (importing_found a name text f found) ∙ is) in
-    let made = is_made f.config f.state text done.0 done.1 in
-    let spelled = taken text made.spelled bytes made.read in
     let there : storage_in b name None ≡ Ok (record f { state = done.0 }) =
     ap (λ (x : App). storage_in x name None) done.2 ∙ found_again a.says a.states name f found done.0 in
     exporting_found b name (record f { state = done.0 }) there
-    ∙ ap (λ (st : State). text_from f.config st) made.made
-    ∙ text_again f.config (next_generation (salvage_of f.state)) made.spelled spelled.0 made.kind
-    ∙ ap (λ (t : List ℕ). Ok t) (sym spelled.1)
+    ∙ one_again taken f.config f.state text bytes done.0 done.1
 
 again_by : TakenLaw → (a b : App) (name text : List ℕ) → AreBytes text → (found : Result FoundStorage PerError)
     → storage_in a name None ≡ found → importing_into a name text ≡ Ok b
@@ -272,3 +279,51 @@ again_by taken a b name text bytes (Err e) found is = absurd
 
 pub again : TakenLaw → AgainLaw
 again taken a b name text bytes is = again_by taken a b name text bytes (storage_in a name None) refl is
+
+-- ---- a restore, and a dump of it
+
+each_again : TakenLaw → (ss : List StorageData) (texts : List (List ℕ)) → AllByRecursion AreBytes texts
+    → (states : List State) → states_from ss texts ≡ Ok states → texts_from ss states ≡ Ok texts
+each_again taken_law [] [] bytes states is = refl
+each_again taken_law [] (text ∷ texts) bytes states is = absurd (no_ok _ states is)
+each_again taken_law (s ∷ ss) [] bytes states is = absurd (no_ok _ states is)
+each_again taken_law (s ∷ ss) (text ∷ texts) bytes states is = first (importing s (Corrupt None []) text) refl is
+  where
+    rest : (state : State) → importing s (Corrupt None []) text ≡ Ok state → (made : Result (List State) PerError)
+        → states_from ss texts ≡ made → (made >>= λ more. Ok (state ∷ more)) ≡ Ok states
+        → texts_from (s ∷ ss) states ≡ Ok (text ∷ texts)
+    rest state one (Err e) are is = absurd (no_ok e states is)
+    rest state one (Ok more) are is = subst (λ (xs : List State). texts_from (s ∷ ss) xs ≡ Ok (text ∷ texts))
+        (ok_same (state ∷ more) states is)
+        (ap (λ (r : Result (List ℕ) PerError). r >>= λ t. texts_from ss more >>= λ ts. Ok (t ∷ ts))
+        (one_again taken_law s (Corrupt None []) text bytes.0 state one)
+        ∙ ap (λ (r : Result (List (List ℕ)) PerError). r >>= λ ts. Ok (text ∷ ts))
+        (each_again taken_law ss texts bytes.1 more are))
+
+    first : (made : Result State PerError) → importing s (Corrupt None []) text ≡ made
+        → (made >>= λ state. states_from ss texts >>= λ more. Ok (state ∷ more)) ≡ Ok states
+        → texts_from (s ∷ ss) states ≡ Ok (text ∷ texts)
+    first (Err e) one is = absurd (no_ok e states is)
+    first (Ok state) one is = rest state one (states_from ss texts) refl is
+
+pub restored : TakenLaw → RestoredLaw
+unfolding restoring dumping
+restored taken_law a b manifest texts bytes is = by (taken a.says) is
+  where
+    with_states : (d : DeploymentData) (states : Result (List State) PerError) → states_from d.storages texts ≡ states
+        → (states >>= λ made. Ok (restored_app (says_generation a.says) d made)) ≡ Ok b → dumping b ≡ Ok texts
+    with_states d (Err e) are is = absurd (no_ok e b is)
+    with_states d (Ok made) are is = subst (λ (x : App). dumping x ≡ Ok texts)
+        (ok_same (restored_app (says_generation a.says) d made) b is)
+        (each_again taken_law d.storages texts bytes made are)
+
+    with_version : (said : Result DeploymentData PerError)
+        → (said >>= λ d. states_from d.storages texts >>= λ made. Ok (restored_app (says_generation a.says) d made))
+        ≡ Ok b → dumping b ≡ Ok texts
+    with_version (Err e) is = absurd (no_ok e b is)
+    with_version (Ok d) is = with_states d (states_from d.storages texts) refl is
+
+    by : (o : Option PerError) → refused_by o (made_from manifest texts (says_generation a.says)) ≡ Ok b
+        → dumping b ≡ Ok texts
+    by None is = with_version (deployment_of manifest) is
+    by (Some e) is = absurd (no_ok e b is)

@@ -10,3 +10,5 @@ pub mod ExportRows
 pub mod ImportRows
 pub mod Numbers
 pub mod Synced
+pub mod Filled
+pub mod Restored

@@ -1,20 +1,23 @@
--- Every refusal of an export and of an import has a number.
+-- Every refusal of an export, of an import and of a restore has a number.
 use Rattle.std.proofs.Common.{ℕ, List, [], ◌∷◌, Bool, true, false, cond, Option, Some, None, Result, Ok, Err, refl}
 use Rattle.std.proofs.Common.{IfErr, IfSome, sum_by, nat_lt}
-use Rattle.std.specs.Prelude.{IsSome}
+use Rattle.std.specs.Prelude.{IsSome, nat_le}
 use Rattle.per_base.specs.Errors.{error_number}
 use Rattle.per_base.specs.declared.elements.Content.{Content}
 use Rattle.per_base.specs.declared.elements.Content.TheVariants.{Good, Bad}
 use Rattle.per_base.specs.declared.elements.Entry.{Entry}
 use Rattle.per_base.specs.declared.elements.Fresh.{Fresh}
 use Rattle.per_base.specs.declared.elements.StoreKind.{StoreKind}
+use Rattle.per_base.specs.declared.errors.Limit.TheVariants as limit
 use Rattle.per_base.specs.declared.errors.PerError.{PerError}
+use Rattle.per_base.specs.declared.errors.PerError.TheVariants as error
 use Rattle.per_base.specs.Refusals.{or_next, refused_by}
 use Rattle.value_code.specs.Reading.{is_content}
 use Rattle.value_text.specs.Texts.{mismatch}
-use Rattle.deployment_model.specs.Data.{StorageData}
+use Rattle.deployment_model.specs.Data.{DeploymentData, StorageData}
 use Rattle.deployment_model.specs.Lookups.{storage_number}
-use Rattle.element_state.specs.States.{State, Opens, Corrupt, salvage_of}
+use Rattle.element_state.specs.States.{State, Opens, Corrupt, greatest_generation, salvage_of}
+use Rattle.manifest.specs.Reading.{broken_rule, deployment_in}
 use Rattle.element_state.specs.Views.{judged_content}
 use Rattle.index_text.specs.Contents.{fresh_size}
 use Rattle.update_plan.specs.Plans.{is_kind}
@@ -22,14 +25,15 @@ use Rattle.value_model.specs.Kinds.{Kind, same_kind}
 use Rattle.deploy_laws.specs.Places.{Named}
 use Rattle.deploy_laws.specs.Apps.{App, Says, absent, installed, nothing}
 use Rattle.deploy_rows.specs.Recovering.{if_contents_fit, is_worn_out, rebuilding}
-use Rattle.deploy_rows.specs.Rows.{◌>>=◌}
+use Rattle.deploy_rows.specs.Rows.{◌>>=◌, deployment_of, said_or_broken}
 use Rattle.export_text.specs.declared.exports.Export.{Export}
 use Rattle.export_text.specs.Exports.{export_of, export_text}
 use Rattle.run_model.specs.Found.{FoundStorage, found_at, found_in, found_with, of_kind, storage_in, with_storage_state}
 use Rattle.per_backup.specs.Backups.{configured_type, differing, export_for, exported_contents, exported_from}
 use Rattle.per_backup.specs.Backups.{exported_type, exporting, fresh_by, fresh_of, importing, importing_into}
 use Rattle.per_backup.specs.Backups.{least_mismatch, mismatch_of, text_from}
-use Rattle.per_backup.specs.Laws.{ExportNumbersLaw, ImportNumbersLaw}
+use Rattle.per_backup.specs.Backups.{restoring, states_from, taken}
+use Rattle.per_backup.specs.Laws.{ExportNumbersLaw, ImportNumbersLaw, RestoreNumbersLaw}
 
 abbrev IsNumbered : PerError → Type 0
 IsNumbered e = IsSome (error_number e)
@@ -136,3 +140,37 @@ pub imports : ImportNumbersLaw
 unfolding importing_into
 imports a name text = both (storage_in a name None) _ (in_numbered a.says a.states name None)
     (λ f. both (importing f.config f.state text) _ (importing_numbered f.config f.state text) (λ state. tt))
+
+-- ---- a restore
+
+taken_numbered : (says : Says) → IfSome (taken says) IsNumbered
+taken_numbered nothing = refl
+taken_numbered (absent g) = by (nat_le greatest_generation g)
+  where
+    by : (b : Bool) → IfSome (cond b (Some (error.LimitReached limit.Generations)) None) IsNumbered
+    by true = refl
+    by false = tt
+taken_numbered (installed g active previous) = refl
+
+said_numbered : (d : Option DeploymentData) (rule : Option ℕ) → Numbered (said_or_broken d rule)
+said_numbered (Some d) rule = tt
+said_numbered None None = refl
+said_numbered None (Some rule) = refl
+
+deployment_numbered : (manifest : List ℕ) → Numbered (deployment_of manifest)
+unfolding deployment_of
+deployment_numbered manifest = said_numbered (deployment_in manifest) (broken_rule manifest)
+
+states_numbered : (ss : List StorageData) (texts : List (List ℕ)) → Numbered (states_from ss texts)
+states_numbered [] [] = tt
+states_numbered [] (text ∷ texts) = refl
+states_numbered (s ∷ ss) [] = refl
+states_numbered (s ∷ ss) (text ∷ texts) = both (importing s (Corrupt None []) text) _
+    (importing_numbered s (Corrupt None []) text)
+    (λ state. both (states_from ss texts) _ (states_numbered ss texts) (λ states. tt))
+
+pub restores : RestoreNumbersLaw
+unfolding restoring
+restores a manifest texts = unless_numbered (taken a.says) _ (taken_numbered a.says)
+    (both (deployment_of manifest) _ (deployment_numbered manifest)
+    (λ d. both (states_from d.storages texts) _ (states_numbered d.storages texts) (λ states. tt)))

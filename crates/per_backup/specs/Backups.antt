@@ -1,11 +1,12 @@
--- What an export gives of a storage, and what an import makes of an application, or their refusals.
-use Rattle.std.specs.Prelude.{ℕ, List, [], ◌∷◌, Bool, cond, Option, Some, None, option_map, option_and_then, Result, Ok}
+-- What an export gives of a storage, and what an import and a restore make of an application, or their refusals.
+use Rattle.std.specs.Prelude.{ℕ, ◌+◌, nat_le, List, [], ◌∷◌, Bool, cond, Option, Some, None, option_map, option_and_then, Result, Ok}
 use Rattle.std.specs.Prelude.{Err}
 use Rattle.per_base.specs.declared.elements.Content.{Content}
 use Rattle.per_base.specs.declared.elements.Content.TheVariants.{Good, Bad}
 use Rattle.per_base.specs.declared.elements.Entry.{Entry}
 use Rattle.per_base.specs.declared.elements.Fresh.{Fresh}
 use Rattle.per_base.specs.declared.elements.StoreKind.{StoreKind}
+use Rattle.per_base.specs.declared.errors.Limit.TheVariants as limit
 use Rattle.per_base.specs.declared.errors.PerError.{PerError}
 use Rattle.per_base.specs.declared.errors.PerError.TheVariants as error
 use Rattle.per_base.specs.declared.errors.Unit.TheVariants as unit
@@ -14,14 +15,14 @@ use Rattle.value_model.specs.Kinds.{Kind, same_kind}
 use Rattle.value_model.specs.Trees.{type_of}
 use Rattle.value_code.specs.Reading.{decoded, is_content}
 use Rattle.value_text.specs.Texts.{mismatch}
-use Rattle.deployment_model.specs.Data.{ElementData, StorageData}
+use Rattle.deployment_model.specs.Data.{DeploymentData, ElementData, StorageData}
 use Rattle.deployment_model.specs.Lookups.{element_named}
-use Rattle.element_state.specs.States.{State, Opens, Corrupt}
+use Rattle.element_state.specs.States.{State, Opens, Corrupt, greatest_generation}
 use Rattle.element_state.specs.Views.{judged_content}
 use Rattle.update_plan.specs.Plans.{is_kind}
-use Rattle.deploy_laws.specs.Apps.{App}
+use Rattle.deploy_laws.specs.Apps.{App, Says, absent, installed, nothing, says_generation}
 use Rattle.deploy_rows.specs.Recovering.{if_contents_fit}
-use Rattle.deploy_rows.specs.Rows.{◌>>=◌}
+use Rattle.deploy_rows.specs.Rows.{◌>>=◌, deployment_of}
 use Rattle.run_model.specs.Found.{storage_in, with_storage_state}
 use Rattle.export_text.specs.declared.exports.Export.{Export}
 use Rattle.export_text.specs.Exports.{export_of, export_text}
@@ -94,3 +95,53 @@ importing s state text = export_for s.kind (export_of text) >>= λ x.
 unfoldable pub importing_into : App → (name text : List ℕ) → Result App PerError
 importing_into a name text = storage_in a name None >>= λ f. importing f.config f.state text >>= λ state.
     Ok (with_storage_state a f state)
+
+-- ---- all storages of an application
+
+-- the texts of storages, in their order, or the refusal for the first that has none
+abbrev pub texts_from : List StorageData → List State → Result (List (List ℕ)) PerError
+texts_from [] states = Ok []
+texts_from (s ∷ ss) [] = Err error.StorageNotFound
+texts_from (s ∷ ss) (state ∷ states) = text_from s state >>= λ text. texts_from ss states >>= λ texts.
+    Ok (text ∷ texts)
+
+-- the texts of all storages of the active version
+unfoldable pub dumping : App → Result (List (List ℕ)) PerError
+dumping a = elim a.says [
+  | nothing ↦ Err (error.IntegrityCorrupted unit.Root)
+  | absent g ↦ Err error.NotInstalled
+  | installed g active previous ↦ texts_from active.deployment.storages a.states
+]
+
+-- ---- a restore
+
+-- what the root says may refuse it
+abbrev pub taken : Says → Option PerError
+taken nothing = Some (error.IntegrityCorrupted unit.Root)
+taken (absent g) = cond (nat_le greatest_generation g) (Some (error.LimitReached limit.Generations)) None
+taken (installed g active previous) = Some error.AlreadyInstalled
+
+-- the states of storages, each as an import of its text makes it where nothing was; each storage has one text
+abbrev pub states_from : List StorageData → (texts : List (List ℕ)) → Result (List State) PerError
+states_from [] [] = Ok []
+states_from [] (text ∷ texts) = Err error.ExportRejected
+states_from (s ∷ ss) [] = Err error.ExportRejected
+states_from (s ∷ ss) (text ∷ texts) = importing s (Corrupt None []) text >>= λ state. states_from ss texts
+    >>= λ states. Ok (state ∷ states)
+
+-- the version in bank 0, with storages in these states
+abbrev pub restored_app : (generation : ℕ) → DeploymentData → List State → App
+restored_app g d states = record {
+  says = installed (g + 1) (record { bank = 0; deployment = d }) None;
+  lacking = [];
+  states = states;
+}
+
+-- what a manifest and texts make over a root of this generation
+abbrev pub made_from : (manifest : List ℕ) (texts : List (List ℕ)) → (generation : ℕ) → Result App PerError
+made_from manifest texts g = deployment_of manifest >>= λ d. states_from d.storages texts >>= λ states.
+    Ok (restored_app g d states)
+
+-- the application that is restored: the version of the manifest, and of each storage exactly what its text says
+unfoldable pub restoring : (manifest : List ℕ) (texts : List (List ℕ)) → App → Result App PerError
+restoring manifest texts a = refused_by (taken a.says) (made_from manifest texts (says_generation a.says))

@@ -1,5 +1,6 @@
--- What an import makes of an export: the statements of the laws.
+-- What an import and a restore make of exports: the statements of the laws.
 use Rattle.std.specs.Prelude.{◌≡◌, ℕ, List, true, Some, Ok, IfErr, IsSome}
+use Rattle.std.specs.List.{AllByRecursion}
 use Rattle.per_base.specs.Errors.{error_number}
 use Rattle.per_base.specs.Refusals.{refused_by}
 use Rattle.per_base.specs.Fields.{AreBytes}
@@ -10,7 +11,8 @@ use Rattle.deploy_laws.specs.Apps.{App}
 use Rattle.deploy_rows.specs.Recovering.{if_contents_fit}
 use Rattle.export_text.specs.declared.exports.Export.{Export}
 use Rattle.export_text.specs.Exports.{IsExport, export_of, export_text}
-use Rattle.per_backup.specs.Backups.{exported_from, exporting, importing, importing_into, least_mismatch}
+use Rattle.per_backup.specs.Backups.{dumping, exported_from, exporting, importing, importing_into, least_mismatch}
+use Rattle.per_backup.specs.Backups.{restoring}
 
 -- what is imported is what the text spells, names, contents and infos, under the generation of a reset, and nothing of
 -- what was there
@@ -31,9 +33,18 @@ abbrev pub AgainLaw : Type 0
 AgainLaw = (a b : App) (name text : List ℕ) → AreBytes text → importing_into a name text ≡ Ok b
     → exporting b name ≡ Ok text
 
+-- what was restored is dumped again as the same texts, byte for byte
+abbrev pub RestoredLaw : Type 0
+RestoredLaw = (a b : App) (manifest : List ℕ) (texts : List (List ℕ)) → AllByRecursion AreBytes texts
+    → restoring manifest texts a ≡ Ok b → dumping b ≡ Ok texts
+
 -- every refusal has a number, and so a line that says it
 abbrev pub ExportNumbersLaw : Type 0
 ExportNumbersLaw = (a : App) (name : List ℕ) → IfErr (exporting a name) (λ e. IsSome (error_number e))
 
 abbrev pub ImportNumbersLaw : Type 0
 ImportNumbersLaw = (a : App) (name text : List ℕ) → IfErr (importing_into a name text) (λ e. IsSome (error_number e))
+
+abbrev pub RestoreNumbersLaw : Type 0
+RestoreNumbersLaw = (a : App) (manifest : List ℕ) (texts : List (List ℕ)) → IfErr (restoring manifest texts a)
+    (λ e. IsSome (error_number e))

@@ -4,3 +4,4 @@ pub mod Finding
 pub mod Laws
 pub mod Samples
 pub mod StorageLaws
+pub mod Restores

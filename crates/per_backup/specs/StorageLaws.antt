@@ -1,6 +1,6 @@
 -- The laws of the crates below on which an import stands, in one.
 use Rattle.element_laws.specs.Phases.{UntouchedLaw}
-use Rattle.deploy_laws.specs.Laws.{BesideLaw, NumberLaw, StillAppLaw, StoredLaw, StoringLaw, VersionsLaw}
+use Rattle.deploy_laws.specs.Laws.{BesideLaw, NumberLaw, RootMendLaw, StillAppLaw, StoredLaw, StoringLaw, VersionsLaw}
 
 pub record BackupLaws : Type 0 where
   -- what a root names, where the storages of a version are stored, and what stays where the files of one change
@@ -12,3 +12,5 @@ pub record BackupLaws : Type 0 where
   pub untouched : UntouchedLaw
   pub still : StillAppLaw
   pub storing : StoringLaw
+  -- copies of a root that lack it matter to nothing but whether two are left
+  pub mended : RootMendLaw

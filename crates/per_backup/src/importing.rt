@@ -100,8 +100,8 @@ fn import_synced<D: Disk>(
     replace_contents(alloc, disk, &located.shape, &located.config, contents)
 }
 
-// The contents of which a text makes a storage, or the refusal that the storage's state does not bear on.
-fn importable(
+/// The contents of which a text makes a storage, or the refusal that the storage's state does not bear on.
+pub(crate) fn importable(
     alloc: Global,
     config: &StorageConfig,
     bytes: &[u8],

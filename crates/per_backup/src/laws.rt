@@ -1,26 +1,31 @@
 //! Laws, for the proofs of callers: none of these functions does anything when it runs.
 
 ghost use Rattle.per_backup.specs.Laws.{AgainLaw, ExportNumbersLaw, ExportedLaw, ImportNumbersLaw, ImportsLaw};
+ghost use Rattle.per_backup.specs.Laws.{RestoreNumbersLaw, RestoredLaw};
 ghost use Rattle.per_backup.specs.StorageLaws.{BackupLaws};
 
-use deploy_laws::{files_lie_apart, others_stand, roots_say, storing_stands, untouched_stands};
+use deploy_laws::{
+    files_lie_apart, others_stand, roots_say, roots_stay, storing_stands, untouched_stands,
+};
 use element_laws::untouched_is_kept;
 use export_text::export_is_exact;
 
 /// An import makes exactly what its text spells. What was exported can be imported, but for types that differ, room and
-/// generations. And what was imported is exported again as the same text.
+/// generations. And what was imported is exported again as the same text, and what was restored as the same texts.
 pub fn exports_come_back()
     ensures imports { ImportsLaw }
     ensures exported { ExportedLaw }
     ensures again { AgainLaw }
+    ensures restored { RestoredLaw }
 {
     export_is_exact();
 }
 
-/// Every refusal of an export and of an import has a number, and so a line that says it.
+/// Every refusal of an export, of an import and of a restore has a number, and so a line that says it.
 pub fn refusals_are_numbered()
     ensures exports { ExportNumbersLaw }
     ensures imports { ImportNumbersLaw }
+    ensures restores { RestoreNumbersLaw }
 {}
 
 /// A storage's files are apart from all others: what changes them alone changes that storage alone, also at every
@@ -34,4 +39,5 @@ pub(crate) fn storages_stand()
     untouched_is_kept();
     untouched_stands();
     storing_stands();
+    roots_stay();
 }

@@ -9,4 +9,5 @@ returns c = record {
   untouched = c.untouched_is_kept.ensures.untouched;
   still = c.untouched_stands.ensures.still;
   storing = c.storing_stands.ensures;
+  mended = c.roots_stay.ensures.mended;
 }
