@@ -1,13 +1,15 @@
 -- A root as it is seen, beside what the image says.
-use Rattle.std.specs.Prelude.{ℕ, ◌-◌, List, Bool, Option, Some, None, option_map, ⊤}
+use Rattle.std.specs.Prelude.{◌≡◌, ℕ, ◌-◌, List, Bool, Option, Some, None, option_map, ⊤}
 use Rattle.disk_model.specs.Image.{Image}
 use Rattle.deployment_model.specs.Data.{deployment_data}
-use Rattle.root_text.specs.RootText.{IsRoot}
+use Rattle.guarded_cell.specs.Held.{standing}
+use Rattle.guarded_cell.specs.declared.looking.Seen.{Seen}
+use Rattle.root_text.specs.RootText.{IsRoot, root_text}
 use Rattle.root_text.specs.Views.{root_said}
 use Rattle.deploy.specs.declared.viewing.RootView.{RootView}
 use Rattle.deploy.specs.declared.viewing.RootView.TheVariants.{Bad, Absent, Installed}
 use Rattle.deploy.specs.declared.viewing.Versions.{Versions}
-use Rattle.deploy_laws.specs.Places.{Named}
+use Rattle.deploy_laws.specs.Places.{Named, agreeing_of_root, root_place}
 use Rattle.deploy_laws.specs.Apps.{AreInTwoBanks, IsInBank, Says, nothing, absent, installed, app_at, root_sole}
 use Rattle.deploy_laws.specs.Apps.{says_by}
 
@@ -51,3 +53,10 @@ versions_say (Some v) = says_by v.generation (Some (root_said v.says))
 abbrev pub AreRead : Option Versions → Type 0
 AreRead None = ⊤
 AreRead (Some v) = IsRoot (root_said v.says)
+
+-- the text that two copies of the root hold is that of these versions, so their manifests are held byte for byte
+pub record AreHeldByRoot (image : Image) (app : ℕ) (v : Versions) : Type 0 where
+  pub seen : Seen
+  pub stands : standing image (root_place app) agreeing_of_root ≡ Some seen
+  pub generation : seen.generation ≡ v.generation
+  pub text : seen.text ≡ root_text (root_said v.says)

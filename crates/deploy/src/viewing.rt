@@ -1,12 +1,12 @@
 //! A root that is only looked at.
 
-ghost use Rattle.std.specs.Prelude.{◌≡◌, ◌<◌, ◌+◌, ◌==◌, ℕ, IfOk, IsErrOf, IsTrue, OnOk, Some, not};
+ghost use Rattle.std.specs.Prelude.{◌≡◌, ◌<◌, ◌+◌, ◌==◌, ℕ, IfOk, IfSome, IsErrOf, IsTrue, OnOk, Some, not};
 ghost use Rattle.std.specs.List.{list_any};
 ghost use Rattle.per_base.specs.Causes.{Rose};
 ghost use Rattle.disk_model.specs.Medium.{Elapses, IsIdle, Quiet};
 ghost use Rattle.guarded_cell.specs.Held.{copies_that};
 ghost use Rattle.deploy_laws.specs.Apps.{says_at};
-ghost use Rattle.deploy.specs.Views.{AreRead, ShowsVersions, root_seen, seen_at, versions_say};
+ghost use Rattle.deploy.specs.Views.{AreHeldByRoot, AreRead, ShowsVersions, root_seen, seen_at, versions_say};
 
 use crate::errors::Stop;
 use crate::standing::{Standing, find_standing};
@@ -105,6 +105,7 @@ pub fn view_versions<D: Disk>(
 ) -> Result<Option<Versions>, Stop>
     requires { app < 8 }
     ensures says { IsTrue D.told → IfOk result (λ found. versions_say found ≡ says_at (D.medium disk.old).image app) }
+    ensures held { IsTrue D.told → IfOk result (λ found. IfSome found (AreHeldByRoot (D.medium disk.old).image app)) }
     // Whether the disk's bytes are modelled or not.
     ensures versions { IfOk result AreRead }
     ensures quiet { OnOk result (Quiet (D.medium disk.new)) }
