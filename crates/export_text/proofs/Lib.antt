@@ -1,4 +1,5 @@
 pub mod Each
+pub mod Judged
 pub mod Loop
 pub mod Order
 pub mod Whole

@@ -1,6 +1,6 @@
 //! Whether elements can be exported.
 
-ghost use Rattle.std.specs.Prelude.{◌≡◌, IfOk, IsTrue};
+ghost use Rattle.std.specs.Prelude.{◌≡◌, ◌↔◌, IfOk, IsTrue};
 ghost use Rattle.index_text.specs.Rules.{has_info};
 ghost use Rattle.export_text.specs.Exports.{AreExportable, IsExportable};
 
@@ -17,7 +17,7 @@ pub fn are_exportable(
     kind: StoreKind,
     contents: &[Fresh],
 ) -> Result<bool, AllocError>
-    ensures { IfOk result (λ answer. IsTrue answer → AreExportable kind contents.now) }
+    ensures { IfOk result (λ answer. IsTrue answer ↔ AreExportable kind contents.now) }
 {
     if contents.len() > MAX_ELEMENTS as usize || !names_ascend(contents) {
         return Ok(false);
@@ -32,7 +32,7 @@ pub fn are_exportable(
 
 /// Whether one can.
 fn is_exportable(alloc: Global, kind: StoreKind, fresh: &Fresh) -> Result<bool, AllocError>
-    ensures { IfOk result (λ answer. IsTrue answer → IsExportable kind fresh.now) }
+    ensures { IfOk result (λ answer. IsTrue answer ↔ IsExportable kind fresh.now) }
 {
     if !has_info(kind, fresh) || fresh.bytes.len() > max_len_of(kind) as usize {
         return Ok(false);

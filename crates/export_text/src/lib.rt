@@ -6,10 +6,11 @@
 //! of the bytes in four bytes and the bytes; the SHA-256 of all of this ends it. Numbers stand with their lowest byte
 //! first.
 //!
-//! [`write_export`] gives the one text of an export, [`are_exportable`] tells whether there is one, and [`read_export`] takes exactly the texts of exports apart.
-//! Every export that is read keeps the rules: at most 1,024 elements, names that ascend, an info exactly for files, for
-//! a key the encoding of a value, for a file at most 1,048,576 bytes. Reading goes over the text once for its hash and
-//! once for the elements, and copies each content once. The hash guards against damage, not against malice.
+//! [`write_export`] gives the one text of an export, [`are_exportable`] tells whether there is one, and [`read_export`]
+//! takes exactly the texts of exports apart. Every export that is read keeps the rules: at most 1,024 elements, names
+//! that ascend, an info exactly for files, for a key the encoding of a value, for a file at most 1,048,576 bytes.
+//! Reading goes over the text once for its hash and once for the elements, and copies each content once. The hash
+//! guards against damage, not against malice.
 #![tactic(auto)]
 
 mod contents;
