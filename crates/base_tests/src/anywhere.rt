@@ -6,7 +6,7 @@ ghost use Rattle.disk_model.specs.Case.{WriteOrNot, FromSettled};
 ghost use Rattle.disk_model.specs.Medium.{Quiet, EachCase};
 ghost use Rattle.disk_model.specs.Silence.{silent_medium, silent_is_lawful};
 
-use case_words::Trouble;
+use case_words::CaseError;
 use disk_model::{Disk, DiskFailed, MemDisk};
 use std::alloc::Global;
 
@@ -79,22 +79,22 @@ fn written<D: Disk>(disk: &mut D) -> &'static str {
 
 /// `twice silent`, `twice memory`: both writes to such a disk; then its count of faults, or the size of the file and
 /// the bytes written.
-pub fn twice(alloc: Global, word: &str) -> Result<String, Trouble> {
+pub fn twice(alloc: Global, word: &str) -> Result<String, CaseError> {
     match word {
         "silent" => twice_silent(alloc),
         "memory" => twice_in_memory(alloc),
-        _ => Err(Trouble::NoCase),
+        _ => Err(CaseError::NoCase),
     }
 }
 
-fn twice_silent(alloc: Global) -> Result<String, Trouble> {
+fn twice_silent(alloc: Global) -> Result<String, CaseError> {
     let mut disk = Silent { faults: 0 };
     let said = written(&mut disk);
     let faults = disk.faults;
     Ok(format!(in alloc; "{said} {faults}")?)
 }
 
-fn twice_in_memory(alloc: Global) -> Result<String, Trouble> {
+fn twice_in_memory(alloc: Global) -> Result<String, CaseError> {
     let mut disk = MemDisk::new(alloc);
     let said = written(&mut disk);
     let size = disk.size(3)?;

@@ -9,7 +9,7 @@ use crate::sizes::{name, size};
 use crate::stops::stops;
 use crate::streams::{sink, source};
 use crate::votes::voted;
-use case_words::{Trouble, cut};
+use case_words::{CaseError, cut};
 use std::alloc::{AllocError, Global};
 
 /// What came of a line.
@@ -19,13 +19,13 @@ pub fn answer(alloc: Global, line: &str) -> Result<String, AllocError> {
     }
     match case(alloc, line) {
         Ok(said) => Ok(said),
-        Err(Trouble::NoCase) => String::from_str(alloc, "no case"),
-        Err(Trouble::OutOfMemory) => Err(AllocError),
+        Err(CaseError::NoCase) => String::from_str(alloc, "no case"),
+        Err(CaseError::OutOfMemory) => Err(AllocError),
     }
 }
 
 // What came of a case.
-fn case(alloc: Global, line: &str) -> Result<String, Trouble> {
+fn case(alloc: Global, line: &str) -> Result<String, CaseError> {
     let (kind, rest) = cut(line, ' ');
     match kind {
         "name" => name(alloc, rest),
@@ -42,6 +42,6 @@ fn case(alloc: Global, line: &str) -> Result<String, Trouble> {
         "shared" => shared(alloc, rest),
         "index" => index(alloc, rest),
         "stops" => stops(alloc, rest),
-        _ => Err(Trouble::NoCase),
+        _ => Err(CaseError::NoCase),
     }
 }

@@ -3,20 +3,20 @@
 ghost use Rattle.std.specs.Prelude.{◌≤◌, length};
 
 use block_files::{Blob, BlobError, BlockSet, get_blob, put_blob, put_shared};
-use case_words::{Trouble, bytes_of, cut, numbers_text, small};
+use case_words::{CaseError, bytes_of, cut, numbers_text, small};
 use disk_model::{MemDisk, Place};
 use per_base::Bytes;
 use std::alloc::Global;
 
-fn place_of(first: u32, copies: u32) -> Result<Place, Trouble> {
+fn place_of(first: u32, copies: u32) -> Result<Place, CaseError> {
     if copies == 0 || copies > 8 || first > 4_294_967_200 {
-        return Err(Trouble::NoCase);
+        return Err(CaseError::NoCase);
     }
     Ok(Place { first, copies })
 }
 
 /// `content FIRST COPIES M BYTES`: the bytes, put and read back; each `same` or `other`, and the copies that lack them.
-pub fn content(alloc: Global, words: &str) -> Result<String, Trouble> {
+pub fn content(alloc: Global, words: &str) -> Result<String, CaseError> {
     let (first, words) = cut(words, ' ');
     let (copies, words) = cut(words, ' ');
     let (m, bytes) = cut(words, ' ');
@@ -24,7 +24,7 @@ pub fn content(alloc: Global, words: &str) -> Result<String, Trouble> {
     let m = small(m)?;
     let bytes = bytes_of(alloc, bytes)?;
     if m == 0 || bytes.len() > 1_048_576 {
-        return Err(Trouble::NoCase);
+        return Err(CaseError::NoCase);
     }
     let blob = put_and_get(alloc, place, m, &bytes)?;
     described(alloc, &blob, &bytes)
@@ -50,7 +50,7 @@ fn put_and_get(alloc: Global, place: Place, m: u32, bytes: &[u8]) -> Result<Blob
     Ok(blob)
 }
 
-fn described(alloc: Global, blob: &Blob, bytes: &[u8]) -> Result<String, Trouble> {
+fn described(alloc: Global, blob: &Blob, bytes: &[u8]) -> Result<String, CaseError> {
     let value = compared(&blob.value, bytes);
     let salvage = compared(&blob.salvage, bytes);
     let lacking = numbers_text(alloc, blob.lacking.as_slice())?;
@@ -67,20 +67,20 @@ fn compared(text: &Option<Bytes>, bytes: &[u8]) -> &'static str {
 
 /// `shared COPIES OLD NEW`: the blocks of the old bytes, those of the new ones beside them, and how many bytes the
 /// second put wrote.
-pub fn shared(alloc: Global, words: &str) -> Result<String, Trouble> {
+pub fn shared(alloc: Global, words: &str) -> Result<String, CaseError> {
     let (copies, words) = cut(words, ' ');
     let (old, new) = cut(words, ' ');
     let place = place_of(0, small(copies)?)?;
     let old = bytes_of(alloc, old)?;
     let new = bytes_of(alloc, new)?;
     if old.len() > 1_048_576 || new.len() > 1_048_576 {
-        return Err(Trouble::NoCase);
+        return Err(CaseError::NoCase);
     }
     put_beside(alloc, place, &old, &new)
 }
 
 // Puts bytes beside earlier ones.
-fn put_beside(alloc: Global, place: Place, old: &[u8], new: &[u8]) -> Result<String, Trouble>
+fn put_beside(alloc: Global, place: Place, old: &[u8], new: &[u8]) -> Result<String, CaseError>
     requires old { length old.now ≤ 1048576 }
     requires new { length new.now ≤ 1048576 }
 {

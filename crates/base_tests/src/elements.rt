@@ -4,28 +4,28 @@ ghost use Rattle.std.specs.Prelude.{IsTrue, IfOk};
 ghost use Rattle.index_text.specs.Contents.{AreContents, SuitsKind};
 ghost use Rattle.base_tests.specs.Single.{IsAddition};
 
-use case_words::{Trouble, bytes_of, cut};
+use case_words::{CaseError, bytes_of, cut};
 use element_store::Shape;
 use per_base::{Bytes, Cause, Change, FileInfo, Fresh, Name, PerError, StoreKind};
 use std::alloc::Global;
 
 // A name.
-fn name_of(alloc: Global, word: &str) -> Result<Name, Trouble> {
+fn name_of(alloc: Global, word: &str) -> Result<Name, CaseError> {
     match Name::new(alloc, word) {
         Ok(name) => Ok(name),
-        Err(PerError::BadName) => Err(Trouble::NoCase),
-        Err(_) => Err(Trouble::OutOfMemory),
+        Err(PerError::BadName) => Err(CaseError::NoCase),
+        Err(_) => Err(CaseError::OutOfMemory),
     }
 }
 
 /// `NAME=BYTES`: an element of these, with an info where the kind asks for one.
-pub fn element_of(alloc: Global, kind: StoreKind, word: &str) -> Result<Fresh, Trouble> {
+pub fn element_of(alloc: Global, kind: StoreKind, word: &str) -> Result<Fresh, CaseError> {
     let (name, bytes) = cut(word, '=');
     element(alloc, kind, name, bytes_of(alloc, bytes)?)
 }
 
 // An element of this name and these bytes, with an info where the kind asks for one.
-fn element(alloc: Global, kind: StoreKind, name: &str, bytes: Vec<u8>) -> Result<Fresh, Trouble> {
+fn element(alloc: Global, kind: StoreKind, name: &str, bytes: Vec<u8>) -> Result<Fresh, CaseError> {
     let info = match kind {
         StoreKind::Keys => None,
         StoreKind::Files => Some(FileInfo {
@@ -54,14 +54,14 @@ fn is_of_kind(kind: StoreKind, fresh: &Fresh) -> bool
 }
 
 /// The element alone, where the storage takes it.
-pub fn alone(alloc: Global, shape: &Shape, fresh: Fresh) -> Result<Vec<Fresh>, Trouble>
+pub fn alone(alloc: Global, shape: &Shape, fresh: Fresh) -> Result<Vec<Fresh>, CaseError>
     ensures { IfOk result (λ contents. AreContents shape.now.kind shape.now.allowed contents.items) }
 {
     if !is_of_kind(shape.kind, &fresh) {
-        return Err(Trouble::NoCase);
+        return Err(CaseError::NoCase);
     }
     if fresh.name.as_str().len() as u64 + fresh.bytes.len() as u64 > shape.allowed {
-        return Err(Trouble::NoCase);
+        return Err(CaseError::NoCase);
     }
     Ok(vec![in alloc; fresh]?)
 }

@@ -1,13 +1,13 @@
 //! Texts of indexes, both ways.
 
-use case_words::{Trouble, bytes_of, bytes_text, numbers_text, text};
+use case_words::{CaseError, bytes_of, bytes_text, numbers_text, text};
 use index_text::{Index, IndexEntry, IndexError, read_index, write_index};
 use per_base::{Cause, FileInfo, StoreKind};
 use std::alloc::Global;
 use std::fmt::Write;
 
 /// `index BYTES`: the index that they spell, copied, and whether it is spelled by the same bytes; or `refused`.
-pub fn index(alloc: Global, word: &str) -> Result<String, Trouble> {
+pub fn index(alloc: Global, word: &str) -> Result<String, CaseError> {
     let bytes = bytes_of(alloc, word)?;
     match read_index(alloc, &bytes) {
         Ok(index) => {
@@ -16,11 +16,11 @@ pub fn index(alloc: Global, word: &str) -> Result<String, Trouble> {
             described(alloc, &index, again == bytes)
         }
         Err(IndexError::NotAnIndex) => text(alloc, "refused"),
-        Err(IndexError::OutOfMemory) => Err(Trouble::OutOfMemory),
+        Err(IndexError::OutOfMemory) => Err(CaseError::OutOfMemory),
     }
 }
 
-fn described(alloc: Global, index: &Index, same: bool) -> Result<String, Trouble> {
+fn described(alloc: Global, index: &Index, same: bool) -> Result<String, CaseError> {
     let format = index.format;
     let kind = match index.kind {
         StoreKind::Keys => "keys",
@@ -35,7 +35,7 @@ fn described(alloc: Global, index: &Index, same: bool) -> Result<String, Trouble
 }
 
 // Adds an entry: its name, info, last change, length, hash and blocks.
-fn put_entry(alloc: Global, said: &mut String, entry: &IndexEntry) -> Result<(), Trouble> {
+fn put_entry(alloc: Global, said: &mut String, entry: &IndexEntry) -> Result<(), CaseError> {
     let name = entry.name.as_str();
     write!(said, " {name}")?;
     if let Some(info) = &entry.info {
@@ -52,7 +52,7 @@ fn put_entry(alloc: Global, said: &mut String, entry: &IndexEntry) -> Result<(),
     Ok(())
 }
 
-fn put_info(said: &mut String, info: &FileInfo) -> Result<(), Trouble> {
+fn put_info(said: &mut String, info: &FileInfo) -> Result<(), CaseError> {
     let created = info.created;
     let modified = info.modified;
     let accessed = info.accessed;

@@ -3,7 +3,7 @@
 ghost use Rattle.std.specs.Prelude.{IfOk};
 ghost use Rattle.element_state.specs.Conditions.{IsShape};
 
-use case_words::{Trouble, cut, number, small};
+use case_words::{CaseError, cut, number, small};
 use disk_model::Place;
 use element_store::Shape;
 use per_base::{Name, Scope, StoreKind};
@@ -21,7 +21,7 @@ pub struct Plan {
 }
 
 /// `KIND:ALLOWED:M:COPIES:SCOPE`, and after that the first file where it is not number 0.
-pub fn plan_of(word: &str) -> Result<Plan, Trouble> {
+pub fn plan_of(word: &str) -> Result<Plan, CaseError> {
     let (kind, rest) = cut(word, ':');
     let (allowed, rest) = cut(rest, ':');
     let (m, rest) = cut(rest, ':');
@@ -30,12 +30,12 @@ pub fn plan_of(word: &str) -> Result<Plan, Trouble> {
     let kind = match kind {
         "keys" => StoreKind::Keys,
         "files" => StoreKind::Files,
-        _ => return Err(Trouble::NoCase),
+        _ => return Err(CaseError::NoCase),
     };
     let scope = match scope {
         "element" => Scope::Element,
         "storage" => Scope::Storage,
-        _ => return Err(Trouble::NoCase),
+        _ => return Err(CaseError::NoCase),
     };
     let first = if first.is_empty() { 0 } else { small(first)? };
     Ok(Plan {
@@ -50,7 +50,7 @@ pub fn plan_of(word: &str) -> Result<Plan, Trouble> {
 
 impl Plan {
     /// The storage `fav`, kept so.
-    pub fn shape(self, alloc: Global) -> Result<Shape, Trouble>
+    pub fn shape(self, alloc: Global) -> Result<Shape, CaseError>
         ensures { IfOk result IsShape }
     {
         if self.copies == 0
@@ -60,10 +60,10 @@ impl Plan {
             || self.allowed > 4_194_304
             || self.first > 4_294_967_200
         {
-            return Err(Trouble::NoCase);
+            return Err(CaseError::NoCase);
         }
         let Ok(name) = Name::new(alloc, "fav") else {
-            return Err(Trouble::OutOfMemory);
+            return Err(CaseError::OutOfMemory);
         };
         Ok(Shape {
             name,

@@ -6,12 +6,12 @@ ghost use Rattle.base_tests.specs.Usage.{IsKeptStore};
 use crate::images::{fill, flip, hold};
 use crate::plans::{Plan, plan_of};
 use crate::usage::{Kept, created, disk_of, opened, rebuilt, stopped, used};
-use case_words::{Trouble, cut, number, text};
+use case_words::{CaseError, cut, number, text};
 use disk_model::MemDisk;
 use std::alloc::Global;
 
 /// What the words leave, from a disk of empty files on.
-pub fn run(alloc: Global, plan: Plan, words: &str) -> Result<Kept, Trouble>
+pub fn run(alloc: Global, plan: Plan, words: &str) -> Result<Kept, CaseError>
     ensures { IfOk result IsKeptStore }
 {
     let mut kept = Kept::Closed(MemDisk::new(alloc));
@@ -23,7 +23,7 @@ pub fn run(alloc: Global, plan: Plan, words: &str) -> Result<Kept, Trouble>
 }
 
 /// One word: what it leaves, and what it answers.
-pub fn step(alloc: Global, plan: Plan, kept: Kept, word: &str) -> Result<(Kept, String), Trouble>
+pub fn step(alloc: Global, plan: Plan, kept: Kept, word: &str) -> Result<(Kept, String), CaseError>
     requires { IsKeptStore kept }
     ensures { IfOk result (λ next. IsKeptStore next.0) }
 {
@@ -50,7 +50,7 @@ pub fn step(alloc: Global, plan: Plan, kept: Kept, word: &str) -> Result<(Kept, 
 
 /// `restart:all`, `restart:none`, `restart:PATTERN`: after a power loss that keeps all writes since the last sync,
 /// none, or those of the pattern.
-pub fn restarted(disk: MemDisk, word: &str) -> Result<MemDisk, Trouble> {
+pub fn restarted(disk: MemDisk, word: &str) -> Result<MemDisk, CaseError> {
     let disk = match word {
         "all" => disk.crash(true)?,
         "none" => disk.crash(false)?,
@@ -66,13 +66,13 @@ fn apart(
     disk: &mut MemDisk,
     verb: &str,
     rest: &str,
-) -> Result<String, Trouble> {
+) -> Result<String, CaseError> {
     match verb {
         "rebuild" => return rebuilt(alloc, plan, disk, rest),
         "hold" => hold(alloc, disk, rest)?,
         "fill" => fill(alloc, disk, rest)?,
         "flip" => flip(alloc, disk, rest)?,
-        _ => return Err(Trouble::NoCase),
+        _ => return Err(CaseError::NoCase),
     }
     text(alloc, "ok")
 }

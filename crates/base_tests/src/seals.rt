@@ -1,21 +1,21 @@
 //! Hashes and sealed texts.
 
-use case_words::{Trouble, bytes_of, bytes_text, cut, number, text};
+use case_words::{CaseError, bytes_of, bytes_text, cut, number, text};
 use hash_guard::{HEADER, MAX_BODY, hash, seal, seal_into, verify};
 use std::alloc::Global;
 
 /// `hash BYTES`: their SHA-256.
-pub fn hash_of(alloc: Global, word: &str) -> Result<String, Trouble> {
+pub fn hash_of(alloc: Global, word: &str) -> Result<String, CaseError> {
     bytes_text(alloc, &hash(&bytes_of(alloc, word)?))
 }
 
 /// `seal GENERATION BYTES`: the sealed text, written to a new buffer and over other bytes.
-pub fn sealed(alloc: Global, words: &str) -> Result<String, Trouble> {
+pub fn sealed(alloc: Global, words: &str) -> Result<String, CaseError> {
     let (generation, word) = cut(words, ' ');
     let generation = number(generation)?;
     let body = bytes_of(alloc, word)?;
     if generation == 0 || body.len() > MAX_BODY {
-        return Err(Trouble::NoCase);
+        return Err(CaseError::NoCase);
     }
     let sealed = seal(alloc, generation, &body)?;
     let mut room = vec![in alloc; 9; HEADER + body.len()]?;
@@ -27,7 +27,7 @@ pub fn sealed(alloc: Global, words: &str) -> Result<String, Trouble> {
 }
 
 /// `verify BYTES`: the generation and the body of the sealed text at their start.
-pub fn verified(alloc: Global, word: &str) -> Result<String, Trouble> {
+pub fn verified(alloc: Global, word: &str) -> Result<String, CaseError> {
     let slot = bytes_of(alloc, word)?;
     match verify(&slot) {
         None => text(alloc, "none"),

@@ -4,7 +4,7 @@ ghost use Rattle.std.specs.Prelude.{IfOk};
 ghost use Rattle.base_tests.specs.Sessions.{IsRegisterInUse};
 
 use case_words::{
-    Trouble, add, bytes_of, bytes_text, cut, number, numbers, numbers_text, small, text,
+    CaseError, add, bytes_of, bytes_text, cut, number, numbers, numbers_text, small, text,
 };
 use disk_model::{Disk, MemDisk, Place};
 use guarded_cell::{Cell, CellError, Seen, adopt, format_cell, keep_only, look, open_cell};
@@ -28,7 +28,7 @@ fn place() -> Place {
 }
 
 /// `disk WORD ..`, `register WORD ..`: what each word answers, from a disk of empty files on.
-pub fn session(alloc: Global, words: &str) -> Result<String, Trouble> {
+pub fn session(alloc: Global, words: &str) -> Result<String, CaseError> {
     let mut run = Run {
         disk: MemDisk::new(alloc),
         cell: None,
@@ -43,7 +43,7 @@ pub fn session(alloc: Global, words: &str) -> Result<String, Trouble> {
 }
 
 // One word of a session.
-fn step(alloc: Global, run: Run, word: &str) -> Result<(Run, String), Trouble>
+fn step(alloc: Global, run: Run, word: &str) -> Result<(Run, String), CaseError>
     requires { IsRegisterInUse run }
     ensures { IfOk result (λ next. IsRegisterInUse next.0) }
 {
@@ -58,13 +58,13 @@ fn step(alloc: Global, run: Run, word: &str) -> Result<(Run, String), Trouble>
 }
 
 // `format:BYTES`: formats a register.
-fn format(alloc: Global, run: Run, word: &str) -> Result<(Run, String), Trouble>
+fn format(alloc: Global, run: Run, word: &str) -> Result<(Run, String), CaseError>
     ensures { IfOk result (λ next. IsRegisterInUse next.0) }
 {
     let Run { mut disk, cell: _ } = run;
     let body = bytes_of(alloc, word)?;
     if body.len() > MAX_BODY {
-        return Err(Trouble::NoCase);
+        return Err(CaseError::NoCase);
     }
     match format_cell(alloc, &mut disk, place(), &body) {
         Ok(cell) => {
@@ -76,17 +76,17 @@ fn format(alloc: Global, run: Run, word: &str) -> Result<(Run, String), Trouble>
 }
 
 // `put:BYTES`: writes the next text of the register in use.
-fn put(alloc: Global, run: Run, word: &str) -> Result<(Run, String), Trouble>
+fn put(alloc: Global, run: Run, word: &str) -> Result<(Run, String), CaseError>
     requires { IsRegisterInUse run }
     ensures { IfOk result (λ next. IsRegisterInUse next.0) }
 {
     let Run { mut disk, cell } = run;
     let Some(cell) = cell else {
-        return Err(Trouble::NoCase);
+        return Err(CaseError::NoCase);
     };
     let body = bytes_of(alloc, word)?;
     if body.len() > MAX_BODY || cell.generation() == u64::MAX {
-        return Err(Trouble::NoCase);
+        return Err(CaseError::NoCase);
     }
     match cell.write(alloc, &mut disk, &body) {
         Ok(cell) => {
@@ -94,12 +94,12 @@ fn put(alloc: Global, run: Run, word: &str) -> Result<(Run, String), Trouble>
             Ok((Run { disk, cell }, text(alloc, "ok")?))
         }
         Err(Fault::Device) => Ok((Run { disk, cell: None }, text(alloc, "failed")?)),
-        Err(Fault::OutOfMemory(_)) => Err(Trouble::OutOfMemory),
+        Err(Fault::OutOfMemory(_)) => Err(CaseError::OutOfMemory),
     }
 }
 
 // `stop:K`: from now on K calls of the disk pass.
-fn stop(alloc: Global, run: Run, word: &str) -> Result<(Run, String), Trouble>
+fn stop(alloc: Global, run: Run, word: &str) -> Result<(Run, String), CaseError>
     requires { IsRegisterInUse run }
     ensures { IfOk result (λ next. IsRegisterInUse next.0) }
 {
@@ -110,7 +110,7 @@ fn stop(alloc: Global, run: Run, word: &str) -> Result<(Run, String), Trouble>
 
 // `crash:all`, `crash:none`, `crash:PATTERN`: a power loss that keeps all writes since the last sync, none, or those of
 // the pattern.
-fn crash(alloc: Global, run: Run, word: &str) -> Result<(Run, String), Trouble>
+fn crash(alloc: Global, run: Run, word: &str) -> Result<(Run, String), CaseError>
     ensures { IfOk result (λ next. IsRegisterInUse next.0) }
 {
     let Run { disk, cell: _ } = run;
@@ -123,7 +123,7 @@ fn crash(alloc: Global, run: Run, word: &str) -> Result<(Run, String), Trouble>
 }
 
 // A word that takes the register out of use.
-fn apart(alloc: Global, run: Run, verb: &str, rest: &str) -> Result<(Run, String), Trouble>
+fn apart(alloc: Global, run: Run, verb: &str, rest: &str) -> Result<(Run, String), CaseError>
     ensures { IfOk result (λ next. IsRegisterInUse next.0) }
 {
     let Run { mut disk, cell: _ } = run;
@@ -144,7 +144,7 @@ fn apart(alloc: Global, run: Run, verb: &str, rest: &str) -> Result<(Run, String
 }
 
 // The short calls of a disk.
-fn called(alloc: Global, disk: &mut MemDisk, verb: &str, rest: &str) -> Result<String, Trouble> {
+fn called(alloc: Global, disk: &mut MemDisk, verb: &str, rest: &str) -> Result<String, CaseError> {
     match verb {
         "size" => counted(alloc, disk.size(small(rest)?).ok()),
         "sync" => done(alloc, disk.sync().is_ok()),
@@ -154,33 +154,33 @@ fn called(alloc: Global, disk: &mut MemDisk, verb: &str, rest: &str) -> Result<S
             disk.fail_calls(numbers(alloc, rest)?);
             done(alloc, true)
         }
-        _ => Err(Trouble::NoCase),
+        _ => Err(CaseError::NoCase),
     }
 }
 
 // A number, or that the call failed.
-fn counted(alloc: Global, count: Option<u64>) -> Result<String, Trouble> {
+fn counted(alloc: Global, count: Option<u64>) -> Result<String, CaseError> {
     match count {
         Some(count) => Ok(format!(in alloc; "{count}")?),
         None => text(alloc, "failed"),
     }
 }
 
-fn done(alloc: Global, done: bool) -> Result<String, Trouble> {
+fn done(alloc: Global, done: bool) -> Result<String, CaseError> {
     text(alloc, if done { "ok" } else { "failed" })
 }
 
 // Why a call on the register did not end well.
-fn fault(alloc: Global, error: CellError) -> Result<String, Trouble> {
+fn fault(alloc: Global, error: CellError) -> Result<String, CaseError> {
     match error {
         CellError::Device => text(alloc, "failed"),
         CellError::Corrupt => text(alloc, "corrupt"),
-        CellError::OutOfMemory => Err(Trouble::OutOfMemory),
+        CellError::OutOfMemory => Err(CaseError::OutOfMemory),
     }
 }
 
 // `read:FILE:AT:ROOM`: the bytes that a read gives.
-fn read(alloc: Global, disk: &mut MemDisk, rest: &str) -> Result<String, Trouble> {
+fn read(alloc: Global, disk: &mut MemDisk, rest: &str) -> Result<String, CaseError> {
     let (file, rest) = cut(rest, ':');
     let (at, len) = cut(rest, ':');
     let len = small(len)?;
@@ -192,7 +192,7 @@ fn read(alloc: Global, disk: &mut MemDisk, rest: &str) -> Result<String, Trouble
 }
 
 // `write:FILE:AT:BYTES`.
-fn write(alloc: Global, disk: &mut MemDisk, rest: &str) -> Result<String, Trouble> {
+fn write(alloc: Global, disk: &mut MemDisk, rest: &str) -> Result<String, CaseError> {
     let (file, rest) = cut(rest, ':');
     let (at, bytes) = cut(rest, ':');
     let bytes = bytes_of(alloc, bytes)?;
@@ -201,13 +201,13 @@ fn write(alloc: Global, disk: &mut MemDisk, rest: &str) -> Result<String, Troubl
 }
 
 // `seal:FILE:GENERATION:BYTES`: the sealed text at the start of the file.
-fn seal_front(alloc: Global, disk: &mut MemDisk, rest: &str) -> Result<String, Trouble> {
+fn seal_front(alloc: Global, disk: &mut MemDisk, rest: &str) -> Result<String, CaseError> {
     let (file, rest) = cut(rest, ':');
     let (generation, body) = cut(rest, ':');
     let generation = number(generation)?;
     let body = bytes_of(alloc, body)?;
     if generation == 0 || body.len() > MAX_BODY {
-        return Err(Trouble::NoCase);
+        return Err(CaseError::NoCase);
     }
     let sealed = seal(alloc, generation, &body)?;
     let written = disk.write_at(small(file)?, 0, &sealed);
@@ -215,7 +215,7 @@ fn seal_front(alloc: Global, disk: &mut MemDisk, rest: &str) -> Result<String, T
 }
 
 // `flip:FILE`: makes each of its first 256 bytes the complement, durably.
-fn flip(alloc: Global, disk: &mut MemDisk, rest: &str) -> Result<String, Trouble> {
+fn flip(alloc: Global, disk: &mut MemDisk, rest: &str) -> Result<String, CaseError> {
     let file = small(rest)?;
     let mut room = [0; 256];
     let count = disk.read(file, 0, &mut room)?;
@@ -229,7 +229,7 @@ fn flip(alloc: Global, disk: &mut MemDisk, rest: &str) -> Result<String, Trouble
 }
 
 // `spoil:FILE:AT:BYTES`: after a sync, damage by the first of the bytes.
-fn spoil(alloc: Global, disk: &mut MemDisk, rest: &str) -> Result<String, Trouble> {
+fn spoil(alloc: Global, disk: &mut MemDisk, rest: &str) -> Result<String, CaseError> {
     let (file, rest) = cut(rest, ':');
     let (at, bytes) = cut(rest, ':');
     let file = small(file)?;
@@ -248,7 +248,7 @@ fn spoil(alloc: Global, disk: &mut MemDisk, rest: &str) -> Result<String, Troubl
 }
 
 // `files`: the first twelve files that are not empty.
-fn files(alloc: Global, disk: &mut MemDisk) -> Result<String, Trouble> {
+fn files(alloc: Global, disk: &mut MemDisk) -> Result<String, CaseError> {
     let mut said = String::new(alloc);
     for file in 0..12 {
         let mut room = [0; 256];
@@ -262,14 +262,14 @@ fn files(alloc: Global, disk: &mut MemDisk) -> Result<String, Trouble> {
 }
 
 // `look`: the texts that copies hold.
-fn looked(alloc: Global, disk: &mut MemDisk) -> Result<String, Trouble> {
+fn looked(alloc: Global, disk: &mut MemDisk) -> Result<String, CaseError> {
     match look(alloc, disk, place()) {
         Ok(looked) => seens_text(alloc, &looked.seens),
         Err(error) => fault(alloc, error),
     }
 }
 
-fn seens_text(alloc: Global, seens: &[Seen]) -> Result<String, Trouble> {
+fn seens_text(alloc: Global, seens: &[Seen]) -> Result<String, CaseError> {
     let mut said = String::new(alloc);
     for seen in seens {
         let generation = seen.generation;
@@ -284,10 +284,10 @@ fn seens_text(alloc: Global, seens: &[Seen]) -> Result<String, Trouble> {
 }
 
 // `open:M`: the text that stands, and the copies that lacked it.
-fn opened(alloc: Global, disk: &mut MemDisk, rest: &str) -> Result<String, Trouble> {
+fn opened(alloc: Global, disk: &mut MemDisk, rest: &str) -> Result<String, CaseError> {
     let m = small(rest)?;
     if m == 0 {
-        return Err(Trouble::NoCase);
+        return Err(CaseError::NoCase);
     }
     match open_cell(alloc, disk, place(), m) {
         Ok(opened) => {
@@ -301,12 +301,12 @@ fn opened(alloc: Global, disk: &mut MemDisk, rest: &str) -> Result<String, Troub
 }
 
 // `adopt:GENERATION:BYTES`: brings every copy to this text.
-fn adopted(alloc: Global, disk: &mut MemDisk, rest: &str) -> Result<String, Trouble> {
+fn adopted(alloc: Global, disk: &mut MemDisk, rest: &str) -> Result<String, CaseError> {
     let (generation, body) = cut(rest, ':');
     let generation = number(generation)?;
     let body = bytes_of(alloc, body)?;
     if generation == 0 || body.len() > MAX_BODY {
-        return Err(Trouble::NoCase);
+        return Err(CaseError::NoCase);
     }
     match adopt(alloc, disk, place(), generation, &body) {
         Ok(_) => done(alloc, true),
@@ -315,7 +315,7 @@ fn adopted(alloc: Global, disk: &mut MemDisk, rest: &str) -> Result<String, Trou
 }
 
 // `keep:GENERATION:BYTES`: takes every other text away.
-fn kept(alloc: Global, disk: &mut MemDisk, rest: &str) -> Result<String, Trouble> {
+fn kept(alloc: Global, disk: &mut MemDisk, rest: &str) -> Result<String, CaseError> {
     let (generation, body) = cut(rest, ':');
     let body = bytes_of(alloc, body)?;
     match keep_only(alloc, disk, place(), number(generation)?, &body) {

@@ -1,20 +1,20 @@
 //! Names, and the sizes of storages.
 
-use case_words::{Trouble, add, bytes_of, bytes_text, cut, text};
+use case_words::{CaseError, add, bytes_of, bytes_text, cut, text};
 use per_base::{Bytes, Content, Entry, Fresh, Name, Numbers, PerError, storage_size};
 use std::alloc::Global;
 
 /// `name TEXT`: the name of this text, copied.
-pub fn name(alloc: Global, words: &str) -> Result<String, Trouble> {
+pub fn name(alloc: Global, words: &str) -> Result<String, CaseError> {
     match Name::new(alloc, words) {
         Ok(name) => text(alloc, name.copy()?.as_str()),
         Err(PerError::BadName) => text(alloc, "bad"),
-        Err(_) => Err(Trouble::OutOfMemory),
+        Err(_) => Err(CaseError::OutOfMemory),
     }
 }
 
 /// `size NAME=BYTES ..`: the elements, and the size of a storage of these.
-pub fn size(alloc: Global, words: &str) -> Result<String, Trouble> {
+pub fn size(alloc: Global, words: &str) -> Result<String, CaseError> {
     let mut entries = Vec::new(alloc);
     let mut said = String::new(alloc);
     for word in words.split(' ') {
@@ -24,7 +24,7 @@ pub fn size(alloc: Global, words: &str) -> Result<String, Trouble> {
         entries.push(entry)?;
     }
     if entries.len() > 1024 {
-        return Err(Trouble::NoCase);
+        return Err(CaseError::NoCase);
     }
     let total = storage_size(&entries);
     add(&mut said, format!(in alloc; "{total}")?.as_str())?;
@@ -32,10 +32,10 @@ pub fn size(alloc: Global, words: &str) -> Result<String, Trouble> {
 }
 
 // An element that was copied, and copied again as an entry.
-fn entry(alloc: Global, word: &str) -> Result<Entry, Trouble> {
+fn entry(alloc: Global, word: &str) -> Result<Entry, CaseError> {
     let (name, bytes) = cut(word, '=');
     let Ok(name) = Name::new(alloc, name) else {
-        return Err(Trouble::NoCase);
+        return Err(CaseError::NoCase);
     };
     let bytes = Bytes::new(bytes_of(alloc, bytes)?);
     let fresh = Fresh {
@@ -45,7 +45,7 @@ fn entry(alloc: Global, word: &str) -> Result<Entry, Trouble> {
     };
     let Fresh { name, info, bytes } = fresh.copy()?;
     let Ok(len) = u32::try_from(bytes.len()) else {
-        return Err(Trouble::NoCase);
+        return Err(CaseError::NoCase);
     };
     let entry = Entry {
         name,
@@ -59,9 +59,9 @@ fn entry(alloc: Global, word: &str) -> Result<Entry, Trouble> {
 }
 
 // An entry as a word.
-fn shown(alloc: Global, entry: &Entry) -> Result<String, Trouble> {
+fn shown(alloc: Global, entry: &Entry) -> Result<String, CaseError> {
     let Content::Good(bytes) = &entry.content else {
-        return Err(Trouble::NoCase);
+        return Err(CaseError::NoCase);
     };
     let name = entry.name.as_str();
     let bytes = bytes_text(alloc, bytes.as_slice())?;

@@ -4,7 +4,7 @@ ghost use Rattle.element_state.specs.Conditions.{IsShape};
 
 use crate::plans::Plan;
 use crate::views::{fault, store_text, view_text};
-use case_words::{Trouble, numbers_text, text};
+use case_words::{CaseError, numbers_text, text};
 use disk_model::{MemDisk, Place};
 use element_store::{Shape, StoreError, open_store, salvage};
 use guarded_cell::{CellError, Seen, look};
@@ -12,7 +12,7 @@ use std::alloc::Global;
 use std::fmt::Write;
 
 /// The storage that opens, and the format and the copies of its index; or `corrupt`, with the salvage.
-pub fn state(alloc: Global, plan: Plan, mut disk: MemDisk) -> Result<String, Trouble> {
+pub fn state(alloc: Global, plan: Plan, mut disk: MemDisk) -> Result<String, CaseError> {
     let shape = plan.shape(alloc)?;
     match open_store(alloc, &mut disk, shape.copy()?) {
         Ok(opened) => {
@@ -31,7 +31,7 @@ fn put_texts(
     said: &mut String,
     disk: &mut MemDisk,
     place: Place,
-) -> Result<(), Trouble> {
+) -> Result<(), CaseError> {
     match look(alloc, disk, place) {
         Ok(looked) => {
             for seen in looked.seens.iter() {
@@ -39,12 +39,12 @@ fn put_texts(
             }
             Ok(())
         }
-        Err(CellError::OutOfMemory) => Err(Trouble::OutOfMemory),
-        Err(_) => Err(Trouble::NoCase),
+        Err(CellError::OutOfMemory) => Err(CaseError::OutOfMemory),
+        Err(_) => Err(CaseError::NoCase),
     }
 }
 
-fn put_text(alloc: Global, said: &mut String, seen: &Seen) -> Result<(), Trouble> {
+fn put_text(alloc: Global, said: &mut String, seen: &Seen) -> Result<(), CaseError> {
     let format = seen.text.as_slice().first().copied().unwrap_or(0);
     let copies = numbers_text(alloc, seen.copies.as_slice())?;
     write!(said, " format {format} in {copies}")?;
@@ -52,7 +52,7 @@ fn put_text(alloc: Global, said: &mut String, seen: &Seen) -> Result<(), Trouble
 }
 
 // What is left of a corrupt storage.
-fn corrupt(alloc: Global, disk: &mut MemDisk, shape: &Shape) -> Result<String, Trouble>
+fn corrupt(alloc: Global, disk: &mut MemDisk, shape: &Shape) -> Result<String, CaseError>
     requires { IsShape shape.now }
 {
     match salvage(alloc, disk, shape) {

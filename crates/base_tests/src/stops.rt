@@ -4,7 +4,7 @@ use crate::plans::{Plan, plan_of};
 use crate::runs::{restarted, run, step};
 use crate::states::state;
 use crate::usage::{disk_of, stopped};
-use case_words::{Trouble, cut, text};
+use case_words::{CaseError, cut, text};
 use disk_model::MemDisk;
 use std::alloc::Global;
 
@@ -35,7 +35,7 @@ struct Course<'a> {
 
 /// `stops PLAN WORD .. / WORD / BEFORE / AFTER`, and ` / BETWEEN`: `kept`, or where another state was found. BEFORE may
 /// be `=`, what an opening finds if the word does not come.
-pub fn stops(alloc: Global, rest: &str) -> Result<String, Trouble> {
+pub fn stops(alloc: Global, rest: &str) -> Result<String, CaseError> {
     let (plan, rest) = cut(rest, ' ');
     let plan = plan_of(plan)?;
     let (earlier, rest) = cut_part(rest);
@@ -66,11 +66,11 @@ fn cut_part(text: &str) -> (&str, &str) {
 }
 
 // What an opening finds after these words.
-fn state_after(alloc: Global, plan: Plan, words: &str) -> Result<String, Trouble> {
+fn state_after(alloc: Global, plan: Plan, words: &str) -> Result<String, CaseError> {
     state(alloc, plan, disk_of(run(alloc, plan, words)?))
 }
 
-fn follow_all(alloc: Global, course: Course<'_>) -> Result<String, Trouble> {
+fn follow_all(alloc: Global, course: Course<'_>) -> Result<String, CaseError> {
     for way in RESTARTS {
         if let Some(fault) = follow(alloc, course, way)? {
             return Ok(fault);
@@ -81,7 +81,7 @@ fn follow_all(alloc: Global, course: Course<'_>) -> Result<String, Trouble> {
 
 // Stops the word after each call, until it succeeds. Where a restart keeps all writes or none, an opening finds the
 // state of after from one call on.
-fn follow(alloc: Global, course: Course<'_>, way: &str) -> Result<Option<String>, Trouble> {
+fn follow(alloc: Global, course: Course<'_>, way: &str) -> Result<Option<String>, CaseError> {
     let is_whole = way == "all" || way == "none";
     let mut is_over = false;
     for passing in 0..ENOUGH {
@@ -100,7 +100,11 @@ fn follow(alloc: Global, course: Course<'_>, way: &str) -> Result<Option<String>
 }
 
 // The disk on which the word is stopped after that many calls, and whether it succeeded.
-fn stopped_at(alloc: Global, course: Course<'_>, passing: u64) -> Result<(MemDisk, bool), Trouble> {
+fn stopped_at(
+    alloc: Global,
+    course: Course<'_>,
+    passing: u64,
+) -> Result<(MemDisk, bool), CaseError> {
     let kept = run(alloc, course.plan, course.earlier)?;
     let (kept, said) = step(alloc, course.plan, stopped(kept, passing), course.word)?;
     Ok((disk_of(kept), said.as_str() != "failed"))

@@ -1,18 +1,18 @@
 //! Streams in memory: pieces, and failures that are planned.
 
-use case_words::{Trouble, add, bytes_of, bytes_text, cut, number, numbers, text};
+use case_words::{CaseError, add, bytes_of, bytes_text, cut, number, numbers, text};
 use per_base::{MemSink, MemSource, Sink, Source};
 use std::alloc::Global;
 
 /// `source PIECE FAILING BYTES ROOM ..`: what a read into room of each size answers: the count, and the room, which
 /// held zeros.
-pub fn source(alloc: Global, words: &str) -> Result<String, Trouble> {
+pub fn source(alloc: Global, words: &str) -> Result<String, CaseError> {
     let (piece, words) = cut(words, ' ');
     let (failing, words) = cut(words, ' ');
     let (bytes, rooms) = cut(words, ' ');
     let piece = number(piece)?;
     if piece == 0 {
-        return Err(Trouble::NoCase);
+        return Err(CaseError::NoCase);
     }
     let mut source = MemSource::new(bytes_of(alloc, bytes)?, piece, numbers(alloc, failing)?);
     let mut said = String::new(alloc);
@@ -24,9 +24,9 @@ pub fn source(alloc: Global, words: &str) -> Result<String, Trouble> {
 }
 
 // One read.
-fn read(alloc: Global, source: &mut MemSource, len: u64) -> Result<String, Trouble> {
+fn read(alloc: Global, source: &mut MemSource, len: u64) -> Result<String, CaseError> {
     if len > 1024 {
-        return Err(Trouble::NoCase);
+        return Err(CaseError::NoCase);
     }
     let mut room = vec![in alloc; 0; len as usize]?;
     match source.read(&mut room) {
@@ -39,7 +39,7 @@ fn read(alloc: Global, source: &mut MemSource, len: u64) -> Result<String, Troub
 }
 
 /// `sink PIECE FAILING BYTES ..`: what a write of each answers, then what was taken, and how often memory ran out.
-pub fn sink(alloc: Global, words: &str) -> Result<String, Trouble> {
+pub fn sink(alloc: Global, words: &str) -> Result<String, CaseError> {
     let (piece, words) = cut(words, ' ');
     let (failing, writes) = cut(words, ' ');
     let mut sink = MemSink::new(alloc, number(piece)?, numbers(alloc, failing)?);
@@ -55,7 +55,7 @@ pub fn sink(alloc: Global, words: &str) -> Result<String, Trouble> {
 }
 
 // One write.
-fn write(alloc: Global, sink: &mut MemSink, bytes: &[u8]) -> Result<String, Trouble> {
+fn write(alloc: Global, sink: &mut MemSink, bytes: &[u8]) -> Result<String, CaseError> {
     match sink.write(bytes) {
         Ok(count) => Ok(format!(in alloc; "{count}")?),
         Err(_) => text(alloc, "failed"),

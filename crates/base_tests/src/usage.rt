@@ -8,7 +8,7 @@ ghost use Rattle.base_tests.specs.Usage.{IsKeptStore, IsStoreInUse};
 use crate::elements::{alone, element_of, takes};
 use crate::plans::Plan;
 use crate::views::fault;
-use case_words::{Trouble, text};
+use case_words::{CaseError, text};
 use disk_model::MemDisk;
 use element_store::{OpenedStore, Shape, Store, create, open_store, rebuild, salvage};
 use per_base::{Change, Fault};
@@ -66,7 +66,7 @@ pub fn created(
     plan: Plan,
     mut disk: MemDisk,
     word: &str,
-) -> Result<(Kept, String), Trouble>
+) -> Result<(Kept, String), CaseError>
     ensures { IfOk result (λ next. IsKeptStore next.0) }
 {
     let shape = plan.shape(alloc)?;
@@ -78,7 +78,7 @@ pub fn created(
 }
 
 /// `open`: opens the storage.
-pub fn opened(alloc: Global, plan: Plan, mut disk: MemDisk) -> Result<(Kept, String), Trouble>
+pub fn opened(alloc: Global, plan: Plan, mut disk: MemDisk) -> Result<(Kept, String), CaseError>
     ensures { IfOk result (λ next. IsKeptStore next.0) }
 {
     let shape = plan.shape(alloc)?;
@@ -95,7 +95,7 @@ pub fn opened(alloc: Global, plan: Plan, mut disk: MemDisk) -> Result<(Kept, Str
 }
 
 // A storage in use, after a call that was done.
-fn shown(alloc: Global, kept: InUse) -> Result<(Kept, String), Trouble>
+fn shown(alloc: Global, kept: InUse) -> Result<(Kept, String), CaseError>
     requires { IsStoreInUse kept }
     ensures { IfOk result (λ next. IsKeptStore next.0) }
 {
@@ -108,12 +108,12 @@ pub fn rebuilt(
     plan: Plan,
     disk: &mut MemDisk,
     word: &str,
-) -> Result<String, Trouble> {
+) -> Result<String, CaseError> {
     let shape = plan.shape(alloc)?;
     let contents = alone(alloc, &shape, element_of(alloc, plan.kind, word)?)?;
     match salvage(alloc, disk, &shape) {
         Err(error) => return fault(alloc, error),
-        Ok(Some(view)) if view.generation == u64::MAX => return Err(Trouble::NoCase),
+        Ok(Some(view)) if view.generation == u64::MAX => return Err(CaseError::NoCase),
         Ok(_) => {}
     }
     match rebuild(alloc, disk, &shape, contents) {
@@ -124,22 +124,22 @@ pub fn rebuilt(
 
 impl InUse {
     // The change alone, where the storage can take it.
-    fn single(&self, alloc: Global, change: Change) -> Result<Vec<Change>, Trouble>
+    fn single(&self, alloc: Global, change: Change) -> Result<Vec<Change>, CaseError>
         requires { IsStoreInUse self.now }
         ensures { IfOk result (λ changes. AreCommittable (store_shape self.now.store)
             (view_in self.now.store) changes.items) }
     {
         if self.store.generation() == u64::MAX || self.store.entries().len() >= 1024 {
-            return Err(Trouble::NoCase);
+            return Err(CaseError::NoCase);
         }
         if !takes(&self.shape, self.store.size(), &change) {
-            return Err(Trouble::NoCase);
+            return Err(CaseError::NoCase);
         }
         Ok(vec![in alloc; change]?)
     }
 
     // Commits one change; where the disk fails, the storage is closed.
-    fn commit(self, alloc: Global, change: Change) -> Result<Kept, Trouble>
+    fn commit(self, alloc: Global, change: Change) -> Result<Kept, CaseError>
         requires { IsStoreInUse self }
         ensures { IfOk result IsKeptStore }
     {
@@ -152,12 +152,12 @@ impl InUse {
         match store.commit(&mut disk, changes) {
             Ok(store) => Ok(Kept::Open(InUse { disk, store, shape })),
             Err(Fault::Device) => Ok(Kept::Closed(disk)),
-            Err(Fault::OutOfMemory(_)) => Err(Trouble::OutOfMemory),
+            Err(Fault::OutOfMemory(_)) => Err(CaseError::OutOfMemory),
         }
     }
 
     // Commits another content of an element.
-    fn changed(self, alloc: Global, word: &str) -> Result<Kept, Trouble>
+    fn changed(self, alloc: Global, word: &str) -> Result<Kept, CaseError>
         requires { IsStoreInUse self }
         ensures { IfOk result IsKeptStore }
     {
@@ -167,18 +167,18 @@ impl InUse {
 }
 
 // The storage that is still in use.
-fn in_use(kept: Kept) -> Result<InUse, Trouble>
+fn in_use(kept: Kept) -> Result<InUse, CaseError>
     requires { IsKeptStore kept }
     ensures { IfOk result IsStoreInUse }
 {
     match kept {
         Kept::Open(kept) => Ok(kept),
-        Kept::Closed(_) => Err(Trouble::NoCase),
+        Kept::Closed(_) => Err(CaseError::NoCase),
     }
 }
 
 /// `put:NAME=BYTES`: commits another content of an element of a storage in use.
-pub fn used(alloc: Global, kept: Kept, word: &str) -> Result<(Kept, String), Trouble>
+pub fn used(alloc: Global, kept: Kept, word: &str) -> Result<(Kept, String), CaseError>
     requires { IsKeptStore kept }
     ensures { IfOk result (λ next. IsKeptStore next.0) }
 {
@@ -187,7 +187,7 @@ pub fn used(alloc: Global, kept: Kept, word: &str) -> Result<(Kept, String), Tro
 }
 
 // Whether it is still in use; where it is closed, its disk failed.
-fn told(alloc: Global, kept: Kept) -> Result<(Kept, String), Trouble>
+fn told(alloc: Global, kept: Kept) -> Result<(Kept, String), CaseError>
     requires { IsKeptStore kept }
     ensures { IfOk result (λ next. IsKeptStore next.0) }
 {

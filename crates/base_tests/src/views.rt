@@ -1,13 +1,13 @@
 //! What storages show, as words.
 
-use case_words::{Trouble, bytes_text, numbers_text};
+use case_words::{CaseError, bytes_text, numbers_text};
 use element_store::{Store, StoreError, View};
 use per_base::{Content, Entry};
 use std::alloc::Global;
 use std::fmt::Write;
 
 /// The generation, the copies that lack the storage, and the elements.
-pub fn view_text(alloc: Global, view: &View) -> Result<String, Trouble> {
+pub fn view_text(alloc: Global, view: &View) -> Result<String, CaseError> {
     let generation = view.generation;
     let mut said = format!(in alloc; "{generation}")?;
     let lacking = view.lacking.as_slice();
@@ -20,14 +20,14 @@ pub fn view_text(alloc: Global, view: &View) -> Result<String, Trouble> {
 }
 
 /// The generation of a storage in use, and its elements.
-pub fn store_text(alloc: Global, store: &Store) -> Result<String, Trouble> {
+pub fn store_text(alloc: Global, store: &Store) -> Result<String, CaseError> {
     let generation = store.generation();
     let mut said = format!(in alloc; "{generation}")?;
     put_entries(alloc, &mut said, store.entries())?;
     Ok(said)
 }
 
-fn put_entries(alloc: Global, said: &mut String, entries: &[Entry]) -> Result<(), Trouble> {
+fn put_entries(alloc: Global, said: &mut String, entries: &[Entry]) -> Result<(), CaseError> {
     for entry in entries {
         put_entry(alloc, said, entry)?;
     }
@@ -36,7 +36,7 @@ fn put_entries(alloc: Global, said: &mut String, entries: &[Entry]) -> Result<()
 
 // Adds an element: after `=` its value, after `!` its salvage where too few copies agree; then its length,
 // its last change, and the copies that lack it.
-fn put_entry(alloc: Global, said: &mut String, entry: &Entry) -> Result<(), Trouble> {
+fn put_entry(alloc: Global, said: &mut String, entry: &Entry) -> Result<(), CaseError> {
     let name = entry.name.as_str();
     let content = content_text(alloc, &entry.content)?;
     let len = entry.len;
@@ -50,7 +50,7 @@ fn put_entry(alloc: Global, said: &mut String, entry: &Entry) -> Result<(), Trou
     Ok(())
 }
 
-fn content_text(alloc: Global, content: &Content) -> Result<String, Trouble> {
+fn content_text(alloc: Global, content: &Content) -> Result<String, CaseError> {
     let (sign, bytes) = match content {
         Content::Good(bytes) => ("=", bytes),
         Content::Bad(Some(bytes)) => ("!", bytes),
@@ -61,10 +61,10 @@ fn content_text(alloc: Global, content: &Content) -> Result<String, Trouble> {
 }
 
 /// Why a call on a storage did not end well.
-pub fn fault(alloc: Global, error: StoreError) -> Result<String, Trouble> {
+pub fn fault(alloc: Global, error: StoreError) -> Result<String, CaseError> {
     match error {
         StoreError::Device => Ok(String::from_str(alloc, "failed")?),
         StoreError::Corrupt => Ok(String::from_str(alloc, "corrupt")?),
-        StoreError::OutOfMemory => Err(Trouble::OutOfMemory),
+        StoreError::OutOfMemory => Err(CaseError::OutOfMemory),
     }
 }

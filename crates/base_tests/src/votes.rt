@@ -1,15 +1,15 @@
 //! Votes among copies.
 
-use case_words::{Trouble, bytes_of, bytes_text, cut, small, text};
+use case_words::{CaseError, bytes_of, bytes_text, cut, small, text};
 use m_of_n::vote;
 use std::alloc::Global;
 
 /// `vote M BYTES ..`: the text on which M copies agree; `-` is a copy without one.
-pub fn voted(alloc: Global, words: &str) -> Result<String, Trouble> {
+pub fn voted(alloc: Global, words: &str) -> Result<String, CaseError> {
     let (m, words) = cut(words, ' ');
     let m = small(m)?;
     if m == 0 {
-        return Err(Trouble::NoCase);
+        return Err(CaseError::NoCase);
     }
     match vote(m, &copies(alloc, words)?) {
         Some(text) => bytes_text(alloc, text),
@@ -18,7 +18,7 @@ pub fn voted(alloc: Global, words: &str) -> Result<String, Trouble> {
 }
 
 // The copies; none where there are no words.
-fn copies(alloc: Global, words: &str) -> Result<Vec<Option<Vec<u8>>>, Trouble> {
+fn copies(alloc: Global, words: &str) -> Result<Vec<Option<Vec<u8>>>, CaseError> {
     let mut copies = Vec::new(alloc);
     if !words.is_empty() {
         for word in words.split(' ') {
@@ -28,7 +28,7 @@ fn copies(alloc: Global, words: &str) -> Result<Vec<Option<Vec<u8>>>, Trouble> {
     Ok(copies)
 }
 
-fn copy(alloc: Global, word: &str) -> Result<Option<Vec<u8>>, Trouble> {
+fn copy(alloc: Global, word: &str) -> Result<Option<Vec<u8>>, CaseError> {
     if word == "-" {
         return Ok(None);
     }

@@ -13,51 +13,51 @@ use std::num::ParseIntError;
 
 /// Why nothing came of a line.
 #[derive(Clone, Copy, Debug, PartialEq, Eq)]
-pub enum Trouble {
+pub enum CaseError {
     /// It is not a test case.
     NoCase,
     /// Memory ran out.
     OutOfMemory,
 }
 
-impl From<AllocError> for Trouble {
-    fn from(_failed: AllocError) -> Trouble {
-        Trouble::OutOfMemory
+impl From<AllocError> for CaseError {
+    fn from(_failed: AllocError) -> CaseError {
+        CaseError::OutOfMemory
     }
 }
 
-impl<T: Drop> From<AllocFailed<T>> for Trouble {
-    fn from(_failed: AllocFailed<T>) -> Trouble {
-        Trouble::OutOfMemory
+impl<T: Drop> From<AllocFailed<T>> for CaseError {
+    fn from(_failed: AllocFailed<T>) -> CaseError {
+        CaseError::OutOfMemory
     }
 }
 
-impl From<ParseIntError> for Trouble {
-    fn from(_error: ParseIntError) -> Trouble {
-        Trouble::NoCase
+impl From<ParseIntError> for CaseError {
+    fn from(_error: ParseIntError) -> CaseError {
+        CaseError::NoCase
     }
 }
 
-impl From<DiskFailed> for Trouble {
-    fn from(_failed: DiskFailed) -> Trouble {
-        Trouble::NoCase
+impl From<DiskFailed> for CaseError {
+    fn from(_failed: DiskFailed) -> CaseError {
+        CaseError::NoCase
     }
 }
 
-impl From<BlobError> for Trouble {
-    fn from(error: BlobError) -> Trouble {
+impl From<BlobError> for CaseError {
+    fn from(error: BlobError) -> CaseError {
         match error {
-            BlobError::Device => Trouble::NoCase,
-            BlobError::OutOfMemory => Trouble::OutOfMemory,
+            BlobError::Device => CaseError::NoCase,
+            BlobError::OutOfMemory => CaseError::OutOfMemory,
         }
     }
 }
 
-impl From<FromHexError> for Trouble {
-    fn from(error: FromHexError) -> Trouble {
+impl From<FromHexError> for CaseError {
+    fn from(error: FromHexError) -> CaseError {
         match error {
-            FromHexError::OutOfMemory => Trouble::OutOfMemory,
-            _ => Trouble::NoCase,
+            FromHexError::OutOfMemory => CaseError::OutOfMemory,
+            _ => CaseError::NoCase,
         }
     }
 }
@@ -71,17 +71,17 @@ pub fn cut(text: &str, at: char) -> (&str, &str) {
 }
 
 /// A decimal number.
-pub fn number(word: &str) -> Result<u64, Trouble> {
+pub fn number(word: &str) -> Result<u64, CaseError> {
     Ok(word.parse::<u64>()?)
 }
 
 /// A decimal number below 2^32.
-pub fn small(word: &str) -> Result<u32, Trouble> {
+pub fn small(word: &str) -> Result<u32, CaseError> {
     Ok(word.parse::<u32>()?)
 }
 
 /// Decimal numbers with commas between them; `-` for none.
-pub fn numbers(alloc: Global, word: &str) -> Result<Vec<u64>, Trouble> {
+pub fn numbers(alloc: Global, word: &str) -> Result<Vec<u64>, CaseError> {
     let mut list = Vec::new(alloc);
     if word != "-" {
         for part in word.split(',') {
@@ -92,7 +92,7 @@ pub fn numbers(alloc: Global, word: &str) -> Result<Vec<u64>, Trouble> {
 }
 
 /// The bytes that a word writes.
-pub fn bytes_of(alloc: Global, word: &str) -> Result<Vec<u8>, Trouble> {
+pub fn bytes_of(alloc: Global, word: &str) -> Result<Vec<u8>, CaseError> {
     let mut bytes = Vec::new(alloc);
     if word != "empty" {
         for part in word.split('+') {
@@ -103,7 +103,7 @@ pub fn bytes_of(alloc: Global, word: &str) -> Result<Vec<u8>, Trouble> {
 }
 
 // Adds digits, or digits that repeat.
-fn put_part(alloc: Global, bytes: &mut Vec<u8>, part: &str) -> Result<(), Trouble> {
+fn put_part(alloc: Global, bytes: &mut Vec<u8>, part: &str) -> Result<(), CaseError> {
     let (count, digits) = part.split_once('*').unwrap_or(("1", part));
     let piece = hex::decode(alloc, digits)?;
     for _ in 0..small(count)? {
@@ -113,12 +113,12 @@ fn put_part(alloc: Global, bytes: &mut Vec<u8>, part: &str) -> Result<(), Troubl
 }
 
 /// A text of its own.
-pub fn text(alloc: Global, words: &str) -> Result<String, Trouble> {
+pub fn text(alloc: Global, words: &str) -> Result<String, CaseError> {
     Ok(String::from_str(alloc, words)?)
 }
 
 /// Bytes as they are written in a line: digits, and runs where they are many.
-pub fn bytes_text(alloc: Global, bytes: &[u8]) -> Result<String, Trouble> {
+pub fn bytes_text(alloc: Global, bytes: &[u8]) -> Result<String, CaseError> {
     if bytes.is_empty() {
         return text(alloc, "empty");
     }
@@ -148,7 +148,7 @@ fn runs_text(alloc: Global, bytes: &[u8]) -> Result<String, AllocError> {
 }
 
 /// Numbers with commas between them; `-` for none.
-pub fn numbers_text(alloc: Global, numbers: &[u32]) -> Result<String, Trouble> {
+pub fn numbers_text(alloc: Global, numbers: &[u32]) -> Result<String, CaseError> {
     let mut said = String::new(alloc);
     for number in numbers {
         if !said.is_empty() {
@@ -163,7 +163,7 @@ pub fn numbers_text(alloc: Global, numbers: &[u32]) -> Result<String, Trouble> {
 }
 
 /// Adds a word after others.
-pub fn add(said: &mut String, word: &str) -> Result<(), Trouble> {
+pub fn add(said: &mut String, word: &str) -> Result<(), CaseError> {
     if !said.is_empty() {
         said.push(' ')?;
     }

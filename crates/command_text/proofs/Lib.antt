@@ -7,3 +7,4 @@ pub mod CallLaws
 pub mod LineLaws
 pub mod Spelled
 pub mod Titles
+pub mod Frequent

@@ -26,5 +26,5 @@ pub use errors::LineError;
 pub use generated::{first_lines, generated_line, last_lines, next_number};
 pub use laws::{errors_have_texts, generated_is_spelled, one_event, one_line};
 pub use lines::{LINE_BYTES, Line, parse_line};
-pub use printing::{print_reply, push_copies, push_unit};
+pub use printing::{print_reply, push_copies, push_reply, push_unit};
 pub use replies::{Answer, AppStatus, Reply};

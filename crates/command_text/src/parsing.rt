@@ -22,9 +22,25 @@ pub(crate) fn call(alloc: Global, text: &[u8]) -> Result<Call, LineError>
     ensures memory { IsErrOf result LineError.OutOfMemory → split text.now ≢ None }
 {
     match split(text) {
-        Some((word, rest)) => manifest_call(alloc, word, rest),
+        Some((word, rest)) => frequent_call(alloc, word, rest),
         None => bare_call(text).ok_or(LineError::NotALine),
     }
+}
+
+/// A call that is made often, or another.
+#[tactic(auto, using(crate::proofs::Frequent::of_get, crate::proofs::Frequent::of_set))]
+fn frequent_call(alloc: Global, word: &[u8], text: &[u8]) -> Result<Call, LineError>
+    ensures { ReadsLine (λ c. c) result (manifest_call word.now text.now) }
+{
+    if is_word(word, b"get") {
+        let (storage, name) = element(alloc, text)?;
+        return Ok(Call::Get(storage, name));
+    }
+    if is_word(word, b"set") {
+        let (storage, name, rest) = element_front(alloc, text)?;
+        return Ok(Call::Set(storage, name, value(alloc, rest)?));
+    }
+    manifest_call(alloc, word, text)
 }
 
 /// A call without an argument.

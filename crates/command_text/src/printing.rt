@@ -21,19 +21,23 @@ pub fn print_reply(alloc: Global, reply: &Reply) -> Result<Vec<u8>, AllocError>
     requires { HasText reply.now.answer }
     ensures { IfOk result (λ text. text.items ≡ reply_text reply.now) }
 {
-    let text = reply_string(alloc, reply)?;
+    let mut text = String::with_capacity(alloc, REPLY_BYTES)?;
+    push_reply(&mut text, reply)?;
     Ok(text.into_bytes())
 }
 
-fn reply_string(alloc: Global, reply: &Reply) -> Result<String, AllocError>
+/// Appends the text of a reply.
+///
+/// # Errors
+///
+/// Memory ran out; what was appended before stays.
+pub fn push_reply(out: &mut String, reply: &Reply) -> Result<(), AllocError>
     requires { HasText reply.now.answer }
-    ensures { IfOk result (λ text. string_bytes text ≡ reply_text reply.now) }
+    ensures { OnOk result (string_bytes out.new ≡ string_bytes out.old ++ reply_text reply.now) }
 {
-    let mut text = String::with_capacity(alloc, REPLY_BYTES)?;
-    push_reports(&mut text, reply.reports.as_slice())?;
-    push_answer(&mut text, &reply.answer)?;
-    text.push_str("\n")?;
-    Ok(text)
+    push_reports(out, reply.reports.as_slice())?;
+    push_answer(out, &reply.answer)?;
+    out.push_str("\n")
 }
 
 // ---- reports

@@ -35,7 +35,8 @@ use Rattle.deploy_rows.specs.Recovering.{after_state, if_contents_fit, is_worn_o
 use Rattle.deploy_rows.specs.Recovering.{recovering}
 use Rattle.deploy_rows.specs.Recovering.{resetting}
 use Rattle.deploy_rows.specs.Rows.{AnswersRow}
-use Rattle.deploy.specs.Clauses.{ChangesNothing, Leaves}
+use Rattle.deploy_laws.specs.Stands.{ChangesNothing}
+use Rattle.deploy.specs.Clauses.{Leaves}
 use Rattle.deploy.specs.Recovered.{AreElements}
 
 -- ---- a rebuilding

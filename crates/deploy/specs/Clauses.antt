@@ -1,6 +1,6 @@
 -- What the calls of a deployment have in common.
 use Rattle.std.specs.Prelude.{◌≡◌, ℕ, Bool, IsTrue}
-use Rattle.disk_model.specs.Medium.{Medium, Quiet, EachCase, IsIdle}
+use Rattle.disk_model.specs.Medium.{EachCase, Medium, Quiet}
 use Rattle.disk_model.specs.Frame.{IsSettledOn, Spares}
 use Rattle.disk_model.specs.Place.{IsNoSlot}
 use Rattle.deploy_laws.specs.Apps.{App, app_at, IsCleanApp}
@@ -19,12 +19,6 @@ IsNoRootSlot app file = IsNoSlot (root_place app) file
 -- the file is none that an install or an update in this bank writes: no slot of the root, and none of the bank
 abbrev pub IsBesideNext : (app bank : ℕ) → ℕ → Type 0
 IsBesideNext app bank file = IsNoRootSlot app file × IsOutsideBank app bank file
-
--- no byte changes and none is written; and where nothing was pending, a crash meanwhile leaves what there was
-pub record ChangesNothing (old new : Medium) : Type 0 where
-  pub image : new.image ≡ old.image
-  pub written : new.written ≡ old.written
-  pub idle : Quiet old → IsIdle old new
 
 -- at every moment the application stands between what it was and whatever may come of it
 abbrev pub StandsOnTheWay : ℕ → (old new : Medium) → Type 0

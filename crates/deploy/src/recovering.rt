@@ -20,7 +20,8 @@ ghost use Rattle.element_state.specs.States.{Corrupt, State, salvage_of, store_a
 ghost use Rattle.deploy_rows.specs.Recovering.{after_state, if_contents_fit, is_worn_out, rebuilding};
 ghost use Rattle.deploy_rows.specs.Recovering.{recovered_contents, recovering, rescued, resetting};
 ghost use Rattle.deploy_rows.specs.Rows.{AnswersRow};
-ghost use Rattle.deploy.specs.Clauses.{ChangesNothing, Leaves};
+ghost use Rattle.deploy_laws.specs.Stands.{ChangesNothing};
+ghost use Rattle.deploy.specs.Clauses.{Leaves};
 ghost use Rattle.deploy.specs.Recovered.{AreElements, rescued_entry};
 
 use crate::errors::Stop;

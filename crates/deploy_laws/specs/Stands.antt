@@ -3,7 +3,7 @@ use Rattle.std.specs.Prelude.{◌≡◌, ◌⊎◌, ℕ, ◌+◌, List, [], ◌�
 use Rattle.disk_model.specs.Image.{Image}
 use Rattle.disk_model.specs.Case.{Case}
 use Rattle.disk_model.specs.Damage.{IsUndamaged, AtLeast}
-use Rattle.disk_model.specs.Medium.{Medium, Quiet, EachCase}
+use Rattle.disk_model.specs.Medium.{EachCase, IsIdle, Medium, Quiet}
 use Rattle.element_state.specs.declared.shapes.Shape.{Shape}
 use Rattle.element_state.specs.States.{State, store_at}
 use Rattle.element_state.specs.Kept.{Kept}
@@ -12,6 +12,12 @@ use Rattle.deploy_laws.specs.Apps.{nothing, App, says_at, app_at, shapes_named, 
 use Rattle.deploy_laws.specs.Apps.{IsCleanApp}
 use Rattle.deploy_laws.specs.Apps.{AreClean}
 use Rattle.deploy_laws.specs.Pieces.{IsSoundApp, DecaysApp}
+
+-- no byte changes and none is written; and where nothing was pending, a crash meanwhile leaves what there was
+pub record ChangesNothing (old new : Medium) : Type 0 where
+  pub image : new.image ≡ old.image
+  pub written : new.written ≡ old.written
+  pub idle : Quiet old → IsIdle old new
 
 -- each storage is kept, by its states before and after
 abbrev pub AreKept : Image → (damaged : List ℕ) → List Shape → (before after : List State) → Type 0

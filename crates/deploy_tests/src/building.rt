@@ -89,7 +89,7 @@ fn ended(
         "commit" => staged.commit_update(disk)?,
         "abort" => staged.abort(),
         "forget" => open_root(alloc, disk, app)?,
-        _ => return Err(Fault::NoCase),
+        _ => return Err(Fault::CaseError),
     };
     add(said, "ok")?;
     Ok(root)

@@ -10,7 +10,7 @@ use crate::faults::Fault;
 use crate::manifests::manifest;
 use crate::refusals::outcome_text;
 use crate::roots::looked;
-use case_words::{Trouble, cut};
+use case_words::{CaseError, cut};
 use deploy::{Outcome, Root, finish, install, open_root, rollback, update, wipe};
 use disk_model::MemDisk;
 use migrate_fns::Migrations;
@@ -92,7 +92,7 @@ fn made(
         "finish" => finished(alloc, disk, app, root),
         "rollback" => rolled_back(alloc, disk, app, root, rest),
         "wipe" => wiped(alloc, disk, app, root, rest),
-        _ => Err(Fault::NoCase),
+        _ => Err(Fault::CaseError),
     }
 }
 
@@ -181,7 +181,7 @@ fn updated(
 }
 
 // The open storage, where one is named.
-fn busy_of(alloc: Global, word: &str) -> Result<Option<Name>, Trouble> {
+fn busy_of(alloc: Global, word: &str) -> Result<Option<Name>, CaseError> {
     if word.is_empty() {
         return Ok(None);
     }
@@ -189,10 +189,10 @@ fn busy_of(alloc: Global, word: &str) -> Result<Option<Name>, Trouble> {
 }
 
 /// A name.
-pub fn name_of(alloc: Global, word: &str) -> Result<Name, Trouble> {
+pub fn name_of(alloc: Global, word: &str) -> Result<Name, CaseError> {
     match Name::new(alloc, word) {
         Ok(name) => Ok(name),
-        Err(PerError::BadName) => Err(Trouble::NoCase),
-        Err(_) => Err(Trouble::OutOfMemory),
+        Err(PerError::BadName) => Err(CaseError::NoCase),
+        Err(_) => Err(CaseError::OutOfMemory),
     }
 }

@@ -2,7 +2,7 @@
 
 use crate::courses::course;
 use crate::stops::{damaged, stops};
-use case_words::{Trouble, cut};
+use case_words::{CaseError, cut};
 use std::alloc::{AllocError, Global};
 
 /// What came of a line.
@@ -12,18 +12,18 @@ pub fn answer(alloc: Global, line: &str) -> Result<String, AllocError> {
     }
     match case(alloc, line) {
         Ok(said) => Ok(said),
-        Err(Trouble::NoCase) => String::from_str(alloc, "no case"),
-        Err(Trouble::OutOfMemory) => Err(AllocError),
+        Err(CaseError::NoCase) => String::from_str(alloc, "no case"),
+        Err(CaseError::OutOfMemory) => Err(AllocError),
     }
 }
 
 // What came of a case.
-fn case(alloc: Global, line: &str) -> Result<String, Trouble> {
+fn case(alloc: Global, line: &str) -> Result<String, CaseError> {
     let (kind, rest) = cut(line, ' ');
     match kind {
         "course" => course(alloc, rest),
         "stops" => stops(alloc, rest),
         "damaged" => damaged(alloc, rest),
-        _ => Err(Trouble::NoCase),
+        _ => Err(CaseError::NoCase),
     }
 }

@@ -7,19 +7,19 @@ use crate::faults::Fault;
 use crate::images::{flip, hold, spoil, wear};
 use crate::roots::viewed;
 use crate::storages::stored;
-use case_words::{Trouble, cut, number, numbers, small};
+use case_words::{CaseError, cut, number, numbers, small};
 use deploy::format_all;
 use disk_model::MemDisk;
 use std::alloc::Global;
 
 /// `course WORD ..`: what each word answers, from a disk of empty files on.
-pub fn course(alloc: Global, words: &str) -> Result<String, Trouble> {
+pub fn course(alloc: Global, words: &str) -> Result<String, CaseError> {
     let (_disk, said) = run(alloc, MemDisk::new(alloc), words)?;
     Ok(said)
 }
 
 /// What the words leave of a disk, and what each answers.
-pub fn run(alloc: Global, disk: MemDisk, words: &str) -> Result<(MemDisk, String), Trouble> {
+pub fn run(alloc: Global, disk: MemDisk, words: &str) -> Result<(MemDisk, String), CaseError> {
     let mut disk = disk;
     let mut said = String::new(alloc);
     for word in words.split_whitespace() {
@@ -34,7 +34,7 @@ pub fn step(
     disk: MemDisk,
     word: &str,
     said: &mut String,
-) -> Result<MemDisk, Trouble> {
+) -> Result<MemDisk, CaseError> {
     let (verb, rest) = cut(word, ':');
     if verb == "restart" {
         add(said, "ok")?;
@@ -44,14 +44,14 @@ pub fn step(
     match told(alloc, &mut disk, verb, rest, said) {
         Ok(()) => {}
         Err(Fault::Device) => add(said, "failed")?,
-        Err(Fault::NoCase) => return Err(Trouble::NoCase),
-        Err(Fault::OutOfMemory) => return Err(Trouble::OutOfMemory),
+        Err(Fault::CaseError) => return Err(CaseError::NoCase),
+        Err(Fault::OutOfMemory) => return Err(CaseError::OutOfMemory),
     }
     Ok(disk)
 }
 
 /// Adds an answer after others.
-pub fn add(said: &mut String, answer: &str) -> Result<(), Trouble> {
+pub fn add(said: &mut String, answer: &str) -> Result<(), CaseError> {
     if !said.is_empty() {
         said.push_str(" | ")?;
     }
@@ -60,7 +60,7 @@ pub fn add(said: &mut String, answer: &str) -> Result<(), Trouble> {
 }
 
 /// After a power loss that keeps all writes since the last sync, none, or those of the pattern.
-pub fn restarted(disk: MemDisk, way: &str) -> Result<MemDisk, Trouble> {
+pub fn restarted(disk: MemDisk, way: &str) -> Result<MemDisk, CaseError> {
     let disk = match way {
         "all" => disk.crash(true)?,
         "none" => disk.crash(false)?,
@@ -97,12 +97,12 @@ fn told(
 }
 
 // The number of an application.
-fn app_of(word: &str) -> Result<u32, Trouble>
+fn app_of(word: &str) -> Result<u32, CaseError>
     ensures { IfOk result (λ app. app < 8) }
 {
     let app = small(word)?;
     if app >= 8 {
-        return Err(Trouble::NoCase);
+        return Err(CaseError::NoCase);
     }
     Ok(app)
 }

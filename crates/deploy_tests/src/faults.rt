@@ -1,6 +1,6 @@
 //! Why a word did not come to its end.
 
-use case_words::Trouble;
+use case_words::CaseError;
 use deploy::Stop;
 use disk_model::DiskFailed;
 use element_store::StoreError;
@@ -13,16 +13,16 @@ pub enum Fault {
     /// The disk failed.
     Device,
     /// It is no word.
-    NoCase,
+    CaseError,
     /// Memory ran out.
     OutOfMemory,
 }
 
-impl From<Trouble> for Fault {
-    fn from(trouble: Trouble) -> Fault {
+impl From<CaseError> for Fault {
+    fn from(trouble: CaseError) -> Fault {
         match trouble {
-            Trouble::NoCase => Fault::NoCase,
-            Trouble::OutOfMemory => Fault::OutOfMemory,
+            CaseError::NoCase => Fault::CaseError,
+            CaseError::OutOfMemory => Fault::OutOfMemory,
         }
     }
 }
@@ -40,7 +40,7 @@ impl From<StoreError> for Fault {
     fn from(error: StoreError) -> Fault {
         match error {
             StoreError::Device => Fault::Device,
-            StoreError::Corrupt => Fault::NoCase,
+            StoreError::Corrupt => Fault::CaseError,
             StoreError::OutOfMemory => Fault::OutOfMemory,
         }
     }
@@ -50,7 +50,7 @@ impl From<CellError> for Fault {
     fn from(error: CellError) -> Fault {
         match error {
             CellError::Device => Fault::Device,
-            CellError::Corrupt => Fault::NoCase,
+            CellError::Corrupt => Fault::CaseError,
             CellError::OutOfMemory => Fault::OutOfMemory,
         }
     }

@@ -40,7 +40,7 @@ pub fn spoil(disk: &mut MemDisk, rest: &str) -> Result<(), Fault> {
     let (file, rest) = cut(rest, ':');
     let (at, byte) = cut(rest, ':');
     let Ok(byte) = byte.parse::<u8>() else {
-        return Err(Fault::NoCase);
+        return Err(Fault::CaseError);
     };
     disk.write_at(small(file)?, number(at)?, &[byte])?;
     disk.sync()?;
@@ -61,7 +61,7 @@ pub fn hold(alloc: Global, disk: &mut MemDisk, rest: &str) -> Result<(), Fault> 
 // A text under a generation, where it can have one.
 fn sealed(alloc: Global, generation: u64, text: &[u8]) -> Result<Vec<u8>, Fault> {
     if generation == 0 || text.len() > MAX_BODY {
-        return Err(Fault::NoCase);
+        return Err(Fault::CaseError);
     }
     Ok(seal(alloc, generation, text)?)
 }
@@ -72,7 +72,7 @@ pub fn wear(alloc: Global, disk: &mut MemDisk, rest: &str) -> Result<(), Fault> 
     let place = place_of(small(first)?, small(copies)?)?;
     let looked = look(alloc, disk, place)?;
     let Some(seen) = looked.seens.first() else {
-        return Err(Fault::NoCase);
+        return Err(Fault::CaseError);
     };
     let sealed = sealed(alloc, u64::MAX, seen.text.as_slice())?;
     for copy in 0..place.copies {
@@ -87,7 +87,7 @@ fn place_of(first: u32, copies: u32) -> Result<Place, Fault>
     ensures { IfOk result (λ place. (place.first ≤ 32768) × (place.copies ≤ 8)) }
 {
     if first > 32_768 || copies == 0 || copies > 8 {
-        return Err(Fault::NoCase);
+        return Err(Fault::CaseError);
     }
     Ok(Place { first, copies })
 }

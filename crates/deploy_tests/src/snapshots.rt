@@ -1,6 +1,6 @@
 //! The bytes of a disk, kept to begin from once more.
 
-use case_words::Trouble;
+use case_words::CaseError;
 use disk_model::{Disk, MemDisk};
 use std::alloc::Global;
 
@@ -15,13 +15,13 @@ pub struct Snapshot {
 
 impl Snapshot {
     /// What the files of applications 0 and 1 hold, fewer than 1,024 bytes each.
-    pub fn taken(alloc: Global, disk: &mut MemDisk) -> Result<Snapshot, Trouble> {
+    pub fn taken(alloc: Global, disk: &mut MemDisk) -> Result<Snapshot, CaseError> {
         let mut files = Vec::new(alloc);
         let mut room = [0; 1024];
         for file in 0..FILES {
             let count = disk.read(file, 0, &mut room)?;
             if count == room.len() {
-                return Err(Trouble::NoCase);
+                return Err(CaseError::NoCase);
             }
             if count > 0 {
                 files.push((file, Vec::from_slice(alloc, &room[..count])?))?;
@@ -31,7 +31,7 @@ impl Snapshot {
     }
 
     /// A quiet disk with these files.
-    pub fn disk(&self, alloc: Global) -> Result<MemDisk, Trouble> {
+    pub fn disk(&self, alloc: Global) -> Result<MemDisk, CaseError> {
         let mut disk = MemDisk::new(alloc);
         for (file, bytes) in &self.files {
             disk.write_at(*file, 0, bytes)?;

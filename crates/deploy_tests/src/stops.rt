@@ -2,7 +2,7 @@
 
 use crate::courses::{restarted, run, step};
 use crate::snapshots::Snapshot;
-use case_words::{Trouble, text};
+use case_words::{CaseError, text};
 use disk_model::MemDisk;
 use std::alloc::Global;
 
@@ -34,16 +34,16 @@ struct Course<'a> {
 }
 
 /// `stops WORD .. / WORD / LOOK .. / BEFORE / AFTER`, and ` / BETWEEN`: `kept`, or where another answer came.
-pub fn stops(alloc: Global, rest: &str) -> Result<String, Trouble> {
+pub fn stops(alloc: Global, rest: &str) -> Result<String, CaseError> {
     follow_all(alloc, rest, &[])
 }
 
 /// `damaged` and the same: besides, where a copy of the root of application 0 is damaged after each restart.
-pub fn damaged(alloc: Global, rest: &str) -> Result<String, Trouble> {
+pub fn damaged(alloc: Global, rest: &str) -> Result<String, CaseError> {
     follow_all(alloc, rest, &DAMAGES)
 }
 
-fn follow_all(alloc: Global, rest: &str, damages: &[&str]) -> Result<String, Trouble> {
+fn follow_all(alloc: Global, rest: &str, damages: &[&str]) -> Result<String, CaseError> {
     let (earlier, rest) = cut_part(rest);
     let course = course_of(rest);
     let (mut disk, _said) = run(alloc, MemDisk::new(alloc), earlier)?;
@@ -87,7 +87,7 @@ fn cut_part(text: &str) -> (&str, &str) {
 
 // After how many calls the word is stopped: those at which it has written more than before, and all of its calls, as
 // the last. What a stop at another call may leave is among what these leave.
-fn moments(alloc: Global, start: &Snapshot, word: &str) -> Result<Vec<u64>, Trouble> {
+fn moments(alloc: Global, start: &Snapshot, word: &str) -> Result<Vec<u64>, CaseError> {
     let mut moments = Vec::new(alloc);
     let mut written = 0;
     for passing in 0..ENOUGH {
@@ -100,7 +100,7 @@ fn moments(alloc: Global, start: &Snapshot, word: &str) -> Result<Vec<u64>, Trou
         }
         written = disk.written();
     }
-    Err(Trouble::NoCase)
+    Err(CaseError::NoCase)
 }
 
 // Stops the word at each of these moments. Where a restart keeps all writes or none, the answer is that of after from
@@ -112,7 +112,7 @@ fn follow(
     moments: &[u64],
     damage: &str,
     way: &str,
-) -> Result<Option<String>, Trouble> {
+) -> Result<Option<String>, CaseError> {
     let is_whole = way == "all" || way == "none";
     let mut is_over = false;
     for passing in moments {
@@ -134,7 +134,7 @@ fn stopped_at(
     start: &Snapshot,
     word: &str,
     passing: u64,
-) -> Result<(MemDisk, bool), Trouble> {
+) -> Result<(MemDisk, bool), CaseError> {
     let mut disk = start.disk(alloc)?;
     disk.stop_after(passing);
     let mut said = String::new(alloc);

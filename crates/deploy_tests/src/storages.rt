@@ -37,7 +37,7 @@ pub fn stored(
 {
     let (name, rest) = cut(rest, ':');
     let Root::Installed(root) = open_root(alloc, disk, app)? else {
-        return Err(Fault::NoCase);
+        return Err(Fault::CaseError);
     };
     let mut number = 0;
     for config in root.active.deployment.storages.as_slice() {
@@ -49,7 +49,7 @@ pub fn stored(
         }
         number += 1;
     }
-    Err(Fault::NoCase)
+    Err(Fault::CaseError)
 }
 
 fn worded(
@@ -75,7 +75,7 @@ fn worded(
             let refused = reset_storage(alloc, disk, &shape, config, RECOVERED)?;
             Ok(outcome_text(alloc, refused.as_ref())?)
         }
-        _ => Err(Fault::NoCase),
+        _ => Err(Fault::CaseError),
     }
 }
 
@@ -108,7 +108,7 @@ fn set(
     match kvs.sync_to_storage(disk) {
         Ok(_kvs) => Ok(text(alloc, "ok")?),
         Err(SyncFault::Device) => Err(Fault::Device),
-        Err(SyncFault::WornOut(_)) => Err(Fault::NoCase),
+        Err(SyncFault::WornOut(_)) => Err(Fault::CaseError),
         Err(SyncFault::OutOfMemory(_)) => Err(Fault::OutOfMemory),
     }
 }
@@ -119,10 +119,10 @@ fn set_one(alloc: Global, kvs: &mut Kvs, pair: &str) -> Result<(), Fault>
     let (key, value) = cut(pair, '=');
     let key = name_of(alloc, key)?;
     let Ok(value) = parse_value(alloc, value.as_bytes()) else {
-        return Err(Fault::NoCase);
+        return Err(Fault::CaseError);
     };
     match kvs.set_any(&key, value) {
         Ok(()) => Ok(()),
-        Err(_) => Err(Fault::NoCase),
+        Err(_) => Err(Fault::CaseError),
     }
 }

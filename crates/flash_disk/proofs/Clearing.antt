@@ -16,7 +16,7 @@ use Rattle.flash_disk.specs.Does.{Does}
 use Rattle.flash_disk.specs.Standing.{DenotesFiles, KeepsRecords}
 use Rattle.flash_disk.specs.Sound.{Sound, IsSoundLayer, IsDescribedBy, PendsAt, HasFreshPage, FitsIn, ShowsSame}
 use Rattle.flash_disk.specs.Moving.{IsMoving}
-use Rattle.flash_disk.specs.Apart.{KeepsHeld, HoldsOnly}
+use Rattle.flash_disk.specs.Apart.{KeepsHeld, HoldsOneCopy}
 use Rattle.flash_disk.specs.KeepsApart.{KeepsApart}
 use Rattle.flash_disk.specs.Emptied.{IsEmptyBlock, Empties}
 use Rattle.flash_disk.proofs.Standing.{keeps_said}
@@ -63,7 +63,7 @@ module _ (pages : Pages) (block : ℕ) (empty : IsEmptyBlock pages block) where
   pub empty_none : (j : ℕ) → j / 64 ≡ block → record_at pages j ≡ None
   empty_none j at = ap record_in (ap (λ b. pages b (j % 64)) at ∙ empty (j % 64) (omega arith)) ∙ blank_is_none
 
-  pub empty_holds : (n copy : ℕ) → HoldsOnly pages n block copy
+  pub empty_holds : (n copy : ℕ) → HoldsOneCopy pages n block copy
   empty_holds n copy file page x found j inside at there = absurd (none-some x.says (sym (empty_none j at) ∙ there))
 
 -- where the spare block is known to be blank it is, whatever a call that failed may have left elsewhere
@@ -72,7 +72,7 @@ pub cleared_empty : (m : FlashMedium) (s : LayerState) → IsDescribedBy m s →
 cleared_empty m s described cleared = elsewhere s.unsure described.pends
   where
     elsewhere : (u : Option FlashPage) → PendsAt described.sure m.state.pages m.blocks s u
-      → IsEmptyBlock m.state.pages s.spare
+        → IsEmptyBlock m.state.pages s.spare
     elsewhere None same = subst (λ p. IsEmptyBlock p s.spare) (sym same) (described.sound.empty cleared)
     elsewhere (Some place) pends = still_empty described.sure m.state.pages place.block place.page s.spare
         pends.elsewhere pends.apart (described.sound.empty cleared)
@@ -144,9 +144,9 @@ module _ (m : FlashMedium) (s : LayerState) (sound : IsSoundLayer m s) (agreed :
         (λ left. (home : ℕ) → KeepsHeld copy home n pages left)
         (λ left empties home. empties_held copy home left empties) does)
 
-    pub cleared_holds : (block copy : ℕ) → HoldsOnly pages n block copy
-        → HoldsOnly now.state.pages (places now.blocks) block copy
-    cleared_holds block copy only = subst (λ k. HoldsOnly now.state.pages (places k) block copy) (sym blocks)
+    pub cleared_holds : (block copy : ℕ) → HoldsOneCopy pages n block copy
+        → HoldsOneCopy now.state.pages (places now.blocks) block copy
+    cleared_holds block copy only = subst (λ k. HoldsOneCopy now.state.pages (places k) block copy) (sym blocks)
         (empties_held copy (block + 1) now.state.pages does.now block copy (λ same. absurd (omega (arith, same))) only)
 
     module _ (t : LayerState) (state : t ≡ record s { cleared = t.cleared }) where

@@ -11,7 +11,7 @@ use Rattle.flash_disk.specs.Known.{same_page, load_known}
 use Rattle.flash_disk.specs.Does.{Does}
 use Rattle.flash_disk.specs.Sound.{IsSoundLayer}
 use Rattle.flash_disk.specs.Moving.{StandsMoved}
-use Rattle.flash_disk.specs.Apart.{HoldsOnly}
+use Rattle.flash_disk.specs.Apart.{HoldsOneCopy}
 use Rattle.flash_disk.specs.LedApart.{LeadsOnly}
 use Rattle.flash_disk.specs.KeepsApart.{MayMix, KeepsApart, HasHome}
 use Rattle.flash_disk.proofs.Filled.{is_packed}
@@ -47,7 +47,7 @@ module _ (told : Bool) (m look now : FlashMedium) (lawful : IsLawfulFlash told m
   victim_only other = let is = light other in
       subst (LeadsOnly s.table copy) (sym (taken other is.0 is.1)) is.2
 
-  module _ (erased : KeepsApart copy m look) (holds : HoldsOnly look.state.pages (places look.blocks) s.spare copy)
+  module _ (erased : KeepsApart copy m look) (holds : HoldsOneCopy look.state.pages (places look.blocks) s.spare copy)
       (moved : Does (StandsMoved s.table victim s.spare look) look now) where
     pub gathered_apart : KeepsApart copy m now
     gathered_apart = ⊎_elim
@@ -60,6 +60,6 @@ module _ (told : Bool) (m look now : FlashMedium) (lawful : IsLawfulFlash told m
     pub gathered_home : HasHome copy m now s.spare
     gathered_home many stand = ⊎_elim
         (λ nothing. inr (no_room nothing many))
-        (λ other. inl (subst (λ k. HoldsOnly now.state.pages (places k) s.spare copy) (sym second.blocks)
+        (λ other. inl (subst (λ k. HoldsOneCopy now.state.pages (places k) s.spare copy) (sym second.blocks)
         (moved.now.held copy (victim_only other) s.spare copy (λ _. refl) holds)))
         (cases_eq own s.spare)

@@ -17,7 +17,7 @@ use Rattle.flash_disk.specs.Newest.{Placed, record_at, newest, places}
 use Rattle.flash_disk.specs.Known.{known}
 use Rattle.flash_disk.specs.Learnt.{number, AddsRecord, Led, LedOf, IsLed}
 use Rattle.flash_disk.specs.Does.{Does}
-use Rattle.flash_disk.specs.Apart.{copy_of, IsApart, HoldsOnly, KeepsHeld, StandApart, HasNoRoom}
+use Rattle.flash_disk.specs.Apart.{copy_of, IsApart, HoldsOneCopy, KeepsHeld, StandApart, HasNoRoom}
 use Rattle.flash_disk.specs.LedApart.{LeadsOnly, LeadsSome}
 use Rattle.flash_disk.specs.KeepsApart.{MayMix, StaysApart, KeepsApart, HasHome, LackedRoom, StandsOrLacked, ApartSince}
 use Rattle.flash_disk.specs.FlashDiskMedium.{still_case}
@@ -93,11 +93,11 @@ module _ (old new : Pages) (copy home n : ℕ) where
 
 -- where a block may come to hold a copy, the copies still stand apart
 pub stand_held : (old new : Pages) (blocks copy home : ℕ) → KeepsHeld copy home (places blocks) old new
-    → HoldsOnly old (places blocks) home copy → StandApart old blocks → StandApart new blocks
+    → HoldsOneCopy old (places blocks) home copy → StandApart old blocks → StandApart new blocks
 stand_held old new blocks copy home held only stand block = ⊎_elim
     (λ same. (
       copy,
-      held block copy (λ _. refl) (subst (λ b. HoldsOnly old (places blocks) b copy) (sym same) only),
+      held block copy (λ _. refl) (subst (λ b. HoldsOneCopy old (places blocks) b copy) (sym same) only),
     ))
     (λ apart. let own = stand block in (own.0, held block own.0 (λ same. absurd (apart same)) own.1))
     (cases_eq block home)
@@ -132,7 +132,7 @@ module _ (pages : Pages) (blocks : ℕ) (table : Table) (led : IsLed pages (plac
       (newest pages key.file key.page (places blocks)) refl
       (subst (λ o. LedOf pages (places blocks) o (newest pages key.file key.page (places blocks))) is (led.says key))
 
-  pub leads_only : (block copy : ℕ) → HoldsOnly pages (places blocks) block copy → LeadsOnly table copy block
+  pub leads_only : (block copy : ℕ) → HoldsOneCopy pages (places blocks) block copy → LeadsOnly table copy block
   leads_only block copy only = λ key e is at.
       let found = leads_to key e is in
       let small = found.2.leads.small in
@@ -141,18 +141,18 @@ module _ (pages : Pages) (blocks : ℕ) (table : Table) (led : IsLed pages (plac
 
   -- where copies stand apart, a block with one record of a copy that counts holds only that copy
   pub holds_some : (block copy : ℕ) → LeadsSome table copy block → StandApart pages blocks
-      → HoldsOnly pages (places blocks) block copy
+      → HoldsOneCopy pages (places blocks) block copy
   holds_some block copy some stand =
       let own = stand block in
       let same : own.0 ≡ copy = sym (leads_only block own.0 own.1 some.0 some.1 some.2 some.3) ∙ some.4 in
-      subst (HoldsOnly pages (places blocks) block) same own.1
+      subst (HoldsOneCopy pages (places blocks) block) same own.1
 
 -- ---- calls
 
 module _ (copy : ℕ) (a b : FlashMedium) where
   -- calls in all of which a block holds the copy alone
   pub does_apart : (home : ℕ) → Does (KeepsHeld copy home (places a.blocks) a.state.pages) a b
-      → HoldsOnly a.state.pages (places a.blocks) home copy → KeepsApart copy a b
+      → HoldsOneCopy a.state.pages (places a.blocks) home copy → KeepsApart copy a b
   does_apart home does only = record {
     now = λ many stand. inl (stand_held a.state.pages b.state.pages a.blocks copy home does.now only stand);
     during = λ c past plain many stand. inl (stand_held a.state.pages c.left a.blocks copy home
@@ -320,8 +320,8 @@ pub goes_on : (copy : ℕ) (m look : FlashMedium) → look.state ≡ m.state →
     → IsLed m.state.pages (places m.blocks) table → table.blocks ≡ m.blocks → (block : ℕ)
     → (16 ≤ table.blocks → LeadsSome table copy block) → HasHome copy m look block
 goes_on copy m look state blocks table led blocks_are block some many stand = inl
-    (subst (λ k. HoldsOnly look.state.pages (places k) block copy) (sym blocks)
-    (subst (λ (z : FlashState). HoldsOnly z.pages (places m.blocks) block copy) (sym state)
+    (subst (λ k. HoldsOneCopy look.state.pages (places k) block copy) (sym blocks)
+    (subst (λ (z : FlashState). HoldsOneCopy z.pages (places m.blocks) block copy) (sym state)
     (holds_some m.state.pages m.blocks table led block copy (some (omega (arith, many, blocks_are))) stand)))
 
 -- no call but a failure of the disk's own

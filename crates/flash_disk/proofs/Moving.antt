@@ -25,7 +25,7 @@ use Rattle.flash_disk.specs.Standing.{DenotesFiles, KeepsRecords}
 use Rattle.flash_disk.specs.Sound.{Sound, IsSoundLayer, HasFreshPage, FitsIn, MayBeAdded, ShowsSame}
 use Rattle.flash_disk.specs.Emptied.{IsEmptyBlock}
 use Rattle.flash_disk.specs.Moving.{IsMoved, HasKey, IsMoving, StandsMoved}
-use Rattle.flash_disk.specs.Apart.{copy_of, KeepsHeld, HoldsOnly}
+use Rattle.flash_disk.specs.Apart.{copy_of, KeepsHeld, HoldsOneCopy}
 use Rattle.flash_disk.specs.LedApart.{LeadsOnly}
 use Rattle.flash_disk.proofs.Learning.{record_at_place, same_page_refl}
 use Rattle.flash_disk.proofs.Standing.{is_newest_of, keeps_said, keeps_agreed, keeps_strayless, keeps_tops, keeps_known}

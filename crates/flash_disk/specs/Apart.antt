@@ -21,18 +21,18 @@ abbrev pub IsApart : Pages → ℕ → Type 0
 IsApart pages blocks = (block : ℕ) → (copy : ℕ) × IsOfCopy pages (places blocks) block copy
 
 -- a block in which nothing counts but files of one copy, also where another block has an equal record
-abbrev pub HoldsOnly : Pages → (n block copy : ℕ) → Type 0
-HoldsOnly pages n block copy = (file page : ℕ) (x : Placed) → newest pages file page n ≡ Some x → (j : ℕ) → j < n
+abbrev pub HoldsOneCopy : Pages → (n block copy : ℕ) → Type 0
+HoldsOneCopy pages n block copy = (file page : ℕ) (x : Placed) → newest pages file page n ≡ Some x → (j : ℕ) → j < n
     → j / 64 ≡ block → record_at pages j ≡ Some x.says → copy_of file ≡ copy
 
 -- what held only one copy holds only that copy, but for one block, which may come to hold this copy too
 abbrev pub KeepsHeld : (copy home n : ℕ) → (old new : Pages) → Type 0
-KeepsHeld copy home n old new = (block own : ℕ) → (block ≡ home → copy ≡ own) → HoldsOnly old n block own
-    → HoldsOnly new n block own
+KeepsHeld copy home n old new = (block own : ℕ) → (block ≡ home → copy ≡ own) → HoldsOneCopy old n block own
+    → HoldsOneCopy new n block own
 
 -- in each block of a flash of that many blocks nothing counts but files of one copy
 abbrev pub StandApart : Pages → ℕ → Type 0
-StandApart pages blocks = (block : ℕ) → (copy : ℕ) × HoldsOnly pages (places blocks) block copy
+StandApart pages blocks = (block : ℕ) → (copy : ℕ) × HoldsOneCopy pages (places blocks) block copy
 
 -- a record that is equal to the newest of its page of a file is in this place
 abbrev pub Counts : Pages → (n place : ℕ) → Type 0
@@ -48,7 +48,7 @@ pub record HasNoRoom (pages : Pages) (blocks copy : ℕ) : Type 0 where
   pub spare : ℕ
   pub within : spare < blocks
   pub is_spare : IsSpare pages (places blocks) spare
-  pub packed : (block : ℕ) → block < blocks → block ≢ spare → HoldsOnly pages (places blocks) block copy
+  pub packed : (block : ℕ) → block < blocks → block ≢ spare → HoldsOneCopy pages (places blocks) block copy
       → IsPacked pages (places blocks) block
 
 -- pages of a block were lost: each is no record any more, or as it was, and all others are as they were

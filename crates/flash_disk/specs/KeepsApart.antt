@@ -4,7 +4,7 @@ use Rattle.flash_model.specs.Pages.{Pages, IsPlain}
 use Rattle.flash_model.specs.State.{FlashCase}
 use Rattle.flash_model.specs.FlashMedium.{FlashMedium}
 use Rattle.flash_disk.specs.Newest.{places}
-use Rattle.flash_disk.specs.Apart.{StandApart, HasNoRoom, HoldsOnly}
+use Rattle.flash_disk.specs.Apart.{StandApart, HasNoRoom, HoldsOneCopy}
 
 -- At some moment of a call no block but the spare one had room for a copy. Then its next record may come to be in a
 -- block of others.
@@ -45,4 +45,4 @@ pub record ApartSince (m : FlashMedium) (t : ℕ) : Type 0 where
 -- where the copies stood apart, a block holds this one only, or there was no room for it
 abbrev pub HasHome : (copy : ℕ) → (old new : FlashMedium) → (block : ℕ) → Type 0
 HasHome copy old new block = 16 ≤ old.blocks → StandApart old.state.pages old.blocks
-    → HoldsOnly new.state.pages (places new.blocks) block copy ⊎ MayMix copy old new
+    → HoldsOneCopy new.state.pages (places new.blocks) block copy ⊎ MayMix copy old new

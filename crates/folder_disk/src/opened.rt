@@ -13,7 +13,7 @@ use crate::notes::is_noted;
 use crate::range::Range;
 use crate::reading::{Answer, answer_of};
 use std::alloc::Global;
-use std::collections::BTreeMap;
+use std::collections::{BTreeMap, BTreeSet};
 use std::io;
 use std::marker::Model;
 use system_model::{Reading, System};
@@ -28,6 +28,8 @@ pub struct Opened<S: System> {
     files: BTreeMap<u32, S::File>,
     /// When each was last asked for, as the number of the question.
     uses: BTreeMap<u32, u64>,
+    /// Those that were open, or are: what stands in their place is a file.
+    found: BTreeSet<u32>,
     /// How often files were asked for.
     questions: u64,
     /// Whether a file was found, or made.
@@ -60,6 +62,7 @@ impl<S: System> Opened<S> {
             system,
             files: BTreeMap::new(alloc),
             uses: BTreeMap::new(alloc),
+            found: BTreeSet::new(alloc),
             questions: 0,
             has_files: false,
             listed: None,
@@ -120,7 +123,7 @@ impl<S: System> Opened<S> {
             self.note_use(file);
             return Ok(true);
         }
-        if !self.system.is_file(file)? {
+        if !self.found.contains(&file) && !self.system.is_file(file)? {
             return Ok(false);
         }
         match self.system.open(file)? {
@@ -198,6 +201,7 @@ impl<S: System> Opened<S> {
         ensures { self.new ≡ self.old }
     {
         self.has_files = true;
+        let _ = self.found.insert(number);
         match self.files.insert(number, file) {
             Ok(_) => {
                 self.note_use(number);

@@ -1,3 +1,4 @@
 pub mod Contents
 pub mod Recoveries
 pub mod SameKinds
+mod Sizes

@@ -14,7 +14,7 @@ ghost use Rattle.kvs_core.specs.Calls as calls;
 
 use crate::session::KeySession;
 use key_maps::{KEYS, KeyElement, StoredValue};
-use per_base::{Limit, Name, PerError};
+use per_base::{Limit, Name, PerError, element_size};
 use per_value::PerValue;
 use std::mem;
 use value_model::{Value, ValueError};
@@ -162,6 +162,7 @@ impl KeySession {
     }
 
     /// Whether there is room for a key whose encoding has this length. Does not allocate.
+    #[tactic(auto, using(crate::proofs::Sizes::size_most))]
     pub(crate) fn has_room(&self, name: &Name, len: u32) -> Result<(), PerError>
         ensures ok { OnOk result ((key : Element) → key.len ≡ len
             → size_of (with_element self.now.visible name.now key) ≤ self.now.config.maximum) }
@@ -169,6 +170,11 @@ impl KeySession {
             → calls.with_room self.now.config (with_element self.now.visible name.now key) ≡ Err error) }
         ensures space { IfErr result (λ error. error ≢ PerError.OutOfMemory) }
     {
+        self.maps.invariants();
+        // Room for one key more is room for this one in any case, and so most keys are not looked up here.
+        if self.maps.size() + element_size(name, len) <= self.config.maximum {
+            return Ok(());
+        }
         let needed = self.maps.size_with(name, len);
         if needed > self.config.maximum {
             return Err(PerError::OutOfStorageSpace {

@@ -83,7 +83,7 @@ impl<D: Disk + Drop> Odometer<D> {
         self.add(kilometres)
     }
 
-    /// The same, by what the storage says of a stop.
+    /// Adds kilometres; that a stop leaves the total of before or after is said of the storage (`saves`).
     fn add(&mut self, kilometres: u32) -> Result<(), Refusal>
         ensures total { OnOk result (self.new.total ≡ self.old.total + kilometres) }
         ensures too_far { IsErrOf result Refusal.TooFar ↔ (u32.MAX < self.old.total + kilometres) }

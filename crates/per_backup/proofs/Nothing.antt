@@ -18,7 +18,7 @@ use Rattle.deploy_laws.specs.Places.{IsFileOf, IsNoFileOf}
 use Rattle.deploy_laws.specs.Apps.{App, IsCleanApp, app_at}
 use Rattle.deploy_laws.specs.Stands.{StandsCase, StandsThroughout}
 use Rattle.deploy_rows.specs.Rows.{AnswersRow, after}
-use Rattle.deploy.specs.Clauses.{ChangesNothing}
+use Rattle.deploy_laws.specs.Stands.{ChangesNothing}
 use Rattle.run_model.specs.Found.{FoundStorage, shape_in, storage_in}
 use Rattle.per_backup.specs.Backups.{importing, importing_into}
 use Rattle.per_backup.specs.declared.finding.Located.{Located}

@@ -20,7 +20,8 @@ use Rattle.deploy_laws.specs.Apps.{App, IsCleanApp, app_at, installed, says_at}
 use Rattle.deploy_laws.specs.Stands.{StandsThroughout}
 use Rattle.deploy_rows.specs.Recovering.{after_state, if_contents_fit}
 use Rattle.deploy_rows.specs.Rows.{AnswersRow, after}
-use Rattle.deploy.specs.Clauses.{ChangesNothing, Leaves}
+use Rattle.deploy_laws.specs.Stands.{ChangesNothing}
+use Rattle.deploy.specs.Clauses.{Leaves}
 use Rattle.deploy.specs.declared.errors.Stop.{Stop}
 use Rattle.run_model.specs.Found.{FoundStorage, shape_in, storage_in, with_storage_state}
 use Rattle.per_backup.specs.declared.finding.Located.{Located}

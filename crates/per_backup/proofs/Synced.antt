@@ -15,7 +15,7 @@ use Rattle.deploy_laws.specs.Places.{IsNoFileOf}
 use Rattle.deploy_laws.specs.Stands.{StandsCase}
 use Rattle.deploy_rows.specs.Recovering.{after_state}
 use Rattle.deploy_rows.specs.Rows.{after}
-use Rattle.deploy.specs.Clauses.{ChangesNothing}
+use Rattle.deploy_laws.specs.Stands.{ChangesNothing}
 use Rattle.run_model.specs.Found.{FoundStorage, shape_in, storage_in}
 use Rattle.run_model.specs.Lives.{LooksOnly, after_sync, looks_unsynced}
 use Rattle.per_backup.specs.Backups.{importing, importing_into}

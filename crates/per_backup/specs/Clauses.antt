@@ -18,7 +18,7 @@ use Rattle.deploy_laws.specs.Places.{IsNoFileOf}
 use Rattle.deploy_laws.specs.Stands.{StandsCase, StandsThroughout}
 use Rattle.deploy_rows.specs.Recovering.{after_state}
 use Rattle.deploy_rows.specs.Rows.{after}
-use Rattle.deploy.specs.Clauses.{ChangesNothing}
+use Rattle.deploy_laws.specs.Stands.{ChangesNothing}
 use Rattle.run_model.specs.Found.{FoundStorage, shape_in, storage_in}
 use Rattle.run_model.specs.Lives.{LooksOnly}
 use Rattle.run_model.specs.Moments.{OrBefore}

@@ -10,7 +10,7 @@ ghost use Rattle.update_plan.specs.Plans.{is_kind};
 ghost use Rattle.deploy_laws.specs.Apps.{App};
 ghost use Rattle.deploy_rows.specs.Recovering.{if_contents_fit};
 ghost use Rattle.deploy_rows.specs.Rows.{AnswersRow};
-ghost use Rattle.deploy.specs.Clauses.{ChangesNothing};
+ghost use Rattle.deploy_laws.specs.Stands.{ChangesNothing};
 ghost use Rattle.deploy.specs.Recovered.{AreElements};
 ghost use Rattle.run_model.specs.Lives.{LooksOnly};
 ghost use Rattle.per_backup.specs.Backups.{importing, importing_into};

@@ -27,7 +27,7 @@ const CONTENT_BYTES: u64 = 1_048_577;
 /// Why no call was made.
 #[derive(Clone, Copy)]
 enum Unmade {
-    /// The words are no call with what it takes.
+    /// The arguments are not those of a call.
     Refused,
     /// A file, or the input, cannot be read.
     Unread(io::Error),
@@ -58,7 +58,7 @@ impl From<io::Error> for Unmade {
     }
 }
 
-/// Makes the call that is named among the words, and gives the status.
+/// Makes the call that is named among the arguments, and gives the status.
 pub(crate) fn run<R: Files<File = File> + AllocGlobal + Input + Print + Eprint>(
     rt: &R,
     words: &[String],
@@ -81,7 +81,7 @@ pub(crate) fn run<R: Files<File = File> + AllocGlobal + Input + Print + Eprint>(
     }
 }
 
-/// Says why words are no call.
+/// Says why the arguments are invalid.
 fn say_refused<R: Eprint>(rt: &R, alloc: Global, named: &[&[u8]]) -> io::Result<()> {
     match why_refused(alloc, named) {
         Ok(Some(why)) => eprintln!(rt; "per: the call is refused: {why} (per --help)"),
@@ -91,7 +91,7 @@ fn say_refused<R: Eprint>(rt: &R, alloc: Global, named: &[&[u8]]) -> io::Result<
     }
 }
 
-/// Which word is none of the call, where that shows in its line.
+/// Which argument is wrong, where that shows in the line of the call.
 fn why_refused(alloc: Global, named: &[&[u8]]) -> Result<Option<String>, AllocError> {
     if named
         .iter()
@@ -156,7 +156,7 @@ fn asks_for_another(alloc: Global, options: &[String]) -> Result<bool, Unmade> {
     }
 }
 
-/// Whether this is the first of the words.
+/// Whether this is the first argument that is no option.
 fn is_first(named: &[&[u8]], word: &[u8]) -> bool {
     match named {
         [first, ..] => *first == word,
@@ -186,7 +186,7 @@ fn status_of_lines<R: Files<File = File> + AllocGlobal + Print + Eprint>(
     refusal.status_after(status)
 }
 
-/// The lines of the call: what is named is its word, to what it is made, and its arguments.
+/// The lines of the call: its name, its application or storage, and what it takes.
 fn lines_of_call<R: Files<File = File> + AllocGlobal + Input>(
     rt: &R,
     alloc: Global,

@@ -34,7 +34,7 @@ impl fmt::Display for Fault {
 pub(crate) struct Ended<'a> {
     pub(crate) status: u8,
     pub(crate) dir: &'a str,
-    /// The first word that is none of a run's.
+    /// The first argument that is none of a run's.
     pub(crate) unknown: Option<&'a [u8]>,
     /// How many blocks the flash has, where the folder is to hold one.
     pub(crate) flash: Option<u32>,
@@ -75,8 +75,8 @@ pub(crate) fn say_foreign<R: Eprint>(rt: &R, dir: &str, flash: Option<u32>) -> i
 }
 
 /// Says why a run ended where its status is not 0. At status 0 it says that a folder is not there or was not formatted,
-/// since every command but `now` and `wipe` is then refused, and why commands of an input that was made were answered
-/// by error 4.
+/// since every command but `now` and `wipe` is then refused, and why commands of a synthetic workload were answered by
+/// error 4.
 pub(crate) fn say<R: Files + Eprint>(rt: &R, ended: &Ended<'_>) -> io::Result<()> {
     let dir = ended.dir;
     match ended.status {
@@ -115,7 +115,7 @@ pub(crate) fn say<R: Files + Eprint>(rt: &R, ended: &Ended<'_>) -> io::Result<()
     }
 }
 
-/// Says which words there are, and which one is none of them.
+/// Says which arguments there are, and which one is none of them.
 fn say_usage<R: Eprint>(rt: &R, unknown: Option<&[u8]>) -> io::Result<()> {
     match str::from_utf8(unknown.unwrap_or(&[])) {
         Ok("") | Err(_) => eprintln!(rt; "{USAGE} (per --help)"),
@@ -164,7 +164,7 @@ fn is_sync(ended: &Ended<'_>) -> bool {
     }
 }
 
-/// Says of a folder with no file of the disk or of the flash that it is not formatted, or not there.
+/// Explains that a folder with no file of the disk or of the flash is not formatted, or not there.
 fn say_of_folder<R: Files + Eprint>(rt: &R, ended: &Ended<'_>) -> io::Result<()> {
     let dir = ended.dir;
     if !has_folder(rt, dir) {

@@ -97,7 +97,7 @@ fn shown<R: Files<File = File> + AllocGlobal + Env + Print + Eprint>(
     Ok(status)
 }
 
-/// Shows the words of a run, and runs it.
+/// Shows the command of a run, and runs it.
 fn run<R: Files<File = File> + AllocGlobal + Print + Eprint>(
     rt: &R,
     dir: &str,

@@ -6,7 +6,7 @@ use std::io;
 /// The version of the sources.
 const VERSION: &str = "0.13.0";
 
-/// The words of the program.
+/// The arguments of the program.
 const WORDS: &str = "per keeps the data of up to eight applications in a folder, so that it outlives
 power loss, lost copies and updates.
 

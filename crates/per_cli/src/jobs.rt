@@ -7,12 +7,12 @@ use std::fs::File;
 use std::io::{self, Input};
 use std::rt::Files;
 
-/// Whether the word is that of a job.
+/// Whether the argument names a job.
 pub(crate) fn is_job(word: &[u8]) -> bool {
     word == b"recover-root".as_slice()
 }
 
-/// Does the job that is named among the words, and gives the status.
+/// Does the job that is named among the arguments, and gives the status.
 pub(crate) fn run<R: Files<File = File> + AllocGlobal + Input + Print + Eprint>(
     rt: &R,
     words: &[String],
@@ -30,7 +30,7 @@ pub(crate) fn run<R: Files<File = File> + AllocGlobal + Input + Print + Eprint>(
     }
 }
 
-/// The words of the program for the job: its option with what it takes, and the options beside it.
+/// The arguments of the run: the option of the job with what it takes, and the options beside it.
 fn words_of_job(
     alloc: Global,
     words: &[String],

@@ -7,7 +7,7 @@ use std::fs::File;
 use std::io;
 use std::rt::Files;
 
-/// Runs the job that says what is there, with these words but `ls`, and gives the status.
+/// Runs the job that lists what is there, with these arguments but `ls`, and gives the status.
 pub(crate) fn run<R: Files<File = File> + AllocGlobal + Print + Eprint>(
     rt: &R,
     words: &[String],

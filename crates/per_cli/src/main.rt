@@ -58,10 +58,10 @@ const REFUSED_CALL: u8 = 9;
 /// The status where the flash has another size.
 const WRONG_SIZE: u8 = 11;
 
-/// The status where the words cannot be read.
+/// The status where the arguments cannot be read.
 const NO_WORDS: u8 = 12;
 
-/// What the words ask of main itself.
+/// What the arguments ask of main itself.
 #[derive(Clone, Copy)]
 enum Asked {
     Help,
@@ -75,7 +75,7 @@ enum Asked {
     Job,
     /// Whole applications as a text, or back.
     Dump,
-    /// A run of the program, if the words are accepted.
+    /// A run of the program, if the arguments are valid.
     Run,
 }
 
@@ -113,7 +113,7 @@ fn main(rt: HostRuntime) -> ExitCode {
     ExitCode::from(status)
 }
 
-/// The words after the program's name.
+/// The arguments after the program's name.
 fn words_of(rt: &(impl env::Env + AllocGlobal)) -> io::Result<Vec<String>> {
     let words = env::args(rt)?;
     match words.skip(1).collect(rt.alloc()) {
@@ -122,7 +122,7 @@ fn words_of(rt: &(impl env::Env + AllocGlobal)) -> io::Result<Vec<String>> {
     }
 }
 
-/// The status where the words cannot be read.
+/// The status where the arguments cannot be read.
 fn status_of(error: &io::Error) -> u8 {
     match error.kind() {
         io::ErrorKind::OutOfMemory => NO_MEMORY,

@@ -23,9 +23,9 @@ use std::io::{Read, Write};
 use std::rt::Files;
 use system_model::{Failure, System};
 
-/// The folder that the words name, for what it is held, whether it is formatted or audited, whether lines are to be
-/// handled in it or what is in it is to be said, whether it may be formatted for them, and how many blocks its flash
-/// has, where it has one.
+/// The folder that is named, for what it is held, whether it is formatted or audited, whether lines are to be handled
+/// in it or what is in it is to be said, whether it may be formatted for them, and how many blocks its flash has, where
+/// it has one.
 #[derive(Drop)]
 struct Target {
     dir: String,
@@ -75,7 +75,7 @@ impl<'a, R: Files<File = File> + Eprint, I: Read + Drop, O: Write + Drop> WithCo
     }
 }
 
-/// Runs the program with these words, says on standard error why it ended where it did not end well, and gives the
+/// Runs the program with these arguments, says on standard error why it ended where it did not end well, and gives the
 /// status.
 pub(crate) fn run<R: Files<File = File> + AllocGlobal + Eprint, I: Read + Drop, O: Write + Drop>(
     rt: &R,
@@ -333,7 +333,7 @@ pub(crate) fn no_memory<R: Eprint>(rt: &R) -> u8 {
     NO_MEMORY
 }
 
-/// What the words name, and the folder once more, for the disk; an empty name where the arguments are invalid.
+/// What the arguments name, and the folder once more, for the disk; an empty name where the arguments are invalid.
 fn target_of(alloc: Global, words: &[String]) -> Result<(Target, String), AllocError> {
     match read_words(alloc, words) {
         Ok(job) => {

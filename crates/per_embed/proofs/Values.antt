@@ -14,7 +14,7 @@ use Rattle.kvs_store.specs.Storages.{KvsSession}
 use Rattle.kvs_store.specs.Synced.{synced_view}
 use Rattle.kvs_laws.specs.Laws.{OpensWithValue, ReadsLaw, StillLaw, SyncLaw}
 use Rattle.kvs_laws.specs.Values.{HasValue, ReadsAs}
-use Rattle.per_embed.specs.Owned.{IsOpenOn, IsSaved, KeepsSynced, KeepsValues, ReadsSynced, asked_of}
+use Rattle.per_embed.specs.Owned.{IsOpenOn, IsSaved, KeepsEachSynced, KeepsValues, ReadsSynced, asked_of}
 
 opens_with : (told : Bool) (m : Medium) (kvs : KvsSession) (name : List ℕ) (kind : Kind) (value : Tree) → IsTrue told
     → IsOpenOn told m kvs → HasValue (asked_of kvs name kind) kvs.session.synced value
@@ -34,7 +34,7 @@ reads_synced reads told (Some kvs) m is tells = λ name kind value has.
     reads (asked_of kvs name kind) m.image kvs value (opens_with told m kvs name kind value tells is has)
 
 pub keeps_synced : StillLaw → (told : Bool) (storage : Option KvsSession) (m : Medium) → IsLawful told m
-    → IfSome storage (IsOpenOn told m) → IsTrue told → IfSome storage (λ kvs. KeepsSynced kvs m)
+    → IfSome storage (IsOpenOn told m) → IsTrue told → IfSome storage (λ kvs. KeepsEachSynced kvs m)
 keeps_synced still told None m lawful is tells = tt
 keeps_synced still told (Some kvs) m lawful is tells = λ name kind value has clean c since.
     still (asked_of kvs name kind) m.image kvs value value c (opens_with told m kvs name kind value tells is has) clean

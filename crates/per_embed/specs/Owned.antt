@@ -37,8 +37,8 @@ ReadsSynced kvs image = (name : List ℕ) (kind : Kind) (value : Tree)
 
 -- of each key: a stop while the disk is not called, and then damage that spares as many copies as must agree, leaves
 -- the value that is synchronised
-abbrev pub KeepsSynced : KvsSession → Medium → Type 0
-KeepsSynced kvs m = (name : List ℕ) (kind : Kind) (value : Tree)
+abbrev pub KeepsEachSynced : KvsSession → Medium → Type 0
+KeepsEachSynced kvs m = (name : List ℕ) (kind : Kind) (value : Tree)
     → HasValue (asked_of kvs name kind) kvs.session.synced value
     → ValueThroughout (asked_of kvs name kind) (store_shape kvs.store) (view_in kvs.store).lacking value value m m
 

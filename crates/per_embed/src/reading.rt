@@ -15,7 +15,7 @@ use per_base::{Name, PerError};
 use per_value::PerValue;
 
 impl<D: Disk + Drop> KeyStorage<D> {
-    /// The thing of a Rust type that a key's value is, as the calls see it.
+    /// A key's value as one of a Rust type, as the calls see it.
     ///
     /// # Errors
     ///
@@ -41,7 +41,7 @@ impl<D: Disk + Drop> KeyStorage<D> {
     }
 }
 
-/// The thing that a key's value is, in a storage that may be closed.
+/// A key's value as one of a Rust type, in a storage that may be closed.
 fn get_in<T: PerValue>(kvs: &Option<Kvs>, key: &Name) -> Result<T, PerError>
     ensures ok { IfOk result (λ thing. IsSomeAnd kvs.now (λ kvs.
         HasValue (asked_of kvs key.now T.kind) kvs.session.visible (T.tree thing))) }

@@ -1,7 +1,7 @@
 //! A storage of keys on a disk of its own.
 
 ghost use Rattle.std.specs.Prelude.{◌≡◌, IfSome, IsTrue, option_map};
-ghost use Rattle.per_embed.specs.Owned.{IsOpenOn, KeepsSynced, ReadsSynced};
+ghost use Rattle.per_embed.specs.Owned.{IsOpenOn, KeepsEachSynced, ReadsSynced};
 
 use disk_model::Disk;
 use kvs_laws::values_stand;
@@ -42,7 +42,7 @@ impl<D: Disk + Drop> KeyStorage<D> {
         ensures open { IfSome self.now.kvs (IsOpenOn D.told (D.medium self.now.disk)) }
         ensures reads { IsTrue D.told → IfSome self.now.kvs (λ kvs.
             ReadsSynced kvs (D.medium self.now.disk).image) }
-        ensures keeps { IsTrue D.told → IfSome self.now.kvs (λ kvs. KeepsSynced kvs (D.medium self.now.disk)) }
+        ensures keeps { IsTrue D.told → IfSome self.now.kvs (λ kvs. KeepsEachSynced kvs (D.medium self.now.disk)) }
     {
         values_stand();
         let _kvs = &self.kvs;

@@ -19,7 +19,7 @@ use per_base::{Name, PerError};
 use per_value::PerValue;
 
 impl<D: Disk + Drop> KeyStorage<D> {
-    /// Makes the value of a Rust thing visible under a name, pending until the next sync.
+    /// Sets a key to a value of a Rust type: the calls see it at once, and the next sync makes it durable.
     ///
     /// # Errors
     ///
@@ -48,7 +48,7 @@ impl<D: Disk + Drop> KeyStorage<D> {
         set_in(&mut self.kvs, key, value)
     }
 
-    /// Makes nothing visible under a name, pending until the next sync. Does not allocate.
+    /// Removes a key: the calls see none at once, and the next sync makes that durable. Does not allocate.
     ///
     /// # Errors
     ///
@@ -68,7 +68,7 @@ impl<D: Disk + Drop> KeyStorage<D> {
         remove_in(&mut self.kvs, key)
     }
 
-    /// Makes visible what is synchronised: the pending changes are gone. Does not allocate.
+    /// Discards what changed since the last sync: the calls see what is synchronised. Does not allocate.
     pub fn discard(&mut self)
         ensures discarded { self.new ≡ record self.old {
           kvs = option_map (λ kvs. showing kvs kvs.session.synced) self.old.kvs;
@@ -78,7 +78,7 @@ impl<D: Disk + Drop> KeyStorage<D> {
     }
 }
 
-/// Makes a value visible in a storage that may be closed.
+/// Sets a key in a storage that may be closed.
 fn set_in<T: PerValue>(kvs: &mut Option<Kvs>, key: &Name, value: &T) -> Result<(), PerError>
     ensures ok { OnOk result (IsSomeAnd kvs.old (λ old. IsSomeAnd kvs.new (λ later.
         set_value old.config old.session.visible key.now (T.tree value.now) ≡ Ok later.session.visible))) }
@@ -100,7 +100,7 @@ fn set_in<T: PerValue>(kvs: &mut Option<Kvs>, key: &Name, value: &T) -> Result<(
     }
 }
 
-/// Makes nothing visible under a name in a storage that may be closed.
+/// Removes a key in a storage that may be closed.
 fn remove_in(kvs: &mut Option<Kvs>, key: &Name) -> Result<(), PerError>
     ensures ok { OnOk result (IsSomeAnd kvs.old (λ old. IsSomeAnd kvs.new (λ later.
         remove_key old.config old.session.visible key.now ≡ Ok later.session.visible))) }

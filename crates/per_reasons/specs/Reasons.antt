@@ -4,8 +4,7 @@ use Rattle.std.specs.Prelude.{Option, Some, None, option_map}
 use Rattle.std.specs.List.{ends_with}
 use Rattle.std.specs.Fmt.{decimal}
 use Rattle.std.specs.Str.{IsUtf8}
-use Rattle.per_words.specs.Flaws.{after_space, flaw_in, has_space, leading_word}
-use Rattle.per_words.specs.Words.{is_among}
+use Rattle.per_words.specs.Flaws.{after_space, flaw_in, has_space, leading_word, takes_text}
 use Rattle.per_words.specs.declared.flaws.Flaw.{Flaw}
 use Rattle.per_words.specs.declared.needs.Needed.{Needed}
 use Rattle.per_words.specs.declared.needs.Needed.TheVariants as needed
@@ -65,18 +64,15 @@ SaysNoCall line flaw why = ⊥
 
 -- ---- a line that was answered
 
-abbrev pub takes_manifest : List ℕ → Bool
-takes_manifest = is_among (codes "install" ∷ codes "update" ∷ codes "update-begin" ∷ [])
-
 -- the manifest in a line that has one
-abbrev pub manifest_in : List ℕ → Option (List ℕ)
-manifest_in line =
-    if has_space line && (has_space (after_space line) && takes_manifest (leading_word (after_space line)))
+abbrev pub manifest_of_line : List ℕ → Option (List ℕ)
+manifest_of_line line =
+    if has_space line && (has_space (after_space line) && takes_text (leading_word (after_space line)))
     then Some (after_space (after_space line)) else None
 
 -- where a bad line stops being one
-abbrev pub bad_text : (answer line : List ℕ) → Option (List ℕ)
-bad_text answer line = option_map (λ why. answer ++ (codes ": " ++ why)) (no_line_text line)
+abbrev pub explained_text : (answer line : List ℕ) → Option (List ℕ)
+explained_text answer line = option_map (λ why. answer ++ (codes ": " ++ why)) (no_line_text line)
 
 -- the rule that a manifest breaks is named
 abbrev pub NamesRule : ℕ → Option (List ℕ) → Type 0

@@ -5,7 +5,8 @@ ghost use Rattle.std.specs.Prelude.{true};
 ghost use Rattle.std.specs.Fmt.{decimal};
 ghost use Rattle.std.specs.List.{starts_with};
 ghost use Rattle.std.specs.Str.{IsUtf8, bytes_eq};
-ghost use Rattle.per_reasons.specs.Reasons.{NamesRule, bad_text, manifest_in, takes_manifest};
+ghost use Rattle.per_words.specs.Flaws.{takes_text};
+ghost use Rattle.per_reasons.specs.Reasons.{NamesRule, explained_text, manifest_of_line};
 
 use crate::blame::{keys_of_type, storages_of_size};
 use crate::lines::why_no_line;
@@ -23,15 +24,15 @@ use value_text::parse_unsigned;
 /// Memory ran out.
 pub fn why_refused(alloc: Global, answer: &[u8], line: &[u8]) -> Result<Option<String>, AllocError>
     ensures bad { IfOk result (λ why. starts_with nat_eq answer.now (codes "bad-line ") ≡ true → IsUtf8 answer.now
-        → option_map string_bytes why ≡ bad_text answer.now line.now) }
+        → option_map string_bytes why ≡ explained_text answer.now line.now) }
     ensures rejected { IfOk result (λ why. (rule : ℕ) → rule < 2 ^ 32
         → answer.now ≡ codes "error 22 ManifestRejected " ++ decimal rule
-        → IfSome (manifest_in line.now) (λ _. NamesRule rule (option_map string_bytes why))) }
+        → IfSome (manifest_of_line line.now) (λ _. NamesRule rule (option_map string_bytes why))) }
 {
     if answer.starts_with(b"bad-line ") {
         return why_bad(alloc, answer, line);
     }
-    match manifest_in(line) {
+    match manifest_of_line(line) {
         Some(manifest) => why_unfit(alloc, answer, manifest),
         None => Ok(None),
     }
@@ -40,7 +41,7 @@ pub fn why_refused(alloc: Global, answer: &[u8], line: &[u8]) -> Result<Option<S
 /// Where a line stops being one.
 fn why_bad(alloc: Global, answer: &[u8], line: &[u8]) -> Result<Option<String>, AllocError>
     ensures { IfOk result (λ why. IsUtf8 answer.now
-        → option_map string_bytes why ≡ bad_text answer.now line.now) }
+        → option_map string_bytes why ≡ explained_text answer.now line.now) }
 {
     let Ok(answer) = str::from_utf8(answer) else {
         return Ok(None);
@@ -107,17 +108,17 @@ fn why_full(alloc: Global, allowed: &[u8], manifest: &[u8]) -> Result<Option<Str
 }
 
 /// The manifest in a line that has one.
-fn manifest_in(line: &[u8]) -> Option<&[u8]>
-    ensures { option_map (λ m. m.now) result ≡ manifest_in line.now }
+fn manifest_of_line(line: &[u8]) -> Option<&[u8]>
+    ensures { option_map (λ m. m.now) result ≡ manifest_of_line line.now }
 {
     let (_, call) = split(line)?;
     let (word, manifest) = split(call)?;
-    takes_manifest(word).then_some(manifest)
+    has_manifest(word).then_some(manifest)
 }
 
 /// Whether the word is that of a call with a manifest.
-fn takes_manifest(word: &[u8]) -> bool
-    ensures { result ≡ takes_manifest word.now }
+fn has_manifest(word: &[u8]) -> bool
+    ensures { result ≡ takes_text word.now }
 {
     is_word(word, b"install") || is_word(word, b"update") || is_word(word, b"update-begin")
 }

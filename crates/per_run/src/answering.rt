@@ -55,6 +55,7 @@ pub fn answer_line<D: Disk>(
 }
 
 /// Does what a command says.
+#[inline(never)]
 fn answer<D: Disk>(
     runtime: &mut Runtime,
     migrations: &Migrations,

@@ -23,15 +23,15 @@ use std::alloc::Global;
 /// What came of a run over a flash: its status, and the flash.
 #[derive(Drop)]
 pub enum FlashRun<F: Flash> {
-    /// The job of the words was begun on the flash as a disk, which is handed back.
+    /// The job was begun on the flash as a disk, which is handed back.
     Ran(u8, FlashDisk<F>),
     /// The arguments were invalid, or memory ran out before, or the flash was not opened as a disk. It is handed back,
     /// and no page of it changed.
     Unopened(u8, F),
 }
 
-/// Reads the words, opens the flash as a disk, and does the job that the words say on that disk, as [`crate::per_run`]
-/// does it on any.
+/// Reads the arguments, opens the flash as a disk, and does the job that they ask for on that disk, as
+/// [`crate::per_run`] does it on any.
 ///
 /// Where the job was begun the status is one that `per_run` gives to a job. Where the flash was not opened it is:
 ///

@@ -28,7 +28,7 @@ use per_base::{Sink, Source};
 use run_model::applications_stand;
 use std::alloc::Global;
 
-/// Reads the words and does the job that they say. The status:
+/// Reads the arguments and does the job that they ask for. The status:
 ///
 /// | status | comes |
 /// |---|---|

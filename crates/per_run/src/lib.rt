@@ -1,6 +1,6 @@
-//! The top call of `per`: words and lines in, replies out, eight applications on a disk.
+//! The top call of `per`: arguments and lines in, replies out, eight applications on a disk.
 //!
-//! [`per_run`] reads the words of the command line and does the job that they say. The job of plain words starts the
+//! [`per_run`] reads the command-line arguments and does the job that they ask for. With `--dir` alone it starts the
 //! runtime and handles the lines of a source one by one, each with its reply to a sink, until the input ends, a line is
 //! outside the grammar, or something fails. With `--serve` the input has no bound, a line outside the grammar is
 //! answered and ends nothing, and an empty disk is formatted first. `--format` formats the disk, and
@@ -17,9 +17,9 @@
 //! of the job that handles lines; `specs/Serves` says those of `--serve`. `endings` has the numbers. The help of
 //! `per_cli` lists every status of the program, those of main and of the script too.
 //!
-//! [`read_words`] gives the job of the words. Limits: lines of 262,144 bytes, and without `--serve` an input of fewer
-//! than 67,108,864 bytes, or with the line `end` among them. The text of a reply is handed to the sink before the next
-//! line is looked at. What is not promised is that memory is there.
+//! [`read_words`] gives the job that the arguments ask for. Limits: lines of 262,144 bytes, and without `--serve` an
+//! input of fewer than 67,108,864 bytes, or with the line `end` among them. The text of a reply is handed to the sink
+//! before the next line is looked at. What is not promised is that memory is there.
 #![tactic(auto)]
 
 mod answering;

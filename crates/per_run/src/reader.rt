@@ -15,8 +15,8 @@ ghost use Rattle.per_run.specs.Steps.{ending_of};
 
 use crate::answering::{Outcome, answer_line};
 use crate::endings::Ending;
-use crate::writing::write_made;
-use command_text::{LINE_BYTES, Reply, print_reply};
+use crate::writing::{write_made, write_text};
+use command_text::{LINE_BYTES, Reply, push_reply};
 use disk_model::Disk;
 use memchr::memchr;
 use migrate_fns::Migrations;
@@ -24,13 +24,17 @@ use per_base::Sink;
 use per_runtime::Runtime;
 use std::alloc::{AllocError, Global};
 
-/// The runtime, the prefix of the line that is being read, and how many lines were handled.
+/// How many bytes the text of the last reply keeps at most for the next one.
+const REPLY_BYTES: usize = 4096;
+
+/// The runtime, the prefix of the line that is being read, how many lines were handled, and room for the next reply.
 #[derive(Drop)]
 pub struct Reader {
     pub alloc: Global,
     pub runtime: Runtime,
     pub kept: Vec<u8>,
     pub number: u64,
+    pub reply: String,
 }
 
 impl Reader {
@@ -45,6 +49,7 @@ impl Reader {
             runtime,
             kept: Vec::new(alloc),
             number: 0,
+            reply: String::new(alloc),
         }
     }
 }
@@ -216,6 +221,7 @@ fn handle_line<D: Disk, K: Sink>(
         migrations,
         sink,
         disk,
+        &mut reader.reply,
         reader.kept.as_slice(),
         number,
     ) {
@@ -235,6 +241,7 @@ fn handle_text<D: Disk, K: Sink>(
     migrations: &Migrations,
     sink: &mut K,
     disk: &mut D,
+    reply: &mut String,
     text: &[u8],
     number: u64,
 ) -> Result<(), Ending>
@@ -258,7 +265,7 @@ fn handle_text<D: Disk, K: Sink>(
 {
     match answer_line(alloc, runtime, migrations, disk, text) {
         Outcome::Nothing => Ok(()),
-        Outcome::Answered(reply) => write_reply(alloc, sink, &reply),
+        Outcome::Answered(answered) => write_reply(alloc, reply, sink, &answered),
         Outcome::End => Err(Ending::EndLine),
         Outcome::Bad => Err(refuse(alloc, sink, number)),
         Outcome::OutOfMemory => Err(Ending::OutOfMemory),
@@ -266,12 +273,29 @@ fn handle_text<D: Disk, K: Sink>(
 }
 
 /// Writes the reply of a command.
-pub fn write_reply<K: Sink>(alloc: Global, sink: &mut K, reply: &Reply) -> Result<(), Ending>
+///
+/// Its text is made where the one before it stood. Where memory runs out the sink takes nothing of it, and where the
+/// sink fails not all.
+pub fn write_reply<K: Sink>(
+    alloc: Global,
+    text: &mut String,
+    sink: &mut K,
+    reply: &Reply,
+) -> Result<(), Ending>
     requires { HasText reply.now.answer }
     ensures puts { PutsOutput (reply_text reply.now) (K.written sink.old) (K.written sink.new) result }
     ensures blames { Blames (K.faults sink.old) (K.faults sink.new) result }
 {
-    write_made(sink, print_reply(alloc, reply))
+    text.clear();
+    match push_reply(text, reply) {
+        Ok(()) => {}
+        Err(_) => return Err(Ending::OutOfMemory),
+    }
+    let written = write_text(sink, text.as_str().as_bytes());
+    if text.capacity() > REPLY_BYTES {
+        *text = String::new(alloc);
+    }
+    written
 }
 
 /// Answers a line that is outside the grammar, and gives how the handling ends.

@@ -1,4 +1,4 @@
-//! The words of the command line.
+//! The command-line arguments.
 
 ghost use Rattle.std.specs.Prelude.{◌≡◌, ◌≢◌, Some, None, IfOk, false, map, option_map, string_bytes, IsErrOf};
 ghost use Rattle.clap.specs.Words.{app_of, found_of, kind_of, rows_of, rule_of};
@@ -15,10 +15,10 @@ use per_list::Form;
 use std::alloc::{AllocError, Global};
 use thiserror::Error as ThisError;
 
-/// What the words ask for.
+/// What the arguments ask for.
 #[derive(Debug, Drop)]
 pub struct Job {
-    /// The word that names the folder of the disk; it is not empty.
+    /// The name of the folder of the disk; it is not empty.
     pub dir: ValueText,
     pub kind: JobKind,
     /// How many blocks the flash has, 4 to 4096, where the disk is one over a flash.
@@ -49,7 +49,7 @@ pub enum JobKind {
     RecoverRoot(u8),
 }
 
-/// Why the words give no job.
+/// Why the arguments ask for no job.
 #[derive(Clone, Copy, Debug, PartialEq, Eq, ThisError)]
 pub enum WordsError {
     #[error("the words are `--dir` with a folder, at most one mode, and `--flash` with a number from 4 to 4096 or not")]
@@ -69,11 +69,11 @@ impl From<AllocError> for WordsError {
     }
 }
 
-/// The job that the words after the program's name say.
+/// The job that the arguments after the program's name ask for.
 ///
 /// # Errors
 ///
-/// `Refused` only where they say none; `OutOfMemory`.
+/// `Refused` only where they ask for none; `OutOfMemory`.
 pub fn read_words(alloc: Global, words: &[String]) -> Result<Job, WordsError>
     ensures job { IfOk result (λ job. job_of (map string_bytes words.now) ≡ Some job) }
     ensures refused { IsErrOf result WordsError.Refused → job_of (map string_bytes words.now) ≡ None }
@@ -87,7 +87,7 @@ pub fn read_words(alloc: Global, words: &[String]) -> Result<Job, WordsError>
     }
 }
 
-/// The command that the words are given to, without the program's name.
+/// The command that the arguments are given to, without the program's name.
 fn command<'a>(alloc: Global) -> Result<Command<'a>, AllocError>
     ensures { IfOk result (λ c. app_of c ≡ command) }
 {
@@ -121,7 +121,7 @@ fn flag<'a>(alloc: Global, name: &'a str) -> Arg<'a>
     Arg::new(alloc, name).long(name).action(ArgAction::SetTrue)
 }
 
-/// Why the words have no matches.
+/// Why the arguments have no matches.
 fn error_of(error: &Error) -> WordsError
     ensures { result ≡ WordsError.Refused → kind_of error.now ≢ ErrorKind.OutOfMemory }
 {
@@ -224,7 +224,7 @@ fn import_of(alloc: Global, text: &str) -> Result<JobKind, WordsError>
     Ok(JobKind::Import(application, name))
 }
 
-/// The form is said by its word.
+/// The form is named.
 fn list_of(text: &str) -> Result<JobKind, WordsError>
     ensures { ReadsWord result (list_of text.now) }
 {
@@ -254,7 +254,7 @@ fn flash_of(value: Option<&str>) -> Result<Option<u32>, WordsError>
     }
 }
 
-/// The word that names a folder; it is not empty.
+/// The name of a folder; it is not empty.
 fn dir_of(alloc: Global, value: Option<&str>) -> Result<ValueText, WordsError>
     ensures { ReadsWord result (dir_of (option_map (λ text. text.now) value.entry)) }
 {

@@ -34,11 +34,19 @@ pub fn write_made<K: Sink>(sink: &mut K, made: Result<Vec<u8>, AllocError>) -> R
     ensures blames { Blames (K.faults sink.old) (K.faults sink.new) result }
 {
     match made {
-        Ok(text) => match write_all(sink, text.as_slice()) {
-            Ok(()) => Ok(()),
-            Err(_) => Err(Ending::Sink),
-        },
+        Ok(text) => write_text(sink, text.as_slice()),
         Err(_) => Err(Ending::OutOfMemory),
+    }
+}
+
+/// Hands a text to the sink.
+pub fn write_text<K: Sink>(sink: &mut K, text: &[u8]) -> Result<(), Ending>
+    ensures puts { PutsOutput text.now (K.written sink.old) (K.written sink.new) result }
+    ensures blames { Blames (K.faults sink.old) (K.faults sink.new) result }
+{
+    match write_all(sink, text) {
+        Ok(()) => Ok(()),
+        Err(_) => Err(Ending::Sink),
     }
 }
 

@@ -9,8 +9,8 @@ use Rattle.disk_model.specs.Medium.{EachCase, Elapses, IsLawful, Medium, OnlyRea
 use Rattle.disk_model.specs.Place.{IsNoSlot}
 use Rattle.deploy_laws.specs.Apps.{IsCleanApp, app_at}
 use Rattle.deploy_laws.specs.Places.{root_place}
-use Rattle.deploy_laws.specs.Stands.{StandsCase}
-use Rattle.root_recovery.specs.Clauses.{AreCleanAfter, IsRecovered, RecoveryKeepsSynced, LeavesAll, LeavesSettled}
+use Rattle.deploy_laws.specs.Stands.{ChangesNothing, StandsCase}
+use Rattle.root_recovery.specs.Clauses.{AreCleanAfter, IsRecovered, RecoveryKeepsSynced, LeavesAll}
 use Rattle.root_recovery.specs.Clauses.{RecoveryKeeps}
 use Rattle.root_recovery.specs.Recoveries.{RootRow, after_recovery}
 
@@ -57,7 +57,7 @@ module _ (told : Bool) (old mid new : Medium) (law : IsLawful told mid) (time : 
       → IsRecovered app row old.image new.image
   then_ends app row ended = subst (λ (i : Image). IsRecovered app row i new.image) nothing.image ended
 
-  pub then_leaves : LeavesSettled mid new → LeavesAll old new
+  pub then_leaves : ChangesNothing mid new → LeavesAll old new
   then_leaves leaves = record {
     image = leaves.image ∙ nothing.image;
     written = leaves.written ∙ nothing.written;

@@ -3,7 +3,7 @@ use Rattle.std.specs.Prelude.{◌≡◌, ◌⊎◌, ℕ}
 use Rattle.disk_model.specs.Case.{IsSettledAt}
 use Rattle.disk_model.specs.Frame.{IsSettledOn, Spares}
 use Rattle.disk_model.specs.Image.{Image}
-use Rattle.disk_model.specs.Medium.{EachCase, IsIdle, Medium, Quiet}
+use Rattle.disk_model.specs.Medium.{EachCase, Medium, Quiet}
 use Rattle.disk_model.specs.Place.{IsNoSlot}
 use Rattle.deploy_laws.specs.Apps.{AreClean, IsCleanApp, app_at, shapes_named}
 use Rattle.deploy_laws.specs.Places.{root_place}
@@ -44,8 +44,3 @@ pub record RecoveryKeepsSynced (app : ℕ) (old new : Medium) : Type 0 where
   pub elsewhere : Spares (IsNoSlot (root_place app)) old.image new.image
   pub outside : Quiet old → EachCase (IsSettledOn (IsNoSlot (root_place app)) old.image) old new
   pub stands : AreCleanAfter old.image app → StandsThroughout app (after_recovery old.image app) old new
-
-pub record LeavesSettled (old new : Medium) : Type 0 where
-  pub image : new.image ≡ old.image
-  pub written : new.written ≡ old.written
-  pub idle : Quiet old → IsIdle old new

@@ -10,7 +10,7 @@ ghost use Rattle.guarded_cell.specs.Seens.{IsSealable, IsSeenOn};
 ghost use Rattle.guarded_cell.specs.Slots.{IsSlotsOf};
 ghost use Rattle.guarded_cell.specs.Stops.{PutStops};
 ghost use Rattle.deploy_laws.specs.Places.{root_place};
-ghost use Rattle.root_recovery.specs.Clauses.{IsRecovered, LeavesAll, LeavesSettled, RecoveryKeeps};
+ghost use Rattle.root_recovery.specs.Clauses.{IsRecovered, LeavesAll, RecoveryKeeps};
 ghost use Rattle.root_recovery.specs.Clauses.{RecoveryKeepsSynced};
 ghost use Rattle.root_recovery.specs.Recoveries.{IsRefused, most_written, row_answered};
 
@@ -88,7 +88,7 @@ fn recover_synced<D: Disk>(alloc: Global, disk: &mut D, app: u32) -> Result<Reco
     ensures ended { IsTrue D.told → IfOk result (λ recovery.
         IsRecovered app (row_answered recovery) (D.medium disk.old).image (D.medium disk.new).image) }
     ensures refused { IfOk result (λ recovery. IsRefused (row_answered recovery)
-        → LeavesSettled (D.medium disk.old) (D.medium disk.new)) }
+        → ChangesNothing (D.medium disk.old) (D.medium disk.new)) }
     ensures memory { IsErrOf result RecoveryError.OutOfMemory
         → ((D.medium disk.new).image ≡ (D.medium disk.old).image)
         × ((D.medium disk.new).written ≡ (D.medium disk.old).written) }

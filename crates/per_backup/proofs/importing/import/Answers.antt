@@ -2,7 +2,7 @@
 use Rattle.std.proofs.Common.{◌∙◌, sym}
 use Rattle.std.specs.Prelude.{IsSome}
 use Rattle.disk_model.specs.Laws.{elapses_on, rose_before}
-use Rattle.deploy.specs.Clauses.{ChangesNothing}
+use Rattle.deploy_laws.specs.Stands.{ChangesNothing}
 use Rattle.deploy_rows.specs.Rows.{AnswersRow}
 use Rattle.run_model.specs.Lives.{LooksOnly}
 use Rattle.per_backup.specs.Backups.{importing_into}

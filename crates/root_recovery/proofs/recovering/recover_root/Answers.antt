@@ -1,6 +1,7 @@
 use Rattle.std.proofs.Common.{◌∙◌, sym}
 use Rattle.disk_model.specs.Laws.{elapses_on, rose_before}
-use Rattle.root_recovery.specs.Clauses.{IsRecovered, LeavesAll, LeavesSettled}
+use Rattle.deploy_laws.specs.Stands.{ChangesNothing}
+use Rattle.root_recovery.specs.Clauses.{IsRecovered, LeavesAll}
 use Rattle.root_recovery.specs.Recoveries.{IsRefused, row_answered}
 use Rattle.root_recovery.proofs.Synced.{each_ok, on_err, on_ok, passes_on, then_ends, then_keeps, then_leaves}
 use Rattle.root_recovery.proofs.Synced.{unsynced_keeps}
@@ -32,7 +33,7 @@ returns-clause-refused g c =
     let old = g.D.Disk.medium c.args.disk.now in
     let mid = g.D.Disk.medium c.sync.new.self in
     let new = g.D.Disk.medium c.recover_synced.new.disk in
-    each_ok (λ recovery. IsRefused (row_answered recovery) → LeavesSettled mid new)
+    each_ok (λ recovery. IsRefused (row_answered recovery) → ChangesNothing mid new)
     (λ recovery. IsRefused (row_answered recovery) → LeavesAll old new) c.recover_synced.result
     (λ recovery given refused. then_leaves g.D.Disk.told old mid new (g.met.D.Disk.lawful c.sync.new.self)
     c.sync.ensures.time c.sync.ensures.writes_nothing

@@ -4,7 +4,7 @@ use Rattle.std.proofs.lemmas.Result.{on_ok_weaker}
 use Rattle.flash_disk.specs.declared.table.FilePage.{FilePage}
 use Rattle.flash_disk.proofs.Entries.{occupies_after}
 use Rattle.flash_disk.specs.Newest.{places}
-use Rattle.flash_disk.specs.Apart.{copy_of, HoldsOnly}
+use Rattle.flash_disk.specs.Apart.{copy_of, HoldsOneCopy}
 use Rattle.flash_disk.proofs.Adding.{puts_then, puts_not, shown_after, added_puts, added_held}
 use Rattle.flash_disk.proofs.Holding.{apart_if, does_apart}
 use Rattle.flash_disk.proofs.Accounting.{accounts_fails, accounts_more, accounts_on}
@@ -40,7 +40,7 @@ returns-clause-apart g c told =
     let block = c.make_room.new.self.state.current in
     let copy = copy_of c.args.file in
     apart_if copy m mid now (c.make_room.ensures.accounts.time told) (c.add.ensures.accounts.time told)
-    (c.make_room.ensures.apart told) (HoldsOnly mid.state.pages (places mid.blocks) block copy)
+    (c.make_room.ensures.apart told) (HoldsOneCopy mid.state.pages (places mid.blocks) block copy)
     (c.in_ok-make_room.ensures.home told)
     (does_apart copy mid now block (added_held block c.args.file (256 * c.args.page) c.args.bytes.now c.args.len mid
     now (c.add.ensures.does told)))

@@ -2,7 +2,7 @@ use Rattle.std.proofs.Common.{◌<◌, inl, inr, ⊎_elim, sym, ap, subst, ◌�
 use Rattle.flash_disk.specs.declared.layer.LayerState.{LayerState}
 use Rattle.flash_disk.specs.Newest.{places}
 use Rattle.flash_disk.specs.Entries.{SameEntries}
-use Rattle.flash_disk.specs.Apart.{copy_of, HoldsOnly}
+use Rattle.flash_disk.specs.Apart.{copy_of, HoldsOneCopy}
 use Rattle.flash_disk.proofs.Topmost.{on_ok}
 use Rattle.flash_disk.proofs.Moving.{stands_then}
 use Rattle.flash_disk.proofs.Clearing.{cleared_sound, cleared_fits, cleared_stands, cleared_shows, cleared_apart}
@@ -85,7 +85,7 @@ returns-clause-home g c told =
     let copy = copy_of c.args.file in
     on_ok c.clear_spare.result
     (λ many stand. ⊎_elim
-    (λ holds. inl (subst (λ (q : LayerState). HoldsOnly now.state.pages (places now.blocks) q.current copy)
+    (λ holds. inl (subst (λ (q : LayerState). HoldsOneCopy now.state.pages (places now.blocks) q.current copy)
     (sym e.state)
     (cleared_holds mid s sound (sound.fresh c.in_ok-find_room.ensures.room).agreed now (e.accounts.time told).blocks
     (e.does told) s.current copy holds)))
