@@ -17,10 +17,10 @@ use Rattle.element_state.specs.States.{State, greatest_generation}
 use Rattle.deploy_laws.specs.Apps.{App, IsCleanApp, Says, absent, app_at, says_at, says_generation}
 use Rattle.deploy_laws.specs.Laws.{RootMendLaw}
 use Rattle.deploy_laws.specs.Places.{IsFileOf}
-use Rattle.deploy_laws.specs.Stands.{IsLater, StandsCase, StandsThroughout, next_root, same_root}
+use Rattle.deploy_laws.specs.Stands.{ChangesNothing, IsLater, StandsCase, StandsThroughout, next_root, same_root}
 use Rattle.deploy_rows.specs.Rows.{◌>>=◌, AnswersRow, after, deployment_of, reopened}
 use Rattle.per_base.specs.declared.elements.Fresh.{Fresh}
-use Rattle.deploy.specs.Clauses.{ChangesNothing, IsBesideNext, IsNoRootSlot, Leaves, StandsOnTheWay}
+use Rattle.deploy.specs.Clauses.{IsBesideNext, IsNoRootSlot, Leaves, StandsOnTheWay}
 use Rattle.deploy.specs.Filled.{filled_app}
 use Rattle.run_model.specs.Lives.{LooksOnly, after_sync, looks_unsynced}
 use Rattle.per_backup.specs.Backups.{made_from, restored_app, restoring, states_from, taken}

@@ -1,17 +1,19 @@
 -- What a restore promises.
-use Rattle.std.specs.Prelude.{◌≡◌, ℕ, List, None, Ok, IsErr, IsOk, map, Bool, IsTrue}
+use Rattle.std.specs.Prelude.{◌≡◌, ℕ, List, [], ◌∷◌, Option, None, Ok, IsErr, IsOk, map, Bool, IsTrue}
 use Rattle.per_base.specs.declared.elements.Fresh.{Fresh}
+use Rattle.per_base.specs.declared.errors.PerError.{PerError}
 use Rattle.disk_model.specs.Frame.{IsSettledOn, Spares}
 use Rattle.disk_model.specs.Image.{Image}
 use Rattle.disk_model.specs.Medium.{EachCase, Medium, Quiet}
 use Rattle.deployment_model.specs.Data.{deployment_data, storage_data}
 use Rattle.update_plan.specs.Plans.{AllFit}
 use Rattle.deploy_laws.specs.Apps.{App, IsCleanApp, Says, app_at, says_generation}
-use Rattle.deploy_laws.specs.Stands.{StandsCase, StandsThroughout}
+use Rattle.deploy_laws.specs.Stands.{ChangesNothing, StandsCase, StandsThroughout}
 use Rattle.deploy_rows.specs.Rows.{after}
-use Rattle.deploy.specs.Clauses.{ChangesNothing, IsBesideNext}
+use Rattle.deploy.specs.Clauses.{IsBesideNext}
 use Rattle.deploy.specs.Filled.{filled_app}
-use Rattle.deploy.specs.Roots.{SaysDeployment}
+use Rattle.deploy.specs.Roots.{RootAt, SaysDeployment, root_texts}
+use Rattle.deploy.specs.declared.roots.Root.{Root}
 use Rattle.run_model.specs.Lives.{LooksOnly}
 use Rattle.run_model.specs.Moments.{OrBefore}
 use Rattle.per_backup.specs.Backups.{made_from, restoring, taken}
@@ -45,6 +47,11 @@ pub record Restored (app : ℕ) (manifest : List ℕ) (texts : List (List ℕ)) 
   -- the places of what was restored are clean, whatever they were before, and those of the application stay so
   pub clean : IsOk (restoring manifest texts (app_at old.image app)) → IsCleanApp app new.image
   pub stays_clean : IsCleanApp app old.image → IsCleanApp app new.image
+
+-- the root is one version's, with this manifest, byte for byte, unless the restore was refused
+abbrev pub IfHeld : (told : Bool) → Image → (app : ℕ) (manifest : List ℕ) → (refused : Option PerError) → Type 0
+IfHeld told image app manifest refused = refused ≡ None → (root : Root) × RootAt told image app root
+    × (root_texts root ≡ manifest ∷ [])
 
 -- ---- its parts
 

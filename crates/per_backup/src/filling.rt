@@ -34,6 +34,7 @@ pub(crate) fn prepare(
     texts: &[Bytes],
 ) -> Result<Result<Ready, PerError>, Stop>
     ensures ready { IfOk result (λ found. IfOk found (IsReady manifest.now texts.now)) }
+    ensures text { IfOk result (λ found. IfOk found (λ ready. ready.version.text ≡ manifest.now)) }
     ensures refused { IfOk result (λ found. IfErr found (λ e. (g : ℕ) → made_from manifest.now texts.now g ≡ Err e)) }
     ensures memory { ¬ (IsErrOf result Stop.Device) }
 {

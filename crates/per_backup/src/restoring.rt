@@ -13,7 +13,8 @@ ghost use Rattle.deploy.specs.Roots.{SaysDeployment, root_says};
 ghost use Rattle.deploy.specs.Views.{versions_say};
 ghost use Rattle.per_backup.specs.Backups.{restoring, taken};
 ghost use Rattle.per_backup.specs.Clauses.{IsAppSeen};
-ghost use Rattle.per_backup.specs.Restores.{IsFreeFor, IsSaid, RestoreKeeps, Restored, RestoresSettled, ready_app};
+ghost use Rattle.per_backup.specs.Restores.{IfHeld, IsFreeFor, IsSaid, RestoreKeeps, Restored, RestoresSettled};
+ghost use Rattle.per_backup.specs.Restores.{ready_app};
 
 use crate::filling::{Ready, prepare};
 use crate::laws::storages_stand;
@@ -49,6 +50,7 @@ pub fn restore<D: Disk>(
         × AnswersRow refused (restoring manifest.now texts.now it)) }
     ensures restored { IsTrue D.told → OnOk result (Restored app manifest.now texts.now (D.medium disk.old)
         (D.medium disk.new)) }
+    ensures held { IfOk result (IfHeld D.told (D.medium disk.new).image app manifest.now) }
     ensures keeps { IsTrue D.told → RestoreKeeps app manifest.now texts.now (D.medium disk.old) (D.medium disk.new) }
     ensures quiet { OnOk result (Quiet (D.medium disk.new)) }
     ensures cause { IsErrOf result Stop.Device → Rose (D.medium disk.old).faults (D.medium disk.new).faults }
@@ -100,6 +102,7 @@ fn restore_synced<D: Disk>(
         × AnswersRow refused (restoring manifest.now texts.now it)) }
     ensures restored { IsTrue D.told → OnOk result (Restored app manifest.now texts.now (D.medium disk.old)
         (D.medium disk.new)) }
+    ensures held { IfOk result (IfHeld D.told (D.medium disk.new).image app manifest.now) }
     ensures keeps { IsTrue D.told → RestoresSettled app manifest.now texts.now (D.medium disk.old)
         (D.medium disk.new) }
     ensures quiet { OnOk result (Quiet (D.medium disk.new)) }
@@ -131,6 +134,7 @@ fn restore_free<D: Disk>(
         × AnswersRow refused (restoring manifest.now texts.now it)) }
     ensures restored { IsTrue D.told → OnOk result (Restored app manifest.now texts.now (D.medium disk.old)
         (D.medium disk.new)) }
+    ensures held { IfOk result (IfHeld D.told (D.medium disk.new).image app manifest.now) }
     ensures keeps { IsTrue D.told → RestoresSettled app manifest.now texts.now (D.medium disk.old)
         (D.medium disk.new) }
     ensures quiet { OnOk result (Quiet (D.medium disk.new)) }
@@ -162,6 +166,7 @@ fn install_ready<D: Disk>(
         × (refused ≡ taken says)) }
     ensures app { IsTrue D.told → OnOk result (app_at (D.medium disk.new).image app
         ≡ ready_app ready app (D.medium disk.old).image) }
+    ensures held { IfOk result (IfHeld D.told (D.medium disk.new).image app ready.version.text) }
     ensures clean { IsTrue D.told → OnOk result (IsCleanApp app (D.medium disk.new).image) }
     ensures quiet { OnOk result (Quiet (D.medium disk.new)) }
     ensures cause { IsErrOf result Stop.Device → Rose (D.medium disk.old).faults (D.medium disk.new).faults }

@@ -55,3 +55,7 @@ returns-in-Ok-2-clause-ready c =
           (λ cs. states_from (map storage_data c.as_slice.result.now) c.args.texts.now ≡ Ok (made_states cs.items))
           c.in-Ok-2.is c.in_ok-contents.ensures.states));
     }
+
+pub returns-in-Ok-2-clause-text : goal.returns-in-Ok-2-clause-text
+returns-in-Ok-2-clause-text c = ok_so c.in_ok-version.field-0 c.in-Ok.version (λ v. v.text ≡ c.args.manifest.now) c.in-Ok.is
+    c.in_ok-version.ensures.text

@@ -13,6 +13,7 @@ use Rattle.per_backup.specs.Restores.{IsSaid}
 use Rattle.per_backup.proofs.Lists.{err_so, ok_so}
 use Rattle.per_backup.proofs.Restored.{filled_same, generation_left, later_filled, not_refused, opened_leaves, said_twice}
 use Rattle.per_backup.proofs.Restored.{then_leaves, then_stands}
+use Rattle.per_backup.proofs.Stored.{says_of}
 use Rattle.per_backup.proofs.restoring.install_ready.Goals as goal
 
 -- the root is not opened
@@ -154,3 +155,10 @@ returns-clause-app g c = λ tells.
     (deployment_data c.args.ready.version.deployment) c.deref.result.now c.args.ready.contents.items
     (sym (ap (λ (r : Root). says_generation (root_says r)) free.0)
     ∙ ap says_generation (c.in_ok-root.ensures.says tells ∙ sym (says_of old c.args.app))) c.deref.ensures.value
+
+pub returns-clause-held : goal.returns-clause-held
+returns-clause-held g c = λ done. (
+  c.in_ok-_installed._installed,
+  c.in_ok-_installed.ensures.root,
+  c.in_ok-_installed.ensures.text,
+)

@@ -1,12 +1,12 @@
-use Rattle.std.proofs.Common.{Err, refl}
+use Rattle.std.proofs.Common.{Err, List, refl, subst}
 use Rattle.disk_model.specs.Laws.{elapses_none, idle_none}
 use Rattle.per_backup.specs.Backups.{made_from}
-use Rattle.per_backup.specs.Restores.{IsReady}
+use Rattle.per_backup.specs.Restores.{IfHeld, IsReady}
 use Rattle.per_backup.proofs.Lists.{err_so, ok_so}
 use Rattle.per_backup.proofs.Restored.{made_refuses, nothing_restored, nothing_restores, on_both, ready_answers}
 use Rattle.per_backup.proofs.Restored.{ready_keeps, ready_restored, refused_so, refused_there}
 use Rattle.std.proofs.lemmas.Result.{IfOk-weaker}
-use Rattle.std.specs.Prelude.{◌≡◌, ℕ}
+use Rattle.std.specs.Prelude.{◌≡◌, ℕ, IfOk}
 use Rattle.per_backup.proofs.restoring.restore_free.Goals as goal
 
 -- memory ran out
@@ -101,3 +101,11 @@ returns-clause-keeps g c = λ tells.
     ready_keeps c.args.manifest.now c.args.texts.now g.D.Disk.told c.args.app c.in-Ok.ready ready
     (g.D.Disk.medium c.args.disk.now) (g.D.Disk.medium c.install_ready.new.disk) c.requires.free tells
     c.install_ready.ensures.outside (c.install_ready.ensures.any_moment tells)
+
+pub returns-clause-held : goal.returns-clause-held
+returns-clause-held g c = subst
+    (λ (m : List ℕ). IfOk c.install_ready.result (IfHeld g.D.Disk.told (g.D.Disk.medium c.install_ready.new.disk).image
+    c.args.app m))
+    (ok_so c.in_ok-ready.field-0 c.in-Ok.ready (λ r. r.version.text ≡ c.args.manifest.now) c.in-Ok.is
+    c.in_ok-ready.ensures.text)
+    c.install_ready.ensures.held

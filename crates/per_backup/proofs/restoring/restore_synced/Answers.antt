@@ -71,8 +71,8 @@ restore_free-requires-clause-free g c =
       sym c.refusal_of.ensures ∙ c.in-None.is,
     )
 
-pub returns-in-None-clause-refused : goal.returns-in-None-clause-refused
-returns-in-None-clause-refused g c =
+pub returns-clause-refused : goal.returns-clause-refused
+returns-clause-refused g c =
     let old = g.D.Disk.medium c.args.disk.now in
     let mid = g.D.Disk.medium c.view_versions.new.disk in
     each_ok
@@ -85,15 +85,15 @@ returns-in-None-clause-refused g c =
     (g.D.Disk.medium c.restore_free.new.disk) c.in_ok-found.ensures.image x given)
     c.restore_free.ensures.refused
 
-pub returns-in-None-clause-restored : goal.returns-in-None-clause-restored
-returns-in-None-clause-restored g c = λ tells. on_each c.restore_free.result
+pub returns-clause-restored : goal.returns-clause-restored
+returns-clause-restored g c = λ tells. on_each c.restore_free.result
     (restored_before g.D.Disk.told c.args.app c.args.manifest.now c.args.texts.now (g.D.Disk.medium c.args.disk.now)
     (g.D.Disk.medium c.view_versions.new.disk) (g.D.Disk.medium c.restore_free.new.disk)
     c.in_ok-found.ensures.image)
     (c.restore_free.ensures.restored tells)
 
-pub returns-in-None-clause-keeps : goal.returns-in-None-clause-keeps
-returns-in-None-clause-keeps g c = λ tells. then_restores c.storages_stand.ensures c.args.app c.requires
+pub returns-clause-keeps : goal.returns-clause-keeps
+returns-clause-keeps g c = λ tells. then_restores c.storages_stand.ensures c.args.app c.requires
     c.args.manifest.now c.args.texts.now (g.D.Disk.medium c.args.disk.now) (g.D.Disk.medium c.view_versions.new.disk)
     (g.D.Disk.medium c.restore_free.new.disk) c.in_ok-found.ensures.time
     (record {
@@ -102,16 +102,16 @@ returns-in-None-clause-keeps g c = λ tells. then_restores c.storages_stand.ensu
       idle = c.in_ok-found.ensures.idle;
     }) c.restore_free.ensures.time (c.restore_free.ensures.keeps tells)
 
-pub returns-in-None-clause-cause : goal.returns-in-None-clause-cause
-returns-in-None-clause-cause g c = λ failed. rose_before _ _ _ c.in_ok-found.ensures.time.faults
+pub returns-clause-cause : goal.returns-clause-cause
+returns-clause-cause g c = λ failed. rose_before _ _ _ c.in_ok-found.ensures.time.faults
     (c.restore_free.ensures.cause failed)
 
-pub returns-in-None-clause-passes : goal.returns-in-None-clause-passes
-returns-in-None-clause-passes g c = passes_on c.restore_free.result _ _ _ c.in_ok-found.ensures.passes
+pub returns-clause-passes : goal.returns-clause-passes
+returns-clause-passes g c = passes_on c.restore_free.result _ _ _ c.in_ok-found.ensures.passes
     c.restore_free.ensures.passes
 
-pub returns-in-None-clause-fed : goal.returns-in-None-clause-fed
-returns-in-None-clause-fed g c = λ starved. c.restore_free.ensures.fed starved ∙ c.in_ok-found.ensures.passes
+pub returns-clause-fed : goal.returns-clause-fed
+returns-clause-fed g c = λ starved. c.restore_free.ensures.fed starved ∙ c.in_ok-found.ensures.passes
 
-pub returns-in-None-clause-time : goal.returns-in-None-clause-time
-returns-in-None-clause-time g c = elapses_on c.in_ok-found.ensures.time c.restore_free.ensures.time
+pub returns-clause-time : goal.returns-clause-time
+returns-clause-time g c = elapses_on c.in_ok-found.ensures.time c.restore_free.ensures.time
