@@ -10,6 +10,7 @@ ghost use Rattle.guarded_cell.specs.Seens.{IsSealable, IsSeenOn};
 ghost use Rattle.guarded_cell.specs.Slots.{IsSlotsOf};
 ghost use Rattle.guarded_cell.specs.Stops.{PutStops};
 ghost use Rattle.deploy_laws.specs.Places.{root_place};
+ghost use Rattle.deploy_laws.specs.Stands.{ChangesNothing};
 ghost use Rattle.root_recovery.specs.Clauses.{IsRecovered, LeavesAll, RecoveryKeeps};
 ghost use Rattle.root_recovery.specs.Clauses.{RecoveryKeepsSynced};
 ghost use Rattle.root_recovery.specs.Recoveries.{IsRefused, most_written, row_answered};
