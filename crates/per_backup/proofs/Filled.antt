@@ -1,10 +1,10 @@
 -- What the texts of storages make, one storage after another.
-use Rattle.std.proofs.Common.{◌≡◌, ℕ, suc, ◌+◌, ◌<◌, ◌≤◌, Bool, true, false, List, [], ◌∷◌, ◌++◌, length, get_or, drop}
-use Rattle.std.proofs.Common.{None, Result, Ok, Err, refl, sym, ap, ◌∙◌, subst, append_assoc, append-nil, arith}
+use Rattle.std.proofs.Common.{◌≡◌, ℕ, zero, suc, ◌+◌, ◌<◌, ◌≤◌, Bool, true, false, List, [], ◌∷◌, ◌++◌, length, get_or, drop}
+use Rattle.std.proofs.Common.{cond, None, Result, Ok, Err, refl, sym, ap, ◌∙◌, subst, append_assoc, append-nil, arith}
 use Rattle.std.specs.Prelude.{map, nat_lt, sum_by}
 use Rattle.std.specs.List.{AllByRecursion}
-use Rattle.std.proofs.lemmas.List.{map-append}
-use Rattle.std.proofs.lemmas.Bool.{lt-leb, le-leb}
+use Rattle.std.proofs.lemmas.List.{drop_all, drop_more, map-append}
+use Rattle.std.proofs.lemmas.Bool.Decides.{nat_tests}
 use Rattle.per_base.specs.declared.elements.Fresh.{Fresh}
 use Rattle.per_base.specs.declared.errors.PerError.{PerError}
 use Rattle.per_base.specs.declared.errors.PerError.TheVariants as error
@@ -20,14 +20,13 @@ use Rattle.deploy_rows.specs.Rows.{◌>>=◌, deployment_of, made_states}
 use Rattle.deploy.specs.Filled.{filled_app}
 use Rattle.deploy.specs.Recovered.{AreElements}
 use Rattle.per_backup.specs.Backups.{importing, made_from, restored_app, states_from}
-use Rattle.per_backup.proofs.Lists.{dropped_all, item_at}
 
 -- ---- one storage
 
 pub kept_at : (ds : List StorageConfig) (k : ℕ) (x : StorageConfig) → AllByRecursion IsStorage (map storage_data ds)
     → k < length ds → x ≡ get_or ds k x → IsStorage (storage_data x)
 kept_at [] k x all lt is = absurd (omega (arith, lt))
-kept_at (d ∷ ds) 0 x all lt is = subst (λ (y : StorageConfig). IsStorage (storage_data y)) (sym is) all.0
+kept_at (d ∷ ds) zero x all lt is = subst (λ (y : StorageConfig). IsStorage (storage_data y)) (sym is) all.0
 kept_at (d ∷ ds) (suc k) x all lt is = kept_at ds k x all.1 (omega (arith, lt)) is
 
 above : (a b : ℕ) → b < a → nat_lt b a ≡ true
@@ -36,11 +35,10 @@ above a b lt = grind (arith, nat_tests, lt)
 within : (a b : ℕ) → a ≤ b → nat_lt b a ≡ false
 within a b le = grind (arith, nat_tests, le)
 
-unless_large : Bool → StorageData → State → List Fresh → Result State PerError
-unless_large large s state contents = elim large [
-  | true ↦ Err (error.OutOfStorageSpace (sum_by fresh_size contents) s.maximum)
-  | false ↦ rebuilding state contents
-]
+-- what comes of contents that are too large, or not
+abbrev unless_large : Bool → StorageData → State → List Fresh → Result State PerError
+unless_large large s state contents = cond large (Err (error.OutOfStorageSpace (sum_by fresh_size contents) s.maximum))
+    (rebuilding state contents)
 
 pub too_large : (s : StorageData) (text : List ℕ) (contents : List Fresh)
     → ((state : State) → importing s state text ≡ if_contents_fit s state contents)
@@ -95,6 +93,11 @@ refused_one : (known : List State) (s : StorageData) (ss : List StorageData) (te
 refused_one known s ss text texts e is = ap (λ (r : Result State PerError).
     known_first known (r >>= λ st. states_from ss texts >>= λ states. Ok (st ∷ states))) is
 
+-- an item of a list, and what is left from there
+next_is : {A : Type 0} (xs : List A) (i : ℕ) (x : A) → i < length xs → x ≡ get_or xs i x
+    → drop i xs ≡ x ∷ drop (i + 1) xs
+next_is xs i x lt is = drop_more xs i x lt ∙ ap (λ y. y ∷ drop (i + 1) xs) (sym is)
+
 -- the storages before this one are filled
 pub record IsFilling (storages : List StorageConfig) (texts : List (List ℕ)) (number : ℕ) (contents : List (List Fresh))
     : Type 0 where
@@ -116,33 +119,33 @@ module _ (storages : List StorageConfig) (texts : List (List ℕ)) (number : ℕ
   module _ (x : StorageConfig) (text : List ℕ) (lt : number < length storages) (is : x ≡ get_or storages number x)
       (few : number < length texts) (here : text ≡ get_or texts number text) where
     at : states_from (map storage_data (drop number storages)) (drop number texts)
-        ≡ states_from (storage_data x ∷ map storage_data (drop (suc number) storages))
-        (text ∷ drop (suc number) texts)
+        ≡ states_from (storage_data x ∷ map storage_data (drop (number + 1) storages))
+        (text ∷ drop (number + 1) texts)
     at = ap (λ (xs : List StorageConfig). states_from (map storage_data xs) (drop number texts))
-        (item_at storages number x lt is)
+        (next_is storages number x lt is)
         ∙ ap (λ (ts : List (List ℕ)). states_from
-        (storage_data x ∷ map storage_data (drop (suc number) storages)) ts) (item_at texts number text few here)
+        (storage_data x ∷ map storage_data (drop (number + 1) storages)) ts) (next_is texts number text few here)
 
     pub filling_refused : (e : PerError) → importing (storage_data x) (Corrupt None []) text ≡ Err e
         → states_from (map storage_data storages) texts ≡ Err e
     filling_refused e refused = sym filling.states ∙ ap (known_first (made_states contents)) at
-        ∙ refused_one (made_states contents) (storage_data x) (map storage_data (drop (suc number) storages)) text
-        (drop (suc number) texts) e refused
+        ∙ refused_one (made_states contents) (storage_data x) (map storage_data (drop (number + 1) storages)) text
+        (drop (number + 1) texts) e refused
 
     pub filling_more : (fs : List Fresh)
         → importing (storage_data x) (Corrupt None []) text ≡ Ok (fresh_state 1 (fresh_map fs))
         → AreContents x.kind x.maximum fs → IsFilling storages texts (number + 1) (contents ++ fs ∷ [])
     filling_more fs made fits = record {
       states = ap (λ (known : List State). known_first known
-          (states_from (map storage_data (drop (suc number) storages)) (drop (suc number) texts)))
+          (states_from (map storage_data (drop (number + 1) storages)) (drop (number + 1) texts)))
           (map-append (λ (gs : List Fresh). fresh_state 1 (fresh_map gs)) contents (fs ∷ []))
-          ∙ sym (made_one (made_states contents) (storage_data x) (map storage_data (drop (suc number) storages)) text
-          (drop (suc number) texts) (fresh_state 1 (fresh_map fs)) made)
+          ∙ sym (made_one (made_states contents) (storage_data x) (map storage_data (drop (number + 1) storages)) text
+          (drop (number + 1) texts) (fresh_state 1 (fresh_map fs)) made)
           ∙ ap (known_first (made_states contents)) (sym at) ∙ filling.states;
       fit = λ rest more. subst (λ (cs : List (List Fresh)). AllFit (map storage_data storages) cs)
           (sym (append_assoc contents (fs ∷ []) rest))
           (filling.fit (fs ∷ rest) (subst (λ (xs : List StorageConfig). AllFit (map storage_data xs) (fs ∷ rest))
-          (sym (item_at storages number x lt is)) (fits, more)));
+          (sym (next_is storages number x lt is)) (fits, more)));
     }
 
   -- it has no text
@@ -150,9 +153,9 @@ module _ (storages : List StorageConfig) (texts : List (List ℕ)) (number : ℕ
       → length texts ≤ number → states_from (map storage_data storages) texts ≡ Err error.ExportRejected
   filling_short x lt is few = sym filling.states
       ∙ ap (λ (xs : List StorageConfig). known_first (made_states contents)
-      (states_from (map storage_data xs) (drop number texts))) (item_at storages number x lt is)
+      (states_from (map storage_data xs) (drop number texts))) (next_is storages number x lt is)
       ∙ ap (λ (ts : List (List ℕ)). known_first (made_states contents)
-      (states_from (storage_data x ∷ map storage_data (drop (suc number) storages)) ts)) (dropped_all texts number few)
+      (states_from (storage_data x ∷ map storage_data (drop (number + 1) storages)) ts)) (drop_all number texts few)
 
   -- there is none left
   module _ (past : length storages ≤ number) where
@@ -160,13 +163,13 @@ module _ (storages : List StorageConfig) (texts : List (List ℕ)) (number : ℕ
         (states_from (map storage_data (drop number storages)) rest)
         ≡ known_first (made_states contents) (states_from [] rest)
     over rest = ap (λ (xs : List StorageConfig). known_first (made_states contents)
-        (states_from (map storage_data xs) rest)) (dropped_all storages number past)
+        (states_from (map storage_data xs) rest)) (drop_all number storages past)
 
     pub filling_done : length texts ≤ number
         → states_from (map storage_data storages) texts ≡ Ok (made_states contents)
     filling_done few = sym filling.states ∙ over (drop number texts)
         ∙ ap (λ (ts : List (List ℕ)). known_first (made_states contents) (states_from [] ts))
-        (dropped_all texts number few)
+        (drop_all number texts few)
         ∙ ap (λ (xs : List State). Ok xs) (append-nil (made_states contents))
 
     pub filling_long : number < length texts
@@ -180,13 +183,13 @@ module _ (storages : List StorageConfig) (texts : List (List ℕ)) (number : ℕ
 
         left : (ts : List (List ℕ)) (n : ℕ) → n < length ts → 0 < length (drop n ts)
         left [] n lt = absurd (omega (arith, lt))
-        left (t ∷ ts) 0 lt = lt
+        left (t ∷ ts) zero lt = lt
         left (t ∷ ts) (suc n) lt = left ts n (omega (arith, lt))
 
     pub filling_fits : AllFit (map storage_data storages) contents
     filling_fits = subst (λ (cs : List (List Fresh)). AllFit (map storage_data storages) cs) (append-nil contents)
         (filling.fit [] (subst (λ (xs : List StorageConfig). AllFit (map storage_data xs) [])
-        (sym (dropped_all storages number past)) tt))
+        (sym (drop_all number storages past)) tt))
 
 -- ---- the version with them
 

@@ -1,6 +1,6 @@
 -- The contents of an export as those of a storage that is made.
 use Rattle.std.proofs.Common.{◌≡◌, ℕ, ◌≤◌, slice_get, slice_set, Bool, true, false, cond, List, [], ◌∷◌, length, map}
-use Rattle.std.proofs.Common.{Option, Some, None, Result, Ok, Err, refl, sym, ap, ◌∙◌, subst, true≢false}
+use Rattle.std.proofs.Common.{Option, Some, None, Result, Ok, Err, refl, sym, ap, ◌∙◌, subst, true≢false, suc, arith}
 use Rattle.std.specs.Prelude.{IsTrue, nat_lt, sum_by}
 use Rattle.std.specs.List.{AllByRecursion}
 use Rattle.std.proofs.lemmas.Bool.{cond-true, cond-false}
@@ -16,23 +16,25 @@ use Rattle.per_base.specs.Refusals.{refused_by}
 use Rattle.per_base.specs.Fields.{AreBytes}
 use Rattle.value_code.specs.Reading.{is_content}
 use Rattle.index_text.specs.Contents.{SuitsKind, fresh_size}
+use Rattle.deployment_model.specs.Conditions.{IsDeployment}
 use Rattle.deployment_model.specs.Data.{DeploymentData, StorageData}
 use Rattle.element_state.specs.States.{State, Corrupt, Opens, fresh_entry, fresh_element, fresh_map, fresh_state}
 use Rattle.element_state.specs.States.{next_generation, salvage_of}
 use Rattle.update_plan.specs.Plans.{is_kind}
-use Rattle.deployment_model.specs.Lookups.{storage_number}
+use Rattle.deployment_model.specs.Lookups.{storage_named, storage_number}
+use Rattle.manifest.specs.Reading.{broken_rule, deployment_in}
 use Rattle.deploy_laws.specs.Places.{Named}
 use Rattle.deploy_laws.specs.Apps.{App, Says, absent, installed, nothing, says_generation}
 use Rattle.deploy_rows.specs.Recovering.{if_contents_fit, is_worn_out, rebuilding}
-use Rattle.deploy_rows.specs.Rows.{◌>>=◌, deployment_of}
+use Rattle.deploy_rows.specs.Rows.{◌>>=◌, deployment_of, said_or_broken}
 use Rattle.deploy.specs.Recovered.{AreElements}
 use Rattle.export_text.specs.declared.exports.Export.{Export}
 use Rattle.export_text.specs.Exports.{AreExportable, IsExport, IsExportable, export_of, export_text}
 use Rattle.export_text.specs.Exports as exports
 use Rattle.run_model.specs.Found.{FoundStorage, found_at, found_in, found_with, storage_in, with_storage_state}
 use Rattle.per_backup.specs.Backups.{export_for, exported_contents, exported_from, exporting, fresh_of, importing}
-use Rattle.per_backup.specs.Backups.{dumping, importing_into, least_mismatch, made_from, restored_app, restoring}
-use Rattle.per_backup.specs.Backups.{states_from, taken, text_from, texts_from}
+use Rattle.per_backup.specs.Backups.{dumping, exports_of, importing_into, least_mismatch, made_from, restored_app}
+use Rattle.per_backup.specs.Backups.{restoring, states_from, taken, text_from}
 use Rattle.per_backup.specs.Laws.{AgainLaw, ExportedLaw, ImportsLaw, RestoredLaw}
 use Rattle.per_backup.proofs.ExportRows.{fresh_counts}
 use Rattle.per_backup.proofs.Lists.{get_set, no_ok, ok_same, some_same}
@@ -282,48 +284,114 @@ again taken a b name text bytes is = again_by taken a b name text bytes (storage
 
 -- ---- a restore, and a dump of it
 
+-- of deployment_model and of manifest
+abbrev pub ApartLaw : Type 0
+ApartLaw = (d : DeploymentData) (i : ℕ) (s : StorageData) → IsDeployment d → slice_get d.storages i ≡ Some s
+    → (storage_named d s.name ≡ Some s) × (storage_number d s.name ≡ Some i)
+
+abbrev pub KeptLaw : Type 0
+KeptLaw = (text : List ℕ) (d : DeploymentData) → deployment_in text ≡ Some d → IsDeployment d
+
+-- the texts of storages in these states
+abbrev texts_from : List StorageData → List State → Result (List (List ℕ)) PerError
+texts_from [] states = Ok []
+texts_from (s ∷ ss) [] = Err error.StorageNotFound
+texts_from (s ∷ ss) (state ∷ states) = text_from s state >>= λ text. texts_from ss states >>= λ texts.
+    Ok (text ∷ texts)
+
+module _ (s : StorageData) (ss : List StorageData) (text : List ℕ) (texts : List (List ℕ)) (states : List State) where
+  -- what holds of a storage's state and of the others holds of all
+  first_made : {P : Type 0}
+      → ((state : State) (more : List State) → importing s (Corrupt None []) text ≡ Ok state
+      → states_from ss texts ≡ Ok more → state ∷ more ≡ states → P)
+      → states_from (s ∷ ss) (text ∷ texts) ≡ Ok states → P
+  first_made {P} each is = first (importing s (Corrupt None []) text) refl is
+    where
+      rest : (state : State) → importing s (Corrupt None []) text ≡ Ok state → (made : Result (List State) PerError)
+          → states_from ss texts ≡ made → (made >>= λ more. Ok (state ∷ more)) ≡ Ok states → P
+      rest state one (Err e) are is = absurd (no_ok e states is)
+      rest state one (Ok more) are is = each state more one are (ok_same (state ∷ more) states is)
+
+      first : (made : Result State PerError) → importing s (Corrupt None []) text ≡ made
+          → (made >>= λ state. states_from ss texts >>= λ more. Ok (state ∷ more)) ≡ Ok states → P
+      first (Err e) one is = absurd (no_ok e states is)
+      first (Ok state) one is = rest state one (states_from ss texts) refl is
+
 each_again : TakenLaw → (ss : List StorageData) (texts : List (List ℕ)) → AllByRecursion AreBytes texts
     → (states : List State) → states_from ss texts ≡ Ok states → texts_from ss states ≡ Ok texts
 each_again taken_law [] [] bytes states is = refl
 each_again taken_law [] (text ∷ texts) bytes states is = absurd (no_ok _ states is)
 each_again taken_law (s ∷ ss) [] bytes states is = absurd (no_ok _ states is)
-each_again taken_law (s ∷ ss) (text ∷ texts) bytes states is = first (importing s (Corrupt None []) text) refl is
-  where
-    rest : (state : State) → importing s (Corrupt None []) text ≡ Ok state → (made : Result (List State) PerError)
-        → states_from ss texts ≡ made → (made >>= λ more. Ok (state ∷ more)) ≡ Ok states
-        → texts_from (s ∷ ss) states ≡ Ok (text ∷ texts)
-    rest state one (Err e) are is = absurd (no_ok e states is)
-    rest state one (Ok more) are is = subst (λ (xs : List State). texts_from (s ∷ ss) xs ≡ Ok (text ∷ texts))
-        (ok_same (state ∷ more) states is)
-        (ap (λ (r : Result (List ℕ) PerError). r >>= λ t. texts_from ss more >>= λ ts. Ok (t ∷ ts))
-        (one_again taken_law s (Corrupt None []) text bytes.0 state one)
-        ∙ ap (λ (r : Result (List (List ℕ)) PerError). r >>= λ ts. Ok (text ∷ ts))
-        (each_again taken_law ss texts bytes.1 more are))
+each_again taken_law (s ∷ ss) (text ∷ texts) bytes states is = first_made s ss text texts states
+    (λ state more one are whole. subst (λ (xs : List State). texts_from (s ∷ ss) xs ≡ Ok (text ∷ texts)) whole
+    (ap (λ (r : Result (List ℕ) PerError). r >>= λ t. texts_from ss more >>= λ ts. Ok (t ∷ ts))
+    (one_again taken_law s (Corrupt None []) text bytes.0 state one)
+    ∙ ap (λ (r : Result (List (List ℕ)) PerError). r >>= λ ts. Ok (text ∷ ts))
+    (each_again taken_law ss texts bytes.1 more are))) is
 
-    first : (made : Result State PerError) → importing s (Corrupt None []) text ≡ made
-        → (made >>= λ state. states_from ss texts >>= λ more. Ok (state ∷ more)) ≡ Ok states
-        → texts_from (s ∷ ss) states ≡ Ok (text ∷ texts)
-    first (Err e) one is = absurd (no_ok e states is)
-    first (Ok state) one is = rest state one (states_from ss texts) refl is
+-- each storage has a state
+as_many : (ss : List StorageData) (texts : List (List ℕ)) (states : List State) → states_from ss texts ≡ Ok states
+    → length states ≡ length ss
+as_many [] [] states is = ap (λ (xs : List State). length xs) (sym (ok_same [] states is))
+as_many [] (text ∷ texts) states is = absurd (no_ok _ states is)
+as_many (s ∷ ss) [] states is = absurd (no_ok _ states is)
+as_many (s ∷ ss) (text ∷ texts) states is = first_made s ss text texts states
+    (λ state more one are whole. subst (λ (xs : List State). length xs ≡ length (s ∷ ss)) whole
+    (ap suc (as_many ss texts more are))) is
 
-pub restored : TakenLaw → RestoredLaw
+-- by their names as by their numbers
+by_names : (a : App) (ss : List StorageData) (states : List State) → length states ≡ length ss
+    → ((i : ℕ) (s : StorageData) (state : State) → slice_get ss i ≡ Some s → slice_get states i ≡ Some state
+    → exporting a s.name ≡ text_from s state)
+    → exports_of a ss ≡ texts_from ss states
+by_names a [] states same each = refl
+by_names a (s ∷ ss) [] same each = absurd (omega (arith, same))
+by_names a (s ∷ ss) (state ∷ states) same each =
+    ap (λ (r : Result (List ℕ) PerError). r >>= λ text. exports_of a ss >>= λ texts. Ok (text ∷ texts))
+    (each 0 s state refl refl)
+    ∙ ap (λ (r : Result (List (List ℕ)) PerError). text_from s state >>= λ text. r >>= λ texts. Ok (text ∷ texts))
+    (by_names a ss states (omega (arith, same)) (λ i t next at is. each (suc i) t next at is))
+
+exported_there : ApartLaw → (g : ℕ) (d : DeploymentData) (states : List State) → IsDeployment d
+    → (i : ℕ) (s : StorageData) (state : State) → slice_get d.storages i ≡ Some s → slice_get states i ≡ Some state
+    → exporting (restored_app g d states) s.name ≡ text_from s state
+exported_there apart g d states kept i s state at is = exporting_found (restored_app g d states) s.name
+    (record { bank = 0; number = i; config = s; state = state })
+    (ap (found_at (record { bank = 0; deployment = d }) states None) (apart d i s kept at).1
+    ∙ ap (λ (c : Option StorageData). found_with 0 i None c (slice_get states i)) at
+    ∙ ap (λ (x : Option State). found_with 0 i None (Some s) x) is)
+
+said_so : (said : Option DeploymentData) (rule : Option ℕ) (d : DeploymentData) → said_or_broken said rule ≡ Ok d
+    → said ≡ Some d
+said_so (Some x) rule d is = ap (λ (y : DeploymentData). Some y) (ok_same x d is)
+said_so None None d is = absurd (no_ok _ d is)
+said_so None (Some rule) d is = absurd (no_ok _ d is)
+
+said_kept : KeptLaw → (manifest : List ℕ) (d : DeploymentData) → deployment_of manifest ≡ Ok d → IsDeployment d
+unfolding deployment_of
+said_kept kept manifest d is = kept manifest d (said_so (deployment_in manifest) (broken_rule manifest) d is)
+
+pub restored : TakenLaw → ApartLaw → KeptLaw → RestoredLaw
 unfolding restoring dumping
-restored taken_law a b manifest texts bytes is = by (taken a.says) is
+restored taken_law apart kept a b manifest texts bytes is = by (taken a.says) is
   where
-    with_states : (d : DeploymentData) (states : Result (List State) PerError) → states_from d.storages texts ≡ states
+    with_states : (d : DeploymentData) → IsDeployment d → (states : Result (List State) PerError)
+        → states_from d.storages texts ≡ states
         → (states >>= λ made. Ok (restored_app (says_generation a.says) d made)) ≡ Ok b → dumping b ≡ Ok texts
-    with_states d (Err e) are is = absurd (no_ok e b is)
-    with_states d (Ok made) are is = subst (λ (x : App). dumping x ≡ Ok texts)
+    with_states d keeps (Err e) are is = absurd (no_ok e b is)
+    with_states d keeps (Ok made) are is = subst (λ (x : App). dumping x ≡ Ok texts)
         (ok_same (restored_app (says_generation a.says) d made) b is)
-        (each_again taken_law d.storages texts bytes made are)
+        (by_names (restored_app (says_generation a.says) d made) d.storages made (as_many d.storages texts made are)
+        (exported_there apart (says_generation a.says) d made keeps)
+        ∙ each_again taken_law d.storages texts bytes made are)
 
-    with_version : (said : Result DeploymentData PerError)
+    with_version : (said : Result DeploymentData PerError) → deployment_of manifest ≡ said
         → (said >>= λ d. states_from d.storages texts >>= λ made. Ok (restored_app (says_generation a.says) d made))
         ≡ Ok b → dumping b ≡ Ok texts
-    with_version (Err e) is = absurd (no_ok e b is)
-    with_version (Ok d) is = with_states d (states_from d.storages texts) refl is
+    with_version (Err e) says is = absurd (no_ok e b is)
+    with_version (Ok d) says is = with_states d (said_kept kept manifest d says) (states_from d.storages texts) refl is
 
     by : (o : Option PerError) → refused_by o (made_from manifest texts (says_generation a.says)) ≡ Ok b
         → dumping b ≡ Ok texts
-    by None is = with_version (deployment_of manifest) is
+    by None is = with_version (deployment_of manifest) refl is
     by (Some e) is = absurd (no_ok e b is)

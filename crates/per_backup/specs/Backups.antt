@@ -98,20 +98,19 @@ importing_into a name text = storage_in a name None >>= λ f. importing f.config
 
 -- ---- all storages of an application
 
--- the texts of storages, in their order, or the refusal for the first that has none
-abbrev pub texts_from : List StorageData → List State → Result (List (List ℕ)) PerError
-texts_from [] states = Ok []
-texts_from (s ∷ ss) [] = Err error.StorageNotFound
-texts_from (s ∷ ss) (state ∷ states) = text_from s state >>= λ text. texts_from ss states >>= λ texts.
-    Ok (text ∷ texts)
+-- the texts that an export gives of storages, in their order, or the refusal for the first that has none
+abbrev pub exports_of : App → List StorageData → Result (List (List ℕ)) PerError
+exports_of a [] = Ok []
+exports_of a (s ∷ ss) = exporting a s.name >>= λ text. exports_of a ss >>= λ texts. Ok (text ∷ texts)
 
--- the texts of all storages of the active version
+abbrev pub dumping_over : App → Says → Result (List (List ℕ)) PerError
+dumping_over a nothing = Err (error.IntegrityCorrupted unit.Root)
+dumping_over a (absent g) = Err error.NotInstalled
+dumping_over a (installed g active previous) = exports_of a active.deployment.storages
+
+-- those of all storages of the active version
 unfoldable pub dumping : App → Result (List (List ℕ)) PerError
-dumping a = elim a.says [
-  | nothing ↦ Err (error.IntegrityCorrupted unit.Root)
-  | absent g ↦ Err error.NotInstalled
-  | installed g active previous ↦ texts_from active.deployment.storages a.states
-]
+dumping a = dumping_over a a.says
 
 -- ---- a restore
 

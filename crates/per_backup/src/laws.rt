@@ -7,8 +7,10 @@ ghost use Rattle.per_backup.specs.StorageLaws.{BackupLaws};
 use deploy_laws::{
     files_lie_apart, others_stand, roots_say, roots_stay, storing_stands, untouched_stands,
 };
+use deployment_model::names_are_apart;
 use element_laws::untouched_is_kept;
 use export_text::export_is_exact;
+use manifest::said_is_kept;
 
 /// An import makes exactly what its text spells. What was exported can be imported, but for types that differ, room and
 /// generations. And what was imported is exported again as the same text, and what was restored as the same texts.
@@ -19,6 +21,8 @@ pub fn exports_come_back()
     ensures restored { RestoredLaw }
 {
     export_is_exact();
+    names_are_apart();
+    said_is_kept();
 }
 
 /// Every refusal of an export, of an import and of a restore has a number, and so a line that says it.

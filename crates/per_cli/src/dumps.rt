@@ -10,14 +10,12 @@ use crate::{
 use command_text::{Answer, Reply, print_reply};
 use deploy::Stop;
 use disk_model::Disk;
+use dump_text::{DumpError, DumpedApplication, read_dump, write_dump};
 use flash_disk::{FlashDisk, FlashOpenError};
 use folder_disk::FolderDisk;
 use folder_flash::{FolderFlash, of_flash};
 use per_base::{PerError, Sequence};
-use per_dump::{
-    DumpError, Dumped, DumpedApplication, dump_application, read_dump, restore_application,
-    write_dump,
-};
+use per_dump::{Dumped, dump_application, restore_application};
 use per_run::{JobKind, WordsError, read_words};
 use per_system::{Access, DeviceKind, HostSystem, Noted, NotedFlash, Notes};
 use per_words::{options_in, unknown_in};

@@ -1,8 +1,42 @@
--- The parts of an application of a dump.
-use Rattle.std.specs.Prelude.{ℕ, List, map}
-use Rattle.per_dump.specs.declared.dumps.DumpedApplication.{DumpedApplication}
-use Rattle.per_dump.specs.declared.dumps.DumpedStorage.{DumpedStorage}
+-- What a dump has of an application.
+use Rattle.std.specs.Prelude.{◌≡◌, ℕ, List, Option, Some, Result, Ok, Err, ⊤}
+use Rattle.per_base.specs.declared.errors.PerError.{PerError}
+use Rattle.per_base.specs.declared.errors.PerError.TheVariants as error
+use Rattle.deployment_model.specs.Conditions.{storage_names}
+use Rattle.manifest.specs.Reading.{deployment_in}
+use Rattle.root_text.specs.declared.versions.VersionText.{VersionText}
+use Rattle.root_text.specs.Views.{version_said}
+use Rattle.deploy_laws.specs.Apps.{Says, installed, named_in_bank}
+use Rattle.deploy_laws.specs.Places.{Named}
+use Rattle.dump_text.specs.declared.dumps.DumpedApplication.{DumpedApplication}
+use Rattle.dump_text.specs.Dumps.{dumped_names, dumped_texts}
+use Rattle.per_dump.specs.declared.dumping.Dumped.{Dumped}
+use Rattle.per_dump.specs.declared.dumping.Dumped.TheVariants.{Absent, Application, Refused}
 
--- the texts of its storages, in their order
-abbrev pub texts_of : DumpedApplication → List (List ℕ)
-texts_of d = map (λ (s : DumpedStorage). s.text) d.storages.items
+-- the texts of its storages in their order, or why it is not dumped
+abbrev pub dumped_as : Dumped → Result (List (List ℕ)) PerError
+dumped_as (Application d) = Ok (dumped_texts d)
+dumped_as Absent = Err error.NotInstalled
+dumped_as (Refused e) = Err e
+
+-- the dump of a version that is active, by its number: the manifest says that version, and the storages are its own
+pub record IsDumpOf (application : ℕ) (says : Says) (d : DumpedApplication) : Type 0 where
+  pub generation : ℕ
+  pub active : Named
+  pub previous : Option Named
+  pub said : says ≡ installed generation active previous
+  pub number : d.application ≡ application
+  pub manifest : deployment_in d.manifest ≡ Some active.deployment
+  pub names : dumped_names d.storages.items ≡ storage_names active.deployment
+
+abbrev pub IsOfActive : (application : ℕ) → Says → Dumped → Type 0
+IsOfActive application says (Application d) = IsDumpOf application says d
+IsOfActive application says Absent = ⊤
+IsOfActive application says (Refused e) = ⊤
+
+-- the root says that this version is active
+pub record IsActive (says : Says) (v : VersionText) : Type 0 where
+  pub generation : ℕ
+  pub bank : ℕ
+  pub previous : Option Named
+  pub said : says ≡ installed generation (named_in_bank bank (version_said v)) previous

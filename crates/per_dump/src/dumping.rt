@@ -1,20 +1,36 @@
 //! What an application has.
 
-ghost use Rattle.std.specs.Prelude.{◌≡◌, ◌<◌, IsErrOf, OnOk};
+ghost use Rattle.std.specs.Prelude.{◌≡◌, ◌<◌, IfOk, IsErrOf, IsTrue, OnOk};
 ghost use Rattle.per_base.specs.Causes.{Rose};
 ghost use Rattle.disk_model.specs.Medium.{Elapses, Quiet};
+ghost use Rattle.root_text.specs.RootText.{IsVersion};
+ghost use Rattle.root_text.specs.Views.{version_said};
+ghost use Rattle.deploy_laws.specs.Apps.{app_at, says_at};
 ghost use Rattle.run_model.specs.Lives.{LooksOnly};
+ghost use Rattle.per_backup.specs.Backups.{dumping};
+ghost use Rattle.per_dump.specs.Dumps.{IsActive, IsOfActive, dumped_as};
 
-use crate::dumps::{AppNumber, Dumped, DumpedApplication, DumpedStorage};
-use deploy::{Stop, view_versions};
+use deploy::{Stop, Versions, view_versions};
 use disk_model::Disk;
+use dump_text::{AppNumber, DumpedApplication, DumpedStorage};
 use per_backup::{Exported, export};
 use per_base::{PerError, Unit};
 use root_text::{RootSays, VersionText};
 use std::alloc::Global;
 
-/// All that an application has: the manifest of its active version, and of each storage the text of its export, as it
-/// is on the disk. Nothing is changed.
+/// What is dumped of an application.
+#[derive(Debug, Drop)]
+pub enum Dumped {
+    /// All that it has.
+    Application(DumpedApplication),
+    /// Nothing is installed.
+    Absent,
+    /// Why it is not dumped: its root is bad, or a storage or an element of it cannot be read.
+    Refused(PerError),
+}
+
+/// All that an application has: the manifest of its active version, and of each storage the text that its export has,
+/// as it is on the disk. Nothing is changed.
 ///
 /// It is refused with `IntegrityCorrupted`: with the root where that is bad, with the first storage that cannot be
 /// opened, or with the first element that cannot be read.
@@ -28,6 +44,12 @@ pub fn dump_application<D: Disk>(
     application: u32,
 ) -> Result<Dumped, Stop>
     requires { application < 8 }
+    // The texts of all storages in their order, or the refusal.
+    ensures texts { IsTrue D.told → IfOk result (λ x. dumped_as x
+        ≡ dumping (app_at (D.medium disk.old).image application)) }
+    // The manifest says the version that is active, and the storages are those of that version.
+    ensures active { IsTrue D.told → IfOk result (λ x. IsOfActive application
+        (says_at (D.medium disk.old).image application) x) }
     ensures stays { LooksOnly (D.medium disk.old) (D.medium disk.new) }
     ensures quiet { OnOk result (Quiet (D.medium disk.new)) }
     ensures cause { IsErrOf result Stop.Device → Rose (D.medium disk.old).faults (D.medium disk.new).faults }
@@ -38,16 +60,36 @@ pub fn dump_application<D: Disk>(
     if disk.sync().is_err() {
         return Err(Stop::Device);
     }
-    let Some(versions) = view_versions(alloc, disk, application)? else {
+    dump_synced(alloc, disk, application)
+}
+
+// The same without the sync.
+fn dump_synced<D: Disk>(alloc: Global, disk: &mut D, application: u32) -> Result<Dumped, Stop>
+    requires app { application < 8 }
+    requires quiet { Quiet (D.medium disk.old) }
+    ensures texts { IsTrue D.told → IfOk result (λ x. dumped_as x
+        ≡ dumping (app_at (D.medium disk.old).image application)) }
+    ensures active { IsTrue D.told → IfOk result (λ x. IsOfActive application
+        (says_at (D.medium disk.old).image application) x) }
+    ensures stays { LooksOnly (D.medium disk.old) (D.medium disk.new) }
+    ensures quiet { OnOk result (Quiet (D.medium disk.new)) }
+    ensures cause { IsErrOf result Stop.Device → Rose (D.medium disk.old).faults (D.medium disk.new).faults }
+    ensures passes { OnOk result ((D.medium disk.new).faults ≡ (D.medium disk.old).faults) }
+    ensures fed { IsErrOf result Stop.OutOfMemory → (D.medium disk.new).faults ≡ (D.medium disk.old).faults }
+    ensures time { Elapses (D.medium disk.old) (D.medium disk.new) }
+{
+    let found = view_versions(alloc, disk, application)?;
+    let Some(versions) = found else {
         return Ok(Dumped::Refused(PerError::IntegrityCorrupted { unit: Unit::Root }));
     };
-    match versions.says {
+    let Versions { says, .. } = versions;
+    match says {
         RootSays::Absent => Ok(Dumped::Absent),
         RootSays::Installed(_, active, _) => dump_version(alloc, disk, application, active),
     }
 }
 
-// What this version has.
+// What the active version has.
 fn dump_version<D: Disk>(
     alloc: Global,
     disk: &mut D,
@@ -56,6 +98,12 @@ fn dump_version<D: Disk>(
 ) -> Result<Dumped, Stop>
     requires app { application < 8 }
     requires quiet { Quiet (D.medium disk.old) }
+    requires active { IsTrue D.told → IsActive (says_at (D.medium disk.old).image application) version }
+    requires said { IsVersion (version_said version) }
+    ensures texts { IsTrue D.told → IfOk result (λ x. dumped_as x
+        ≡ dumping (app_at (D.medium disk.old).image application)) }
+    ensures active { IsTrue D.told → IfOk result (λ x. IsOfActive application
+        (says_at (D.medium disk.old).image application) x) }
     ensures stays { LooksOnly (D.medium disk.old) (D.medium disk.new) }
     ensures quiet { OnOk result (Quiet (D.medium disk.new)) }
     ensures cause { IsErrOf result Stop.Device → Rose (D.medium disk.old).faults (D.medium disk.new).faults }
@@ -74,7 +122,7 @@ fn dump_version<D: Disk>(
         }
     }
     Ok(Dumped::Application(DumpedApplication {
-        application: AppNumber::of(application),
+        application: AppNumber::new(application),
         manifest: version.text,
         storages,
     }))

@@ -8,11 +8,11 @@ ghost use Rattle.deploy_rows.specs.Rows.{AnswersRow};
 ghost use Rattle.per_backup.specs.Backups.{restoring};
 ghost use Rattle.per_backup.specs.Clauses.{IsAppSeen};
 ghost use Rattle.per_backup.specs.Restores.{RestoreKeeps, Restored};
-ghost use Rattle.per_dump.specs.Dumps.{texts_of};
+ghost use Rattle.dump_text.specs.Dumps.{dumped_texts};
 
-use crate::dumps::{DumpedApplication, DumpedStorage};
 use deploy::Stop;
 use disk_model::Disk;
+use dump_text::{DumpedApplication, DumpedStorage};
 use per_backup::restore;
 use per_base::{Bytes, PerError};
 use std::alloc::{AllocError, Global};
@@ -31,10 +31,10 @@ pub fn restore_application<D: Disk>(
 ) -> Result<Option<PerError>, Stop>
     ensures refused { IfOk result (λ refused. (it : App)
         × IsAppSeen D.told (D.medium disk.old).image dumped.now.application it
-        × AnswersRow refused (restoring dumped.now.manifest (texts_of dumped.now) it)) }
+        × AnswersRow refused (restoring dumped.now.manifest (dumped_texts dumped.now) it)) }
     ensures restored { IsTrue D.told → OnOk result (Restored dumped.now.application dumped.now.manifest
-        (texts_of dumped.now) (D.medium disk.old) (D.medium disk.new)) }
-    ensures keeps { IsTrue D.told → RestoreKeeps dumped.now.application dumped.now.manifest (texts_of dumped.now)
+        (dumped_texts dumped.now) (D.medium disk.old) (D.medium disk.new)) }
+    ensures keeps { IsTrue D.told → RestoreKeeps dumped.now.application dumped.now.manifest (dumped_texts dumped.now)
         (D.medium disk.old) (D.medium disk.new) }
     ensures quiet { OnOk result (Quiet (D.medium disk.new)) }
     ensures cause { IsErrOf result Stop.Device → Rose (D.medium disk.old).faults (D.medium disk.new).faults }

@@ -10,7 +10,8 @@ use Rattle.per_backup.proofs.Lists.{err_so, ok_so}
 use Rattle.per_backup.proofs.filling.contents_in.Goals as goal
 
 pub loop-number-init : goal.loop-number-init
-loop-number-init c = filling_none c.args.storages.now c.args.texts.now
+loop-number-init c = subst (λ (cs : List (List Fresh)). IsFilling c.args.storages.now c.args.texts.now 0 cs)
+    (sym c.new-all.ensures) (filling_none c.args.storages.now c.args.texts.now)
 
 pub contents_of-requires : goal.contents_of-requires
 contents_of-requires c = kept_at c.args.storages.now c.loop-number.number c.index-storages-number.result c.requires
@@ -20,7 +21,7 @@ pub loop-number-preserved : goal.loop-number-preserved
 loop-number-preserved c =
     let s = storage_data c.index-storages-number.result in
     subst (λ (cs : List (List Fresh)). IsFilling c.args.storages.now c.args.texts.now (c.loop-number.number + 1) cs)
-    (sym c.in_ok-push.ensures.items)
+    (sym c.in_ok-push-in-Ok.ensures.items)
     (filling_more c.args.storages.now c.args.texts.now c.loop-number.number c.loop-number.all.items
     c.loop-number.invariant c.index-storages-number.result c.index-texts-number.result (omega arith)
     c.index-storages-number.is (omega arith) c.index-texts-number.is c.in-Ok.contents

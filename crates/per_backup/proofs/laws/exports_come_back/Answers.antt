@@ -11,4 +11,5 @@ pub returns-clause-again : goal.returns-clause-again
 returns-clause-again c = again c.export_is_exact.ensures.taken
 
 pub returns-clause-restored : goal.returns-clause-restored
-returns-clause-restored c = restored c.export_is_exact.ensures.taken
+returns-clause-restored c = restored c.export_is_exact.ensures.taken c.names_are_apart.ensures
+    c.said_is_kept.ensures.keeps

@@ -2,7 +2,7 @@
 
 ghost use Rattle.std.specs.Prelude.{◌≡◌, ◌<◌, IfSome};
 
-use per_base::{Bytes, Name, PerError};
+use per_base::{Bytes, Name};
 use std::marker::Model;
 
 /// With this every dump is marked.
@@ -25,19 +25,8 @@ impl Model for AppNumber {
 }
 
 impl AppNumber {
-    /// The application of this number, if there is one.
-    pub fn new(number: u32) -> Option<AppNumber>
-        ensures { IfSome result (λ application. application ≡ number) }
-    {
-        if number < 8 {
-            Some(AppNumber::of(number))
-        } else {
-            None
-        }
-    }
-
     /// The application of this number, which there is.
-    pub(crate) fn of(number: u32) -> AppNumber
+    pub fn new(number: u32) -> AppNumber
         requires { number < 8 }
         ensures { result ≡ number }
     {
@@ -69,15 +58,4 @@ pub struct DumpedApplication {
     pub manifest: Bytes,
     /// The storages of that version, in the order of their names.
     pub storages: Vec<DumpedStorage>,
-}
-
-/// What is dumped of an application.
-#[derive(Debug, Drop)]
-pub enum Dumped {
-    /// All that it has.
-    Application(DumpedApplication),
-    /// Nothing is installed.
-    Absent,
-    /// Why it is not dumped: its root is bad, or a storage or an element of it cannot be read.
-    Refused(PerError),
 }

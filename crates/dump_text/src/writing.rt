@@ -1,15 +1,20 @@
 //! Applications as the text of a dump.
 
+ghost use Rattle.std.specs.Prelude.{◌≡◌, IfOk, Some};
+ghost use Rattle.std.specs.List.{AllByRecursion};
+ghost use Rattle.per_base.specs.Names.{IsName};
+ghost use Rattle.export_text.specs.Exports.{IsExport, IsExportable, export_text};
+ghost use Rattle.serde_json.specs.View.{view};
+ghost use Rattle.dump_text.specs.Elements.{element_in, elements_word};
+
 use crate::dumps::{DumpedApplication, DumpedStorage, FORMAT};
 use crate::errors::DumpError;
 use crate::files::file_value;
+use crate::keys::key_value;
 use export_text::{Export, ExportError, read_export};
 use per_base::{Fresh, StoreKind};
 use serde_json::{Map, Value, put};
 use std::alloc::Global;
-use value_code::decode;
-use value_model::DecodeError;
-use value_text::print_value;
 
 /// The text of a dump of these applications, with a line feed at its end.
 ///
@@ -38,7 +43,7 @@ pub fn write_dump(alloc: Global, applications: &[DumpedApplication]) -> Result<V
 
 fn application_value(alloc: Global, dumped: &DumpedApplication) -> Result<Value, DumpError> {
     let Ok(manifest) = str::from_utf8(dumped.manifest.as_slice()) else {
-        return Err(DumpError::because(alloc, "the manifest is not UTF-8"));
+        return Err(DumpError::NotADump(String::from_str(alloc, "the manifest is not UTF-8")?));
     };
     let mut storages = Map::new(alloc);
     for storage in dumped.storages.as_slice() {
@@ -59,51 +64,56 @@ fn application_value(alloc: Global, dumped: &DumpedApplication) -> Result<Value,
 /// A storage of keys or of files, with its elements by their names.
 fn storage_value(alloc: Global, storage: &DumpedStorage) -> Result<Value, DumpError> {
     let Export { kind, contents } = export_of(alloc, storage)?;
-    let mut elements = Map::new(alloc);
-    for element in contents.as_slice() {
-        let value = element_value(alloc, kind, element)?;
-        put(&mut elements, alloc, element.name.as_str(), value)?;
-    }
+    let elements = elements_value(alloc, kind, contents.as_slice())?;
     let mut members = Map::new(alloc);
-    put(
-        &mut members,
-        alloc,
-        elements_word(kind),
-        Value::Object(elements),
-    )?;
+    put(&mut members, alloc, elements_word(kind), elements)?;
     Ok(Value::Object(members))
 }
 
-fn export_of(alloc: Global, storage: &DumpedStorage) -> Result<Export, DumpError> {
+fn export_of(alloc: Global, storage: &DumpedStorage) -> Result<Export, DumpError>
+    ensures { IfOk result (λ x. IsExport x × (storage.now.text ≡ export_text x)) }
+{
     match read_export(alloc, storage.text.as_slice()) {
         Ok(export) => Ok(export),
-        Err(ExportError::NotAnExport) => Err(DumpError::because(alloc, "a storage has no export")),
+        Err(ExportError::NotAnExport) => Err(DumpError::NotADump(String::from_str(
+            alloc,
+            "a storage has no export",
+        )?)),
         Err(ExportError::OutOfMemory) => Err(DumpError::OutOfMemory),
     }
 }
 
 /// The word for the elements of a storage of this kind.
-pub(crate) fn elements_word(kind: StoreKind) -> &'static str {
+fn elements_word(kind: StoreKind) -> &'static str
+    ensures { result.now ≡ elements_word kind }
+{
     match kind {
         StoreKind::Keys => "keys",
         StoreKind::Files => "files",
     }
 }
 
-fn element_value(alloc: Global, kind: StoreKind, element: &Fresh) -> Result<Value, DumpError> {
-    match (kind, element.info) {
-        (StoreKind::Files, Some(info)) => {
-            Ok(file_value(alloc, &info, element.bytes.as_slice())?)
-        }
-        _ => key_value(alloc, element),
+/// Elements by their names.
+fn elements_value(alloc: Global, kind: StoreKind, contents: &[Fresh]) -> Result<Value, DumpError>
+    requires { AllByRecursion (IsExportable kind) contents.now }
+{
+    let mut elements = Map::new(alloc);
+    for element in contents {
+        let name = element.name.as_str();
+        let value = element_value(alloc, kind, element)?;
+        put(&mut elements, alloc, name, value)?;
     }
+    Ok(Value::Object(elements))
 }
 
-/// The value of a key by its text.
-fn key_value(alloc: Global, key: &Fresh) -> Result<Value, DumpError> {
-    match decode(alloc, key.bytes.as_slice()) {
-        Ok(value) => Ok(Value::String(print_value(alloc, &value)?)),
-        Err(DecodeError::NotAValue) => Err(DumpError::because(alloc, "a key has no value")),
-        Err(DecodeError::OutOfMemory) => Err(DumpError::OutOfMemory),
+/// An element. What is written of it is read back as the same element: its name, its info and its bytes.
+fn element_value(alloc: Global, kind: StoreKind, element: &Fresh) -> Result<Value, DumpError>
+    requires exportable { IsExportable kind element.now }
+    requires name { IsName element.now.name }
+    ensures { IfOk result (λ value. element_in kind element.now.name (view value) ≡ Some element.now) }
+{
+    match element.info {
+        Some(info) => Ok(file_value(alloc, &info, element.bytes.as_slice())?),
+        None => key_value(alloc, element.bytes.as_slice()),
     }
 }

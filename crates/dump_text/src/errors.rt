@@ -1,7 +1,8 @@
 //! Why a text is no dump.
 
-ghost use Rattle.std.specs.Prelude.{◌≡◌};
-ghost use Rattle.per_dump.specs.declared.errors.DumpError.TheVariants.{OutOfMemory};
+ghost use Rattle.std.specs.Prelude.{◌≡◌, IsTrue};
+ghost use Rattle.dump_text.specs.Views.{is_memory};
+ghost use Rattle.dump_text.specs.declared.errors.DumpError.TheVariants.{OutOfMemory};
 
 use std::alloc::{AllocError, AllocFailed, Global};
 
@@ -31,23 +32,15 @@ impl<T: Drop> From<AllocFailed<T>> for DumpError {
 }
 
 impl DumpError {
-    /// The error for this reason.
-    pub(crate) fn because(alloc: Global, reason: &str) -> DumpError {
-        match String::from_str(alloc, reason) {
-            Ok(reason) => DumpError::NotADump(reason),
-            Err(_) => DumpError::OutOfMemory,
-        }
-    }
-
     /// The same error, of a part of this name.
-    pub(crate) fn within(self, alloc: Global, part: &str, name: &str) -> DumpError {
+    pub(crate) fn within(self, alloc: Global, part: &str, name: &str) -> DumpError
+        ensures { IsTrue (is_memory self) → IsTrue (is_memory result) }
+    {
         match self {
-            DumpError::NotADump(reason) => {
-                match format!(in alloc; "{part} {name}: {reason}") {
-                    Ok(reason) => DumpError::NotADump(reason),
-                    Err(_) => DumpError::OutOfMemory,
-                }
-            }
+            DumpError::NotADump(why) => match format!(in alloc; "{part} {name}: {why}") {
+                Ok(why) => DumpError::NotADump(why),
+                Err(_) => DumpError::OutOfMemory,
+            },
             DumpError::OutOfMemory => DumpError::OutOfMemory,
         }
     }
