@@ -25,7 +25,7 @@ use Rattle.deploy.specs.Filled.{filled_app}
 use Rattle.run_model.specs.Lives.{LooksOnly, after_sync, looks_unsynced}
 use Rattle.per_backup.specs.Backups.{made_from, restored_app, restoring, states_from, taken}
 use Rattle.per_backup.specs.Clauses.{IsAppSeen}
-use Rattle.per_backup.specs.Restores.{IsFreeFor, IsReady, IsSaid, RestoreKeeps, Restored, RestoresSettled, ready_app}
+use Rattle.per_backup.specs.Restores.{IsFreeFor, IsReadyToInstall, IsSaid, RestoreKeeps, Restored, RestoresSettled, ready_app}
 use Rattle.per_backup.specs.Restores.{restored_to}
 use Rattle.per_backup.specs.declared.filling.Ready.{Ready}
 use Rattle.per_backup.specs.StorageLaws.{BackupLaws}
@@ -115,7 +115,7 @@ module _ (manifest : List ℕ) (texts : List (List ℕ)) (told : Bool) (image : 
   made_refuses free e is = row_free manifest texts (as_said image app says) free ∙ is (says_generation says)
 
   -- or it is done, unless the root says something else
-  pub ready_answers : (r : Ready) → IsReady manifest texts r → (o : Option PerError) → o ≡ taken says
+  pub ready_answers : (r : Ready) → IsReadyToInstall manifest texts r → (o : Option PerError) → o ≡ taken says
       → (it : App) × IsAppSeen told image app it × AnswersRow o (restoring manifest texts it)
   ready_answers r ready o same = (
     as_said image app says,
@@ -199,7 +199,7 @@ module _ (told : Bool) (app : ℕ) (manifest : List ℕ) (texts : List (List ℕ
 -- ---- what is ready is installed
 
 module _ (manifest : List ℕ) (texts : List (List ℕ)) (told : Bool) (app : ℕ) (r : Ready)
-    (ready : IsReady manifest texts r) (old new : Medium) (free : IsFreeFor told old.image app)
+    (ready : IsReadyToInstall manifest texts r) (old new : Medium) (free : IsFreeFor told old.image app)
     (tells : IsTrue told) where
   is_free : taken (app_at old.image app).says ≡ None
   is_free = subst (λ (s : Says). taken s ≡ None) (free.1 tells) free.2

@@ -64,7 +64,7 @@ abbrev pub IsFreeFor : (told : Bool) → Image → ℕ → Type 0
 IsFreeFor told image app = (says : Says) × IsSaid told image app says × (taken says ≡ None)
 
 -- a version with contents of its storages, as the manifest and the texts have them
-pub record IsReady (manifest : List ℕ) (texts : List (List ℕ)) (r : Ready) : Type 0 where
+pub record IsReadyToInstall (manifest : List ℕ) (texts : List (List ℕ)) (r : Ready) : Type 0 where
   pub version : SaysDeployment r.version
   pub fit : AllFit (map storage_data r.version.deployment.storages) r.contents.items
   pub row : (g : ℕ) → made_from manifest texts g ≡ Ok (filled_app g (deployment_data r.version.deployment)

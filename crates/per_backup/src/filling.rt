@@ -9,7 +9,7 @@ ghost use Rattle.index_text.specs.Contents.{AreContents};
 ghost use Rattle.update_plan.specs.Plans.{AllFit};
 ghost use Rattle.deploy_rows.specs.Rows.{made_states};
 ghost use Rattle.per_backup.specs.Backups.{importing, made_from, states_from};
-ghost use Rattle.per_backup.specs.Restores.{IsReady};
+ghost use Rattle.per_backup.specs.Restores.{IsReadyToInstall};
 
 use crate::importing::importable;
 use deploy::{Stop, read_version, size_of};
@@ -33,7 +33,7 @@ pub(crate) fn prepare(
     manifest: &[u8],
     texts: &[Bytes],
 ) -> Result<Result<Ready, PerError>, Stop>
-    ensures ready { IfOk result (λ found. IfOk found (IsReady manifest.now texts.now)) }
+    ensures ready { IfOk result (λ found. IfOk found (IsReadyToInstall manifest.now texts.now)) }
     ensures text { IfOk result (λ found. IfOk found (λ ready. ready.version.text ≡ manifest.now)) }
     ensures refused { IfOk result (λ found. IfErr found (λ e. (g : ℕ) → made_from manifest.now texts.now g ≡ Err e)) }
     ensures memory { ¬ (IsErrOf result Stop.Device) }

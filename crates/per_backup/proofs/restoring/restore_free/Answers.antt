@@ -1,7 +1,7 @@
 use Rattle.std.proofs.Common.{Err, List, refl, subst}
 use Rattle.disk_model.specs.Laws.{elapses_none, idle_none}
 use Rattle.per_backup.specs.Backups.{made_from}
-use Rattle.per_backup.specs.Restores.{IfHeld, IsReady}
+use Rattle.per_backup.specs.Restores.{IfHeld, IsReadyToInstall}
 use Rattle.per_backup.proofs.Lists.{err_so, ok_so}
 use Rattle.per_backup.proofs.Restored.{made_refuses, nothing_restored, nothing_restores, on_both, ready_answers}
 use Rattle.per_backup.proofs.Restored.{ready_keeps, ready_restored, refused_so, refused_there}
@@ -70,17 +70,17 @@ returns-in-Err-clause-time g c = elapses_none (g.met.D.Disk.lawful c.args.disk.n
 
 pub install_ready-requires-clause-version : goal.install_ready-requires-clause-version
 install_ready-requires-clause-version g c = (ok_so c.in_ok-ready.field-0 c.in-Ok.ready
-    (IsReady c.args.manifest.now c.args.texts.now) c.in-Ok.is c.in_ok-ready.ensures.ready).version
+    (IsReadyToInstall c.args.manifest.now c.args.texts.now) c.in-Ok.is c.in_ok-ready.ensures.ready).version
 
 pub install_ready-requires-clause-fit : goal.install_ready-requires-clause-fit
 install_ready-requires-clause-fit g c = (ok_so c.in_ok-ready.field-0 c.in-Ok.ready
-    (IsReady c.args.manifest.now c.args.texts.now) c.in-Ok.is c.in_ok-ready.ensures.ready).fit
+    (IsReadyToInstall c.args.manifest.now c.args.texts.now) c.in-Ok.is c.in_ok-ready.ensures.ready).fit
 
 pub returns-clause-refused : goal.returns-clause-refused
 returns-clause-refused g c =
     let old = (g.D.Disk.medium c.args.disk.now).image in
     let ready = ok_so c.in_ok-ready.field-0 c.in-Ok.ready
-    (IsReady c.args.manifest.now c.args.texts.now) c.in-Ok.is c.in_ok-ready.ensures.ready in
+    (IsReadyToInstall c.args.manifest.now c.args.texts.now) c.in-Ok.is c.in_ok-ready.ensures.ready in
     IfOk-weaker c.install_ready.result _ _
     (λ o given. ready_answers c.args.manifest.now c.args.texts.now g.D.Disk.told old c.args.app given.0 given.1
     c.in-Ok.ready ready o given.2) c.install_ready.ensures.refused
@@ -88,7 +88,7 @@ returns-clause-refused g c =
 pub returns-clause-restored : goal.returns-clause-restored
 returns-clause-restored g c = λ tells.
     let ready = ok_so c.in_ok-ready.field-0 c.in-Ok.ready
-    (IsReady c.args.manifest.now c.args.texts.now) c.in-Ok.is c.in_ok-ready.ensures.ready in
+    (IsReadyToInstall c.args.manifest.now c.args.texts.now) c.in-Ok.is c.in_ok-ready.ensures.ready in
     on_both c.install_ready.result
     (ready_restored c.args.manifest.now c.args.texts.now g.D.Disk.told c.args.app c.in-Ok.ready ready
     (g.D.Disk.medium c.args.disk.now) (g.D.Disk.medium c.install_ready.new.disk) c.requires.free tells)
@@ -97,7 +97,7 @@ returns-clause-restored g c = λ tells.
 pub returns-clause-keeps : goal.returns-clause-keeps
 returns-clause-keeps g c = λ tells.
     let ready = ok_so c.in_ok-ready.field-0 c.in-Ok.ready
-    (IsReady c.args.manifest.now c.args.texts.now) c.in-Ok.is c.in_ok-ready.ensures.ready in
+    (IsReadyToInstall c.args.manifest.now c.args.texts.now) c.in-Ok.is c.in_ok-ready.ensures.ready in
     ready_keeps c.args.manifest.now c.args.texts.now g.D.Disk.told c.args.app c.in-Ok.ready ready
     (g.D.Disk.medium c.args.disk.now) (g.D.Disk.medium c.install_ready.new.disk) c.requires.free tells
     c.install_ready.ensures.outside (c.install_ready.ensures.any_moment tells)
