@@ -98,6 +98,16 @@ next_is : {A : Type 0} (xs : List A) (i : ℕ) (x : A) → i < length xs → x �
     → drop i xs ≡ x ∷ drop (i + 1) xs
 next_is xs i x lt is = drop_more xs i x lt ∙ ap (λ y. y ∷ drop (i + 1) xs) (sym is)
 
+some_left : {A : Type 0} (xs : List A) (i : ℕ) → i < length xs → 0 < length (drop i xs)
+some_left [] i lt = absurd (omega (arith, lt))
+some_left (x ∷ xs) zero lt = lt
+some_left (x ∷ xs) (suc i) lt = some_left xs i (omega (arith, lt))
+
+no_text : (known : List State) (configs : List StorageConfig) → 0 < length configs
+    → known_first known (states_from (map storage_data configs) []) ≡ Err error.ExportRejected
+no_text known [] some = absurd (omega (arith, some))
+no_text known (c ∷ cs) some = refl
+
 -- the storages before this one are filled
 pub record IsFilling (storages : List StorageConfig) (texts : List (List ℕ)) (number : ℕ) (contents : List (List Fresh))
     : Type 0 where
@@ -149,13 +159,12 @@ module _ (storages : List StorageConfig) (texts : List (List ℕ)) (number : ℕ
     }
 
   -- it has no text
-  pub filling_short : (x : StorageConfig) → number < length storages → x ≡ get_or storages number x
-      → length texts ≤ number → states_from (map storage_data storages) texts ≡ Err error.ExportRejected
-  filling_short x lt is few = sym filling.states
-      ∙ ap (λ (xs : List StorageConfig). known_first (made_states contents)
-      (states_from (map storage_data xs) (drop number texts))) (next_is storages number x lt is)
+  pub filling_short : number < length storages → length texts ≤ number
+      → states_from (map storage_data storages) texts ≡ Err error.ExportRejected
+  filling_short lt few = sym filling.states
       ∙ ap (λ (ts : List (List ℕ)). known_first (made_states contents)
-      (states_from (storage_data x ∷ map storage_data (drop (number + 1) storages)) ts)) (drop_all number texts few)
+      (states_from (map storage_data (drop number storages)) ts)) (drop_all number texts few)
+      ∙ no_text (made_states contents) (drop number storages) (some_left storages number lt)
 
   -- there is none left
   module _ (past : length storages ≤ number) where
@@ -174,17 +183,12 @@ module _ (storages : List StorageConfig) (texts : List (List ℕ)) (number : ℕ
 
     pub filling_long : number < length texts
         → states_from (map storage_data storages) texts ≡ Err error.ExportRejected
-    filling_long lt = sym filling.states ∙ over (drop number texts) ∙ by (drop number texts) (left texts number lt)
+    filling_long lt = sym filling.states ∙ over (drop number texts) ∙ by (drop number texts) (some_left texts number lt)
       where
         by : (ts : List (List ℕ)) → 0 < length ts
             → known_first (made_states contents) (states_from [] ts) ≡ Err error.ExportRejected
         by [] some = absurd (omega (arith, some))
         by (t ∷ ts) some = refl
-
-        left : (ts : List (List ℕ)) (n : ℕ) → n < length ts → 0 < length (drop n ts)
-        left [] n lt = absurd (omega (arith, lt))
-        left (t ∷ ts) zero lt = lt
-        left (t ∷ ts) (suc n) lt = left ts n (omega (arith, lt))
 
     pub filling_fits : AllFit (map storage_data storages) contents
     filling_fits = subst (λ (cs : List (List Fresh)). AllFit (map storage_data storages) cs) (append-nil contents)

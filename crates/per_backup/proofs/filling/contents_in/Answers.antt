@@ -11,7 +11,7 @@ use Rattle.per_backup.proofs.filling.contents_in.Goals as goal
 
 pub loop-number-init : goal.loop-number-init
 loop-number-init c = subst (λ (cs : List (List Fresh)). IsFilling c.args.storages.now c.args.texts.now 0 cs)
-    (sym c.new-all.ensures) (filling_none c.args.storages.now c.args.texts.now)
+    (sym c.new-all.ensures.items) (filling_none c.args.storages.now c.args.texts.now)
 
 pub contents_of-requires : goal.contents_of-requires
 contents_of-requires c = kept_at c.args.storages.now c.loop-number.number c.index-storages-number.result c.requires
@@ -42,6 +42,14 @@ returns-in-Err-clause-refused c =
     (subst (λ t. importing s (Corrupt None []) t ≡ Err c.in-Err.error) c.as_slice.ensures
     (err_so c.in_ok-contents.field-0 c.in-Err.error (λ e. importing s (Corrupt None []) c.as_slice.result.now ≡ Err e)
     c.in-Err.is c.in_ok-contents.ensures.refused))
+
+pub returns-then-number-texts-clause-refused : goal.returns-then-number-texts-clause-refused
+returns-then-number-texts-clause-refused c = filling_short c.args.storages.now c.args.texts.now c.loop-number.number
+    c.loop-number.all.items c.loop-number.invariant (omega arith) (omega arith)
+
+pub returns-then-texts-storages-clause-refused : goal.returns-then-texts-storages-clause-refused
+returns-then-texts-storages-clause-refused c = filling_long c.args.storages.now c.args.texts.now c.loop-number.number
+    c.loop-number.all.items c.loop-number.invariant (omega arith) (omega arith)
 
 pub returns-clause-states : goal.returns-clause-states
 returns-clause-states c = filling_done c.args.storages.now c.args.texts.now c.loop-number.number
