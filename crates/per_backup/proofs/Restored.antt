@@ -1,6 +1,6 @@
 -- What a restore makes of an application, at the end and at every moment.
-use Rattle.std.proofs.Common.{◌≡◌, ℕ, ◌+◌, ◌<◌, ◌≤◌, Bool, List, [], Option, Some, None, Result, Ok, Err, refl, sym, ap, ◌∙◌}
-use Rattle.std.proofs.Common.{subst, inl, arith}
+use Rattle.std.proofs.Common.{◌≡◌, ℕ, ◌+◌, ◌<◌, ◌≤◌, Bool, List, [], Option, Some, None, Result, Ok, Err, refl, sym}
+use Rattle.std.proofs.Common.{ap, ◌∙◌, subst, inl, arith}
 use Rattle.std.specs.Prelude.{IsErr, IsOk, IsTrue, OnOk, cond, nat_le, true, false}
 use Rattle.per_base.specs.declared.errors.Limit.TheVariants as limit
 use Rattle.per_base.specs.declared.errors.PerError.TheVariants as error
@@ -25,8 +25,8 @@ use Rattle.deploy.specs.Filled.{filled_app}
 use Rattle.run_model.specs.Lives.{LooksOnly, after_sync, looks_unsynced}
 use Rattle.per_backup.specs.Backups.{made_from, restored_app, restoring, states_from, taken}
 use Rattle.per_backup.specs.Clauses.{IsAppSeen}
-use Rattle.per_backup.specs.Restores.{IsFreeFor, IsReadyToInstall, IsSaid, RestoreKeeps, Restored, RestoresSettled, ready_app}
-use Rattle.per_backup.specs.Restores.{restored_to}
+use Rattle.per_backup.specs.Restores.{IsFreeFor, IsReadyToInstall, IsSaid, RestoreKeeps, Restored, RestoresSettled}
+use Rattle.per_backup.specs.Restores.{ready_app, restored_to}
 use Rattle.per_backup.specs.declared.filling.Ready.{Ready}
 use Rattle.per_backup.specs.StorageLaws.{BackupLaws}
 use Rattle.per_backup.proofs.Nothing.{nothing_on}

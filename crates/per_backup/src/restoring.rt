@@ -30,9 +30,9 @@ use std::alloc::Global;
 ///
 /// Refusals, the first that holds: `IntegrityCorrupted` with the root where it is bad; `AlreadyInstalled`;
 /// `LimitReached` with `Generations` where the root has none left; `ManifestRejected` with the first violated rule; and
-/// then of the first storage to which it applies `ExportRejected` where its bytes are no export of its kind or there are
-/// none, `DataTypeMismatch` and `OutOfStorageSpace` as of an import; `ExportRejected` where there are more texts than
-/// storages. Then nothing was written.
+/// then of the first storage to which it applies `ExportRejected` where its bytes are no export of its kind or there
+/// are none, `DataTypeMismatch` and `OutOfStorageSpace` as of an import; `ExportRejected` where there are more texts
+/// than storages. Then nothing was written.
 ///
 /// # Errors
 ///
