@@ -24,17 +24,17 @@ use per_base::Sink;
 use per_runtime::Runtime;
 use std::alloc::{AllocError, Global};
 
-/// How many bytes the text of the last reply keeps at most for the next one.
-const REPLY_BYTES: usize = 4096;
+/// How many bytes of room are kept for the text of the next reply.
+const ROOM_BYTES: usize = 4_096;
 
-/// The runtime, the prefix of the line that is being read, how many lines were handled, and room for the next reply.
+/// The runtime, the prefix of the line that is being read, how many lines were handled, and room for a reply's text.
 #[derive(Drop)]
 pub struct Reader {
     pub alloc: Global,
     pub runtime: Runtime,
     pub kept: Vec<u8>,
     pub number: u64,
-    pub reply: String,
+    pub room: String,
 }
 
 impl Reader {
@@ -49,7 +49,7 @@ impl Reader {
             runtime,
             kept: Vec::new(alloc),
             number: 0,
-            reply: String::new(alloc),
+            room: String::new(alloc),
         }
     }
 }
@@ -221,7 +221,7 @@ fn handle_line<D: Disk, K: Sink>(
         migrations,
         sink,
         disk,
-        &mut reader.reply,
+        &mut reader.room,
         reader.kept.as_slice(),
         number,
     ) {
@@ -241,7 +241,7 @@ fn handle_text<D: Disk, K: Sink>(
     migrations: &Migrations,
     sink: &mut K,
     disk: &mut D,
-    reply: &mut String,
+    room: &mut String,
     text: &[u8],
     number: u64,
 ) -> Result<(), Ending>
@@ -265,7 +265,7 @@ fn handle_text<D: Disk, K: Sink>(
 {
     match answer_line(alloc, runtime, migrations, disk, text) {
         Outcome::Nothing => Ok(()),
-        Outcome::Answered(answered) => write_reply(alloc, reply, sink, &answered),
+        Outcome::Answered(reply) => write_reply(sink, room, &reply),
         Outcome::End => Err(Ending::EndLine),
         Outcome::Bad => Err(refuse(alloc, sink, number)),
         Outcome::OutOfMemory => Err(Ending::OutOfMemory),
@@ -274,27 +274,21 @@ fn handle_text<D: Disk, K: Sink>(
 
 /// Writes the reply of a command.
 ///
-/// Its text is made where the one before it stood. Where memory runs out the sink takes nothing of it, and where the
+/// Its text is made in the room of the one before it. Where memory runs out the sink takes nothing of it, and where the
 /// sink fails not all.
-pub fn write_reply<K: Sink>(
-    alloc: Global,
-    text: &mut String,
-    sink: &mut K,
-    reply: &Reply,
-) -> Result<(), Ending>
+pub fn write_reply<K: Sink>(sink: &mut K, room: &mut String, reply: &Reply) -> Result<(), Ending>
     requires { HasText reply.now.answer }
     ensures puts { PutsOutput (reply_text reply.now) (K.written sink.old) (K.written sink.new) result }
     ensures blames { Blames (K.faults sink.old) (K.faults sink.new) result }
 {
-    text.clear();
-    match push_reply(text, reply) {
+    room.clear();
+    match push_reply(room, reply) {
         Ok(()) => {}
         Err(_) => return Err(Ending::OutOfMemory),
     }
-    let written = write_text(sink, text.as_str().as_bytes());
-    if text.capacity() > REPLY_BYTES {
-        *text = String::new(alloc);
-    }
+    let written = write_text(sink, room.as_bytes());
+    room.clear();
+    room.shrink_to(ROOM_BYTES);
     written
 }
 

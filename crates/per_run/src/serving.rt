@@ -228,7 +228,7 @@ fn serve_line<D: Disk, K: Sink>(
         migrations,
         sink,
         disk,
-        &mut reader.reply,
+        &mut reader.room,
         reader.kept.as_slice(),
         number,
     ) {
@@ -248,7 +248,7 @@ fn serve_text<D: Disk, K: Sink>(
     migrations: &Migrations,
     sink: &mut K,
     disk: &mut D,
-    reply: &mut String,
+    room: &mut String,
     text: &[u8],
     number: u64,
 ) -> Result<(), Ending>
@@ -272,7 +272,7 @@ fn serve_text<D: Disk, K: Sink>(
 {
     match answer_line(alloc, runtime, migrations, disk, text) {
         Outcome::Nothing => Ok(()),
-        Outcome::Answered(answered) => write_reply(alloc, reply, sink, &answered),
+        Outcome::Answered(reply) => write_reply(sink, room, &reply),
         Outcome::Bad => write_made(sink, print_bad_line(alloc, number)),
         Outcome::End => Err(Ending::EndLine),
         Outcome::OutOfMemory => Err(Ending::OutOfMemory),

@@ -16,13 +16,13 @@ returns-in-Nothing-clause-goes_on g c = λ start before lines whole front handle
 pub returns-in-Answered-clause-goes_on : goal.returns-in-Answered-clause-goes_on
 returns-in-Answered-clause-goes_on g c = on_ok _ _ _ c.write_reply.result _ c.write_reply.ensures.puts
     (λ wrote start before lines whole front handled.
-    handled_reply _ _ _ _ before lines _ _ _ _ _ _ whole c.in-Answered.answered (g.met.D.Disk.lawful _)
+    handled_reply _ _ _ _ before lines _ _ _ _ _ _ whole c.in-Answered.reply (g.met.D.Disk.lawful _)
     c.answer_line.ensures.time handled (answered_front whole front c.in-Answered.ensures.came) wrote)
 
 pub returns-in-Answered-clause-ends : goal.returns-in-Answered-clause-ends
 returns-in-Answered-clause-ends g c = if_err _ _ _ c.write_reply.result _ c.write_reply.ensures.puts
     (λ ending puts laws start before lines others whole front number handled.
-    course_in_reply _ _ _ _ before laws ending lines others _ _ _ _ _ _ whole c.in-Answered.answered
+    course_in_reply _ _ _ _ before laws ending lines others _ _ _ _ _ _ whole c.in-Answered.reply
     (g.met.D.Disk.lawful _) c.answer_line.ensures.time handled
     (answered_front whole front c.in-Answered.ensures.came) puts)
 

@@ -18,13 +18,13 @@ returns-in-Nothing-clause-goes_on g c = λ start before heard whole front counts
 pub returns-in-Answered-clause-goes_on : goal.returns-in-Answered-clause-goes_on
 returns-in-Answered-clause-goes_on g c = on_ok _ _ _ c.write_reply.result _ c.write_reply.ensures.puts
     (λ wrote start before heard whole front counts hearing.
-    hears_reply _ _ _ _ before heard _ _ _ _ _ _ _ whole c.in-Answered.answered counts (g.met.D.Disk.lawful _)
+    hears_reply _ _ _ _ before heard _ _ _ _ _ _ _ whole c.in-Answered.reply counts (g.met.D.Disk.lawful _)
     c.answer_line.ensures.time hearing (answered_front whole front c.in-Answered.ensures.came) wrote)
 
 pub returns-in-Answered-clause-ends : goal.returns-in-Answered-clause-ends
 returns-in-Answered-clause-ends g c = if_err _ _ _ c.write_reply.result _ c.write_reply.ensures.puts
     (λ ending puts laws start before heard others whole front counts hearing.
-    service_in_reply _ _ _ _ before laws ending heard _ others _ _ _ _ _ _ whole c.in-Answered.answered counts
+    service_in_reply _ _ _ _ before laws ending heard _ others _ _ _ _ _ _ whole c.in-Answered.reply counts
     (g.met.D.Disk.lawful _) c.answer_line.ensures.time hearing
     (answered_front whole front c.in-Answered.ensures.came) puts)
 
