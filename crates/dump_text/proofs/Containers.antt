@@ -1,18 +1,27 @@
 -- Elements and storages, read one after another.
-use Rattle.std.proofs.Common.{◌≡◌, ℕ, zero, suc, ◌+◌, ◌<◌, ◌≤◌, List, [], ◌∷◌, ◌++◌, length, get_or, drop, map, Bool, true, false}
+use Rattle.std.proofs.Common.{◌≡◌, ℕ, zero, suc, ◌+◌, ◌<◌, ◌≤◌, List, [], ◌∷◌, ◌++◌, length, get_or, drop, map}
 use Rattle.std.proofs.Common.{Option, Some, None, refl, sym, ap, ◌∙◌, subst, append_assoc, append-nil, arith, true≢false}
 use Rattle.std.proofs.Common.{string_bytes}
-use Rattle.std.specs.Prelude.{IsTrue}
+use Rattle.std.specs.Prelude.{IsTrue, nat_eq}
 use Rattle.std.specs.List.{AllByRecursion}
 use Rattle.std.proofs.lemmas.List.{drop_all, drop_more}
 use Rattle.per_base.specs.declared.elements.Fresh.{Fresh}
 use Rattle.per_base.specs.declared.elements.StoreKind.{StoreKind}
 use Rattle.per_base.specs.Fields.{◌>>=◌}
+use Rattle.serde_json.specs.Data.{Data}
+use Rattle.serde_json.specs.Find.{as_object}
 use Rattle.serde_json.specs.View.{members_view, view}
-use Rattle.serde_json.proofs.Views.{Entry}
+use Rattle.serde_json.proofs.Views.{Entry, members_len-members_view}
+use Rattle.deployment_model.specs.Conditions.{storage_names}
+use Rattle.deployment_model.specs.Data.{DeploymentData, StorageData, deployment_data, storage_data}
+use Rattle.deployment_model.specs.declared.configs.Deployment.{Deployment}
+use Rattle.deployment_model.specs.declared.configs.StorageConfig.{StorageConfig}
+use Rattle.manifest.specs.Reading.{deployment_in}
 use Rattle.dump_text.specs.declared.errors.DumpError.{DumpError}
 use Rattle.dump_text.specs.declared.errors.DumpError.TheVariants.{NotADump, OutOfMemory}
-use Rattle.dump_text.specs.Elements.{element_in, elements_in}
+use Rattle.dump_text.specs.declared.dumps.DumpedStorage.{DumpedStorage}
+use Rattle.dump_text.specs.Dumps.{dumped_names}
+use Rattle.dump_text.specs.Elements.{are_so_many, element_in, elements_in, has_members}
 use Rattle.dump_text.specs.Views.{FailsToRead, is_memory}
 
 -- each of them
@@ -34,6 +43,13 @@ pub fails_within : {Y : Type 0} (e named : DumpError) (read : Option Y)
 fails_within e OutOfMemory read kept fails = tt
 fails_within (NotADump why) (NotADump more) read kept fails = fails
 fails_within OutOfMemory (NotADump more) read kept fails = absurd (true≢false (sym (kept refl)))
+
+-- ---- members of an object
+
+pub count_is : (d : Data) (es : List Entry) (n len : ℕ) → Some (members_view es) ≡ as_object d → len ≡ length es
+    → nat_eq len n ≡ has_members n d
+count_is d es n len is long = ap (λ (k : ℕ). nat_eq k n) (long ∙ sym (members_len-members_view es))
+    ∙ ap (are_so_many n) is
 
 -- ---- elements
 
@@ -94,3 +110,21 @@ module _ {A B : Type 0} (f : A → List ℕ) (g : B → List ℕ) (xs : List A) 
 
   pub same_none : length xs ≤ n → length ys ≤ n → map f (drop n xs) ≡ map g (drop n ys)
   same_none lex ley = ap (map f) (drop_all n xs lex) ∙ ap (map g) (sym (drop_all n ys ley))
+
+-- ---- the names of a deployment
+
+names_configured : (configs : List StorageConfig)
+    → map (λ (c : StorageConfig). c.name) configs ≡ map (λ (s : StorageData). s.name) (map storage_data configs)
+names_configured [] = refl
+names_configured (c ∷ cs) = ap (λ (ns : List (List ℕ)). c.name ∷ ns) (names_configured cs)
+
+some_same : {X : Type 0} (x y : X) → Some x ≡ Some y → x ≡ y
+some_same x y is = cc
+
+pub names_said : (manifest : List ℕ) (found : Deployment) (configs : List StorageConfig) (storages : List DumpedStorage)
+    (d : DeploymentData) → dumped_names storages ≡ map (λ (c : StorageConfig). c.name) configs
+    → configs ≡ found.storages → deployment_in manifest ≡ Some (deployment_data found)
+    → deployment_in manifest ≡ Some d → dumped_names storages ≡ storage_names d
+names_said manifest found configs storages d named are read said =
+    named ∙ ap (map (λ (c : StorageConfig). c.name)) are ∙ names_configured found.storages
+    ∙ ap storage_names (some_same (deployment_data found) d (sym read ∙ said))

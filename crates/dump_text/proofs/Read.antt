@@ -1,5 +1,5 @@
 -- What is written of an element is read back.
-use Rattle.std.proofs.Common.{◌≡◌, ℕ, List, codes, Bool, true, false, Option, Some, None, refl, sym, ap, ◌∙◌, subst}
+use Rattle.std.proofs.Common.{◌≡◌, ℕ, List, codes, Bool, Option, Some, None, refl, sym, ap, ◌∙◌, subst}
 use Rattle.std.proofs.Common.{true≢false}
 use Rattle.std.specs.Prelude.{IsTrue}
 use Rattle.per_base.specs.declared.elements.Cause.{Cause}
@@ -18,7 +18,7 @@ use Rattle.value_text.specs.Texts.{hex_text, value_text}
 use Rattle.value_text.specs.Whole.{bytes_in}
 use Rattle.serde_json.specs.Data.{Data, string}
 use Rattle.dump_text.specs.Elements.{cause_said, cause_word, element_in, file_data, file_in, has_members, info_in, key_in}
-use Rattle.dump_text.specs.Elements.{member_bytes, member_cause}
+use Rattle.dump_text.specs.Elements.{member_bytes, member_cause, member_number}
 
 -- ---- a key
 
@@ -56,6 +56,21 @@ info_read i content =
     Some (info_with i creation modification)) (said_again i.creation)
     ∙ ap (λ (o : Option Cause). o >>= λ modification. Some (info_with i i.creation modification))
     (said_again i.modification)
+
+pub info_is : (d : Data) (created modified accessed : ℕ) (creation modification : Cause)
+    → member_number (codes "created") d ≡ Some created → member_number (codes "modified") d ≡ Some modified
+    → member_number (codes "accessed") d ≡ Some accessed → member_cause (codes "creation") d ≡ Some creation
+    → member_cause (codes "modification") d ≡ Some modification
+    → info_in d ≡ Some (record {
+      created = created;
+      modified = modified;
+      accessed = accessed;
+      creation = creation;
+      modification = modification;
+    })
+unfolding info_in
+info_is d created modified accessed creation modification first second third fourth fifth =
+    rw (first, second, third, fourth, fifth) refl
 
 pub file_read : (i : FileInfo) (content : List ℕ) (d : Data) → d ≡ file_data i content
     → bytes_in (hex_text content) ≡ Some content → file_in d ≡ Some (i, content)

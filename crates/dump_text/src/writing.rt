@@ -63,10 +63,10 @@ fn application_value(alloc: Global, dumped: &DumpedApplication) -> Result<Value,
 
 /// A storage of keys or of files, with its elements by their names.
 fn storage_value(alloc: Global, storage: &DumpedStorage) -> Result<Value, DumpError> {
-    let Export { kind, contents } = export_of(alloc, storage)?;
-    let elements = elements_value(alloc, kind, contents.as_slice())?;
+    let export = export_of(alloc, storage)?;
+    let elements = elements_value(alloc, export.kind, export.contents.as_slice())?;
     let mut members = Map::new(alloc);
-    put(&mut members, alloc, elements_word(kind), elements)?;
+    put(&mut members, alloc, elements_word(export.kind), elements)?;
     Ok(Value::Object(members))
 }
 

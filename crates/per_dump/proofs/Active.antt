@@ -1,6 +1,7 @@
 -- What a root says, and what is dumped of it.
-use Rattle.std.proofs.Common.{◌≡◌, ℕ, ◌-◌, List, Bool, Option, Some, None, option_map, map, Result, Ok, Err, sym, ap, ◌∙◌, subst}
-use Rattle.std.specs.Prelude.{IsTrue}
+use Rattle.std.proofs.Common.{◌≡◌, ℕ, ◌-◌, List, Bool, Option, Some, None, option_map, map, Result, Ok, Err}
+use Rattle.std.proofs.Common.{refl, sym, ap, ◌∙◌, subst}
+use Rattle.std.specs.Prelude.{IfSome, IsTrue}
 use Rattle.per_base.specs.declared.errors.PerError.{PerError}
 use Rattle.per_base.specs.declared.errors.PerError.TheVariants as error
 use Rattle.per_base.specs.declared.errors.Unit.TheVariants as unit
@@ -8,20 +9,20 @@ use Rattle.disk_model.specs.Image.{Image}
 use Rattle.deployment_model.specs.Data.{storage_data}
 use Rattle.deployment_model.specs.declared.configs.StorageConfig.{StorageConfig}
 use Rattle.manifest.specs.Reading.{deployment_in}
-use Rattle.root_text.specs.RootText.{IsRoot, IsVersion}
+use Rattle.root_text.specs.RootText.{IsRoot, IsVersion, root_text}
 use Rattle.root_text.specs.declared.versions.RootSays.{RootSays}
 use Rattle.root_text.specs.declared.versions.RootSays.TheVariants as root
 use Rattle.root_text.specs.declared.versions.VersionText.{VersionText}
 use Rattle.root_text.specs.Views.{root_said, version_said}
 use Rattle.deploy_laws.specs.Apps.{App, Says, absent, app_at, installed, named_in_bank, nothing, says_at, says_by}
 use Rattle.deploy.specs.declared.viewing.Versions.{Versions}
-use Rattle.deploy.specs.Views.{AreRead, versions_say}
+use Rattle.deploy.specs.Views.{AreHeldByRoot, AreRead, versions_say}
 use Rattle.per_backup.specs.declared.exporting.Exported.{Exported}
 use Rattle.per_backup.specs.Backups.{dumping, dumping_over, exporting, exports_of}
 use Rattle.per_backup.specs.Clauses.{IsAppSeen, exported_as}
 use Rattle.dump_text.specs.declared.dumps.DumpedApplication.{DumpedApplication}
 use Rattle.dump_text.specs.Dumps.{dumped_names}
-use Rattle.per_dump.specs.Dumps.{IsActive, IsDumpOf}
+use Rattle.per_dump.specs.Dumps.{HoldsManifest, IsActive, IsDumpOf}
 use Rattle.per_dump.proofs.Storages.{dumping_said, names_configured}
 
 module _ (image : Image) (app : ℕ) (found : Option Versions) (says : versions_say found ≡ says_at image app) where
@@ -50,6 +51,21 @@ pub is_said : (found : Option Versions) (v : Versions) (bank : ℕ) (active : Ve
     → found ≡ Some v → v.says ≡ root.Installed bank active previous → AreRead found → IsVersion (version_said active)
 is_said found v bank active previous some is read =
     (subst (λ (s : RootSays). IsRoot (root_said s)) is (subst AreRead some read)).of_active
+
+pub is_held : (image : Image) (app : ℕ) (found : Option Versions) (v : Versions) (bank : ℕ) (active : VersionText)
+    (previous : Option VersionText) → found ≡ Some v → v.says ≡ root.Installed bank active previous
+    → IfSome found (AreHeldByRoot image app) → HoldsManifest image app active.text
+is_held image app found v bank active previous some is held =
+    let h = subst (λ (o : Option Versions). IfSome o (AreHeldByRoot image app)) some held in
+    record {
+      seen = h.seen;
+      stands = h.stands;
+      bank = bank;
+      active = version_said active;
+      previous = option_map version_said previous;
+      text = h.text ∙ ap (λ (s : RootSays). root_text (root_said s)) is;
+      manifest_is = refl;
+    }
 
 -- what is exported of the storage of a name, where that is seen after others
 pub exported_there : (told : Bool) (old now : Image) (app : ℕ) (name : List ℕ) (x : Exported) → IsTrue told → now ≡ old

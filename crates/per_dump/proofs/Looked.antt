@@ -1,5 +1,6 @@
 -- Calls that look at a disk, one after another.
-use Rattle.std.proofs.Common.{◌≡◌, ℕ, Bool, true, false, List, Result, Ok, Err, refl, ap, ◌∙◌, inl, inr, true≢false, sym}
+use Rattle.std.proofs.Common.{◌≡◌, ℕ, Bool, true, false, List, Result, Ok, Err, refl, ap, ◌∙◌, inl, inr}
+use Rattle.std.proofs.Common.{true≢false, sym}
 use Rattle.std.specs.Prelude.{OnErr, OnOk, is_err}
 use Rattle.disk_model.specs.Laws.{elapses_none, elapses_on, reads_none}
 use Rattle.disk_model.specs.Image.{Image}

@@ -2,12 +2,17 @@
 use Rattle.std.specs.Prelude.{◌≡◌, ℕ, List, Option, Some, Result, Ok, Err, ⊤}
 use Rattle.per_base.specs.declared.errors.PerError.{PerError}
 use Rattle.per_base.specs.declared.errors.PerError.TheVariants as error
+use Rattle.disk_model.specs.Image.{Image}
+use Rattle.guarded_cell.specs.declared.looking.Seen.{Seen}
+use Rattle.guarded_cell.specs.Held.{standing}
 use Rattle.deployment_model.specs.Conditions.{storage_names}
 use Rattle.manifest.specs.Reading.{deployment_in}
+use Rattle.root_text.specs.RootText.{Version, root_text}
+use Rattle.root_text.specs.RootText as root
 use Rattle.root_text.specs.declared.versions.VersionText.{VersionText}
 use Rattle.root_text.specs.Views.{version_said}
 use Rattle.deploy_laws.specs.Apps.{Says, installed, named_in_bank}
-use Rattle.deploy_laws.specs.Places.{Named}
+use Rattle.deploy_laws.specs.Places.{Named, agreeing_of_root, root_place}
 use Rattle.dump_text.specs.declared.dumps.DumpedApplication.{DumpedApplication}
 use Rattle.dump_text.specs.Dumps.{dumped_names, dumped_texts}
 use Rattle.per_dump.specs.declared.dumping.Dumped.{Dumped}
@@ -33,6 +38,21 @@ abbrev pub IsOfActive : (application : ℕ) → Says → Dumped → Type 0
 IsOfActive application says (Application d) = IsDumpOf application says d
 IsOfActive application says Absent = ⊤
 IsOfActive application says (Refused e) = ⊤
+
+-- the text that two copies of the root hold has this manifest as that of the active version, byte for byte
+pub record HoldsManifest (image : Image) (application : ℕ) (manifest : List ℕ) : Type 0 where
+  pub seen : Seen
+  pub stands : standing image (root_place application) agreeing_of_root ≡ Some seen
+  pub bank : ℕ
+  pub active : Version
+  pub previous : Option Version
+  pub text : seen.text ≡ root_text (root.installed bank active previous)
+  pub manifest_is : active.text ≡ manifest
+
+abbrev pub IsHeld : Image → (application : ℕ) → Dumped → Type 0
+IsHeld image application (Application d) = HoldsManifest image application d.manifest
+IsHeld image application Absent = ⊤
+IsHeld image application (Refused e) = ⊤
 
 -- the root says that this version is active
 pub record IsActive (says : Says) (v : VersionText) : Type 0 where

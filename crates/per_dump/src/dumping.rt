@@ -8,7 +8,7 @@ ghost use Rattle.root_text.specs.Views.{version_said};
 ghost use Rattle.deploy_laws.specs.Apps.{app_at, says_at};
 ghost use Rattle.run_model.specs.Lives.{LooksOnly};
 ghost use Rattle.per_backup.specs.Backups.{dumping};
-ghost use Rattle.per_dump.specs.Dumps.{IsActive, IsOfActive, dumped_as};
+ghost use Rattle.per_dump.specs.Dumps.{HoldsManifest, IsActive, IsHeld, IsOfActive, dumped_as};
 
 use deploy::{Stop, Versions, view_versions};
 use disk_model::Disk;
@@ -47,9 +47,11 @@ pub fn dump_application<D: Disk>(
     // The texts of all storages in their order, or the refusal.
     ensures texts { IsTrue D.told → IfOk result (λ x. dumped_as x
         ≡ dumping (app_at (D.medium disk.old).image application)) }
-    // The manifest says the version that is active, and the storages are those of that version.
+    // The manifest says the version that is active, and the storages are those of that version; byte for byte it is the
+    // one that the root holds.
     ensures active { IsTrue D.told → IfOk result (λ x. IsOfActive application
         (says_at (D.medium disk.old).image application) x) }
+    ensures held { IsTrue D.told → IfOk result (IsHeld (D.medium disk.old).image application) }
     ensures stays { LooksOnly (D.medium disk.old) (D.medium disk.new) }
     ensures quiet { OnOk result (Quiet (D.medium disk.new)) }
     ensures cause { IsErrOf result Stop.Device → Rose (D.medium disk.old).faults (D.medium disk.new).faults }
@@ -71,6 +73,7 @@ fn dump_synced<D: Disk>(alloc: Global, disk: &mut D, application: u32) -> Result
         ≡ dumping (app_at (D.medium disk.old).image application)) }
     ensures active { IsTrue D.told → IfOk result (λ x. IsOfActive application
         (says_at (D.medium disk.old).image application) x) }
+    ensures held { IsTrue D.told → IfOk result (IsHeld (D.medium disk.old).image application) }
     ensures stays { LooksOnly (D.medium disk.old) (D.medium disk.new) }
     ensures quiet { OnOk result (Quiet (D.medium disk.new)) }
     ensures cause { IsErrOf result Stop.Device → Rose (D.medium disk.old).faults (D.medium disk.new).faults }
@@ -100,10 +103,12 @@ fn dump_version<D: Disk>(
     requires quiet { Quiet (D.medium disk.old) }
     requires active { IsTrue D.told → IsActive (says_at (D.medium disk.old).image application) version }
     requires said { IsVersion (version_said version) }
+    requires held { IsTrue D.told → HoldsManifest (D.medium disk.old).image application version.text }
     ensures texts { IsTrue D.told → IfOk result (λ x. dumped_as x
         ≡ dumping (app_at (D.medium disk.old).image application)) }
     ensures active { IsTrue D.told → IfOk result (λ x. IsOfActive application
         (says_at (D.medium disk.old).image application) x) }
+    ensures held { IsTrue D.told → IfOk result (IsHeld (D.medium disk.old).image application) }
     ensures stays { LooksOnly (D.medium disk.old) (D.medium disk.new) }
     ensures quiet { OnOk result (Quiet (D.medium disk.new)) }
     ensures cause { IsErrOf result Stop.Device → Rose (D.medium disk.old).faults (D.medium disk.new).faults }

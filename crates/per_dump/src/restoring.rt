@@ -7,7 +7,7 @@ ghost use Rattle.deploy_laws.specs.Apps.{App};
 ghost use Rattle.deploy_rows.specs.Rows.{AnswersRow};
 ghost use Rattle.per_backup.specs.Backups.{restoring};
 ghost use Rattle.per_backup.specs.Clauses.{IsAppSeen};
-ghost use Rattle.per_backup.specs.Restores.{RestoreKeeps, Restored};
+ghost use Rattle.per_backup.specs.Restores.{IfHeld, RestoreKeeps, Restored};
 ghost use Rattle.dump_text.specs.Dumps.{dumped_texts};
 
 use deploy::Stop;
@@ -17,9 +17,11 @@ use per_backup::restore;
 use per_base::{Bytes, PerError};
 use std::alloc::{AllocError, Global};
 
-/// Installs an application of a dump where nothing is installed, in one installation, of which the root is written last.
+/// Installs an application of a dump where nothing is installed, in one installation, of which the root is written
+/// last.
 ///
-/// It is refused as [`per_backup::restore`] refuses the manifest and the texts of the storages: then nothing was written.
+/// It is refused as [`per_backup::restore`] refuses the manifest and the texts of the storages: then nothing was
+/// written.
 ///
 /// # Errors
 ///
@@ -34,6 +36,8 @@ pub fn restore_application<D: Disk>(
         × AnswersRow refused (restoring dumped.now.manifest (dumped_texts dumped.now) it)) }
     ensures restored { IsTrue D.told → OnOk result (Restored dumped.now.application dumped.now.manifest
         (dumped_texts dumped.now) (D.medium disk.old) (D.medium disk.new)) }
+    ensures held { IfOk result (IfHeld D.told (D.medium disk.new).image dumped.now.application
+        dumped.now.manifest) }
     ensures keeps { IsTrue D.told → RestoreKeeps dumped.now.application dumped.now.manifest (dumped_texts dumped.now)
         (D.medium disk.old) (D.medium disk.new) }
     ensures quiet { OnOk result (Quiet (D.medium disk.new)) }

@@ -6,7 +6,7 @@ use Rattle.disk_model.specs.Laws.{elapses_on, rose_before}
 use Rattle.deploy_laws.specs.Apps.{app_at, says_at}
 use Rattle.run_model.specs.Lives.{looks_on, looks_synced, looks_unsynced}
 use Rattle.per_backup.specs.Backups.{dumping}
-use Rattle.per_dump.specs.Dumps.{IsOfActive, dumped_as}
+use Rattle.per_dump.specs.Dumps.{IsHeld, IsOfActive, dumped_as}
 use Rattle.per_dump.proofs.Looked.{on_err, on_ok, passes_on}
 use Rattle.per_dump.proofs.dumping.dump_application.Goals as goal
 
@@ -19,8 +19,8 @@ pub returns-then-is_err-clause-cause : goal.returns-then-is_err-clause-cause
 returns-then-is_err-clause-cause g c = λ failed.
     on_err c.sync.result (sym c.if-is_err.ensures.value) c.sync.ensures.cause
 
-pub dump_synced-requires-quiet : goal.dump_synced-requires-quiet
-dump_synced-requires-quiet g c = on_ok c.sync.result (sym c.if-is_err.ensures.value) c.sync.ensures.quiet
+pub dump_synced-requires-clause-quiet : goal.dump_synced-requires-quiet
+dump_synced-requires-clause-quiet g c = on_ok c.sync.result (sym c.if-is_err.ensures.value) c.sync.ensures.quiet
 
 pub returns-clause-texts : goal.returns-clause-texts
 returns-clause-texts g c = λ tells. subst (λ (im : Image). IfOk c.dump_synced.result
@@ -31,6 +31,10 @@ pub returns-clause-active : goal.returns-clause-active
 returns-clause-active g c = λ tells. subst (λ (im : Image). IfOk c.dump_synced.result
     (λ x. IsOfActive c.args.application (says_at im c.args.application) x))
     c.sync.ensures.writes_nothing.image (c.dump_synced.ensures.active tells)
+
+pub returns-clause-held : goal.returns-clause-held
+returns-clause-held g c = λ tells. subst (λ (im : Image). IfOk c.dump_synced.result (IsHeld im c.args.application))
+    c.sync.ensures.writes_nothing.image (c.dump_synced.ensures.held tells)
 
 pub returns-clause-stays : goal.returns-clause-stays
 returns-clause-stays g c = looks_on g.D.Disk.told (g.D.Disk.medium c.args.disk.now) (g.D.Disk.medium c.sync.new.self)
