@@ -31,6 +31,13 @@ power loss, lost copies and updates.
   ./per --recover-root A --dir DIR
                                 takes what one copy holds of the root of
                                 application A, where too few copies agree
+  ./per dump --dir DIR          writes all applications as a text for a person,
+                                with their manifests, values and files; after
+                                dump A application A alone; mends nothing
+  ./per restore --dir DIR       installs the applications of such a text on
+                                standard input where nothing is installed, each
+                                whole or not at all; after restore FILE those
+                                of a file
   ./per --flash N --dir DIR     the same as without --flash, in one file of the
                                 folder that serves as raw flash of N blocks,
                                 4 to 4096; beside each of the words above
@@ -165,17 +172,17 @@ Status
   2 a line is outside the grammar; bad-line and its number are the last reply;
     not with --serve
   3 the disk failed while the program started or formatted, in an audit, a
-    listing, an export, an import or a recovery, or in a call by itself; or
-    another run holds the folder; or --serve or install found nothing but other
-    files in it
+    listing, an export, an import, a recovery, a dump or a restore, or in a call
+    by itself; or another run holds the folder; or --serve or install found
+    nothing but other files in it
   4 memory ran out
-  5 the input failed, or the file that a call by itself takes
+  5 the input failed, or the file that a call by itself or a restore takes
   6 the output failed
   7 the first 67108864 bytes of the input have neither the line `end` nor the
     input's end; with --serve no bytes are too many
   8 the audit found something; its lines say what
-  9 the export, the import, the recovery of a root or the call by itself was
-    refused; its line says why
+  9 the export, the import, the recovery of a root, the call by itself, the
+    dump or the restore of an application was refused; its line says why
  10 the flash cannot be opened: too many pages of files, or no spare block
  11 the file of the flash has more blocks than N
  12 the system does not give the arguments

@@ -4,7 +4,8 @@
 //! status of [`per_run::per_run`] over them and the six converters of [`number_converters`]. `per --help` says what
 //! there is, and `per --demo` shows a first session. A call by itself, as `per get 0:cockpit volume --dir DIR`, is such
 //! a run too ([`call`]): of the lines that make the call, with its reply for a person. `per ls --dir DIR` runs the job
-//! that says what is there ([`listing`]). Another job may be named as a call is ([`jobs`]).
+//! that says what is there ([`listing`]). Another job may be named as a call is ([`jobs`]). `per dump --dir DIR` and
+//! `per restore --dir DIR` carry whole applications as a text ([`dumps`]).
 //!
 //! Where a run did not end well, one line on standard error says why ([`causes`]). Main itself ends with 4 where memory
 //! runs out before the top call, with 6 where a standard stream that was closed cannot be filled, and with 12 where the
@@ -20,6 +21,7 @@ mod asking;
 mod call;
 mod causes;
 mod demo;
+mod dumps;
 mod hearing;
 mod help;
 mod jobs;
@@ -71,6 +73,8 @@ enum Asked {
     Listing,
     /// A job of the program, named as a call is.
     Job,
+    /// Whole applications as a text, or back.
+    Dump,
     /// A run of the program, if the arguments are valid.
     Run,
 }
@@ -100,6 +104,7 @@ fn main(rt: HostRuntime) -> ExitCode {
         Asked::Call => call::run(&rt, &words, named.as_slice()),
         Asked::Listing => listing::run(&rt, &words),
         Asked::Job => jobs::run(&rt, &words, named.as_slice()),
+        Asked::Dump => dumps::run(&rt, &words, named.as_slice()),
         Asked::Run if is_asked(&rt, &words) => {
             program::run(&rt, &words, Asking::new(&rt, rt.alloc()), rt.stdout())
         }
@@ -142,6 +147,7 @@ fn wish_of(words: &[String], named: &[&[u8]]) -> Asked {
         [word] if *word == b"ls".as_slice() => Asked::Listing,
         [call, ..] if is_call(call) => Asked::Call,
         [job, ..] if jobs::is_job(job) => Asked::Job,
+        [word, ..] if dumps::is_word(word) => Asked::Dump,
         _ => Asked::Run,
     }
 }

@@ -1,0 +1,441 @@
+//! Whole applications as a text, from a shell: `per dump --dir DIR`, and back: `per restore --dir DIR`.
+//!
+//! A dump changes nothing. A restore reads its whole text before it holds the folder, and then installs one application
+//! after another, each whole or not at all.
+
+use crate::causes::{Ended, Fault, say};
+use crate::{
+    NO_DISK, NO_INPUT, NO_MEMORY, NO_OUTPUT, REFUSED_CALL, REFUSED_WORDS, WRONG_SIZE, program,
+};
+use command_text::{Answer, Reply, print_reply};
+use deploy::Stop;
+use disk_model::Disk;
+use dump_text::{DumpError, DumpedApplication, read_dump, write_dump};
+use flash_disk::{FlashDisk, FlashOpenError};
+use folder_disk::FolderDisk;
+use folder_flash::{FolderFlash, of_flash};
+use per_base::{PerError, Sequence};
+use per_dump::{Dumped, dump_application, restore_application};
+use per_run::{JobKind, WordsError, read_words};
+use per_system::{Access, DeviceKind, HostSystem, Noted, NotedFlash, Notes};
+use per_words::{options_in, unknown_in};
+use std::alloc::{AllocError, Global};
+use std::fs::{self, File};
+use std::io::{self, Input, Read, Write};
+use std::rt::Files;
+use system_model::{Failure, System};
+
+/// How many applications a disk has.
+const APPLICATIONS: u32 = 8;
+
+/// The status where a flash cannot be opened.
+const UNUSABLE: u8 = 10;
+
+/// What is wanted.
+#[derive(Drop)]
+enum Wanted {
+    /// The text of all applications, or of one.
+    Dump(Option<u32>),
+    /// These applications, where nothing is installed.
+    Restore(Vec<DumpedApplication>),
+}
+
+/// Where it is wanted.
+#[derive(Drop)]
+struct Place {
+    dir: String,
+    flash: Option<u32>,
+}
+
+/// Why nothing was begun.
+#[derive(Drop)]
+enum Unbegun {
+    Refused,
+    /// The text cannot be read.
+    Unread(io::Error),
+    /// The text is no dump, and why.
+    NoDump(String),
+    OutOfMemory,
+}
+
+/// What came of it.
+#[derive(Drop)]
+struct Outcome {
+    status: u8,
+    /// What is to be written.
+    output: Vec<u8>,
+    has_files: bool,
+    fault: Option<Fault>,
+}
+
+impl From<AllocError> for Unbegun {
+    fn from(_error: AllocError) -> Unbegun {
+        Unbegun::OutOfMemory
+    }
+}
+
+impl From<io::Error> for Unbegun {
+    fn from(error: io::Error) -> Unbegun {
+        match error.kind() {
+            io::ErrorKind::OutOfMemory => Unbegun::OutOfMemory,
+            _ => Unbegun::Unread(error),
+        }
+    }
+}
+
+impl From<DumpError> for Unbegun {
+    fn from(error: DumpError) -> Unbegun {
+        match error {
+            DumpError::NotADump(why) => Unbegun::NoDump(why),
+            DumpError::OutOfMemory => Unbegun::OutOfMemory,
+        }
+    }
+}
+
+/// Whether the word asks for a dump or a restore.
+pub(crate) fn is_word(word: &[u8]) -> bool {
+    word == b"dump".as_slice() || word == b"restore".as_slice()
+}
+
+/// Makes a dump, or restores one, as the words ask, and gives the status.
+pub(crate) fn run<R: Files<File = File> + AllocGlobal + Input + Print + Eprint>(
+    rt: &R,
+    words: &[String],
+    named: &[&[u8]],
+) -> u8 {
+    let alloc = rt.alloc();
+    match begun(rt, alloc, words, named) {
+        Ok((wanted, place)) => done(rt, alloc, words, &wanted, place),
+        Err(Unbegun::Refused) => {
+            let _ = rt.eprintln(
+                "per: the words are refused: dump takes one application, 0 to 7, or none; restore a file, or none; --dir and --flash alone stand beside them (per --help)",
+            );
+            REFUSED_WORDS
+        }
+        Err(Unbegun::Unread(error)) => {
+            let _ = eprintln!(rt; "per: the dump cannot be read: {error}");
+            NO_INPUT
+        }
+        Err(Unbegun::NoDump(why)) => {
+            let _ = eprintln!(rt; "per: the text is no dump: {why}");
+            REFUSED_CALL
+        }
+        Err(Unbegun::OutOfMemory) => program::no_memory(rt),
+    }
+}
+
+/// What the words ask for, and where.
+fn begun<R: Files<File = File> + Input>(
+    rt: &R,
+    alloc: Global,
+    words: &[String],
+    named: &[&[u8]],
+) -> Result<(Wanted, Place), Unbegun> {
+    let place = place_of(alloc, words)?;
+    let wanted = match named {
+        [word] if *word == b"dump".as_slice() => Wanted::Dump(None),
+        [word, application] if *word == b"dump".as_slice() => {
+            Wanted::Dump(Some(application_of(application)?))
+        }
+        [word] if *word == b"restore".as_slice() => {
+            let mut text = Vec::new(alloc);
+            rt.reader().read_to_end(&mut text)?;
+            Wanted::Restore(read_dump(alloc, text.as_slice())?)
+        }
+        [word, file] if *word == b"restore".as_slice() => {
+            let Ok(file) = str::from_utf8(file) else {
+                return Err(Unbegun::Refused);
+            };
+            let mut text = Vec::new(alloc);
+            fs::open(rt, file)?.read_to_end(&mut text)?;
+            Wanted::Restore(read_dump(alloc, text.as_slice())?)
+        }
+        _ => return Err(Unbegun::Refused),
+    };
+    Ok((wanted, place))
+}
+
+/// The folder, and the blocks of its flash.
+fn place_of(alloc: Global, words: &[String]) -> Result<Place, Unbegun> {
+    let options = options_in(alloc, words)?;
+    match read_words(alloc, options.as_slice()) {
+        Ok(job) if matches!(job.kind, JobKind::Run) => Ok(Place {
+            dir: job.dir.into_string(),
+            flash: job.flash,
+        }),
+        Ok(_) | Err(WordsError::Refused) => Err(Unbegun::Refused),
+        Err(WordsError::OutOfMemory) => Err(Unbegun::OutOfMemory),
+    }
+}
+
+/// The number of an application, which is one digit.
+fn application_of(word: &[u8]) -> Result<u32, Unbegun> {
+    match word {
+        [digit] if *digit >= b'0' && *digit <= b'7' => Ok(u32::from(*digit - b'0')),
+        _ => Err(Unbegun::Refused),
+    }
+}
+
+/// Does it, writes what is to be written, and says why it did not end well.
+fn done<R: Files<File = File> + AllocGlobal + Print + Eprint>(
+    rt: &R,
+    alloc: Global,
+    words: &[String],
+    wanted: &Wanted,
+    place: Place,
+) -> u8 {
+    let Place { dir, flash } = place;
+    let Ok(copy) = dir.clone() else {
+        return program::no_memory(rt);
+    };
+    let notes = Notes::new();
+    let kind = match flash {
+        Some(_) => DeviceKind::Flash,
+        None => DeviceKind::Disk,
+    };
+    let access = match wanted {
+        Wanted::Dump(_) => Access::Read,
+        Wanted::Restore(_) => Access::Write,
+    };
+    let outcome = match HostSystem::hold(rt, alloc, copy, kind, access) {
+        Ok(system) => over_folder(rt, alloc, wanted, flash, system, &notes),
+        Err(failure) => not_held(alloc, &notes, Some(failure)),
+    };
+    let (status, sink) = written(rt, &outcome);
+    if status != REFUSED_CALL || !outcome.has_files {
+        let ended = Ended {
+            status,
+            dir: dir.as_str(),
+            unknown: unknown_in(words),
+            flash,
+            takes_lines: false,
+            lists: false,
+            has_files: outcome.has_files,
+            has_damage: false,
+            disk: notes.last().map(Fault::System).or(outcome.fault),
+            source: None,
+            sink,
+        };
+        let _ = say(rt, &ended);
+    }
+    status
+}
+
+/// Writes the output, and gives the status, with the failure where there was one.
+fn written<R: Print>(rt: &R, outcome: &Outcome) -> (u8, Option<io::Error>) {
+    if outcome.output.is_empty() {
+        return (outcome.status, None);
+    }
+    match io::writer(rt).write_all(outcome.output.as_slice()) {
+        Ok(()) => (outcome.status, None),
+        Err(error) => (NO_OUTPUT, Some(error)),
+    }
+}
+
+/// Does it over the folder: as a disk, or as a flash.
+fn over_folder<'a, R: Files<File = File> + Eprint>(
+    rt: &'a R,
+    alloc: Global,
+    wanted: &Wanted,
+    flash: Option<u32>,
+    system: HostSystem<'a, R>,
+    notes: &'a Notes,
+) -> Outcome {
+    let disk = match FolderDisk::open(alloc, system) {
+        Ok(disk) => disk,
+        Err(refused) if flash.is_some() => {
+            return not_held(alloc, notes, refused.failure.map(of_flash));
+        }
+        Err(refused) => return not_held(alloc, notes, refused.failure),
+    };
+    match flash {
+        Some(blocks) => {
+            let flash = NotedFlash::new(FolderFlash::new(alloc, disk, blocks), notes);
+            over_flash(rt, alloc, wanted, flash)
+        }
+        None => {
+            let mut disk = Noted::new(disk, notes);
+            let (status, output) = over_disk(rt, alloc, wanted, &mut disk);
+            Outcome {
+                status,
+                output,
+                has_files: disk.device().has_files(),
+                fault: None,
+            }
+        }
+    }
+}
+
+fn over_flash<'a, R: Eprint, Y: System + Drop>(
+    rt: &R,
+    alloc: Global,
+    wanted: &Wanted,
+    flash: NotedFlash<'a, FolderFlash<Y>>,
+) -> Outcome {
+    let mut flash = flash;
+    match flash.device_mut().is_too_long() {
+        Ok(false) => {}
+        Ok(true) => return unopened(alloc, WRONG_SIZE, Some(Fault::Longer), flash.device()),
+        Err(_) => return unopened(alloc, NO_DISK, None, flash.device()),
+    }
+    match FlashDisk::open(alloc, flash) {
+        Ok(disk) => {
+            let mut disk = disk;
+            let (status, output) = over_disk(rt, alloc, wanted, &mut disk);
+            let fault = (disk.own_faults() > 0).then_some(Fault::Full);
+            Outcome {
+                status,
+                output,
+                has_files: disk.into_flash().device().has_file(),
+                fault,
+            }
+        }
+        Err(refused) => {
+            let status = match refused.error {
+                FlashOpenError::WrongSize => WRONG_SIZE,
+                FlashOpenError::Unusable => UNUSABLE,
+                FlashOpenError::Device => NO_DISK,
+                FlashOpenError::OutOfMemory => NO_MEMORY,
+            };
+            unopened(alloc, status, None, refused.flash.device())
+        }
+    }
+}
+
+/// The flash was not opened.
+fn unopened<Y: System + Drop>(
+    alloc: Global,
+    status: u8,
+    fault: Option<Fault>,
+    flash: &FolderFlash<Y>,
+) -> Outcome {
+    Outcome {
+        status,
+        output: Vec::new(alloc),
+        has_files: flash.has_file(),
+        fault,
+    }
+}
+
+/// The folder cannot be opened, locked or synced.
+fn not_held(alloc: Global, notes: &Notes, failure: Option<Failure>) -> Outcome {
+    notes.note(failure);
+    Outcome {
+        status: NO_DISK,
+        output: Vec::new(alloc),
+        has_files: false,
+        fault: None,
+    }
+}
+
+/// The status, and what is to be written.
+fn over_disk<R: Eprint, D: Disk>(
+    rt: &R,
+    alloc: Global,
+    wanted: &Wanted,
+    disk: &mut D,
+) -> (u8, Vec<u8>) {
+    match wanted {
+        Wanted::Dump(application) => match dump(rt, alloc, *application, disk) {
+            Ok(text) => (0, text),
+            Err(status) => (status, Vec::new(alloc)),
+        },
+        Wanted::Restore(applications) => {
+            let mut output = Vec::new(alloc);
+            let status = restore(rt, alloc, applications.as_slice(), disk, &mut output);
+            (status, output)
+        }
+    }
+}
+
+/// The text of the applications of a disk, or of one of them, or the status where there is none.
+fn dump<R: Eprint, D: Disk>(
+    rt: &R,
+    alloc: Global,
+    application: Option<u32>,
+    disk: &mut D,
+) -> Result<Vec<u8>, u8> {
+    let mut dumped = Vec::new(alloc);
+    for number in 0..APPLICATIONS {
+        if application.is_some_and(|only| only != number) {
+            continue;
+        }
+        match dump_application(alloc, disk, number) {
+            Ok(Dumped::Application(found)) => {
+                if dumped.push(found).is_err() {
+                    return Err(NO_MEMORY);
+                }
+            }
+            Ok(Dumped::Absent) if application.is_none() => {}
+            Ok(Dumped::Absent) => {
+                return Err(refused(rt, alloc, number, "dumped", PerError::NotInstalled));
+            }
+            Ok(Dumped::Refused(error)) => {
+                return Err(refused(rt, alloc, number, "dumped", error));
+            }
+            Err(stop) => return Err(status_of(stop)),
+        }
+    }
+    match write_dump(alloc, dumped.as_slice()) {
+        Ok(text) => Ok(text),
+        Err(DumpError::NotADump(why)) => {
+            let _ = eprintln!(rt; "per: no dump can be written: {why}");
+            Err(REFUSED_CALL)
+        }
+        Err(DumpError::OutOfMemory) => Err(NO_MEMORY),
+    }
+}
+
+/// Restores applications one after another, also after one that is refused, and gives the status.
+fn restore<R: Eprint, D: Disk>(
+    rt: &R,
+    alloc: Global,
+    applications: &[DumpedApplication],
+    disk: &mut D,
+    output: &mut Vec<u8>,
+) -> u8 {
+    let mut status = 0;
+    for dumped in applications {
+        let number = dumped.application.number();
+        match restore_application(alloc, disk, dumped) {
+            Ok(None) => {
+                if say_restored(alloc, number, output).is_err() {
+                    return NO_MEMORY;
+                }
+            }
+            Ok(Some(error)) => status = refused(rt, alloc, number, "restored", error),
+            Err(stop) => return status_of(stop),
+        }
+    }
+    status
+}
+
+/// A line for an application that was restored.
+fn say_restored(alloc: Global, number: u32, output: &mut Vec<u8>) -> Result<(), AllocError> {
+    let line = format!(in alloc; "restored {number}\n")?;
+    output.extend_from_slice(line.as_bytes())?;
+    Ok(())
+}
+
+/// Says why an application is not dumped, or not restored, and gives the status.
+fn refused<R: Eprint>(rt: &R, alloc: Global, number: u32, what: &str, error: PerError) -> u8 {
+    let reply = Reply {
+        reports: Sequence::new(Vec::new(alloc)),
+        answer: Answer::Error(error),
+    };
+    let Ok(line) = print_reply(alloc, &reply) else {
+        return NO_MEMORY;
+    };
+    let line = line.as_slice();
+    if let Ok(line) = str::from_utf8(line.strip_suffix(b"\n").unwrap_or(line)) {
+        let _ = eprintln!(rt; "per: application {number} is not {what}: {line}");
+    }
+    REFUSED_CALL
+}
+
+fn status_of(stop: Stop) -> u8 {
+    match stop {
+        Stop::Device => NO_DISK,
+        Stop::OutOfMemory => NO_MEMORY,
+    }
+}
