@@ -96,16 +96,16 @@ pub record IsStopped (told : Bool) (rules : List Rule) (answers : Answers) (text
       → Stopped rules answers event before doubt old new
 
 -- what came of a line, from the memory and the disk before it to those after it
-abbrev pub IsOutcomeOfLine : {D : Type 0} → (told : Bool) → (medium : D → Medium) → List Rule → Answers → (text : List ℕ)
+abbrev pub IsLineOutcome : {D : Type 0} → (told : Bool) → (medium : D → Medium) → List Rule → Answers → (text : List ℕ)
     → (before after : Memory) → (old new : D) → LineOutcome → Type 0
-IsOutcomeOfLine told medium rules answers text before after old new outcome.Nothing =
+IsLineOutcome told medium rules answers text before after old new outcome.Nothing =
     IsLine text line.Nothing × (after ≡ before) × (new ≡ old)
-IsOutcomeOfLine told medium rules answers text before after old new outcome.End = IsLine text line.End × (new ≡ old)
-IsOutcomeOfLine told medium rules answers text before after old new outcome.Bad =
+IsLineOutcome told medium rules answers text before after old new outcome.End = IsLine text line.End × (new ≡ old)
+IsLineOutcome told medium rules answers text before after old new outcome.Bad =
     IsBad text × (after ≡ before) × (new ≡ old)
-IsOutcomeOfLine told medium rules answers text before after old new (outcome.Answered reply) =
+IsLineOutcome told medium rules answers text before after old new (outcome.Answered reply) =
     IsLineAnswered told rules answers text before after reply (medium old) (medium new)
-IsOutcomeOfLine told medium rules answers text before after old new outcome.OutOfMemory =
+IsLineOutcome told medium rules answers text before after old new outcome.OutOfMemory =
     (new ≡ old) ⊎ IsStopped told rules answers text before (medium old) (medium new)
 
 -- ---- the run so far

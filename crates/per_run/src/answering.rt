@@ -6,7 +6,7 @@ ghost use Rattle.migrate_fns.specs.Stored.{answers_of, rules_of};
 ghost use Rattle.command_text.specs.Grammar.{IsEvent, IsLine};
 ghost use Rattle.command_text.specs.declared.lines.Line.{Line};
 ghost use Rattle.per_runtime.specs.Memories.{IsRuntime, memory_of};
-ghost use Rattle.per_run.specs.Steps.{IsOutcomeOfLine};
+ghost use Rattle.per_run.specs.Steps.{IsLineOutcome};
 ghost use Rattle.per_run.specs.declared.answering.LineOutcome.{LineOutcome};
 
 use command_text::{Event, Line, LineError, Reply, parse_line};
@@ -39,7 +39,7 @@ pub fn answer_line<D: Disk>(
     text: &[u8],
 ) -> LineOutcome
     requires { IsRuntime D.told (D.medium disk.old) runtime.old }
-    ensures answered { IsOutcomeOfLine D.told D.medium (rules_of migrations.now) (answers_of migrations.now) text.now
+    ensures answered { IsLineOutcome D.told D.medium (rules_of migrations.now) (answers_of migrations.now) text.now
         (memory_of runtime.old) (memory_of runtime.new)
         disk.old disk.new result }
     ensures memory { result ≢ LineOutcome.OutOfMemory → IsRuntime D.told (D.medium disk.new) runtime.new }
@@ -65,7 +65,7 @@ fn answer<D: Disk>(
     requires event { IsEvent event.now }
     requires memory { IsRuntime D.told (D.medium disk.old) runtime.old }
     ensures answered { (text : List ℕ) → IsLine text (Line.Event event.now)
-        → IsOutcomeOfLine D.told D.medium (rules_of migrations.now) (answers_of migrations.now) text
+        → IsLineOutcome D.told D.medium (rules_of migrations.now) (answers_of migrations.now) text
         (memory_of runtime.old) (memory_of runtime.new) disk.old disk.new result }
     ensures memory { result ≢ LineOutcome.OutOfMemory → IsRuntime D.told (D.medium disk.new) runtime.new }
     ensures time { Elapses (D.medium disk.old) (D.medium disk.new) }
