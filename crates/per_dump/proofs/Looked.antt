@@ -1,8 +1,9 @@
 -- Calls that look at a disk, one after another.
 use Rattle.std.proofs.Common.{◌≡◌, ℕ, Bool, true, false, List, Result, Ok, Err, refl, ap, ◌∙◌, inl, inr}
-use Rattle.std.proofs.Common.{true≢false, sym}
-use Rattle.std.specs.Prelude.{OnErr, OnOk, is_err}
-use Rattle.disk_model.specs.Laws.{elapses_none, elapses_on, reads_none}
+use Rattle.std.proofs.Common.{true≢false, sym, subst}
+use Rattle.std.specs.Prelude.{IsErrAnd, IsErrOf, OnErr, OnOk, is_err}
+use Rattle.per_base.specs.Causes.{Rose}
+use Rattle.disk_model.specs.Laws.{elapses_none, elapses_on, reads_none, rose_before}
 use Rattle.disk_model.specs.Image.{Image}
 use Rattle.disk_model.specs.Medium.{Elapses, IsIdle, IsLawful, Medium, Quiet}
 use Rattle.run_model.specs.Lives.{LooksOnly, looks_none, looks_on, looks_unsynced}
@@ -68,3 +69,24 @@ dumping_more told old mid new law so looks quiet passes time = record {
   passes = passes ∙ so.passes;
   time = elapses_on so.time time;
 }
+
+module _ (told : Bool) (old mid new : Medium) (law : IsLawful told mid) (so : IsDumping old mid) where
+  pub looked_on : LooksOnly mid new → Elapses mid new → LooksOnly old new
+  looked_on looks time = looks_on told old mid new law so.time time so.looks looks
+
+  pub rose_on : Rose mid.faults new.faults → Rose old.faults new.faults
+  rose_on rose = rose_before _ _ _ so.time.faults rose
+
+-- an error that is handed on is the same
+pub same_error : {T U E : Type 0} (result : Result T E) (e : E) → IsErrAnd result (λ x. x ≡ e) → (d : E)
+    → result ≡ Err d → IsErrOf {T = U} (Err e) d
+same_error (Ok t) e passed d is = absurd passed
+same_error (Err x) e passed d is =
+    let same : x ≡ d = cc in
+    ap (λ y. Err y) (sym passed ∙ same)
+
+-- what holds of a call holds of one with the same arguments
+pub same_call : (P : ℕ → List ℕ → List (List ℕ) → Type 0) (a b : ℕ) (m n : List ℕ) (t u : List (List ℕ)) → a ≡ b
+    → m ≡ n → t ≡ u → P a m t → P b n u
+same_call P a b m n t u number manifest texts given = subst (λ (x : List (List ℕ)). P b n x) texts
+    (subst (λ (x : List ℕ). P b x t) manifest (subst (λ (x : ℕ). P x m t) number given))

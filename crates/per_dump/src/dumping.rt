@@ -118,7 +118,8 @@ fn dump_version<D: Disk>(
 {
     let mut storages = Vec::new(alloc);
     for config in version.deployment.storages.as_slice() {
-        match export(alloc, disk, application, &config.name)? {
+        let exported = export(alloc, disk, application, &config.name)?;
+        match exported {
             Exported::Octets(text) => {
                 let name = config.name.copy()?;
                 storages.push(DumpedStorage { name, text })?;

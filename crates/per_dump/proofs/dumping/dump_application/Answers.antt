@@ -19,7 +19,7 @@ pub returns-then-is_err-clause-cause : goal.returns-then-is_err-clause-cause
 returns-then-is_err-clause-cause g c = λ failed.
     on_err c.sync.result (sym c.if-is_err.ensures.value) c.sync.ensures.cause
 
-pub dump_synced-requires-clause-quiet : goal.dump_synced-requires-quiet
+pub dump_synced-requires-clause-quiet : goal.dump_synced-requires-clause-quiet
 dump_synced-requires-clause-quiet g c = on_ok c.sync.result (sym c.if-is_err.ensures.value) c.sync.ensures.quiet
 
 pub returns-clause-texts : goal.returns-clause-texts
