@@ -13,7 +13,7 @@ use Rattle.kvs_core.specs.Calls.{set_value}
 use Rattle.kvs_store.specs.Storages.{KvsSession, showing}
 use Rattle.kvs_store.specs.Synced.{IsSynced}
 use Rattle.kvs_laws.specs.Values.{HasValue}
-use Rattle.per_embed.specs.Owned.{IsOpenOn, IsSaved, KeepsSynced, KeepsValues, OwnedKeys, ReadsSynced, asked_of}
+use Rattle.per_embed.specs.Owned.{IsOpenOn, IsSaved, KeepsEachSynced, KeepsValues, OwnedKeys, ReadsSynced, asked_of}
 use Rattle.odometer.specs.declared.odometers.TheConstants.{KEY}
 use Rattle.odometer.specs.Odometers.{HasTotal, ReadsTotal, TotalThroughout, kilometres, the_total}
 
@@ -73,7 +73,7 @@ before_of : {A B : Type 0} → A ⊎ A → A ⊎ B
 before_of h = elim h [ inl x ↦ inl x | inr x ↦ inl x ]
 
 pub total_stands : (storage : Option KvsSession) (before after : ℕ) (old new : Medium) → new ≡ old
-    → IfSome storage (HasTotal before) → IfSome storage (λ kvs. KeepsSynced kvs old)
+    → IfSome storage (HasTotal before) → IfSome storage (λ kvs. KeepsEachSynced kvs old)
     → TotalThroughout storage before after old new
 total_stands None before after old new same has keeps = tt
 total_stands (Some kvs) before after old new same has keeps = λ clean c since sound damaged image decays enough.

@@ -8,12 +8,13 @@
 mod odometers;
 mod refusals;
 
+use disk_model::Disk;
 use odometers::Odometer;
 use per_embed::{open_folder, seconds};
 use per_system::fill_streams;
 use refusals::Refusal;
-use std::env;
 use std::process::ExitCode;
+use std::{env, io};
 
 fn main(rt: HostRuntime) -> ExitCode {
     match run(&rt) {
@@ -31,16 +32,37 @@ fn run(rt: &HostRuntime) -> Result<(), Refusal> {
     let alloc = rt.alloc();
     let disk = open_folder(rt, alloc, folder(rt)?.as_str())?;
     let mut odometer = Odometer::open(alloc, disk, seconds(rt))?;
+    let driven = drive_by_lines(rt, &mut odometer);
+    drop(odometer);
+    driven
+}
+
+/// Shows the total, and drives by each line of the input.
+fn drive_by_lines<D: Disk + Drop>(
+    rt: &HostRuntime,
+    odometer: &mut Odometer<D>,
+) -> Result<(), Refusal> {
     show(rt, odometer.total())?;
-    for line in rt.lines(alloc) {
-        let line = line.map_err(Refusal::Input)?;
-        let Ok(kilometres) = line.as_str().parse::<u32>() else {
-            return Err(Refusal::NoNumber);
-        };
-        odometer.drive(kilometres)?;
-        show(rt, odometer.total())?;
+    for line in rt.lines(rt.alloc()) {
+        drive_by_line(rt, odometer, line)?;
     }
     Ok(())
+}
+
+fn drive_by_line<D: Disk + Drop>(
+    rt: &HostRuntime,
+    odometer: &mut Odometer<D>,
+    line: io::Result<String>,
+) -> Result<(), Refusal> {
+    let kilometres = kilometres_in(line)?;
+    odometer.drive(kilometres)?;
+    show(rt, odometer.total())
+}
+
+/// The kilometres that a line says.
+fn kilometres_in(line: io::Result<String>) -> Result<u32, Refusal> {
+    let line = line.map_err(Refusal::Input)?;
+    line.as_str().parse().map_err(|_| Refusal::NoNumber)
 }
 
 fn show(rt: &HostRuntime, total: u32) -> Result<(), Refusal> {

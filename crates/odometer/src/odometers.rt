@@ -1,9 +1,10 @@
 //! The odometer: a storage of keys on its disk, and the total that is durable in it.
 
-ghost use Rattle.std.specs.Prelude.{◌≡◌, ◌<◌, ◌+◌, ◌↔◌, ℕ, IfSome, IsErrOf, IsTrue, OnErr, OnOk};
+ghost use Rattle.std.specs.Prelude.{◌≡◌, ◌<◌, ◌+◌, ◌↔◌, ℕ, IfOk, IfSome, IsErrOf, IsSomeAnd, IsTrue, OnErr, OnOk};
 ghost use Rattle.per_base.specs.Causes.{Rose};
 ghost use Rattle.per_base.specs.declared.errors.PerError.{PerError};
 ghost use Rattle.disk_model.specs.Medium.{Quiet};
+ghost use Rattle.per_embed.specs.Owned.{IsSaved};
 ghost use Rattle.odometer.specs.Odometers.{HasTotal, ReadsTotal, TotalThroughout};
 
 use crate::refusals::Refusal;
@@ -58,15 +59,18 @@ impl<D: Disk + Drop> Odometer<D> {
     /// `Storage`, with what the storage refuses.
     pub(crate) fn open(alloc: Global, disk: D, now: u64) -> Result<Odometer<D>, Refusal> {
         let name = Name::new(alloc, STORAGE)?;
-        let key = Name::new(alloc, KEY)?;
-        scalars_have_trees();
         let storage = KeyStorage::open(alloc, disk, MANIFEST, &name, now)?;
-        let total = storage.get::<u32>(&key)?;
-        Ok(Odometer {
-            storage,
-            key,
-            total,
-        })
+        match total_in(alloc, &storage) {
+            Ok((key, total)) => Ok(Odometer {
+                storage,
+                key,
+                total,
+            }),
+            Err(error) => {
+                drop(storage);
+                Err(Refusal::Storage(error))
+            }
+        }
     }
 
     /// The kilometres driven so far. While the odometer is open, the disk reads so, and nothing is pending on it.
@@ -107,6 +111,18 @@ impl<D: Disk + Drop> Odometer<D> {
         self.total = total;
         Ok(())
     }
+}
+
+/// The key of the total, and the total that a storage with nothing pending holds.
+fn total_in<D: Disk + Drop>(alloc: Global, storage: &KeyStorage<D>) -> Result<(Name, u32), PerError>
+    ensures key { IfOk result (λ found. found.0 ≡ KEY.now) }
+    ensures total { IsSomeAnd storage.now.kvs IsSaved
+        → IfOk result (λ found. IfSome storage.now.kvs (HasTotal found.1)) }
+{
+    scalars_have_trees();
+    let key = Name::new(alloc, KEY)?;
+    let total = storage.get::<u32>(&key)?;
+    Ok((key, total))
 }
 
 /// Makes this the total, durably.
