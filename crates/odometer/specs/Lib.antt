@@ -1,2 +1,1 @@
 pub mod Odometers
-pub mod Refusals

@@ -1,4 +1,4 @@
-//! An odometer: the model of a program that embeds a key-value storage.
+//! An odometer: an example of a program that embeds a key-value storage.
 //!
 //! `odometer FOLDER` opens the total that a folder keeps in three copies, and adds the kilometres of standard input,
 //! one number a line. It prints the total at the start, and after each line once it is durable. A refusal is one line
@@ -6,16 +6,15 @@
 #![tactic(auto)]
 
 mod odometers;
-mod opening;
 mod refusals;
 
-use folder_disk::FolderDisk;
+use disk_model::Disk;
 use odometers::Odometer;
-use per_system::{Access, DeviceKind, HostSystem, fill_streams};
+use per_embed::{open_folder, seconds};
+use per_system::fill_streams;
 use refusals::Refusal;
-use std::env;
 use std::process::ExitCode;
-use std::time::{SystemTime, UNIX_EPOCH};
+use std::{env, io};
 
 fn main(rt: HostRuntime) -> ExitCode {
     match run(&rt) {
@@ -31,18 +30,39 @@ fn main(rt: HostRuntime) -> ExitCode {
 fn run(rt: &HostRuntime) -> Result<(), Refusal> {
     let _streams = fill_streams(rt).map_err(Refusal::Output)?;
     let alloc = rt.alloc();
-    let disk = disk_in(rt, folder(rt)?)?;
+    let disk = open_folder(rt, alloc, folder(rt)?.as_str())?;
     let mut odometer = Odometer::open(alloc, disk, seconds(rt))?;
+    let driven = drive_by_lines(rt, &mut odometer);
+    drop(odometer);
+    driven
+}
+
+/// Shows the total, and drives by each line of the input.
+fn drive_by_lines<D: Disk + Drop>(
+    rt: &HostRuntime,
+    odometer: &mut Odometer<D>,
+) -> Result<(), Refusal> {
     show(rt, odometer.total())?;
-    for line in rt.lines(alloc) {
-        let line = line.map_err(Refusal::Input)?;
-        let Ok(kilometres) = line.as_str().parse::<u32>() else {
-            return Err(Refusal::NoNumber);
-        };
-        odometer.drive(kilometres)?;
-        show(rt, odometer.total())?;
+    for line in rt.lines(rt.alloc()) {
+        drive_by_line(rt, odometer, line)?;
     }
     Ok(())
+}
+
+fn drive_by_line<D: Disk + Drop>(
+    rt: &HostRuntime,
+    odometer: &mut Odometer<D>,
+    line: io::Result<String>,
+) -> Result<(), Refusal> {
+    let kilometres = kilometres_in(line)?;
+    odometer.drive(kilometres)?;
+    show(rt, odometer.total())
+}
+
+/// The kilometres that a line says.
+fn kilometres_in(line: io::Result<String>) -> Result<u32, Refusal> {
+    let line = line.map_err(Refusal::Input)?;
+    line.as_str().parse().map_err(|_| Refusal::NoNumber)
 }
 
 fn show(rt: &HostRuntime, total: u32) -> Result<(), Refusal> {
@@ -55,30 +75,5 @@ fn folder(rt: &HostRuntime) -> Result<String, Refusal> {
     match (words.next(), words.next()) {
         (Some(folder), None) => Ok(folder),
         _ => Err(Refusal::Words),
-    }
-}
-
-/// The folder as a disk.
-fn disk_in<'a>(
-    rt: &'a HostRuntime,
-    dir: String,
-) -> Result<FolderDisk<HostSystem<'a, HostRuntime>>, Refusal> {
-    let Ok(system) = HostSystem::hold(rt, rt.alloc(), dir, DeviceKind::Disk, Access::Write) else {
-        return Err(Refusal::Device);
-    };
-    match FolderDisk::open(rt.alloc(), system) {
-        Ok(disk) => Ok(disk),
-        Err(_) => Err(Refusal::Device),
-    }
-}
-
-/// The moment, in seconds since 1970; 0 where the clock does not say.
-fn seconds(rt: &HostRuntime) -> u64 {
-    match SystemTime::now(rt) {
-        Ok(now) => match now.duration_since(UNIX_EPOCH) {
-            Ok(since) => since.as_secs(),
-            Err(_) => 0,
-        },
-        Err(_) => 0,
     }
 }
