@@ -114,8 +114,8 @@ fn number_of(number: &str) -> Option<AppNumber> {
     }
 }
 
-/// Whether these are the storages of the manifest, by their names in order. Of a text that is no manifest a restore says
-/// why.
+/// Whether these are the storages of the manifest, by their names in order. Of a text that is no manifest a restore
+/// says why.
 fn are_said(alloc: Global, manifest: &[u8], storages: &[DumpedStorage]) -> Result<bool, DumpError>
     ensures { IfOk result (λ answer. IsTrue answer → AreSaid manifest.now storages.now) }
 {
