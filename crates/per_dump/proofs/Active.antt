@@ -1,5 +1,5 @@
 -- What a root says, and what is dumped of it.
-use Rattle.std.proofs.Common.{◌≡◌, ℕ, ◌-◌, List, Bool, Option, Some, None, option_map, map, Result, Ok, Err}
+use Rattle.std.proofs.Common.{◌≡◌, ℕ, ◌-◌, List, Bool, Option, Some, None, option_map, map, Result, Err}
 use Rattle.std.proofs.Common.{refl, sym, ap, ◌∙◌, subst}
 use Rattle.std.specs.Prelude.{IfSome, IsTrue}
 use Rattle.per_base.specs.declared.errors.PerError.{PerError}
@@ -14,11 +14,11 @@ use Rattle.root_text.specs.declared.versions.RootSays.{RootSays}
 use Rattle.root_text.specs.declared.versions.RootSays.TheVariants as root
 use Rattle.root_text.specs.declared.versions.VersionText.{VersionText}
 use Rattle.root_text.specs.Views.{root_said, version_said}
-use Rattle.deploy_laws.specs.Apps.{App, Says, absent, app_at, installed, named_in_bank, nothing, says_at, says_by}
+use Rattle.deploy_laws.specs.Apps.{App, absent, app_at, named_in_bank, nothing, says_at, says_by}
 use Rattle.deploy.specs.declared.viewing.Versions.{Versions}
 use Rattle.deploy.specs.Views.{AreHeldByRoot, AreRead, versions_say}
 use Rattle.per_backup.specs.declared.exporting.Exported.{Exported}
-use Rattle.per_backup.specs.Backups.{dumping, dumping_over, exporting, exports_of}
+use Rattle.per_backup.specs.Backups.{dumping, exporting, exports_of}
 use Rattle.per_backup.specs.Clauses.{IsAppSeen, exported_as}
 use Rattle.dump_text.specs.declared.dumps.DumpedApplication.{DumpedApplication}
 use Rattle.dump_text.specs.Dumps.{dumped_names}

@@ -1,11 +1,8 @@
-use Rattle.disk_model.specs.Laws.{elapses_on, rose_before}
-use Rattle.std.proofs.Common.{sym, subst, ◌∙◌}
+use Rattle.std.proofs.Common.{sym, subst}
 use Rattle.disk_model.specs.Image.{Image}
 use Rattle.deploy_laws.specs.Apps.{says_at}
-use Rattle.run_model.specs.Lives.{looks_on}
 use Rattle.per_dump.specs.Dumps.{HoldsManifest, IsActive}
 use Rattle.per_dump.proofs.Active.{absent_dumped, bad_dumped, is_active, is_held, is_said}
-use Rattle.per_dump.proofs.Looked.{looks_still}
 use Rattle.per_dump.proofs.dumping.dump_synced.Goals as goal
 
 pub returns-in_default-clause-texts : goal.returns-in_default-clause-texts
@@ -23,8 +20,8 @@ dump_version-requires-clause-active g c = λ tells. subst (λ (im : Image). IsAc
     (c.in_ok-found.ensures.says tells) c.in-Some.versions c.in-Some.is _ c.in-Installed.active _ c.in-Installed.is)
 
 pub dump_version-requires-clause-said : goal.dump_version-requires-clause-said
-dump_version-requires-clause-said g c = is_said c.in_ok-found.found c.in-Some.versions _ c.in-Installed.active _ c.in-Some.is
-    c.in-Installed.is c.in_ok-found.ensures.versions
+dump_version-requires-clause-said g c = is_said c.in_ok-found.found c.in-Some.versions _ c.in-Installed.active _
+    c.in-Some.is c.in-Installed.is c.in_ok-found.ensures.versions
 
 pub dump_version-requires-clause-held : goal.dump_version-requires-clause-held
 dump_version-requires-clause-held g c = λ tells. subst (λ (im : Image). HoldsManifest im c.args.application
