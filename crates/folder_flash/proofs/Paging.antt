@@ -209,3 +209,30 @@ pub erase_torn : (block : ℕ) (old new : Image) → TornFile (page_start block 
 erase_torn block old new torn b p other spared = pages_alike (old 0) (new 0) b p (λ lt.
     kept_page (old 0) (new 0) (page_start block 0) 32768 b p (omega arith) torn.torn spared
     (λ j l. outside_block b p block j lt other l))
+
+-- ---- the same where a page begins at a place
+
+pub reads_at : (file out : List ℕ) (at b p : ℕ) → at ≡ page_start b p → p < 64 → length out ≡ 512
+    → AreFlashBytes file at out → out ≡ file_pages file b p
+reads_at file out at b p e lt long are = reads_page file out b p lt long (subst (λ k. AreFlashBytes file k out) e are)
+
+pub programs_at : (old new bytes : List ℕ) (at block page : ℕ) → at ≡ page_start block page → page < 64
+    → length bytes ≡ 512 → PutsIntoFlash at bytes old new
+    → file_pages new ≡ program_page (file_pages old) block page bytes
+programs_at old new bytes at block page e within long puts = programs old new bytes block page within long
+    (subst (λ k. PutsIntoFlash k bytes old new) e puts)
+
+pub program_torn_at : (at n block page : ℕ) (old new : Image) → at ≡ page_start block page → page < 64 → n ≡ 512
+    → TornFile at n old new → TornPageOf block page (old 0) (new 0)
+program_torn_at at n block page old new e within long torn = program_torn block page old new within
+    (subst (λ k. TornFile (page_start block page) k old new) long (subst (λ k. TornFile k n old new) e torn))
+
+pub erases_at : (old new : List ℕ) (at block : ℕ) → at ≡ page_start block 0
+    → PutsIntoFlash at (replicate 32768 255) old new → file_pages new ≡ erase_block (file_pages old) block
+erases_at old new at block e puts = erases old new (replicate 32768 255) block (length-replicate {A = ℕ} 32768 255)
+    (λ j lt. get_or-replicate 32768 j 255 0 lt)
+    (subst (λ k. PutsIntoFlash k (replicate 32768 255) old new) e puts)
+
+pub erase_torn_at : (at block : ℕ) (old new : Image) → at ≡ page_start block 0 → TornFile at 32768 old new
+    → TornBlockOf block (old 0) (new 0)
+erase_torn_at at block old new e torn = erase_torn block old new (subst (λ k. TornFile k 32768 old new) e torn)

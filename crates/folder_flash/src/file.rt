@@ -82,6 +82,7 @@ impl<S: System> FlashFile<S> {
     /// How many bytes it has.
     pub(crate) fn size(&mut self) -> Result<u64, FlashFailed>
         ensures size { IsTrue S.told → IfOk result (λ n. n ≡ length ((S.medium self.old.system).disk.image 0)) }
+        ensures image { IsTrue S.told → (S.medium self.new.system).disk.image ≡ (S.medium self.old.system).disk.image }
         ensures reads { OnlyReads (disk_seen S.medium self.old) (disk_seen S.medium self.new) }
         ensures time { Elapses (disk_seen S.medium self.old) (disk_seen S.medium self.new) }
     {

@@ -4,7 +4,7 @@ use Rattle.disk_model.specs.Medium.{Elapses}
 use Rattle.disk_model.specs.Laws.{elapses_on}
 use Rattle.folder_disk.specs.FolderView.{disk_seen}
 use Rattle.folder_flash.specs.Bytes.{flash_byte}
-use Rattle.folder_flash.proofs.Cutting.{Fills, fills_none, fills_on}
+use Rattle.folder_flash.proofs.Cutting.{Fills, fills_none, fills_on, fills_torn, fills_during}
 use Rattle.folder_flash.proofs.Putting.{length_after, fills_in, first_are_blank}
 use Rattle.folder_flash.proofs.file.FlashFile.fill_up_to.Goals as goal
 
@@ -86,3 +86,49 @@ loop-size-preserved g c =
           c.put.ensures.time (c.put.ensures.during t) (c.in_ok-put.ensures.image t) c.in_ok-put.ensures.durable;
       time = elapses_on inv.time c.put.ensures.time;
     }
+
+pub returns-in_err-put-clause-torn : goal.returns-in_err-put-clause-torn
+returns-in_err-put-clause-torn g c = λ t.
+    let medium = g.S.System.medium in
+    let a = disk_seen medium c.args.self.now in
+    let b = disk_seen medium c.loop-size.self in
+    let d = disk_seen medium c.put.new.self in
+    let part = take c.min-count.result c.as_slice.result.now in
+    let full : length c.as_slice.result.now ≡ 32768 =
+    ap length (c.as_slice.ensures.value ∙ c.loop-size.invariant.blank) ∙ length-replicate {A = ℕ} 32768 255 in
+    let taken : length part ≡ c.min-count.result =
+    length-take-le c.min-count.result c.as_slice.result.now (omega (arith, c.min-count.ensures, full)) in
+    let high : c.loop-size.size + length part ≤ c.args.at =
+    omega (arith, c.min-count.ensures, c.loop-size-test.true, taken) in
+    let inv = c.loop-size.invariant in
+    fills_torn c.args.at c.loop-size.size part a b d (inv.from t) high (inv.fills t) inv.time c.put.ensures.time
+    (c.put.ensures.during t) (c.in_err-put.ensures.torn t)
+
+pub returns-in_err-put-clause-during : goal.returns-in_err-put-clause-during
+returns-in_err-put-clause-during g c = λ t.
+    let medium = g.S.System.medium in
+    let a = disk_seen medium c.args.self.now in
+    let b = disk_seen medium c.loop-size.self in
+    let d = disk_seen medium c.put.new.self in
+    let part = take c.min-count.result c.as_slice.result.now in
+    let full : length c.as_slice.result.now ≡ 32768 =
+    ap length (c.as_slice.ensures.value ∙ c.loop-size.invariant.blank) ∙ length-replicate {A = ℕ} 32768 255 in
+    let taken : length part ≡ c.min-count.result =
+    length-take-le c.min-count.result c.as_slice.result.now (omega (arith, c.min-count.ensures, full)) in
+    let high : c.loop-size.size + length part ≤ c.args.at =
+    omega (arith, c.min-count.ensures, c.loop-size-test.true, taken) in
+    let inv = c.loop-size.invariant in
+    fills_during c.args.at c.loop-size.size part a b d (inv.from t) high (inv.fills t) inv.time c.put.ensures.time
+    (c.put.ensures.during t)
+
+pub returns-in_err-put-clause-time : goal.returns-in_err-put-clause-time
+returns-in_err-put-clause-time g c = elapses_on c.loop-size.invariant.time c.put.ensures.time
+
+pub returns-clause-quiet : goal.returns-clause-quiet
+returns-clause-quiet g c = λ t. (c.loop-size.invariant.fills t).quiet
+
+pub returns-clause-torn : goal.returns-clause-torn
+returns-clause-torn g c = λ t. (c.loop-size.invariant.fills t).torn
+
+pub returns-clause-during : goal.returns-clause-during
+returns-clause-during g c = λ t. (c.loop-size.invariant.fills t).during
