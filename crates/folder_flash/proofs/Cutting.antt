@@ -22,15 +22,15 @@ pub passed : {T E D : Type 0} (r : Result T E) (made : Result T D) (x : T) (P : 
 passed (Ok y) made x P same is p = p
 passed (Err e) made x P same is p = absurd (true≢false (sym (ap is_ok is) ∙ same))
 
-value_or : {T E : Type 0} → T → Result T E → T
+abbrev value_or : {T E : Type 0} → T → Result T E → T
 value_or d (Ok x) = x
 value_or d (Err e) = d
 
 -- and what it says of what it answered
-pub passed_if : {T E D : Type 0} (r : Result T E) (made : Result T D) (x : T) (P : T → Type 0) {Q : E → Type 0}
+pub passed_if : {T E D : Type 0} (r : Result T E) (made : Result T D) (x : T) (P : T → Type 0) (Q : E → Type 0)
     → MatchResult r (λ y. made ≡ Ok y) Q → is_ok made ≡ is_ok r → made ≡ Ok x → IfOk r P → P x
-passed_if (Ok y) made x P cases same is p = subst P (ap (value_or y) (sym cases ∙ is)) p
-passed_if (Err e) made x P cases same is p = absurd (true≢false (sym (ap is_ok is) ∙ same))
+passed_if (Ok y) made x P Q cases same is p = subst P (ap (value_or y) (sym cases ∙ is)) p
+passed_if (Err e) made x P Q cases same is p = absurd (true≢false (sym (ap is_ok is) ∙ same))
 
 pub on_ok_as : {T E : Type 0} (r s : Result T E) (P Q : Type 0) → s ≡ r → (P → Q) → OnOk r P → OnOk s Q
 on_ok_as (Ok x) s P Q same f p = subst (λ s. OnOk s Q) (sym same) (f p)

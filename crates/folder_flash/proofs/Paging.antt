@@ -1,13 +1,14 @@
 -- How the bytes of a file make the pages of a flash.
-use Rattle.std.proofs.Common.{◌≡◌, ◌≢◌, ◌⊎◌, ℕ, ◌+◌, ◌-◌, ◌*◌, ◌<◌, ◌≤◌, List, ◌++◌, length, take, drop, min, max, replicate}
+use Rattle.std.proofs.Common.{◌≡◌, ◌≢◌, ◌⊎◌, ℕ, ◌+◌, ◌-◌, ◌*◌, ◌<◌, ◌≤◌, List, ◌++◌, length, take, drop, min}
+use Rattle.std.proofs.Common.{replicate}
 use Rattle.std.proofs.Common.{get_or, refl, sym, ap, ◌∙◌, subst, inl, inr, ⊎_elim, arith, cond, nat_lt, eq-eqb, ne_eqb}
-use Rattle.std.proofs.Common.{◌==◌, ◌&&◌, Bool, true, false}
+use Rattle.std.proofs.Common.{◌==◌, ◌&&◌}
 use Rattle.std.proofs.lemmas.List.{ext_get_or, get_or_default, get_or_past, get_or-replicate, get_or-take, get_or-drop}
 use Rattle.std.proofs.lemmas.List.{get_or_append_left, get_or-append_right, length-replicate, length-append, length-drop}
 use Rattle.std.proofs.lemmas.List.{length-take-le}
 use Rattle.std.proofs.lemmas.Bool.{cases_lt, cases_eq, lt-ltb, le-ltb}
 use Rattle.std.proofs.Math.Path.{fun_ext}
-use Rattle.disk_model.specs.Image.{Image, end_of, Torn, TornImage}
+use Rattle.disk_model.specs.Image.{Image, end_of, Torn}
 use Rattle.flash_model.specs.Pages.{blank_page, program_page, erase_block}
 use Rattle.folder_flash.specs.Bytes.{flash_byte, AreFlashBytes, PutsIntoFlash}
 use Rattle.folder_flash.specs.FilePages.{page_start, file_page, file_pages, IsSpared, TornFile, TornPageOf, TornBlockOf}
@@ -101,12 +102,6 @@ outside_block b p block j lt ne l = ⊎_elim (λ less. inl (omega (arith, less, 
     (λ le. inr (omega (arith, le, ne))) (cases_lt b block)
 
 -- ---- whole writes
-
-cond_and : (x y : Bool) (P : List ℕ → Type 0) (a b : List ℕ) → (x ≡ true → y ≡ true → P a)
-    → ((x ≡ false) ⊎ (y ≡ false) → P b) → P (cond (x && y) a b)
-cond_and true true P a b both one = both refl refl
-cond_and true false P a b both one = one (inr refl)
-cond_and false y P a b both one = one (inl refl)
 
 pub programs : (old new bytes : List ℕ) (block page : ℕ) → page < 64 → length bytes ≡ 512
     → PutsIntoFlash (page_start block page) bytes old new

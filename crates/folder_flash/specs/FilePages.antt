@@ -18,8 +18,8 @@ file_page file block page = take 512 (drop (page_start block page) file ++ blank
 abbrev pub file_pages : List ℕ → Pages
 file_pages file b p = if nat_lt p 64 then file_page file b p else blank_page
 
--- What a write of n bytes of the file 0 leaves that was cut short: the range may hold anything, and where the file ended
--- before it all up to the range as well.
+-- What a write of n bytes of the file 0 leaves that was cut short: the range may hold anything, and where the file
+-- ended before it all up to the range as well.
 abbrev pub TornFile : (at n : ℕ) → (old new : Image) → Type 0
 TornFile at n old new = TornImage 0 (min (length (old 0)) at) (at + n - min (length (old 0)) at) old new
 

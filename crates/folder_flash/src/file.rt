@@ -82,7 +82,8 @@ impl<S: System> FlashFile<S> {
     /// How many bytes it has.
     pub(crate) fn size(&mut self) -> Result<u64, FlashFailed>
         ensures size { IsTrue S.told → IfOk result (λ n. n ≡ length ((S.medium self.old.system).disk.image 0)) }
-        ensures image { IsTrue S.told → (S.medium self.new.system).disk.image ≡ (S.medium self.old.system).disk.image }
+        ensures image { IsTrue S.told → (S.medium self.new.system).disk.image
+            ≡ (S.medium self.old.system).disk.image }
         ensures reads { OnlyReads (disk_seen S.medium self.old) (disk_seen S.medium self.new) }
         ensures time { Elapses (disk_seen S.medium self.old) (disk_seen S.medium self.new) }
     {
@@ -117,8 +118,8 @@ impl<S: System> FlashFile<S> {
         ensures puts { IsTrue S.told → OnOk result (PutsIntoFlash at bytes.now
             ((S.medium self.old.system).disk.image 0) ((S.medium self.new.system).disk.image 0)) }
         ensures durable { OnOk result (Quiet (disk_seen S.medium self.new)) }
-        ensures torn { IsTrue S.told → OnErr result (TornFile at (length bytes.now) (S.medium self.old.system).disk.image
-            (S.medium self.new.system).disk.image) }
+        ensures torn { IsTrue S.told → OnErr result (TornFile at (length bytes.now)
+            (S.medium self.old.system).disk.image (S.medium self.new.system).disk.image) }
         ensures during { IsTrue S.told → Quiet (disk_seen S.medium self.old) → EachCase
             (λ c. TornFile at (length bytes.now) (S.medium self.old.system).disk.image c.left)
             (disk_seen S.medium self.old) (disk_seen S.medium self.new) }

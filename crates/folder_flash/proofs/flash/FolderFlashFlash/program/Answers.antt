@@ -35,7 +35,8 @@ returns-clause-torn g c = λ t.
     on_err_as c.write-done.result c.counted.result (TornFile c.place_of.result (length c.args.bytes.now) old mid)
     (TornPageOf c.args.block c.args.page (old 0) (new 0)) c.counted.ensures.same
     (λ torn. subst (λ i. TornPageOf c.args.block c.args.page (old 0) (i 0)) (sym same)
-    (program_torn_at c.place_of.result (length c.args.bytes.now) c.args.block c.args.page old mid c.place_of.ensures c.requires.page long torn))
+    (program_torn_at c.place_of.result (length c.args.bytes.now) c.args.block c.args.page old mid c.place_of.ensures
+    c.requires.page long torn))
     (c.write-done.ensures.torn t)
 
 pub returns-clause-power : goal.returns-clause-power
@@ -46,5 +47,5 @@ returns-clause-power g c = λ t quiet.
     let a = disk_seen medium c.args.self.now.file in
     subst (λ v. EachCase (λ x. TornPageOf c.args.block c.args.page (old 0) (x.left 0)) a (disk_seen medium v))
     (sym c.counted.ensures.file)
-    (λ x past. program_torn_at c.place_of.result (length c.args.bytes.now) c.args.block c.args.page old x.left c.place_of.ensures
-    c.requires.page long (c.write-done.ensures.during t quiet x past))
+    (λ x past. program_torn_at c.place_of.result (length c.args.bytes.now) c.args.block c.args.page old x.left
+    c.place_of.ensures c.requires.page long (c.write-done.ensures.during t quiet x past))
