@@ -1,12 +1,12 @@
 -- What writes of the file leave that are cut short, by a failure or a power loss.
-use Rattle.std.proofs.Common.{◌≡◌, ◌≢◌, ◌⊎◌, ℕ, ◌+◌, ◌-◌, ◌≤◌, ◌<◌, Bool, List, length, min, refl, sym, ap, ◌∙◌, subst}
+use Rattle.std.proofs.Common.{◌≡◌, ◌≢◌, ◌⊎◌, ℕ, ◌+◌, ◌-◌, ◌≤◌, Bool, List, length, min, refl, sym, ap, ◌∙◌, subst}
 use Rattle.std.proofs.Common.{inl, inr, ⊎_elim, le_refl, le_trans, arith, cond, ne_eqb, true≢false}
 use Rattle.std.specs.Prelude.{Result, Ok, Err, OnOk, OnErr, IfOk, MatchResult, is_ok}
 use Rattle.std.proofs.lemmas.Bool.{cases_eq}
-use Rattle.disk_model.specs.Image.{Image, end_of, put_image, Torn, TornImage}
+use Rattle.disk_model.specs.Image.{Image, end_of, put_image, TornImage}
 use Rattle.disk_model.specs.Case.{Case, Follows, WriteOrNot}
 use Rattle.disk_model.specs.Medium.{Medium, Quiet, IsLawful, Elapses, OnlyReads, WritesNothing, EachCase}
-use Rattle.disk_model.specs.Laws.{cases_on, case_now, elapses_on, goes_on, reads_quiet}
+use Rattle.disk_model.specs.Laws.{cases_on, case_now, goes_on, reads_quiet}
 use Rattle.disk_model.specs.Written.{put_tears}
 use Rattle.folder_flash.specs.FilePages.{TornFile}
 

@@ -1,6 +1,6 @@
 -- What calls of the disk say of the bytes of a flash.
 use Rattle.std.proofs.Common.{◌≡◌, ◌≢◌, ◌⊎◌, ℕ, ◌+◌, ◌-◌, ◌<◌, ◌≤◌, List, length, take, drop, max, min}
-use Rattle.std.proofs.Common.{replicate, get_or, sym, ap, ◌∙◌, subst, inl, inr, ⊎_elim, arith, refl}
+use Rattle.std.proofs.Common.{replicate, get_or, sym, ap, ◌∙◌, subst, inl, inr, ⊎_elim, arith}
 use Rattle.std.proofs.lemmas.List.{get_or_default, get_or_past, get_or-replicate, get_or-take, length-replicate}
 use Rattle.std.proofs.lemmas.List.{length-take-le, get_or-drop}
 use Rattle.std.proofs.lemmas.Bool.{cases_lt}

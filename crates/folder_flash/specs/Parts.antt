@@ -1,5 +1,5 @@
 -- A failure of the file of a flash.
-use Rattle.std.specs.Prelude.{◌≡◌, ℕ}
+use Rattle.std.specs.Prelude.{◌≡◌}
 use Rattle.system_model.specs.declared.failures.Failure.{Failure}
 use Rattle.system_model.specs.declared.failures.Part.{Part}
 use Rattle.system_model.specs.declared.failures.Part.TheVariants.{Folder, File, Flash}

@@ -1,4 +1,4 @@
-use Rattle.std.proofs.Common.{◌≡◌, ◌-◌, ◌∙◌, ℕ, length, take, drop, min, subst, ap, arith}
+use Rattle.std.proofs.Common.{◌≡◌, ◌-◌, ◌∙◌, length, take, drop, min, subst, ap, arith}
 use Rattle.folder_disk.specs.FolderView.{FolderView}
 use Rattle.folder_flash.specs.Bytes.{AreFlashBytes}
 use Rattle.folder_flash.proofs.Cutting.{passed_if}

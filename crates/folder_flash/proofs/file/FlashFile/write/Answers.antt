@@ -1,6 +1,4 @@
 use Rattle.std.proofs.Common.{sym, subst, length}
-use Rattle.disk_model.specs.Case.{Case}
-use Rattle.disk_model.specs.Laws.{goes_on}
 use Rattle.folder_disk.specs.FolderView.{disk_seen}
 use Rattle.folder_flash.specs.Bytes.{PutsIntoFlash}
 use Rattle.folder_flash.specs.FilePages.{TornFile}
