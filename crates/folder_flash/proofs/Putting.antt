@@ -1,8 +1,8 @@
 -- What calls of the disk say of the bytes of a flash.
-use Rattle.std.proofs.Common.{◌≡◌, ◌≢◌, ◌⊎◌, ℕ, ◌+◌, ◌-◌, ◌<◌, ◌≤◌, List, length, take, max}
-use Rattle.std.proofs.Common.{replicate, get_or, sym, ap, ◌∙◌, subst, inl, inr, ⊎_elim, arith, refl}
+use Rattle.std.proofs.Common.{◌≡◌, ◌≢◌, ◌⊎◌, ℕ, ◌+◌, ◌-◌, ◌<◌, ◌≤◌, List, length, take, drop, max, min}
+use Rattle.std.proofs.Common.{replicate, get_or, sym, ap, ◌∙◌, subst, inl, inr, ⊎_elim, arith}
 use Rattle.std.proofs.lemmas.List.{get_or_default, get_or_past, get_or-replicate, get_or-take, length-replicate}
-use Rattle.std.proofs.lemmas.List.{length-take-le}
+use Rattle.std.proofs.lemmas.List.{length-take-le, get_or-drop}
 use Rattle.std.proofs.lemmas.Bool.{cases_lt}
 use Rattle.disk_model.specs.Image.{Image, put_bytes, put_image}
 use Rattle.disk_model.specs.Written.{put_outside, put_inside, length-put_some, put_image_here}
@@ -66,6 +66,18 @@ first_are_blank blank n is few j lt =
     let long : length blank ≡ 32768 = ap length is ∙ length-replicate {A = ℕ} 32768 255 in
     let within : j < n = omega (arith, lt, length-take-le n blank (omega (arith, long))) in
     get_or-take n blank j 0 within ∙ ap (λ xs. get_or xs j 0) is ∙ get_or-replicate 32768 j 255 0 (omega arith)
+
+-- what was read, and blank bytes after it
+pub reads : (file out got : List ℕ) (at n room : ℕ) → n ≡ min room (length file - at)
+    → take n got ≡ take n (drop at file)
+    → length out ≡ room → ((j : ℕ) → j < n → get_or out j 0 ≡ get_or got j 0)
+    → ((j : ℕ) → n ≤ j → j < length out → get_or out j 0 ≡ 255) → AreFlashBytes file at out
+reads file out got at n room is same long kept blank j lt = ⊎_elim
+    (λ inside. kept j inside ∙ sym (get_or-take n got j 0 inside) ∙ ap (λ xs. get_or xs j 0) same
+    ∙ get_or-take n (drop at file) j 0 inside ∙ get_or-drop at file j 0
+    ∙ get_or_default file (at + j) 0 255 (omega (arith, inside, is)))
+    (λ past. blank j past lt ∙ sym (get_or_past file (at + j) 255 (omega (arith, past, lt, is, long))))
+    (cases_lt j n)
 
 not_none : (n : ℕ) → 0 < n → n ≢ 0
 not_none n some none = omega (arith, some, none)

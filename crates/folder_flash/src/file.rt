@@ -1,11 +1,13 @@
 //! The file of a flash.
 
-ghost use Rattle.std.specs.Prelude.{◌≡◌, ◌≤◌, ◌<◌, ◌*◌, ◌+◌, ◌^◌, ℕ, IfOk, OnOk, IfSome, IsTrue, length, replicate};
-ghost use Rattle.std.specs.Prelude.{slice_index, max};
-ghost use Rattle.disk_model.specs.Image.{put_image};
-ghost use Rattle.disk_model.specs.Medium.{Quiet};
+ghost use Rattle.std.specs.Prelude.{◌≡◌, ◌≤◌, ◌<◌, ◌*◌, ◌+◌, ◌-◌, ◌^◌, ℕ, IfOk, OnOk, OnErr, IfSome, IsTrue};
+ghost use Rattle.std.specs.Prelude.{length, replicate, slice_index, max, min};
+ghost use Rattle.disk_model.specs.Image.{put_image, TornImage};
+ghost use Rattle.disk_model.specs.Medium.{Quiet, Elapses, OnlyReads, EachCase};
 ghost use Rattle.folder_disk.specs.FolderView.{disk_seen};
 ghost use Rattle.folder_flash.specs.Bytes.{AreFlashBytes, IsSameFlash, PutsIntoFlash};
+ghost use Rattle.folder_flash.specs.FilePages.{page_start, TornFile};
+ghost use Rattle.folder_flash.specs.Parts.{IsOfFlash};
 
 use disk_model::{Disk, DiskFailed};
 use flash_model::FlashFailed;
@@ -53,7 +55,9 @@ impl<S: System> Model for FlashFile<S> {
 }
 
 impl<S: System> FlashFile<S> {
-    pub(crate) fn new(alloc: Global, disk: FolderDisk<S>) -> FlashFile<S> {
+    pub(crate) fn new(alloc: Global, disk: FolderDisk<S>) -> FlashFile<S>
+        ensures { result ≡ disk }
+    {
         FlashFile {
             disk,
             alloc,
@@ -78,7 +82,10 @@ impl<S: System> FlashFile<S> {
     /// How many bytes it has.
     pub(crate) fn size(&mut self) -> Result<u64, FlashFailed>
         ensures size { IsTrue S.told → IfOk result (λ n. n ≡ length ((S.medium self.old.system).disk.image 0)) }
-        ensures image { IsTrue S.told → (S.medium self.new.system).disk.image ≡ (S.medium self.old.system).disk.image }
+        ensures image { IsTrue S.told → (S.medium self.new.system).disk.image
+            ≡ (S.medium self.old.system).disk.image }
+        ensures reads { OnlyReads (disk_seen S.medium self.old) (disk_seen S.medium self.new) }
+        ensures time { Elapses (disk_seen S.medium self.old) (disk_seen S.medium self.new) }
     {
         if let Some(size) = self.size {
             return Ok(size);
@@ -92,7 +99,8 @@ impl<S: System> FlashFile<S> {
     pub(crate) fn read(&mut self, at: u64, out: &mut [u8; 512]) -> Result<(), FlashFailed>
         ensures bytes { IsTrue S.told → OnOk result
             (AreFlashBytes ((S.medium self.old.system).disk.image 0) at out.new) }
-        ensures image { IsTrue S.told → (S.medium self.new.system).disk.image ≡ (S.medium self.old.system).disk.image }
+        ensures reads { OnlyReads (disk_seen S.medium self.old) (disk_seen S.medium self.new) }
+        ensures time { Elapses (disk_seen S.medium self.old) (disk_seen S.medium self.new) }
     {
         if self.size()? <= at {
             make_blank(out, 0);
@@ -110,6 +118,12 @@ impl<S: System> FlashFile<S> {
         ensures puts { IsTrue S.told → OnOk result (PutsIntoFlash at bytes.now
             ((S.medium self.old.system).disk.image 0) ((S.medium self.new.system).disk.image 0)) }
         ensures durable { OnOk result (Quiet (disk_seen S.medium self.new)) }
+        ensures torn { IsTrue S.told → OnErr result (TornFile at (length bytes.now)
+            (S.medium self.old.system).disk.image (S.medium self.new.system).disk.image) }
+        ensures during { IsTrue S.told → Quiet (disk_seen S.medium self.old) → EachCase
+            (λ c. TornFile at (length bytes.now) (S.medium self.old.system).disk.image c.left)
+            (disk_seen S.medium self.old) (disk_seen S.medium self.new) }
+        ensures time { Elapses (disk_seen S.medium self.old) (disk_seen S.medium self.new) }
     {
         self.fill_up_to(at)?;
         self.put(at, bytes)?;
@@ -122,6 +136,12 @@ impl<S: System> FlashFile<S> {
         ensures puts { IsTrue S.told → OnOk result (PutsIntoFlash at (replicate 32768 255)
             ((S.medium self.old.system).disk.image 0) ((S.medium self.new.system).disk.image 0)) }
         ensures durable { OnOk result (Quiet (disk_seen S.medium self.new)) }
+        ensures torn { IsTrue S.told → OnErr result (TornFile at 32768 (S.medium self.old.system).disk.image
+            (S.medium self.new.system).disk.image) }
+        ensures during { IsTrue S.told → Quiet (disk_seen S.medium self.old) → EachCase
+            (λ c. TornFile at 32768 (S.medium self.old.system).disk.image c.left)
+            (disk_seen S.medium self.old) (disk_seen S.medium self.new) }
+        ensures time { Elapses (disk_seen S.medium self.old) (disk_seen S.medium self.new) }
     {
         let blank = self.blank_block()?;
         self.write(at, blank.as_slice())?;
@@ -133,6 +153,14 @@ impl<S: System> FlashFile<S> {
         ensures long { IsTrue S.told → OnOk result (at ≤ length ((S.medium self.new.system).disk.image 0)) }
         ensures same { IsTrue S.told → OnOk result (IsSameFlash ((S.medium self.old.system).disk.image 0)
             ((S.medium self.new.system).disk.image 0)) }
+        ensures quiet { IsTrue S.told → Quiet (disk_seen S.medium self.old)
+            → OnOk result (Quiet (disk_seen S.medium self.new)) }
+        ensures torn { IsTrue S.told → TornFile at 0 (S.medium self.old.system).disk.image
+            (S.medium self.new.system).disk.image }
+        ensures during { IsTrue S.told → Quiet (disk_seen S.medium self.old) → EachCase
+            (λ c. TornFile at 0 (S.medium self.old.system).disk.image c.left)
+            (disk_seen S.medium self.old) (disk_seen S.medium self.new) }
+        ensures time { Elapses (disk_seen S.medium self.old) (disk_seen S.medium self.new) }
     {
         let mut size = self.size()?;
         if size >= at {
@@ -154,6 +182,12 @@ impl<S: System> FlashFile<S> {
         ensures image { IsTrue S.told → OnOk result ((S.medium self.new.system).disk.image
             ≡ put_image (S.medium self.old.system).disk.image 0 at bytes.now) }
         ensures durable { OnOk result (Quiet (disk_seen S.medium self.new)) }
+        ensures torn { IsTrue S.told → OnErr result (TornImage 0 at (length bytes.now)
+            (S.medium self.old.system).disk.image (S.medium self.new.system).disk.image) }
+        ensures during { IsTrue S.told → Quiet (disk_seen S.medium self.old) → EachCase
+            (λ c. TornImage 0 at (length bytes.now) (S.medium self.old.system).disk.image c.left)
+            (disk_seen S.medium self.old) (disk_seen S.medium self.new) }
+        ensures time { Elapses (disk_seen S.medium self.old) (disk_seen S.medium self.new) }
     {
         let known = self.size.take();
         store(&mut self.disk, at, bytes)?;
@@ -177,6 +211,12 @@ fn store<S: System>(disk: &mut FolderDisk<S>, at: u64, bytes: &[u8]) -> Result<(
     ensures image { IsTrue S.told → OnOk result ((S.medium disk.new.system).disk.image
         ≡ put_image (S.medium disk.old.system).disk.image 0 at bytes.now) }
     ensures durable { OnOk result (Quiet (disk_seen S.medium disk.new)) }
+    ensures torn { IsTrue S.told → OnErr result (TornImage 0 at (length bytes.now)
+        (S.medium disk.old.system).disk.image (S.medium disk.new.system).disk.image) }
+    ensures during { IsTrue S.told → Quiet (disk_seen S.medium disk.old) → EachCase
+        (λ c. TornImage 0 at (length bytes.now) (S.medium disk.old.system).disk.image c.left)
+        (disk_seen S.medium disk.old) (disk_seen S.medium disk.new) }
+    ensures time { Elapses (disk_seen S.medium disk.old) (disk_seen S.medium disk.new) }
 {
     disk.write_at(FILE, at, bytes).map_err(failed)?;
     disk.sync().map_err(failed)?;
@@ -202,7 +242,9 @@ fn blank_bytes(alloc: Global) -> Result<Vec<u8>, AllocError>
 }
 
 /// A failure of a file of a folder that holds a flash, as one of the flash.
-pub fn of_flash(failure: Failure) -> Failure {
+pub fn of_flash(failure: Failure) -> Failure
+    ensures { IsOfFlash failure result }
+{
     let part = match failure.part {
         Part::Folder => Part::Folder,
         Part::File(_) | Part::Flash => Part::Flash,
@@ -228,7 +270,7 @@ fn make_blank(out: &mut [u8; 512], count: usize)
 
 /// Where a page begins in the file.
 pub(crate) fn place_of(block: u32, page: u32) -> u64
-    ensures { result ≡ (64 * block + page) * 512 }
+    ensures { result ≡ page_start block page }
 {
     (64 * u64::from(block) + u64::from(page)) * PAGE_BYTES
 }

@@ -1,7 +1,12 @@
 //! A flash over a file.
 
-ghost use Rattle.std.specs.Prelude.{◌≡◌};
-ghost use Rattle.per_base.specs.Causes.{CountsFaults};
+ghost use Rattle.std.specs.Prelude.{◌≡◌, ◌<◌, ◌*◌, IsTrue, IfOk, OnOk, OnErr, length, nat_lt};
+ghost use Rattle.per_base.specs.Causes.{CountsFaults, Rose};
+ghost use Rattle.disk_model.specs.Medium.{Quiet, Elapses, OnlyReads, EachCase};
+ghost use Rattle.flash_model.specs.Pages.{program_page, erase_block};
+ghost use Rattle.flash_model.specs.FlashMedium.{FlashElapses};
+ghost use Rattle.folder_disk.specs.FolderView.{disk_seen};
+ghost use Rattle.folder_flash.specs.FilePages.{TornPageOf, TornBlockOf, file_seen, pages_seen};
 
 use crate::file::{FlashFile, place_of};
 use flash_model::{Flash, FlashFailed};
@@ -24,7 +29,11 @@ pub struct FolderFlash<S: System> {
 
 impl<S: System> FolderFlash<S> {
     /// The flash of that many blocks in the one file of this disk.
-    pub fn new(alloc: Global, disk: FolderDisk<S>, blocks: u32) -> FolderFlash<S> {
+    pub fn new(alloc: Global, disk: FolderDisk<S>, blocks: u32) -> FolderFlash<S>
+        ensures file { result.file ≡ disk }
+        ensures blocks { result.blocks ≡ blocks }
+        ensures faults { result.faults ≡ 0 }
+    {
         FolderFlash {
             file: FlashFile::new(alloc, disk),
             blocks,
@@ -43,7 +52,13 @@ impl<S: System> FolderFlash<S> {
     }
 
     /// Whether the file has more bytes than the blocks: it was made as a flash of more.
-    pub fn is_too_long(&mut self) -> Result<bool, FlashFailed> {
+    pub fn is_too_long(&mut self) -> Result<bool, FlashFailed>
+        ensures longer { IsTrue S.told → IfOk result (λ is.
+            is ≡ nat_lt (32768 * self.old.blocks) (length (file_seen S.medium self.old.file))) }
+        ensures looks { OnlyReads (disk_seen S.medium self.old.file) (disk_seen S.medium self.new.file) }
+        ensures blocks { self.new.blocks ≡ self.old.blocks }
+        ensures faults { CountsFaults self.old.faults self.new.faults result }
+    {
         let size = self.file.size();
         let size = self.counted(size)?;
         Ok(size > place_of(self.blocks, 0))
@@ -53,6 +68,8 @@ impl<S: System> FolderFlash<S> {
     fn counted<T>(&mut self, done: Result<T, FlashFailed>) -> Result<T, FlashFailed>
         ensures faults { CountsFaults self.old.faults self.new.faults result }
         ensures blocks { self.new.blocks ≡ self.old.blocks }
+        ensures file { self.new.file ≡ self.old.file }
+        ensures same { result ≡ done }
     {
         if done.is_err() {
             self.faults = self.faults.saturating_add(1);
@@ -75,26 +92,88 @@ impl<S: System> Flash for FolderFlash<S> {
         self.blocks
     }
 
-    fn read(&mut self, block: u32, page: u32, out: &mut [u8; 512]) -> Result<(), FlashFailed> {
+    fn read(&mut self, block: u32, page: u32, out: &mut [u8; 512]) -> Result<(), FlashFailed>
+        requires block { block < self.old.blocks }
+        requires page { page < 64 }
+
+        // The page of the file is read, and a power loss leaves nothing that none left before.
+        ensures page { IsTrue S.told → OnOk result (out.new ≡ pages_seen S.medium self.old.file block page) }
+        ensures looks { OnlyReads (disk_seen S.medium self.old.file) (disk_seen S.medium self.new.file) }
+        ensures clock { Elapses (disk_seen S.medium self.old.file) (disk_seen S.medium self.new.file) }
+
+        ensures time { FlashElapses (silent_flash self.old.blocks self.old.faults)
+            (silent_flash self.new.blocks self.new.faults) }
+        ensures cause { OnErr result (Rose self.old.faults self.new.faults) }
+        ensures passes { OnOk result (self.new.faults ≡ self.old.faults) }
+    {
         let done = self.file.read(place_of(block, page), out);
         self.counted(done)
     }
 
-    fn program(&mut self, block: u32, page: u32, bytes: &[u8; 512]) -> Result<(), FlashFailed> {
+    fn program(&mut self, block: u32, page: u32, bytes: &[u8; 512]) -> Result<(), FlashFailed>
+        requires block { block < self.old.blocks }
+        requires page { page < 64 }
+
+        // The page of the file is set, durably. Where the call fails nothing but the page is torn, and what the file
+        // lacked up to it; the same is so of a power loss at any moment of the call, if nothing was pending before.
+        ensures puts { IsTrue S.told → OnOk result (pages_seen S.medium self.new.file
+            ≡ program_page (pages_seen S.medium self.old.file) block page bytes.now) }
+        ensures durable { OnOk result (Quiet (disk_seen S.medium self.new.file)) }
+        ensures torn { IsTrue S.told → OnErr result (TornPageOf block page (file_seen S.medium self.old.file)
+            (file_seen S.medium self.new.file)) }
+        ensures power { IsTrue S.told → Quiet (disk_seen S.medium self.old.file) → EachCase
+            (λ c. TornPageOf block page (file_seen S.medium self.old.file) (c.left 0))
+            (disk_seen S.medium self.old.file) (disk_seen S.medium self.new.file) }
+        ensures clock { Elapses (disk_seen S.medium self.old.file) (disk_seen S.medium self.new.file) }
+
+        ensures time { FlashElapses (silent_flash self.old.blocks self.old.faults)
+            (silent_flash self.new.blocks self.new.faults) }
+        ensures cause { OnErr result (Rose self.old.faults self.new.faults) }
+        ensures passes { OnOk result (self.new.faults ≡ self.old.faults) }
+    {
         let done = self.file.write(place_of(block, page), bytes);
         self.counted(done)
     }
 
-    fn erase(&mut self, block: u32) -> Result<(), FlashFailed> {
+    fn erase(&mut self, block: u32) -> Result<(), FlashFailed>
+        requires { block < self.old.blocks }
+
+        // The pages of the block are blank, durably. Where the call fails nothing but the block is torn, and what the
+        // file lacked up to it; the same is so of a power loss, as above.
+        ensures puts { IsTrue S.told → OnOk result (pages_seen S.medium self.new.file
+            ≡ erase_block (pages_seen S.medium self.old.file) block) }
+        ensures durable { OnOk result (Quiet (disk_seen S.medium self.new.file)) }
+        ensures torn { IsTrue S.told → OnErr result (TornBlockOf block (file_seen S.medium self.old.file)
+            (file_seen S.medium self.new.file)) }
+        ensures power { IsTrue S.told → Quiet (disk_seen S.medium self.old.file) → EachCase
+            (λ c. TornBlockOf block (file_seen S.medium self.old.file) (c.left 0))
+            (disk_seen S.medium self.old.file) (disk_seen S.medium self.new.file) }
+        ensures clock { Elapses (disk_seen S.medium self.old.file) (disk_seen S.medium self.new.file) }
+
+        ensures time { FlashElapses (silent_flash self.old.blocks self.old.faults)
+            (silent_flash self.new.blocks self.new.faults) }
+        ensures cause { OnErr result (Rose self.old.faults self.new.faults) }
+        ensures passes { OnOk result (self.new.faults ≡ self.old.faults) }
+    {
         let done = self.file.write_blank(place_of(block, 0));
         self.counted(done)
     }
 
-    fn announce(&mut self, _file: u32, _at: u64, _bytes: &[u8]) -> Result<(), FlashFailed> {
+    fn announce(&mut self, _file: u32, _at: u64, _bytes: &[u8]) -> Result<(), FlashFailed>
+        ensures same { self.new ≡ self.old }
+        ensures time { FlashElapses (silent_flash self.old.blocks self.old.faults)
+            (silent_flash self.new.blocks self.new.faults) }
+        ensures cause { OnErr result (Rose self.old.faults self.new.faults) }
+    {
         Ok(())
     }
 
-    fn settle(&mut self) -> Result<(), FlashFailed> {
+    fn settle(&mut self) -> Result<(), FlashFailed>
+        ensures same { self.new ≡ self.old }
+        ensures time { FlashElapses (silent_flash self.old.blocks self.old.faults)
+            (silent_flash self.new.blocks self.new.faults) }
+        ensures cause { OnErr result (Rose self.old.faults self.new.faults) }
+    {
         Ok(())
     }
 }
