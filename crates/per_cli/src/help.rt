@@ -4,7 +4,7 @@ use crate::NO_OUTPUT;
 use std::io;
 
 /// The version of the sources.
-const VERSION: &str = "0.13.0";
+const VERSION: &str = "0.14.0";
 
 /// The arguments of the program.
 const WORDS: &str = "per keeps the data of up to eight applications in a folder, so that it outlives
