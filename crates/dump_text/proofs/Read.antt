@@ -17,7 +17,8 @@ use Rattle.value_text.specs.Parsing.{value_in}
 use Rattle.value_text.specs.Texts.{hex_text, value_text}
 use Rattle.value_text.specs.Whole.{bytes_in}
 use Rattle.serde_json.specs.Data.{Data, string}
-use Rattle.dump_text.specs.Elements.{cause_said, cause_word, dumped_element_in, file_data, file_in, has_members, info_in, key_in}
+use Rattle.dump_text.specs.Elements.{cause_said, cause_word, dumped_element_in, file_data, file_in, has_members}
+use Rattle.dump_text.specs.Elements.{info_in, key_in}
 use Rattle.dump_text.specs.Elements.{member_bytes, member_cause, member_number}
 
 -- ---- a key
