@@ -21,7 +21,7 @@ use Rattle.dump_text.specs.declared.errors.DumpError.{DumpError}
 use Rattle.dump_text.specs.declared.errors.DumpError.TheVariants.{NotADump, OutOfMemory}
 use Rattle.dump_text.specs.declared.dumps.DumpedStorage.{DumpedStorage}
 use Rattle.dump_text.specs.Dumps.{dumped_names}
-use Rattle.dump_text.specs.Elements.{are_so_many, element_in, elements_in, has_members}
+use Rattle.dump_text.specs.Elements.{are_so_many, dumped_element_in, dumped_elements_in, has_members}
 use Rattle.dump_text.specs.Views.{FailsToRead, is_memory}
 
 -- each of them
@@ -70,31 +70,31 @@ one_more known f (Some fs) = ap (λ (gs : List Fresh). Some gs) (sym (append_ass
 one_more known f None = refl
 
 module _ (kind : StoreKind) (known : List Fresh) (e : Entry) (left : List Entry) where
-  pub element_more : (f : Fresh) → element_in kind (string_bytes e.0) (view e.1) ≡ Some f
-      → known_first known (elements_in kind (members_view (e ∷ left)))
-      ≡ known_first (known ++ f ∷ []) (elements_in kind (members_view left))
-  unfolding elements_in
+  pub element_more : (f : Fresh) → dumped_element_in kind (string_bytes e.0) (view e.1) ≡ Some f
+      → known_first known (dumped_elements_in kind (members_view (e ∷ left)))
+      ≡ known_first (known ++ f ∷ []) (dumped_elements_in kind (members_view left))
+  unfolding dumped_elements_in
   element_more f is = ap (λ (o : Option Fresh). known_first known (o >>= λ first.
-      elements_in kind (members_view left) >>= λ others. Some (first ∷ others))) is
-      ∙ one_more known f (elements_in kind (members_view left))
+      dumped_elements_in kind (members_view left) >>= λ others. Some (first ∷ others))) is
+      ∙ one_more known f (dumped_elements_in kind (members_view left))
 
-  pub element_bad : element_in kind (string_bytes e.0) (view e.1) ≡ None
-      → known_first known (elements_in kind (members_view (e ∷ left))) ≡ None
-  unfolding elements_in
+  pub element_bad : dumped_element_in kind (string_bytes e.0) (view e.1) ≡ None
+      → known_first known (dumped_elements_in kind (members_view (e ∷ left))) ≡ None
+  unfolding dumped_elements_in
   element_bad is = ap (λ (o : Option Fresh). known_first known (o >>= λ first.
-      elements_in kind (members_view left) >>= λ others. Some (first ∷ others))) is
+      dumped_elements_in kind (members_view left) >>= λ others. Some (first ∷ others))) is
 
   pub element_fails : (error named : DumpError) (total : Option (List Fresh))
       → (IsTrue (is_memory error) → IsTrue (is_memory named))
-      → FailsToRead error (element_in kind (string_bytes e.0) (view e.1))
-      → known_first known (elements_in kind (members_view (e ∷ left))) ≡ total → FailsToRead named total
+      → FailsToRead error (dumped_element_in kind (string_bytes e.0) (view e.1))
+      → known_first known (dumped_elements_in kind (members_view (e ∷ left))) ≡ total → FailsToRead named total
   element_fails error OutOfMemory total kept fails so_far = tt
   element_fails (NotADump why) (NotADump more) total kept fails so_far = sym so_far ∙ element_bad fails
   element_fails OutOfMemory (NotADump more) total kept fails so_far = absurd (true≢false (sym (kept refl)))
 
 -- none is left
-pub elements_none : (kind : StoreKind) → elements_in kind (members_view []) ≡ Some []
-unfolding elements_in
+pub elements_none : (kind : StoreKind) → dumped_elements_in kind (members_view []) ≡ Some []
+unfolding dumped_elements_in
 elements_none kind = refl
 
 -- ---- names, one beside another

@@ -17,7 +17,8 @@ use Rattle.value_text.specs.Parsing.{value_in}
 use Rattle.value_text.specs.Texts.{hex_text, value_text}
 use Rattle.value_text.specs.Whole.{bytes_in}
 use Rattle.serde_json.specs.Data.{Data, string}
-use Rattle.dump_text.specs.Elements.{cause_said, cause_word, element_in, file_data, file_in, has_members, info_in, key_in}
+use Rattle.dump_text.specs.Elements.{cause_said, cause_word, dumped_element_in, file_data, file_in, has_members}
+use Rattle.dump_text.specs.Elements.{info_in, key_in}
 use Rattle.dump_text.specs.Elements.{member_bytes, member_cause, member_number}
 
 -- ---- a key
@@ -84,8 +85,8 @@ file_read i content d is again =
 -- ---- an element
 
 pub key_element : (kind : StoreKind) (e : Fresh) (d : Data) → e.info ≡ None → IsTrue (has_info kind e.info)
-    → IsTrue (is_name e.name) → key_in d ≡ Some e.bytes → element_in kind e.name d ≡ Some e
-unfolding element_in
+    → IsTrue (is_name e.name) → key_in d ≡ Some e.bytes → dumped_element_in kind e.name d ≡ Some e
+unfolding dumped_element_in
 key_element Files e d is has named read =
     absurd (true≢false (sym (subst (λ (o : Option FileInfo). IsTrue (has_info Files o)) is has)))
 key_element Keys e d is has named read =
@@ -96,8 +97,8 @@ key_element Keys e d is has named read =
 
 pub file_element : (kind : StoreKind) (e : Fresh) (i : FileInfo) (d : Data) → e.info ≡ Some i
     → IsTrue (has_info kind e.info) → IsTrue (is_name e.name) → file_in d ≡ Some (i, e.bytes)
-    → element_in kind e.name d ≡ Some e
-unfolding element_in
+    → dumped_element_in kind e.name d ≡ Some e
+unfolding dumped_element_in
 file_element Keys e i d is has named read =
     absurd (true≢false (sym (subst (λ (o : Option FileInfo). IsTrue (has_info Keys o)) is has)))
 file_element Files e i d is has named read =

@@ -102,24 +102,24 @@ key_in d = do
 
 -- ---- an element
 
-unfoldable pub element_in : StoreKind → (name : List ℕ) → Data → Option Fresh
-element_in Keys name d = do
+unfoldable pub dumped_element_in : StoreKind → (name : List ℕ) → Data → Option Fresh
+dumped_element_in Keys name d = do
   known ← only_if (is_name name) name
   bytes ← key_in d
   Some (record { name = known; info = None; bytes = bytes })
-element_in Files name d = do
+dumped_element_in Files name d = do
   known ← only_if (is_name name) name
   file ← file_in d
   Some (record { name = known; info = Some file.0; bytes = file.1 })
 
 -- the elements of a storage, by their names
-unfoldable pub elements_in : StoreKind → Members → Option (List Fresh)
-elements_in kind no_members = Some []
-elements_in kind (member name d members) = do
-  first ← element_in kind name d
-  others ← elements_in kind members
+unfoldable pub dumped_elements_in : StoreKind → Members → Option (List Fresh)
+dumped_elements_in kind no_members = Some []
+dumped_elements_in kind (member name d members) = do
+  first ← dumped_element_in kind name d
+  others ← dumped_elements_in kind members
   Some (first ∷ others)
 
-abbrev pub elements_word : StoreKind → List ℕ
-elements_word Keys = codes "keys"
-elements_word Files = codes "files"
+abbrev pub dumped_word : StoreKind → List ℕ
+dumped_word Keys = codes "keys"
+dumped_word Files = codes "files"

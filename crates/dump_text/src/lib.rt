@@ -4,9 +4,9 @@
 //! keys its values by their texts, of each storage of files the contents in hexadecimal with their infos.
 //! [`read_dump`] takes such a text apart, and says of any other why it is no dump.
 //!
-//! An element is read from what is written of it as it was, name, info and bytes: `file_value` and `key_value` say what
-//! is written, `element_in` what is read, and the clause of `element_value` that this is the same. The text is kept in
-//! memory, with its parts as JSON values.
+//! An element is read from what is written of it as it was, name, info and bytes: `dumped_element_in` says what is
+//! read, and the clause of `element_value` that this is the same. The text is kept in memory, with its parts as JSON
+//! values.
 #![tactic(auto)]
 
 mod dumps;

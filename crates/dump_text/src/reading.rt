@@ -9,7 +9,7 @@ ghost use Rattle.export_text.specs.declared.exports.Export.{Export};
 ghost use Rattle.export_text.specs.Exports.{IsExport, export_text};
 ghost use Rattle.serde_json.specs.View.{members_view, view};
 ghost use Rattle.dump_text.specs.Dumps.{AreSaid, HasExport, IsDumped, dumped_names};
-ghost use Rattle.dump_text.specs.Elements.{element_in, elements_in};
+ghost use Rattle.dump_text.specs.Elements.{dumped_element_in, dumped_elements_in};
 ghost use Rattle.dump_text.specs.Views.{Gives};
 
 use crate::dumps::{AppNumber, DumpedApplication, DumpedStorage, FORMAT};
@@ -189,7 +189,7 @@ fn elements_in(
     kind: StoreKind,
     elements: &Map<String, Value>,
 ) -> Result<Vec<Fresh>, DumpError>
-    ensures { Gives (λ contents. contents.items) result (elements_in kind (members_view elements.now.entries)) }
+    ensures { Gives (λ contents. contents.items) result (dumped_elements_in kind (members_view elements.now.entries)) }
 {
     let mut contents = Vec::new(alloc);
     for (name, element) in elements {
@@ -202,14 +202,14 @@ fn elements_in(
     Ok(contents)
 }
 
-#[tactic(auto, unfolding(crate::specs::Elements::element_in))]
+#[tactic(auto, unfolding(crate::specs::Elements::dumped_element_in))]
 fn element_in(
     alloc: Global,
     kind: StoreKind,
     name: &str,
     element: &Value,
 ) -> Result<Fresh, DumpError>
-    ensures { Gives (λ fresh. fresh) result (element_in kind name.now (view element.now)) }
+    ensures { Gives (λ fresh. fresh) result (dumped_element_in kind name.now (view element.now)) }
 {
     let name = name_in(alloc, name)?;
     match kind {

@@ -5,7 +5,7 @@ ghost use Rattle.std.specs.List.{AllByRecursion};
 ghost use Rattle.per_base.specs.Names.{IsName};
 ghost use Rattle.export_text.specs.Exports.{IsExport, IsExportable, export_text};
 ghost use Rattle.serde_json.specs.View.{view};
-ghost use Rattle.dump_text.specs.Elements.{element_in, elements_word};
+ghost use Rattle.dump_text.specs.Elements.{dumped_element_in, dumped_word};
 
 use crate::dumps::{DumpedApplication, DumpedStorage, FORMAT};
 use crate::errors::DumpError;
@@ -85,7 +85,7 @@ fn export_of(alloc: Global, storage: &DumpedStorage) -> Result<Export, DumpError
 
 /// The word for the elements of a storage of this kind.
 fn elements_word(kind: StoreKind) -> &'static str
-    ensures { result.now ≡ elements_word kind }
+    ensures { result.now ≡ dumped_word kind }
 {
     match kind {
         StoreKind::Keys => "keys",
@@ -110,7 +110,7 @@ fn elements_value(alloc: Global, kind: StoreKind, contents: &[Fresh]) -> Result<
 fn element_value(alloc: Global, kind: StoreKind, element: &Fresh) -> Result<Value, DumpError>
     requires exportable { IsExportable kind element.now }
     requires name { IsName element.now.name }
-    ensures { IfOk result (λ value. element_in kind element.now.name (view value) ≡ Some element.now) }
+    ensures { IfOk result (λ value. dumped_element_in kind element.now.name (view value) ≡ Some element.now) }
 {
     match element.info {
         Some(info) => Ok(file_value(alloc, &info, element.bytes.as_slice())?),
