@@ -1,6 +1,8 @@
 //! Standard input as a source, and standard output as a sink.
 
-ghost use Rattle.std.specs.Prelude.{◌≤◌, IfOk, length};
+ghost use Rattle.std.specs.Prelude.{◌≡◌, ◌≤◌, ◌<◌, IfOk, length};
+ghost use Rattle.std.specs.Io.KnownBytes.{WriteAppends};
+ghost use Rattle.per_base.specs.Causes.{HasCause, Rose};
 
 use per_base::{Failed, Sink, Source};
 use std::io::{self, Read, Write};
@@ -82,7 +84,14 @@ impl<T: Write + Drop> Sink for StdSink<T> {
 
     ghost faults = { λ s. s.faults };
 
-    fn write(&mut self, bytes: &[u8]) -> Result<usize, Failed> {
+    fn write(&mut self, bytes: &[u8]) -> Result<usize, Failed>
+        ensures bound { IfOk result (λ n. n ≤ length bytes.now) }
+        ensures cause { HasCause self.old.faults self.new.faults result }
+        ensures stuck { IfOk result (λ n. n ≡ 0 → 0 < length bytes.now → Rose self.old.faults self.new.faults) }
+
+        // Where the writer's bytes are known, they are those that it says it took.
+        ensures takes { WriteAppends (T.contents self.old.writer) (T.contents self.new.writer) result bytes.now }
+    {
         match write_once(&mut self.writer, bytes) {
             Ok(0) => {
                 self.faults = self.faults.saturating_add(1);
@@ -114,7 +123,8 @@ fn read_once<T: Read>(reader: &mut T, out: &mut [u8]) -> io::Result<usize>
 
 /// One write, likewise.
 fn write_once<T: Write>(writer: &mut T, bytes: &[u8]) -> io::Result<usize>
-    ensures { IfOk result (λ count. count ≤ length bytes.now) }
+    ensures bound { IfOk result (λ count. count ≤ length bytes.now) }
+    ensures bytes { WriteAppends (T.contents writer.old) (T.contents writer.new) result bytes.now }
 {
     for _ in 0..u64::MAX {
         match writer.write(bytes) {
