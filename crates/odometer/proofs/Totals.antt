@@ -13,7 +13,7 @@ use Rattle.kvs_core.specs.Calls.{set_value}
 use Rattle.kvs_store.specs.Storages.{KvsSession, showing}
 use Rattle.kvs_store.specs.Synced.{IsSynced}
 use Rattle.kvs_laws.specs.Values.{HasValue}
-use Rattle.per_embed.specs.Owned.{IsOpenOn, IsSaved, KeepsEachSynced, KeepsValues, OwnedKeys, ReadsSynced, asked_of}
+use Rattle.per_embed.specs.Owned.{IsOpenOn, KeepsEachSynced, KeepsValues, OwnedKeys, ReadsSynced, asked_of}
 use Rattle.odometer.specs.declared.odometers.TheConstants.{KEY}
 use Rattle.odometer.specs.Odometers.{HasTotal, ReadsTotal, TotalThroughout, kilometres, the_total}
 
@@ -48,14 +48,6 @@ number_is_value tree total of_tree small =
       short = omega arith;
     } in
     rw of_tree value
-
--- what is shown, with nothing pending, is synchronised
-pub total_shown : (storage : Option KvsSession) (name : List ℕ) (kind : Kind) (tree : ℕ → Tree) (total : ℕ)
-    → kind ≡ unsigned_kind four → tree ≡ unsigned_tree four → name ≡ KEY.now → IsSomeAnd storage IsSaved
-    → IsSomeAnd storage (λ kvs. HasValue (asked_of kvs name kind) kvs.session.visible (tree total))
-    → IfSome storage (HasTotal total)
-total_shown None name kind tree total of_kind of_tree named saved has = tt
-total_shown (Some kvs) name kind tree total of_kind of_tree named saved has = rw (of_kind, of_tree, named, saved) at has
 
 -- what is synchronised reads so
 pub total_reads : (storage : Option KvsSession) (total : ℕ) (image : Image) → IfSome storage (HasTotal total)
