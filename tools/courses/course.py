@@ -110,7 +110,7 @@ class Course:
         self.restart(with_power_loss=True)
         self.lose()
         self.run(looking_lines())
-        # Whatever is lost, all can be made anew.
+        # Whatever is lost, all can be rebuilt.
         self.worlds = [tuple(Application(damaged_root=ROOT_COPIES) for _ in EMPTY)]
         self.run(renewing_lines(self.dice.below(NEWEST) + 1))
         if self.disk.differs():

@@ -17,7 +17,7 @@ from course import Bench, Counts, Course, Difference
 HERE = os.path.dirname(os.path.abspath(__file__))
 TOP = os.path.dirname(os.path.dirname(HERE))
 SEEDS = (1, 1200)
-# Where files lie in memory.
+# Where files are in memory.
 MEMORY = "/dev/shm"
 
 
