@@ -7,7 +7,7 @@ use crate::causes::{Ended, Fault, say};
 use crate::{
     NO_DISK, NO_INPUT, NO_MEMORY, NO_OUTPUT, REFUSED_CALL, REFUSED_WORDS, WRONG_SIZE, program,
 };
-use command_text::{Answer, Reply, print_reply};
+use command_text::{Answer, Reply, errors_have_texts, print_reply};
 use deploy::Stop;
 use disk_model::Disk;
 use dump_text::{DumpError, DumpedApplication, read_dump, write_dump};
@@ -244,7 +244,11 @@ fn over_folder<'a, R: Files<File = File> + Eprint>(
     let disk = match FolderDisk::open(alloc, system) {
         Ok(disk) => disk,
         Err(refused) if flash.is_some() => {
-            return not_held(alloc, notes, refused.failure.map(of_flash));
+            return not_held(
+                alloc,
+                notes,
+                refused.failure.map(|failure| of_flash(failure)),
+            );
         }
         Err(refused) => return not_held(alloc, notes, refused.failure),
     };
@@ -419,6 +423,10 @@ fn say_restored(alloc: Global, number: u32, output: &mut Vec<u8>) -> Result<(), 
 
 /// Says why an application is not dumped, or not restored, and gives the status.
 fn refused<R: Eprint>(rt: &R, alloc: Global, number: u32, what: &str, error: PerError) -> u8 {
+    errors_have_texts();
+    if matches!(&error, PerError::OutOfMemory) {
+        return NO_MEMORY;
+    }
     let reply = Reply {
         reports: Sequence::new(Vec::new(alloc)),
         answer: Answer::Error(error),

@@ -227,7 +227,7 @@ fn run_over<'a, R: Files<File = File>, S: Source, K: Sink>(
         Ok(disk) => disk,
         Err(refused) if target.flash.is_some() => return not_held(
             notes,
-            refused.failure.map(of_flash),
+            refused.failure.map(|failure| of_flash(failure)),
         ),
         Err(refused) => return not_held(notes, refused.failure),
     };
