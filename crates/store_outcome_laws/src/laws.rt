@@ -12,7 +12,7 @@ use element_laws::outcomes_are_refused as stops_are_refused;
 pub fn outcomes_are_refused<D: Disk>()
     ensures equal_blocks_written { EqualBlocksWritten }
     ensures unchanged_content_written { UnchangedWritten }
-    ensures failed_write_as_want_of_memory { FailureAsNoMemory }
+    ensures failed_write_as_out_of_memory { FailureAsNoMemory }
 
     // A commit that writes enough copies only, and an opening that mends none.
     ensures copy_without_the_index { FewCopies }

@@ -9,8 +9,8 @@ returns-clause-equal_blocks_written g c = equal_blocks_written
 pub returns-clause-unchanged_content_written : goal.returns-clause-unchanged_content_written
 returns-clause-unchanged_content_written g c = unchanged_written
 
-pub returns-clause-failed_write_as_want_of_memory : goal.returns-clause-failed_write_as_want_of_memory
-returns-clause-failed_write_as_want_of_memory g c = failure_as_want
+pub returns-clause-failed_write_as_out_of_memory : goal.returns-clause-failed_write_as_out_of_memory
+returns-clause-failed_write_as_out_of_memory g c = failure_as_want
 
 pub returns-clause-copy_without_the_index : goal.returns-clause-copy_without_the_index
 returns-clause-copy_without_the_index g c = few_copies
