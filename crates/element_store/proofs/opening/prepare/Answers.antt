@@ -1,5 +1,26 @@
+use Rattle.std.proofs.Common.{Option, map, ap, subst, ◌∙◌}
+use Rattle.std.specs.Prelude.{IfSome}
+use Rattle.element_state.specs.declared.surveying.Found.{Found}
+use Rattle.element_state.specs.States.{mended_entry}
+use Rattle.element_state.specs.Surveys.{IsFoundView}
 use Rattle.element_store.proofs.Finds.{found_first, found_view, found_opens, found_copies, found_slots}
+use Rattle.element_store.proofs.ReadStates.{found_states, mended_ascend, mended_states}
 use Rattle.element_store.proofs.opening.prepare.Goals as goal
+
+pub kept_of-kept-requires-clause-ascend : goal.kept_of-kept-requires-clause-ascend
+kept_of-kept-requires-clause-ascend g c =
+    let f = c.in-Some-true.field-0 in
+    let read = subst (λ (o : Option Found). IfSome o (IsFoundView c.args.shape.now)) c.in-Some-true.is
+    c.in_ok-seen.ensures.found in
+    mended_ascend f.view.entries c.deref.result.now (c.deref.ensures.value ∙ c.in_ok-entries.ensures
+    ∙ ap (map mended_entry) c.as_slice.ensures) read.read.names_ascend
+
+pub kept_of-kept-requires-clause-states : goal.kept_of-kept-requires-clause-states
+kept_of-kept-requires-clause-states g c =
+    let f = c.in-Some-true.field-0 in
+    mended_states f.view.entries c.deref.result.now f.states.items (c.deref.ensures.value ∙ c.in_ok-entries.ensures
+    ∙ ap (map mended_entry) c.as_slice.ensures) (found_states c.in_ok-seen.field-0 f c.in-Some-true.is
+    c.in_ok-seen.ensures.states)
 
 pub returns-clause-found : goal.returns-clause-found
 returns-clause-found g c = λ tells.
