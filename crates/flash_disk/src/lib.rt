@@ -46,6 +46,7 @@ mod calls;
 mod disk;
 mod erasing;
 mod filling;
+mod forgetting;
 mod laws;
 mod layer;
 mod opening;
@@ -55,6 +56,7 @@ mod table;
 
 pub use disk::{FlashDisk, FlashOpenError, FlashRefused};
 pub use erasing::erase_all;
+pub use forgetting::{FileRange, Forgotten};
 pub use laws::{
     fresh_flashes_open, lost_pages_cost_one_copy, lost_pages_leave_it_usable,
     usable_flashes_are_taken,
