@@ -1,7 +1,7 @@
 -- Blocks are emptied of files that are given up: nothing else that counts changes, and some block is empty all the time.
 use Rattle.std.proofs.Common.{◌≡◌, ◌≢◌, ◌⊎◌, ℕ, ◌+◌, ◌*◌, ◌/◌, ◌%◌, ◌<◌, ◌≤◌, Bool, true, false, cond, List, refl, sym}
 use Rattle.std.proofs.Common.{ap, subst, ◌∙◌, inl, inr, ⊎_elim, arith, true≢false, get_or, Result, OnOk, OnErr}
-use Rattle.std.specs.Prelude.{Option, Some, None, IsFalse}
+use Rattle.std.specs.Prelude.{Option, Some, None, IsTrue, IsFalse, ◌↔◌}
 use Rattle.std.proofs.lemmas.Bool.{cases_eq}
 use Rattle.std.proofs.lemmas.Option.{same_Some, none-some}
 use Rattle.flash_model.specs.Pages.{Pages, TornPage, TornBlock, IsPlain, blank_page, program_page}
@@ -15,7 +15,7 @@ use Rattle.flash_disk.specs.declared.table.Newest.{Newest}
 use Rattle.flash_disk.specs.declared.table.Table.{Table}
 use Rattle.flash_disk.specs.declared.layer.LayerState.{LayerState}
 use Rattle.flash_disk.specs.Newest.{Placed, record_at, newest, places, page_count, page_limit, IsSpare, IsUsable}
-use Rattle.flash_disk.specs.Known.{same_page, page_of, known, HasCapacity, SetsEntry}
+use Rattle.flash_disk.specs.Known.{same_page, page_of, known, page_len, limit_of, HasCapacity, SetsEntry}
 use Rattle.flash_disk.specs.Learnt.{number, Led, LedOf}
 use Rattle.flash_disk.specs.Standing.{said, IsAgreed, KeepsRecords}
 use Rattle.flash_disk.specs.Does.{Does}
@@ -23,7 +23,8 @@ use Rattle.flash_disk.specs.Sound.{Sound, IsSoundLayer}
 use Rattle.flash_disk.specs.Apart.{copy_of, HoldsOneCopy, KeepsHeld, StandApart}
 use Rattle.flash_disk.specs.Emptied.{IsEmptyBlock, Empties}
 use Rattle.flash_disk.specs.Kept.{spares_record, only_kept, HoldsKept, ComesFrom}
-use Rattle.flash_disk.specs.Forgetting.{Forgets, LeadsKept, LeavesKept, IsForgetting, IsMovingKept, MovesKept}
+use Rattle.flash_disk.specs.Forgetting.{Forgets, LeadsKept, LeavesKept, IsForgetting, IsFreeBlock, IsMovingKept}
+use Rattle.flash_disk.specs.Forgetting.{MovesKept}
 use Rattle.flash_disk.proofs.Learning.{record_at_place, same_page_is, same_page_refl}
 use Rattle.flash_disk.proofs.PageCount.{count_came}
 use Rattle.flash_disk.proofs.Sparing.{LiesElsewhere, number_block}
@@ -34,7 +35,7 @@ use Rattle.flash_disk.proofs.Stretches.{does_then, does_weaken, does_nothing, pr
 use Rattle.flash_disk.proofs.Clearing.{empty_none, empties_keeps, empties_stands}
 use Rattle.flash_disk.proofs.Holding.{held_refl, held_then, held_lost, held_copied, stand_held}
 use Rattle.flash_disk.proofs.Hiding.{visible, hidden_at, hidden_seen, hidden_shown, hidden_same, hidden_torn}
-use Rattle.flash_disk.proofs.Hiding.{hidden_keeps, hidden_agreed, hidden_led, newest_kept}
+use Rattle.flash_disk.proofs.Hiding.{hidden_keeps, hidden_agreed, hidden_led, newest_kept, kept_said, alike_file}
 
 -- ---- an empty block is spare
 
@@ -72,6 +73,7 @@ module _ (kept : ℕ → Bool) (blocks : ℕ) where
 
   pub forgets_refl : (pages : Pages) → IsUsable pages blocks → Forgets kept blocks pages pages
   forgets_refl pages usable = record {
+    files = λ file own. refl;
     keeps = keeps_refl (hid pages) n;
     only = comes_refl pages n;
     usable = usable;
@@ -81,6 +83,7 @@ module _ (kept : ℕ → Bool) (blocks : ℕ) where
   pub forgets_then : (a b c : Pages) → IsAgreed (hid a) n → Forgets kept blocks a b → Forgets kept blocks b c
       → Forgets kept blocks a c
   forgets_then a b c agreed first second = record {
+    files = λ file own. second.files file own ∙ first.files file own;
     keeps = keeps_then (hid a) (hid b) n agreed first.keeps (hid c) second.keeps;
     only = comes_then a b c n first.only second.only;
     usable = second.usable;
@@ -211,6 +214,8 @@ module _ (kept : ℕ → Bool) (blocks : ℕ) where
         -- nothing that is kept changed
         pub emptied_forgets : Forgets kept blocks pages left
         emptied_forgets = record {
+          files = λ file own. alike_file pages left blocks file
+              (kept_said kept pages left n forgetting.agreed emptied_keeps file own);
           keeps = emptied_keeps;
           only = emptied_only;
           usable = usable_by left blocks s.spare emptied_count forgetting.within spare_stays;
@@ -256,6 +261,8 @@ module _ (kept : ℕ → Bool) (blocks : ℕ) where
       -- nothing that is kept changed
       pub moves_forgets : Forgets kept blocks pages left
       moves_forgets = record {
+        files = λ file own. alike_file pages left blocks file
+            (kept_said kept pages left n forgetting.agreed moves.keeps file own);
         keeps = moves.keeps;
         only = moves.only;
         usable = usable_by left blocks s.spare
@@ -340,8 +347,14 @@ module _ (kept : ℕ → Bool) (blocks : ℕ) where
 
   -- ---- a record is copied, which may be cut short
 
-  module _ (pages : Pages) (s : LayerState) (from to done count : ℕ)
-      (moving : IsMovingKept kept pages blocks s from to done count) where
+  module _ (pages : Pages) (s : LayerState) (from done : ℕ) (place : FlashPage)
+      (moving : IsMovingKept kept pages blocks s from place.block done place.page) where
+    abbrev to : ℕ
+    to = place.block
+
+    abbrev count : ℕ
+    count = place.page
+
     abbrev at : ℕ
     at = 64 * from + done
 
@@ -369,9 +382,6 @@ module _ (kept : ℕ → Bool) (blocks : ℕ) where
 
       abbrev r : PageRecord
       r = here.0.says
-
-      abbrev place : FlashPage
-      place = record { block = to; page = count }
 
       small : count < 64
       small = let le = moving.behind in omega (arith, le, inside)
@@ -519,7 +529,7 @@ module _ (kept : ℕ → Bool) (blocks : ℕ) where
               holds = holds_by pages written to moving.holds (λ p few q there. ⊎_elim
                   (λ same. inr (ap (λ (z : PageRecord). kept z.file) (same_Some q r
                   (sym there ∙ (ap (λ k. record_in (written to k)) same ∙ (sym (record_at_place written to count small)
-                  ∙ (whole_here pages to count small bytes ∙ here.3)))) ∙ here.5)))
+                  ∙ (whole_here pages to count small bytes ∙ here.3))))) ∙ here.5))
                   (λ other. inl (ap record_in (sym (whole_torn pages to count bytes to p (inr other))) ∙ there))
                   (cases_eq p count));
               out = λ k e own_k is_k. out_by k e own_k (same_page key k) refl (sym (sets.known_is k) ∙ is_k);
@@ -549,6 +559,8 @@ module _ (kept : ℕ → Bool) where
         let n = places m.blocks in
         let all = empties_keeps m s sound agreed left empties in
         let keeps = hidden_keeps kept pages left n all in record {
+          files = λ file own. alike_file pages left m.blocks file
+              (kept_said kept pages left n (hidden_agreed kept pages n (sound.agreed agreed)) keeps file own);
           keeps = keeps;
           only = all.only;
           usable = (empties_stands m s sound agreed left empties).usable;
@@ -634,29 +646,89 @@ module _ (kept : ℕ → Bool) where
         (subst (λ (z : FlashState). IsMovingKept kept z.pages m.blocks s from to done count) (sym same) moving))
 
   -- a record is copied, or that failed
-  module _ (m : FlashMedium) (s : LayerState) (from to done count : ℕ)
-      (moving : IsMovingKept kept m.state.pages m.blocks s from to done count) (inside : done < 64) (bytes : List ℕ)
+  module _ (m : FlashMedium) (s : LayerState) (from done : ℕ) (place : FlashPage)
+      (moving : IsMovingKept kept m.state.pages m.blocks s from place.block done place.page) (inside : done < 64)
+      (bytes : List ℕ)
       (read : bytes ≡ m.state.pages from done) (key : FilePage) (old : Newest) (own : kept key.file ≡ true)
       (is : known s.table key ≡ Some old) (block : old.place.block ≡ from) (page : old.place.page ≡ done) where
     pub copying_moves : {T E : Type 0} → (now : FlashMedium) (result : Result T E)
-        → OnOk result (now.state ≡ programmed m.state to count bytes)
-        → OnErr result (FailsToProgram to count bytes m.state now.state)
-        → EachFlashCase (λ c. IsStill m.state c ⊎ (IsStill now.state c ⊎ ProgramCase to count bytes m.state c)) m now
-        → Does (MovesKept kept m.blocks from to m.state.pages) m now
+        → OnOk result (now.state ≡ programmed m.state place.block place.page bytes)
+        → OnErr result (FailsToProgram place.block place.page bytes m.state now.state)
+        → EachFlashCase (λ c. IsStill m.state c ⊎ (IsStill now.state c ⊎ ProgramCase place.block place.page bytes m.state c)) m now
+        → Does (MovesKept kept m.blocks from place.block m.state.pages) m now
     copying_moves now result ok failed cases =
-        program_does m now (MovesKept kept m.blocks from to m.state.pages) to count bytes result ok failed cases
-        (moves_refl kept m.blocks from to m.state.pages)
-        (copy_whole_moves kept m.blocks m.state.pages s from to done count moving inside bytes read key old own is block
+        program_does m now (MovesKept kept m.blocks from place.block m.state.pages) place.block place.page bytes result ok failed cases
+        (moves_refl kept m.blocks from place.block m.state.pages)
+        (copy_whole_moves kept m.blocks m.state.pages s from done place moving inside bytes read key old own is block
         page)
-        (copy_torn_moves kept m.blocks m.state.pages s from to done count moving inside bytes read key old own is block
+        (copy_torn_moves kept m.blocks m.state.pages s from done place moving inside bytes read key old own is block
         page)
 
-    pub copying_goes_on : (now : FlashMedium) → now.state ≡ programmed m.state to count bytes → now.blocks ≡ m.blocks
+    pub copying_goes_on : (now : FlashMedium) → now.state ≡ programmed m.state place.block place.page bytes → now.blocks ≡ m.blocks
         → (t : LayerState) (table : Table) → t ≡ record s { table = table }
-        → SetsEntry s.table table key (record old { place = record { block = to; page = count } })
-        → IsMovingKept kept now.state.pages now.blocks t from to (done + 1) (count + 1)
+        → SetsEntry s.table table key (record old { place = place })
+        → IsMovingKept kept now.state.pages now.blocks t from place.block (done + 1) (place.page + 1)
     copying_goes_on now done_now blocks t table state sets =
-        subst (λ k. IsMovingKept kept now.state.pages k t from to (done + 1) (count + 1)) (sym blocks)
-        (subst (λ (z : FlashState). IsMovingKept kept z.pages m.blocks t from to (done + 1) (count + 1)) (sym done_now)
-        (copied_goes_on kept m.blocks m.state.pages s from to done count moving inside bytes read key old own is block
+        subst (λ k. IsMovingKept kept now.state.pages k t from place.block (done + 1) (place.page + 1)) (sym blocks)
+        (subst (λ (z : FlashState). IsMovingKept kept z.pages m.blocks t from place.block (done + 1) (place.page + 1)) (sym done_now)
+        (copied_goes_on kept m.blocks m.state.pages s from done place moving inside bytes read key old own is block
         page table sets t state))
+
+-- an entry that a table had was replaced
+pub put_sets : (old new : Table) (key : FilePage) (was e : Newest) (done : Bool) → HasCapacity old
+    → known old key ≡ Some was
+    → (HasCapacity old → IsFalse done ↔ ((known old key ≡ None) × (limit_of old ≤ page_len old)))
+    → (IsTrue done → SetsEntry old new key e) → SetsEntry old new key e
+put_sets old new key was e true room is full sets = sets refl
+put_sets old new key was e false room is full sets = absurd (none-some was (sym ((full room).0 refl).0 ∙ is))
+
+-- ---- a block is emptied into another
+
+module _ (kept : ℕ → Bool) where
+  module _ (pages : Pages) (blocks : ℕ) (s : LayerState) (forgetting : IsForgetting kept pages blocks s) where
+    -- a block with records of other files is neither the spare one nor one that is free
+    pub other_apart : (block : ℕ) → (HoldsKept kept pages block → ⊥) → block ≢ s.spare
+    other_apart block other same = other (empty_holds_kept kept blocks pages block
+        (subst (IsEmptyBlock pages) (sym same) forgetting.empty))
+
+    module _ (block free : ℕ) (is_free : IsFreeBlock pages blocks s free) (within : block < blocks)
+        (other : HoldsKept kept pages block → ⊥) where
+      pub other_moves : block ≢ free
+      other_moves same = other (empty_holds_kept kept blocks pages block
+          (subst (IsEmptyBlock pages) (sym same) is_free.empty))
+
+      pub starts_moving : IsMovingKept kept pages blocks s block free 0 0
+      starts_moving = record {
+        forgetting = forgetting;
+        within = within;
+        to_within = is_free.within;
+        apart = other_moves;
+        to_spare = is_free.apart;
+        behind = omega arith;
+        blank = λ p past small. is_free.empty p small;
+        holds = empty_holds_kept kept blocks pages free is_free.empty;
+        out = λ key e own is at. omega arith;
+      }
+
+  -- the records that came to a block are of files that are kept
+  pub moves_hold : (pages left : Pages) (blocks from to : ℕ) → MovesKept kept blocks from to pages left
+      → HoldsKept kept left to → (b : ℕ) → HoldsKept kept pages b → HoldsKept kept left b
+  moves_hold pages left blocks from to moves holds b was = ⊎_elim
+      (λ same. subst (HoldsKept kept left) (sym same) holds)
+      (λ other. λ p small. subst (λ z. spares_record kept (record_in z) ≡ true) (sym (moves.torn b p other))
+      (was p small))
+      (cases_eq b to)
+
+  -- a block that was free still is, after calls that only look
+  pub look_free : (m now : FlashMedium) (s t : LayerState) (block : ℕ) → now.state ≡ m.state → now.blocks ≡ m.blocks
+      → t ≡ s → IsFreeBlock m.state.pages m.blocks s block → IsFreeBlock now.state.pages now.blocks t block
+  look_free m now s t block same blocks state free = subst (λ (q : LayerState).
+      IsFreeBlock now.state.pages now.blocks q block) (sym state)
+      (subst (λ k. IsFreeBlock now.state.pages k s block) (sym blocks)
+      (subst (λ (z : FlashState). IsFreeBlock z.pages m.blocks s block) (sym same) free))
+
+  -- and files still are given up
+  pub look_still : (m now : FlashMedium) (s t : LayerState) → now.state ≡ m.state → now.blocks ≡ m.blocks → t ≡ s
+      → IsForgetting kept m.state.pages m.blocks s → IsForgetting kept now.state.pages now.blocks t
+  look_still m now s t same blocks state forgetting = subst (IsForgetting kept now.state.pages now.blocks) (sym state)
+      (look_goes_on kept m now s forgetting same blocks)

@@ -1,11 +1,14 @@
 -- Files that are given up: what leaves the flash, and that nothing else changes.
-use Rattle.std.specs.Prelude.{◌≡◌, ◌≢◌, ℕ, ◌<◌, ◌≤◌, Bool, true, Some}
-use Rattle.flash_model.specs.Pages.{Pages, blank_page, TornBlock}
+use Rattle.std.specs.Prelude.{◌≡◌, ◌≢◌, ◌⊎◌, ℕ, ◌<◌, ◌≤◌, Bool, true, [], Some}
+use Rattle.flash_model.specs.Pages.{Pages, blank_page, TornBlock, IsPlain}
+use Rattle.flash_model.specs.State.{FlashCase}
+use Rattle.flash_model.specs.FlashMedium.{FlashMedium, FlashElapses, EachFlashCase}
 use Rattle.flash_disk.specs.declared.table.FilePage.{FilePage}
 use Rattle.flash_disk.specs.declared.table.Newest.{Newest}
 use Rattle.flash_disk.specs.declared.table.Table.{Table}
 use Rattle.flash_disk.specs.declared.layer.LayerState.{LayerState}
 use Rattle.flash_disk.specs.Newest.{newest, places, page_count, page_limit, IsUsable}
+use Rattle.flash_disk.specs.FlashFiles.{flash_files}
 use Rattle.flash_disk.specs.Known.{known, HasCapacity}
 use Rattle.flash_disk.specs.Learnt.{LedOf}
 use Rattle.flash_disk.specs.Standing.{IsAgreed, KeepsRecords}
@@ -13,13 +16,26 @@ use Rattle.flash_disk.specs.Apart.{KeepsHeld, HoldsOneCopy, StandApart}
 use Rattle.flash_disk.specs.Emptied.{IsEmptyBlock}
 use Rattle.flash_disk.specs.Kept.{only_kept, HoldsKept, ComesFrom}
 
--- Of the files that are kept nothing changed, no record came, the pages can be opened, and the copies of what is kept
--- stand apart where they did.
+-- Each file that is kept is as it was, no record came, the pages can be opened, and the copies of what is kept stand
+-- apart where they did.
 pub record Forgets (kept : ℕ → Bool) (blocks : ℕ) (old pages : Pages) : Type 0 where
+  pub files : (file : ℕ) → kept file ≡ true → flash_files pages blocks file ≡ flash_files old blocks file
   pub keeps : KeepsRecords (only_kept kept old) (only_kept kept pages) (places blocks)
   pub only : ComesFrom old pages (places blocks)
   pub usable : IsUsable pages blocks
   pub apart : StandApart (only_kept kept old) blocks → StandApart (only_kept kept pages) blocks
+
+-- what a crash leaves while files are given up: it was settled as before, or once more at the end
+pub record LeavesForgetting (kept : ℕ → Bool) (old new : FlashMedium) (c : FlashCase) : Type 0 where
+  pub settled : ((c.settled ≡ old.state.settled) × (c.announced ≡ old.state.announced))
+      ⊎ ((c.settled ≡ new.state.pages) × (c.announced ≡ []))
+  pub left : IsPlain c.before c.whole c.left → Forgets kept old.blocks old.state.pages c.left
+
+-- files were given up, or some of what they held
+pub record GivesUp (kept : ℕ → Bool) (old new : FlashMedium) : Type 0 where
+  pub time : FlashElapses old new
+  pub now : Forgets kept old.blocks old.state.pages new.state.pages
+  pub during : EachFlashCase (LeavesForgetting kept old new) old new
 
 -- the table leads from each page of a file that is kept to its newest record, or an equal one
 abbrev pub LeadsKept : (kept : ℕ → Bool) → Pages → (n : ℕ) → Table → Type 0

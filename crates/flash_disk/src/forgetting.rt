@@ -1,15 +1,20 @@
 //! Files that are given up: their records leave the flash, and nothing else changes.
 
-ghost use Rattle.std.specs.Prelude.{◌≡◌, ◌+◌, ◌≤◌, ◌<◌, ℕ, IsTrue, IsFalse, IfOk, IfSome, OnOk, Some, None, true, not};
+ghost use Rattle.std.specs.Prelude.{◌≡◌, ◌⊎◌, ◌+◌, ◌≤◌, ◌<◌, ℕ, IsTrue, IsFalse, IfOk, IfErr, IfSome, MatchResult, OnOk};
+ghost use Rattle.std.specs.Prelude.{Some, None, true, not};
 ghost use Rattle.flash_record.specs.PageRecord.{PageRecord, record_in};
 ghost use Rattle.flash_disk.specs.Accounts.{Accounts};
 ghost use Rattle.flash_disk.specs.Does.{Does};
-ghost use Rattle.flash_disk.specs.Emptied.{IsEmptyBlock};
-ghost use Rattle.flash_disk.specs.Kept.{lies_in, in_ranges, spares_record, HoldsKept};
+ghost use Rattle.flash_disk.specs.Apart.{StandApart};
+ghost use Rattle.flash_disk.specs.Emptied.{HasEmptyBlock};
+ghost use Rattle.flash_disk.specs.Kept.{lies_in, in_ranges, spares_record, kept_image, HoldsKept};
+ghost use Rattle.flash_disk.specs.Standing.{StaysAgreed};
 ghost use Rattle.flash_disk.specs.Known.{known, page_of};
 ghost use Rattle.flash_disk.specs.Newest.{places};
 ghost use Rattle.flash_disk.specs.Forgetting.{Forgets, LeadsKept, LeavesKept, IsForgetting, IsFreeBlock, IsMovingKept};
-ghost use Rattle.flash_disk.specs.Forgetting.{MovesKept};
+ghost use Rattle.flash_disk.specs.Forgetting.{GivesUp, MovesKept};
+ghost use Rattle.disk_model.specs.Medium.{Quiet};
+ghost use Rattle.per_base.specs.Causes.{Rose};
 
 use crate::disk::{FlashDisk, FlashOpenError, FlashRefused};
 use crate::layer::Layer;
@@ -35,6 +40,9 @@ pub struct Forgotten<F: Flash> {
 }
 
 impl<F: Flash> FlashDisk<F> {
+    ghost use Rattle.flash_disk.specs.FlashDiskMedium.{disk_seen, IsJustOpened};
+    ghost use Rattle.flash_disk.specs.Sound.{files_on};
+
     /// Gives up every file but those in some ranges: afterwards it is empty, and what its records took is room for new
     /// ones. Each file in the ranges is as it was, also after a stop at any moment of the call and where it fails; of a
     /// file that is given up anything may be left then. The flash is opened anew as a disk that has counted nothing.
@@ -50,7 +58,37 @@ impl<F: Flash> FlashDisk<F> {
         mut self,
         alloc: Global,
         kept: &[FileRange],
-    ) -> Result<Forgotten<F>, FlashRefused<F>> {
+    ) -> Result<Forgotten<F>, FlashRefused<F>>
+        ensures error { IsTrue F.told → IfErr result (λ refused. (refused.error ≡ FlashOpenError.Device)
+            ⊎ (refused.error ≡ FlashOpenError.OutOfMemory)) }
+        ensures device { IsTrue F.told → IfErr result (λ refused. refused.error ≡ FlashOpenError.Device
+            → Rose (F.medium self.flash).faults (F.medium refused.flash).faults) }
+        ensures faults { IsTrue F.told → IfOk result (λ forgotten. (F.medium forgotten.disk.flash).faults
+            ≡ (F.medium self.flash).faults) }
+
+        // At each moment the files in the ranges are as they were, and the flash can be opened.
+        ensures gives_up { IsTrue F.told → MatchResult result
+            (λ forgotten. GivesUp (in_ranges kept.now) (F.medium self.flash) (F.medium forgotten.disk.flash))
+            (λ refused. GivesUp (in_ranges kept.now) (F.medium self.flash) (F.medium refused.flash)) }
+
+        // Afterwards all others are empty; no rivals came, copies stand apart where they did, and a block is empty.
+        ensures image { IsTrue F.told → IfOk result (λ forgotten. IsTrue forgotten.whole
+            → files_on (F.medium forgotten.disk.flash)
+            ≡ kept_image (in_ranges kept.now) (files_on (F.medium self.flash))) }
+        ensures agreed { IsTrue F.told → IfOk result (λ forgotten. IsTrue forgotten.whole
+            → StaysAgreed (F.medium self.flash) (F.medium forgotten.disk.flash).state.pages) }
+        ensures apart { IsTrue F.told → IfOk result (λ forgotten. IsTrue forgotten.whole
+            → StandApart (F.medium self.flash).state.pages (F.medium self.flash).blocks
+            → StandApart (F.medium forgotten.disk.flash).state.pages (F.medium forgotten.disk.flash).blocks) }
+        ensures empty { IsTrue F.told → IfOk result (λ forgotten. IsTrue forgotten.whole
+            → HasEmptyBlock (F.medium forgotten.disk.flash).state.pages (F.medium forgotten.disk.flash).blocks) }
+
+        // The disk was just opened.
+        ensures begins { IfOk result (λ forgotten. IsJustOpened F.told (F.medium forgotten.disk.flash)
+            (disk_seen F.told F.medium forgotten.disk)) }
+        ensures quiet { IfOk result (λ forgotten. Quiet (disk_seen F.told F.medium forgotten.disk)) }
+        ensures own { IfOk result (λ forgotten. (forgotten.disk.own ≡ 0) × (forgotten.disk.written ≡ 0)) }
+    {
         let Ok(whole) = self.layer.forget_all(kept) else {
             return Err(FlashRefused {
                 flash: self.layer.flash,
@@ -65,11 +103,23 @@ impl<F: Flash> FlashDisk<F> {
 }
 
 impl<F: Flash> Layer<F> {
+    ghost use Rattle.flash_disk.specs.Sound.{IsDescribedBy};
     ghost use Rattle.flash_disk.specs.Steps.{LearnsNothing, IsSure};
 
     // Reads again what a failed call may have left anything in, and rids the flash of the records of all files but
     // those in some ranges.
-    fn forget_all(&mut self, kept: &[FileRange]) -> Result<bool, DiskFailed> {
+    fn forget_all(&mut self, kept: &[FileRange]) -> Result<bool, DiskFailed>
+        requires described { IsTrue F.told → IsDescribedBy (F.medium self.old.flash) self.old.state }
+        ensures does { IsTrue F.told → Does (Forgets (in_ranges kept.now) (F.medium self.old.flash).blocks
+            (F.medium self.old.flash).state.pages) (F.medium self.old.flash) (F.medium self.new.flash) }
+        ensures whole { IsTrue F.told → IfOk result (λ whole. IsTrue whole → (block : ℕ)
+            → block < (F.medium self.new.flash).blocks
+            → HoldsKept (in_ranges kept.now) (F.medium self.new.flash).state.pages block) }
+        ensures empty { IsTrue F.told → IfOk result (λ whole. IsTrue whole
+            → HasEmptyBlock (F.medium self.new.flash).state.pages (F.medium self.new.flash).blocks) }
+        ensures accounts { Accounts F.told F.medium 0 self.old self.new result }
+        ensures own { IsTrue F.told → self.new.own ≡ self.old.own }
+    {
         self.make_sure()?;
         self.forget_others(kept)
     }
@@ -84,7 +134,7 @@ impl<F: Flash> Layer<F> {
             → block < (F.medium self.new.flash).blocks
             → HoldsKept (in_ranges kept.now) (F.medium self.new.flash).state.pages block) }
         ensures empty { IsTrue F.told → IfOk result (λ whole. IsTrue whole
-            → IsEmptyBlock (F.medium self.new.flash).state.pages self.new.state.spare) }
+            → HasEmptyBlock (F.medium self.new.flash).state.pages (F.medium self.new.flash).blocks) }
         ensures accounts { Accounts F.told F.medium 0 self.old self.new result }
         ensures own { IsTrue F.told → self.new.own ≡ self.old.own }
     {
@@ -155,7 +205,8 @@ impl<F: Flash> Layer<F> {
         ensures own { IsTrue F.told → self.new.own ≡ self.old.own }
     {
         for block in 0..self.flash.blocks() {
-            if block != self.state.spare && !self.holds_needed(kept, block)? {
+            let needed = self.holds_needed(kept, block)?;
+            if !needed && block != self.state.spare {
                 self.empty_block(block)?;
                 return Ok(Some(block));
             }
