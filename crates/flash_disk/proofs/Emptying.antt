@@ -32,7 +32,7 @@ use Rattle.flash_disk.proofs.Standing.{is_newest_of, keeps_refl, keeps_then, kee
 use Rattle.flash_disk.proofs.Tearing.{IsTorn, LosesIn, erase_keeps, copy_keeps, torn_program, whole_program, nothing_there}
 use Rattle.flash_disk.proofs.Tearing.{whole_torn, whole_here}
 use Rattle.flash_disk.proofs.Stretches.{does_then, does_weaken, does_nothing, program_does}
-use Rattle.flash_disk.proofs.Clearing.{empty_none, empties_keeps, empties_stands}
+use Rattle.flash_disk.proofs.Clearing.{empty_none, empties_keeps, empties_stands, cleared_sound}
 use Rattle.flash_disk.proofs.Holding.{held_refl, held_then, held_lost, held_copied, stand_held}
 use Rattle.flash_disk.proofs.Hiding.{visible, hidden_at, hidden_seen, hidden_shown, hidden_same, hidden_torn}
 use Rattle.flash_disk.proofs.Hiding.{hidden_keeps, hidden_agreed, hidden_led, newest_kept, kept_said, alike_file}
@@ -579,6 +579,27 @@ module _ (kept : ℕ → Bool) where
         → Does (Forgets kept m.blocks m.state.pages) m now
     clearing_forgets now = does_weaken m now (Empties s.spare m.state.pages) (Forgets kept m.blocks m.state.pages)
         cleared_by
+
+    -- and then files can be given up
+    pub cleared_starts : (now : FlashMedium) → now.blocks ≡ m.blocks → Does (Empties s.spare m.state.pages) m now
+        → (t : LayerState) → t ≡ record s { cleared = t.cleared }
+        → (IsTrue t.cleared → IsEmptyBlock now.state.pages s.spare) → IsTrue t.cleared
+        → IsForgetting kept now.state.pages now.blocks t
+    cleared_starts now blocks does t state blank cleared = sound_starts now.state.pages now.blocks t
+        (cleared_sound m s sound agreed now blocks does t state blank)
+        (subst (λ (q : LayerState). IsFalse q.has_rivals) (sym state) agreed)
+        (subst (λ (q : LayerState). IsEmptyBlock now.state.pages q.spare) (sym state) (blank cleared))
+
+  -- calls after one that only looked
+  pub forgets_after : (a b c : FlashMedium) → FlashElapses a b → FlashElapses b c → b.state ≡ a.state
+      → EachFlashCase (IsStill a.state) a b → IsUsable a.state.pages a.blocks
+      → Does (Forgets kept b.blocks b.state.pages) b c → Does (Forgets kept a.blocks a.state.pages) a c
+  forgets_after a b c first second same still usable late =
+      does_then a b c (Forgets kept a.blocks a.state.pages) first second
+      (does_nothing a b (Forgets kept a.blocks a.state.pages) same still
+      (forgets_refl kept a.blocks a.state.pages usable))
+      (subst (λ (z : FlashState). Does (Forgets kept a.blocks z.pages) b c) same
+      (subst (λ k. Does (Forgets kept k b.state.pages) b c) first.blocks late))
 
   -- ---- stretches
 

@@ -44,5 +44,6 @@ pub mod Failing
 mod Fresh
 pub mod Hiding
 pub mod Emptying
+pub mod Giving
 pub mod NewestLaws
 pub mod FlashFilesLaws

@@ -55,7 +55,7 @@ impl<F: Flash> FlashDisk<F> {
     ///
     /// Only `Device`, where a call of the flash fails, and `OutOfMemory`.
     pub fn forget(
-        mut self,
+        self,
         alloc: Global,
         kept: &[FileRange],
     ) -> Result<Forgotten<F>, FlashRefused<F>>
@@ -89,13 +89,14 @@ impl<F: Flash> FlashDisk<F> {
         ensures quiet { IfOk result (λ forgotten. Quiet (disk_seen F.told F.medium forgotten.disk)) }
         ensures own { IfOk result (λ forgotten. (forgotten.disk.own ≡ 0) × (forgotten.disk.written ≡ 0)) }
     {
-        let Ok(whole) = self.layer.forget_all(kept) else {
+        let mut layer = self.layer;
+        let Ok(whole) = layer.forget_all(kept) else {
             return Err(FlashRefused {
-                flash: self.layer.flash,
+                flash: layer.flash,
                 error: FlashOpenError::Device,
             });
         };
-        match FlashDisk::open(alloc, self.layer.flash) {
+        match FlashDisk::open(alloc, layer.flash) {
             Ok(disk) => Ok(Forgotten { disk, whole }),
             Err(refused) => Err(refused),
         }

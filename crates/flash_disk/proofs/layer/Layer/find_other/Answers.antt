@@ -12,7 +12,7 @@ loop-block-preserved g c =
     let block = c.loop-block.block in
     let kept = in_ranges c.args.kept.now in
     let below_end = c.loop-block-test.true in
-    let end = c.blocks.ensures in
+    let end = c.blocks-block-end.ensures in
     let seen = i.reads.only.blocks in record {
       reads = nothing_as (nothing_then i.reads e.reads) tt;
       kept = λ told b below. ⊎_elim
@@ -37,5 +37,5 @@ returns-clause-reads g c = nothing_as c.loop-block.invariant.reads tt
 
 pub returns-clause-none : goal.returns-clause-none
 returns-clause-none g c told none block within =
-    let past = c.loop-block-test.false in let end = c.blocks.ensures in
+    let past = c.loop-block-test.false in let end = c.blocks-block-end.ensures in
     c.loop-block.invariant.kept told block (omega (arith, past, end, within))

@@ -53,22 +53,24 @@ pub returns-then-not-branch-clause-holds : goal.returns-then-not-branch-clause-h
 returns-then-not-branch-clause-holds g c told b holds =
     subst (λ p. HoldsKept (in_ranges c.args.kept.now) p b) (sym (c.holds_other.ensures.reads.only.pages told)) holds
 
-pub move_kept-requires-clause-moving : goal.move_kept-requires-clause-moving
-move_kept-requires-clause-moving g c told =
-    let m = g.F.Flash.medium c.args.self.now.flash in
-    let look = g.F.Flash.medium c.holds_other.new.self.flash in
-    let e = c.in_ok-holds_other.ensures in
-    let s = c.args.self.now.state in
-    let t = c.holds_other.new.self.state in
-    let kept = in_ranges c.args.kept.now in
-    let same = e.reads.only.looks.state told in
-    let blocks = e.reads.only.blocks in
-    starts_moving kept look.state.pages look.blocks t
-    (look_still kept m look s t same blocks e.reads.state (c.requires.forgetting told)) c.args.block c.args.free
-    (look_free kept m look s t c.args.free same blocks e.reads.state (c.requires.free told))
-    (let within = c.requires.within told in omega (arith, within, blocks))
-    (subst (λ p. HoldsKept kept p c.args.block → ⊥) (sym (e.reads.only.pages told))
-    (e.some told (c.requires.within told) c.if-not-branch.false))
+pub move_kept-requires : goal.move_kept-requires
+move_kept-requires g c = record {
+  moving = λ told.
+      let m = g.F.Flash.medium c.args.self.now.flash in
+      let look = g.F.Flash.medium c.holds_other.new.self.flash in
+      let e = c.in_ok-holds_other.ensures in
+      let s = c.args.self.now.state in
+      let t = c.holds_other.new.self.state in
+      let kept = in_ranges c.args.kept.now in
+      let same = e.reads.only.looks.state told in
+      let blocks = e.reads.only.blocks in
+      starts_moving kept look.state.pages look.blocks t
+      (look_still kept m look s t same blocks e.reads.state (c.requires.forgetting told)) c.args.block c.args.free
+      (look_free kept m look s t c.args.free same blocks e.reads.state (c.requires.free told))
+      (let within = c.requires.within told in omega (arith, within, blocks))
+      (subst (λ p. HoldsKept kept p c.args.block → ⊥) (sym (e.reads.only.pages told))
+      (e.some told (c.requires.within told) c.if-not-branch.false));
+}
 
 pub returns-in_err-move_kept-clause-does : goal.returns-in_err-move_kept-clause-does
 returns-in_err-move_kept-clause-does g c told =

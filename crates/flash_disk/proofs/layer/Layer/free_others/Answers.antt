@@ -21,7 +21,7 @@ loop-block-init g c =
 pub free_one-requires-clause-within : goal.free_one-requires-clause-within
 free_one-requires-clause-within g c told =
     let below = c.loop-block-test.true in
-    let end = c.blocks.ensures in
+    let end = c.blocks-block-end.ensures in
     let same = (c.loop-block.invariant.counts.time told).blocks in omega (arith, below, end, same)
 
 pub loop-block-preserved : goal.loop-block-preserved
@@ -30,7 +30,7 @@ loop-block-preserved g c =
     let mid = g.F.Flash.medium c.loop-block.self.flash in
     let now = g.F.Flash.medium c.free_one.new.self.flash in
     let i = c.loop-block.invariant in
-    let e = c.in_ok-free_one.ensures in
+    let e = c.in_ok-target.ensures in
     let kept = in_ranges c.args.kept.now in
     let block = c.loop-block.block in record {
       counts = counted_on 0 0 0 (omega arith) i.counts e.accounts;
@@ -45,8 +45,8 @@ loop-block-preserved g c =
           (c.requires.forgetting told).agreed (i.does told) (e.does told);
     }
 
-pub returns-in_err-free_one-clause-does : goal.returns-in_err-free_one-clause-does
-returns-in_err-free_one-clause-does g c told =
+pub returns-in_err-target-clause-does : goal.returns-in_err-target-clause-does
+returns-in_err-target-clause-does g c told =
     let m = g.F.Flash.medium c.args.self.now.flash in
     let mid = g.F.Flash.medium c.loop-block.self.flash in
     let now = g.F.Flash.medium c.free_one.new.self.flash in
@@ -55,12 +55,12 @@ returns-in_err-free_one-clause-does g c told =
     forgets_on (in_ranges c.args.kept.now) m mid now (i.counts.time told) (e.accounts.time told)
     (c.requires.forgetting told).agreed (i.does told) (e.does told)
 
-pub returns-in_err-free_one-clause-accounts : goal.returns-in_err-free_one-clause-accounts
-returns-in_err-free_one-clause-accounts g c = accounts_fails c.from_residual.result _ c.from_residual.ensures.1
-    (accounts_on 0 0 0 (omega arith) c.loop-block.invariant.counts c.in_err-free_one.ensures.accounts)
+pub returns-in_err-target-clause-accounts : goal.returns-in_err-target-clause-accounts
+returns-in_err-target-clause-accounts g c = accounts_fails c.from_residual.result _ c.from_residual.ensures.1
+    (accounts_on 0 0 0 (omega arith) c.loop-block.invariant.counts c.in_err-target.ensures.accounts)
 
-pub returns-in_err-free_one-clause-own : goal.returns-in_err-free_one-clause-own
-returns-in_err-free_one-clause-own g c told = c.free_one.ensures.own told ∙ c.loop-block.invariant.counts.kept
+pub returns-in_err-target-clause-own : goal.returns-in_err-target-clause-own
+returns-in_err-target-clause-own g c told = c.free_one.ensures.own told ∙ c.loop-block.invariant.counts.kept
 
 pub returns-clause-forgetting : goal.returns-clause-forgetting
 returns-clause-forgetting g c told = c.loop-block.invariant.forgetting told
@@ -68,7 +68,7 @@ returns-clause-forgetting g c told = c.loop-block.invariant.forgetting told
 pub returns-clause-whole : goal.returns-clause-whole
 returns-clause-whole g c told block within =
     let past = c.loop-block-test.false in
-    let end = c.blocks.ensures in
+    let end = c.blocks-block-end.ensures in
     let same = (c.loop-block.invariant.counts.time told).blocks in
     c.loop-block.invariant.holds told block (omega (arith, past, end, same, within))
 

@@ -26,7 +26,7 @@ loop-page-preserved g c =
     let mid = g.F.Flash.medium c.loop-page.self.flash in
     let now = g.F.Flash.medium c.move_one.new.self.flash in
     let i = c.loop-page.invariant in
-    let e = c.in_ok-move_one.ensures in record {
+    let e = c.in_ok-count.ensures in record {
       counts = counted_on 0 0 0 (omega arith) i.counts e.accounts;
       few = (let was = i.few in let one = e.count in omega (arith, was, one));
       spare = e.spare ∙ i.spare;
@@ -36,8 +36,8 @@ loop-page-preserved g c =
           start.forgetting.agreed c.args.from c.args.to start.apart (i.does told) (e.does told));
     }
 
-pub returns-in_err-move_one-clause-does : goal.returns-in_err-move_one-clause-does
-returns-in_err-move_one-clause-does g c told =
+pub returns-in_err-count-clause-does : goal.returns-in_err-count-clause-does
+returns-in_err-count-clause-does g c told =
     let m = g.F.Flash.medium c.args.self.now.flash in
     let mid = g.F.Flash.medium c.loop-page.self.flash in
     let now = g.F.Flash.medium c.move_one.new.self.flash in
@@ -47,15 +47,15 @@ returns-in_err-move_one-clause-does g c told =
     moves_on (in_ranges c.args.kept.now) m mid now (i.counts.time told) (e.accounts.time told)
     start.forgetting.agreed c.args.from c.args.to start.apart (i.does told) (e.does told)
 
-pub returns-in_err-move_one-clause-accounts : goal.returns-in_err-move_one-clause-accounts
-returns-in_err-move_one-clause-accounts g c = accounts_fails c.from_residual.result _ c.from_residual.ensures.1
-    (accounts_on 0 0 0 (omega arith) c.loop-page.invariant.counts c.in_err-move_one.ensures.accounts)
+pub returns-in_err-count-clause-accounts : goal.returns-in_err-count-clause-accounts
+returns-in_err-count-clause-accounts g c = accounts_fails c.from_residual.result _ c.from_residual.ensures.1
+    (accounts_on 0 0 0 (omega arith) c.loop-page.invariant.counts c.in_err-count.ensures.accounts)
 
-pub returns-in_err-move_one-clause-own : goal.returns-in_err-move_one-clause-own
-returns-in_err-move_one-clause-own g c told = c.move_one.ensures.own told ∙ c.loop-page.invariant.counts.kept
+pub returns-in_err-count-clause-own : goal.returns-in_err-count-clause-own
+returns-in_err-count-clause-own g c told = c.move_one.ensures.own told ∙ c.loop-page.invariant.counts.kept
 
-pub returns-in_err-move_one-clause-spare : goal.returns-in_err-move_one-clause-spare
-returns-in_err-move_one-clause-spare g c = c.move_one.ensures.spare ∙ c.loop-page.invariant.spare
+pub returns-in_err-count-clause-spare : goal.returns-in_err-count-clause-spare
+returns-in_err-count-clause-spare g c = c.move_one.ensures.spare ∙ c.loop-page.invariant.spare
 
 pub returns-clause-forgetting : goal.returns-clause-forgetting
 returns-clause-forgetting g c told = (c.loop-page.invariant.moving told).forgetting
