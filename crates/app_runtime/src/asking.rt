@@ -140,7 +140,8 @@ impl Running {
         self.refuse(error)
     }
 
-    // The name of the open storage with the least name, by the root whose storages are open.
+    // A copy of the name of the open storage with the lowest number, the first in the order of names; `root` is of the
+    // version whose storages these are.
     pub(crate) fn busy(&self, root: &Root) -> Result<Option<Name>, AllocError>
         ensures { IfOk result (λ busy. busy ≡ first_open (sessions_in self.now.slots)
             (active_storages (root_says root.now))) }

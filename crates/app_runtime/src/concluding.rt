@@ -48,7 +48,7 @@ impl Running {
         }
     }
 
-    // The root that a call leaves is kept in memory, and the reply is built; where the call failed, all sessions end.
+    // Keeps the root that a call leaves, and builds the reply. On a failure all storages are closed.
     pub(crate) fn conclude(&mut self, made: Result<Outcome, Stop>) -> Result<Reply, Stop>
         requires room { length self.old.slots.open.items ≡ 16 }
         ensures { ConcludesCall made self.old self.new result }

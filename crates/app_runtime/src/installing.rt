@@ -18,7 +18,7 @@ use migrate_fns::Migrations;
 use per_base::PerError;
 
 impl Running {
-    /// Installs the version that a manifest describes. Beside an update something is installed.
+    /// Installs the version that a manifest describes. Refused during an update, since a version is installed then.
     pub(crate) fn install<D: Disk>(
         &mut self,
         disk: &mut D,
@@ -106,7 +106,7 @@ impl Running {
         self.conclude(made)
     }
 
-    /// Takes everything that is installed away, where no storage is open.
+    /// Removes everything that is installed, where no storage is open.
     pub(crate) fn wipe<D: Disk>(
         &mut self,
         disk: &mut D,

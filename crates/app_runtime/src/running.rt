@@ -179,7 +179,7 @@ impl Running {
         self.answer(disk, migrations, now, call)
     }
 
-    // The same under one name.
+    // Does what `call` does; its promises are one record.
     fn answer<D: Disk>(
         &mut self,
         disk: &mut D,

@@ -83,8 +83,8 @@ impl Running {
         self.conclude_begun(begun)
     }
 
-    // The update that was begun stands in memory, or the root where it was refused; where it did not end, all sessions
-    // end.
+    // Keeps the begun update, or the root where it was refused, and builds the reply. On a failure all storages are
+    // closed.
     fn conclude_begun(&mut self, begun: Result<Begin, Stop>) -> Result<Reply, Stop>
         requires room { length self.old.slots.open.items ≡ 16 }
         ensures { ConcludesBegun begun self.old self.new result }
@@ -151,7 +151,7 @@ impl Running {
         Ok(self.reply(Answer::Done))
     }
 
-    /// Gives the update in progress up.
+    /// Gives up the update in progress.
     pub(crate) fn abort_update(&mut self) -> Reply
         ensures { Aborts (staged_in self.old.stage) self.old self.new result }
     {

@@ -58,7 +58,7 @@ impl OpenSlots {
             → IsResting D.told (D.medium disk.new).image app root.now self.new }
         ensures quiet { Quiet (D.medium disk.old) → OnOk result (Quiet (D.medium disk.new)) }
 
-        // A call that needs no device calls none, whether or not the disk is modelled; a refused one writes nothing.
+        // Where the disk is modelled, a call that needs no device leaves it as it is; a refused one writes nothing.
         ensures idle { IsTrue D.told → uses_device (app_at (D.medium disk.old).image app) call.now ≡ false
             → disk.new ≡ disk.old }
         ensures unwritten { IfOk result (λ reply. is_refusal reply.answer ≡ true
@@ -82,7 +82,7 @@ impl OpenSlots {
         self.handle(alloc, disk, app, root, now, call)
     }
 
-    /// The same, with all that is promised in one.
+    /// Does what `call` does; its promises are one record.
     fn handle<D: Disk>(
         &mut self,
         alloc: Global,

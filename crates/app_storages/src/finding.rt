@@ -62,7 +62,7 @@ pub(crate) fn find<'a>(
     }
 }
 
-/// The same where a version is installed.
+/// Does what `find` does, where a version is installed.
 fn find_in<'a>(
     app: u32,
     installed: &'a Installed,

@@ -42,8 +42,8 @@ impl OpenSlots {
         }
     }
 
-    /// The name of the open storage with the least number, which is the least name, by the root whose storages are
-    /// open.
+    /// The name of the open storage with the lowest number, the first in the order of names; `root` is of the version
+    /// whose storages these are.
     pub fn least_open<'a>(&self, root: &'a Root) -> Option<&'a Name>
         ensures { option_map (λ n. n.now) result ≡ first_open (sessions_in self.now)
             (active_storages (root_says root.now)) }
@@ -69,7 +69,7 @@ impl OpenSlots {
         None
     }
 
-    // Whether a storage of this number is open.
+    // Whether the slot of this number holds an open storage; none does beyond the sixteenth.
     fn is_taken(&self, number: usize) -> bool
         ensures { result ≡ is_some (slot_at self.now number) }
     {
@@ -79,7 +79,7 @@ impl OpenSlots {
         }
     }
 
-    // Whether a storage of this number is open.
+    // Whether the storage with this number in the active version is open.
     pub(crate) fn is_open(&self, number: u32) -> bool
         ensures { result ≡ is_some (slot_at self.now number) }
     {

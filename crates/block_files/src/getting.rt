@@ -99,7 +99,7 @@ fn first_text(texts: &[Option<Vec<u8>>]) -> Option<&[u8]>
     None
 }
 
-// The same bytes in a list of their own.
+// A copy of the bytes.
 fn copied(alloc: Global, text: Option<&[u8]>) -> Result<Option<Bytes>, AllocError>
     ensures { IfOk result (λ copy. copy ≡ option_copied text.entry) }
 {

@@ -2,8 +2,8 @@
 
 ghost use Rattle.block_files.specs.Aside.{AsideLaw};
 
-/// Contents in blocks that writes leave alone stand in every case of a crash: whole ones as they were, and no new copy
-/// of any.
+/// Contents in blocks that no write touches survive every crash: whole ones stay as they were, and no new copy of any
+/// comes up.
 pub fn contents_stand_aside()
     ensures { AsideLaw }
 {}

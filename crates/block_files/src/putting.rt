@@ -119,7 +119,7 @@ pub fn reserve_shared(
     reserve_hashed(alloc, used, bytes, hash(bytes), old_bytes, old_blocks)
 }
 
-/// The same for bytes whose hash is known.
+/// Does what `reserve_shared` does, for bytes whose hash is known.
 ///
 /// # Errors
 ///

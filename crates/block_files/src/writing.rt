@@ -77,7 +77,7 @@ pub fn write_shared<D: Disk>(
     )
 }
 
-// The same in these copies, counted from 1.
+// Does what `write_shared` does, in these copies alone, counted from 1.
 pub(crate) fn write_copies<D: Disk>(
     disk: &mut D,
     place: Place,
@@ -107,7 +107,7 @@ pub(crate) fn write_copies<D: Disk>(
     Ok(())
 }
 
-// The same in one area file, by one write for each run of parts that differ and whose blocks follow one another.
+// Writes the parts that differ into the area file of one copy, those whose blocks follow one another by one write.
 fn write_changed<D: Disk>(
     disk: &mut D,
     file: u32,

@@ -1,4 +1,4 @@
-//! Bytes as a file held them.
+//! A buffer of runs that were read from a file.
 
 ghost use Rattle.std.specs.Prelude.{◌≡◌, ◌≤◌, ◌-◌, min, length, take, drop, IsTrue, IfOk, OnOk, OnErr};
 ghost use Rattle.per_base.specs.Causes.{Rose};
@@ -10,7 +10,7 @@ use disk_model::{Disk, DiskFailed};
 /// How many runs are read at once.
 const RUNS: usize = 16;
 
-/// What a look at a file gave, from the start of a run on.
+/// Runs that were read from a file, to compare with.
 #[derive(Drop)]
 pub struct Held {
     bytes: [u8; RUN * RUNS],
@@ -24,7 +24,7 @@ impl Held {
     ghost use Rattle.std.specs.Prelude.{◌<◌, ◌+◌, ◌*◌, ◌^◌, ℕ, List, suc};
     ghost use Rattle.changed_runs.specs.Held.{AreRunsSeen, HoldsRun, is_run_seen};
 
-    /// Nothing yet, where the runs before this one are to be looked at.
+    /// An empty buffer, with which the runs before this one are compared.
     pub fn nothing(first: usize) -> Held
         ensures { result.first ≡ first }
     {
@@ -35,7 +35,7 @@ impl Held {
         }
     }
 
-    /// Reads the run with this number and those before it, unless it was read.
+    /// Makes sure that the run with this number is in the buffer: unless it is, reads it with runs before it.
     pub fn look<D: Disk>(
         &mut self,
         disk: &mut D,
@@ -69,7 +69,7 @@ impl Held {
         Ok(())
     }
 
-    /// Whether the run with this number is among the bytes.
+    /// Whether the file holds these bytes as its run with this number.
     pub fn has(&self, j: usize, run: &[u8]) -> bool
         requires from { self.now.first ≤ j }
         requires room { 256 * j < 2 ^ 63 }
@@ -83,7 +83,7 @@ impl Held {
     }
 }
 
-/// Reads at most that many bytes over the start of those, and says how many there were.
+/// Reads at most `room` bytes into the start of `held`, and says how many.
 fn read_into<D: Disk>(
     disk: &mut D,
     file: u32,

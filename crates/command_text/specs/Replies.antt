@@ -135,7 +135,7 @@ answer_text (answer.Info i) = codes "info " ++ info_text i
 answer_text (answer.Status s) = codes "status " ++ status_text s
 answer_text (answer.Error e) = codes "error " ++ error_title e ++ carried_text e
 
--- OutOfMemory has no reply
+-- the answer has a text: all but the error OutOfMemory
 abbrev pub HasText : Answer → Type 0
 HasText (answer.Error e) = IsSome (error_number e)
 HasText other = ⊤

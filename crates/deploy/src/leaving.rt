@@ -218,7 +218,7 @@ impl Root {
 }
 
 impl Installed {
-    // The same where something is installed.
+    // The active version alone. Refused where there is no previous version, or no generation is left.
     fn without_previous(self) -> Result<Lone, Outcome>
         requires { AreParts self }
         ensures lone { IfOk result (IsLone finishing (Root.Installed self)) }
@@ -238,7 +238,7 @@ impl Installed {
         })
     }
 
-    // The same where something is installed.
+    // The previous version alone. Refused where there is none, a storage is open, or no generation is left.
     fn with_previous(self, busy: Option<&Name>) -> Result<Result<Lone, Outcome>, Stop>
         requires { AreParts self }
         ensures lone { IfOk result (λ left. IfOk left (IsLone (rolling_back (option_map (λ n. n.now) busy.entry))

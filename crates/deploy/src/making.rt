@@ -130,7 +130,7 @@ pub(crate) fn create_one<D: Disk>(
     Ok(())
 }
 
-// The same contents once more.
+// A copy of the contents.
 fn copy_all(alloc: Global, contents: &[Fresh]) -> Result<Vec<Fresh>, AllocError>
     ensures { IfOk result (λ copies. copies.items ≡ contents.now) }
 {

@@ -30,7 +30,7 @@ use per_base::Name;
 use root_text::{one_root, write_absent};
 use std::alloc::Global;
 
-/// Takes everything that is installed away: the root is written, and one that is bad is formatted. What the banks hold
+/// Removes everything that is installed: the root is written, and one that is bad is formatted. What the banks hold
 /// stays, and nothing names it.
 ///
 /// Refusals, the first that holds: `ResourceBusy` where `busy` names an open storage; `LimitReached` with `Generations`

@@ -21,7 +21,7 @@ RootRaised = (app : ℕ) (image : Image) (damaged : List ℕ) (before after : Ap
     → ¬ (says_at image app ≡ nothing)
     → ¬ (says_at image app ≡ after.says) → ¬ (Stands app image damaged before after)
 
--- the root is that of before, and a storage of the old version that opened is corrupt, with nothing damaged
+-- the root is as before, and a storage of the old version that opened is corrupt, with nothing damaged
 abbrev pub OldVersionLost : Type 0
 OldVersionLost = (app number : ℕ) (image : Image) (before after : App) (shape : Shape) (view : View)
     (others rest : List View) (salvage : Option View)

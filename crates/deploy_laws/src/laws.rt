@@ -120,7 +120,7 @@ pub fn outcomes_are_refused()
     ensures other_root { OtherRoot }
     ensures root_raised { RootRaised }
 
-    // The root is that of before, and a storage of the old version is not as it was.
+    // The root is as before, and a storage of the old version is not as it was.
     ensures old_bank_touched { (app number : ℕ) (image : Image) (damaged : List ℕ) (before after : App) (shape : Shape)
         (state : State)
         → slice_get (shapes_named app before.says) number ≡ Some shape → slice_get before.states number ≡ Some state

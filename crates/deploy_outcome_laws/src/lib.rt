@@ -1,8 +1,8 @@
 //! What the contracts of a deployment exclude.
 //!
-//! A contract says what a call makes; here stands, for mistakes that are easily made, that what they would make is
+//! A contract says what a call leaves. Here it is proved, for mistakes that are easily made, that their outcomes are
 //! excluded by it ([`outcomes_are_refused`]). Each clause takes what the contract of a call says, in the words of that
-//! contract, beside an outcome that the mistake would leave, and ends in a contradiction.
+//! contract, and an outcome that the mistake would leave, and derives a contradiction.
 #![tactic(auto)]
 
 mod laws;

@@ -69,7 +69,7 @@ pub struct Deployment {
 }
 
 impl ElementConfig {
-    /// A copy that says the same.
+    /// An equal copy.
     pub fn copy(&self, alloc: Global) -> Result<ElementConfig, AllocError>
         ensures { IfOk result (λ copy. element_data copy ≡ element_data self.now) }
     {
@@ -92,7 +92,7 @@ impl ElementConfig {
 }
 
 impl StorageConfig {
-    /// A copy that says the same.
+    /// An equal copy.
     pub fn copy(&self, alloc: Global) -> Result<StorageConfig, AllocError>
         ensures { IfOk result (λ copy. storage_data copy ≡ storage_data self.now) }
     {
@@ -114,7 +114,7 @@ impl StorageConfig {
 }
 
 impl Deployment {
-    /// A copy that says the same.
+    /// An equal copy.
     pub fn copy(&self, alloc: Global) -> Result<Deployment, AllocError>
         ensures { IfOk result (λ copy. deployment_data copy ≡ deployment_data self.now) }
     {

@@ -129,7 +129,7 @@ pub fn set_byte(files: &mut WrittenFiles, file: u32, at: u64, byte: u8) -> bool
     }
 }
 
-/// Makes the calls again, from the files as the record begins.
+/// Replays the calls over the files as they were before the first one.
 pub fn replay(alloc: Global, files: &mut WrittenFiles, calls: &[Call]) -> Result<(), AllocError>
     ensures { OnOk result (image_of files.new ≡ image_after calls.now (image_of files.old)) }
 {
@@ -141,7 +141,8 @@ pub fn replay(alloc: Global, files: &mut WrittenFiles, calls: &[Call]) -> Result
     Ok(())
 }
 
-/// Makes those of the writes again that the pattern lets stand; the others only lengthen their file.
+/// Replays the writes, each by its bit of `pattern`: those with a one in full, and of the others only the new length of
+/// their file.
 pub fn replay_torn(
     alloc: Global,
     files: &mut WrittenFiles,
@@ -160,7 +161,7 @@ pub fn replay_torn(
     Ok(())
 }
 
-/// How many of the calls the last sync closes, itself among them.
+/// How many calls there are up to the last sync, it included.
 pub fn synced(calls: &[Call]) -> usize
     ensures within { result ≤ length calls.now }
     ensures base { (image : Image) → base_after calls.now image image ≡ image_after (take result calls.now) image }
@@ -175,14 +176,14 @@ pub fn synced(calls: &[Call]) -> usize
     count
 }
 
-// Whether the i-th write since the last sync stands.
+// Whether the pattern has a one for the i-th write.
 fn is_standing(pattern: u64, i: usize) -> bool
     ensures { result ≡ stands pattern i }
 {
     (pattern >> (i as u64 % 64)) % 2 == 1
 }
 
-// A write that stands, or one that only lengthens the file.
+// Replays a write in full, or only the new length of its file.
 fn tear(
     alloc: Global,
     files: &mut WrittenFiles,

@@ -9,7 +9,7 @@
 //! calls, takes damage, and crashes with the writes since the last sync kept, lost or torn. [`Place`] names the files
 //! of a storage's copies.
 //!
-//! The definitions that the crates above share stand in `specs/`: images, cases, frames of writes, soundness and
+//! The definitions that the crates above share are in `specs/`: images, cases, frames of writes, soundness and
 //! damage. Limits: a disk is used by one caller at a time, and a disk whose bytes are not modelled promises only
 //! counts and causes.
 #![tactic(auto)]

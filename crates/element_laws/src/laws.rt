@@ -42,8 +42,8 @@ pub fn contents_keep()
     contents_stand_aside();
 }
 
-/// A stop while the next index is written, after its contents were made durable, leaves the storage of before or that
-/// of after.
+/// A stop while the next index is written, after its contents were made durable, leaves the storage as before or as
+/// after.
 pub fn index_keeps()
     ensures { IndexLaw }
 {
@@ -70,9 +70,8 @@ pub fn places_are_clean()
     ensures settled { SettledLaw }
 {}
 
-/// A stop while contents are mended in the copies that lacked them, after `adopting_keeps`, keeps a storage. A mend
-/// may stop in the midst of a copy, which is half mended then: no two contents have the same hash, and so it gives the
-/// value or nothing.
+/// A stop while contents are mended in the copies that lack them, which comes after `adopting_keeps`, keeps a storage.
+/// It may leave a copy half mended: since no two contents have the same hash, that copy gives the value or nothing.
 pub fn mending_keeps()
     ensures start { MendStartLaw }
     ensures step { MendStepLaw }

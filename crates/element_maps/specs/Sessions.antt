@@ -66,6 +66,6 @@ same_map (e ∷ es) [] = false
 same_map [] (f ∷ fs) = false
 same_map (e ∷ es) (f ∷ fs) = bytes_eq e.0 f.0 && same_element e.1 f.1 && same_map es fs
 
--- the view of the storage once it holds the new map: that of before where nothing differs, and else the next
+-- the view of the storage once it holds the new map: the old one where nothing differs, and else the next
 abbrev pub view_once_synced : Shape → View → (synced new : Map) → View
 view_once_synced shape v synced new = cond (same_map synced new) v (committed shape v synced new)

@@ -27,7 +27,7 @@ pub fn views_are_maps()
     ensures same { SameLaw }
 {}
 
-/// Whether two maps are equal is decided by a test, and by it the view after a sync: that of before where nothing
+/// Whether two maps are equal is decided by a test, and by it the view after a sync: the old one where nothing
 /// differs, and else the next.
 pub fn syncs_are_decided()
     ensures decides { DecidesLaw }

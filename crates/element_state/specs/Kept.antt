@@ -83,7 +83,7 @@ views_in (Some v) = v ∷ []
 abbrev pub all_views : State → List View
 all_views state = views_in (salvage_of state) ++ others_of state
 
--- it opens at the view of before, or at that of after and then no copy was lost on the way
+-- it opens at the view before, or at the one after and then no copy was lost on the way
 abbrev pub StaysAs : Shape → (damaged : List ℕ) → (left before : View) → (after : State) → Type 0
 StaysAs shape damaged left before after =
     (SameHeadings left before × KeepsGood shape damaged left before)

@@ -67,7 +67,7 @@ impl Store {
     ghost use Rattle.element_store.specs.Stores.{store_generation};
     ghost use Rattle.per_base.specs.Faults.{HandsBack, IsDeviceFault};
 
-    /// Makes the changes all at once: a stop at any moment leaves the storage of before or that of after. Only what
+    /// Makes the changes all at once: a stop at any moment leaves the storage as before or as after. Only what
     /// changed is written, and of a file that could be read only the blocks that differ.
     ///
     /// # Errors
@@ -97,7 +97,7 @@ impl Store {
             → Rose (D.medium disk.old).faults (D.medium disk.new).faults) }
         ensures passes { OnOk result ((D.medium disk.new).faults ≡ (D.medium disk.old).faults) }
 
-        // No file outside the place changes, and a stop at any moment leaves the storage of before or that of after.
+        // No file outside the place changes, and a stop at any moment leaves the storage as before or as after.
         ensures elsewhere { IsTrue D.told → Spares (IsOutside (store_shape self).place)
             (D.medium disk.old).image (D.medium disk.new).image }
         ensures outside { IsTrue D.told → Quiet (D.medium disk.old)

@@ -29,8 +29,8 @@ use guarded_cell::{format_cell, keep_only};
 use per_base::{Content, Entry, Fresh, Numbers};
 use std::alloc::{AllocError, Global};
 
-/// Rebuilds a storage with these contents, and gives up what its place held. The texts of the place are taken away
-/// first, and only then are contents written: an index of before would name blocks that are being written.
+/// Creates a storage with these contents, and gives up what its place held. The old indexes are blanked before any
+/// content is written, since they may name the blocks that are being written.
 ///
 /// # Errors
 ///
@@ -58,7 +58,7 @@ pub fn create<D: Disk>(
     ensures passes { OnOk result ((D.medium disk.new).faults ≡ (D.medium disk.old).faults) }
     ensures fed { IsErrOf result StoreError.OutOfMemory → (D.medium disk.new).faults ≡ (D.medium disk.old).faults }
 
-    // At no moment are blocks torn under an index that names them: where no text is made by chance, no content is.
+    // At no moment does an index name torn blocks: where a crash makes no index by chance, it makes no content so.
     ensures untorn { IsTrue D.told → Quiet (D.medium disk.old)
         → EachCase (IsUntorn shape.place) (D.medium disk.old) (D.medium disk.new) }
     ensures sound { IsTrue D.told → Quiet (D.medium disk.old)

@@ -55,7 +55,7 @@ pub(crate) fn write_durably<D: Disk>(
     Ok(())
 }
 
-// The same, durable after the next sync.
+// Writes each content into its blocks, in every copy. They are durable after the next sync.
 fn write_jobs<D: Disk>(disk: &mut D, place: Place, jobs: &[Job]) -> Result<(), DiskFailed>
     requires roomy { All IsRoomy jobs.now }
     requires apart { AreApart jobs.now }

@@ -18,7 +18,7 @@
 //!
 //! The promise, on every image: the exact view, a quiet disk, a place that is clean where it was so or is rebuilt,
 //! and no file elsewhere changed at any moment. A stop at any moment of an opening, a commit or a rebuild leaves the
-//! storage of before or that of after. A failure of the disk comes only where its count of faults rose. What is read is
+//! storage as before or as after. A failure of the disk comes only where its count of faults rose. What is read is
 //! a view on every disk, modelled or not: names ascend, and lengths are right.
 //!
 //! Limits: at most 1,024 elements, 8 copies (a manifest allows 7), and 4,194,304 bytes of names and contents; one

@@ -58,7 +58,7 @@ pub(crate) fn mend_durably<D: Disk>(
     Ok(())
 }
 
-// The same, durable after the next sync.
+// Does what `mend_durably` does, without the sync: what is written is durable after the next one.
 fn mend_each<D: Disk>(
     disk: &mut D,
     shape: &Shape,

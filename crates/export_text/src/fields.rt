@@ -17,6 +17,7 @@ use per_base::{
 use std::alloc::Global;
 use std::str;
 
+/// Reads a name: a byte with its length, and its bytes.
 #[tactic(auto, unfolding(index_text::specs::Reading::name_at))]
 pub fn name_of(alloc: Global, bytes: &[u8]) -> Result<(Name, &[u8]), ExportError>
     ensures { Gives (λ x. (x.0, x.1.now)) result (name_at bytes.now) }
@@ -40,6 +41,7 @@ fn name_from(alloc: Global, bytes: &[u8]) -> Result<Name, ExportError>
     }
 }
 
+/// The kind of storage with this code.
 pub fn kind_from(code: u8) -> Result<StoreKind, ExportError>
     ensures read { Gives (λ kind. kind) result (coded_kind code) }
     ensures memory { ¬ (IsErrOf result ExportError.OutOfMemory) }
@@ -127,7 +129,7 @@ pub fn len_of(kind: StoreKind, bytes: &[u8]) -> Result<(u32, &[u8]), ExportError
     Ok((len, rest))
 }
 
-/// A copy of that many bytes, which are a content of this kind.
+/// Reads a content of this kind with `len` bytes, and copies it.
 #[tactic(auto, unfolding(crate::specs::Exports::content_at))]
 pub fn content_of(
     alloc: Global,

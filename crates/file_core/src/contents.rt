@@ -34,7 +34,7 @@ pub fn overwrite_content(
     Ok(len)
 }
 
-/// Keeps that many bytes of a readable content.
+/// Truncates a readable content to its first `size` bytes.
 pub fn truncate_content(content: &mut Content, size: usize)
     requires { IsTrue (is_readable content.old) }
     ensures { content.new ≡ Content.Good (take size (readable_bytes content.old)) }

@@ -219,7 +219,8 @@ impl Cursor {
         Ok(target)
     }
 
-    /// Where the next byte that is written goes in a content of this size.
+    /// Where the next write begins in a content of this size: at its end where the cursor appends, else at the position
+    /// or at the end, whichever comes first.
     pub fn write_place(&self, size: usize) -> usize
         ensures { result ≡ cond self.now.append size (min self.now.position size) }
     {

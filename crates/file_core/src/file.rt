@@ -224,7 +224,7 @@ impl File {
         Ok(())
     }
 
-    /// Keeps that many bytes of the content.
+    /// Truncates the content to its first `size` bytes.
     fn keep(&mut self, size: usize, now: u64)
         requires good { IsTrue (is_readable self.old.content) }
         requires inside { size ≤ length (readable_bytes self.old.content) }

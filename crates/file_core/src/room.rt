@@ -6,7 +6,8 @@ ghost use Rattle.file_core.specs.Files as files;
 use crate::file::FILE_BYTES;
 use per_base::{Limit, PerError};
 
-/// What all else in the storage takes, the name of the file among it, and what the storage is allowed, in bytes.
+/// How many bytes all but the content of a file take in the storage, its name included, and how many the storage may
+/// have.
 #[derive(Clone, Copy, Debug)]
 pub struct Room {
     pub others: u64,

@@ -54,7 +54,7 @@ PutLaw = (storage : Storage) (s : Session) (name bytes : List ℕ) (now : ℕ)
     → can_open storage s name Write truncating ≡ None → would_fit storage s.files name (length bytes) ≡ None
     → IsDue (put_whole storage s name bytes now)
 
--- the content of a file is that of before its opening
+-- the content of a file is that before its opening
 abbrev pub SameContentLaw : Type 0
 SameContentLaw = (storage : Storage) (s : Session) (name : List ℕ) (now : ℕ) (opened : ℕ × Session)
     → open_file storage s name Read plain now ≡ Ok opened

@@ -53,7 +53,7 @@ impl FileTable {
         copied_names(self.alloc, &self.files)
     }
 
-    /// Takes the file of this name away.
+    /// Deletes a file.
     ///
     /// # Errors
     ///

@@ -157,7 +157,7 @@ pub fn reopen_file(
     }
 }
 
-/// Adds a handle on this file.
+/// Adds a handle with this number and cursor on a file.
 pub fn add_handle(
     handles: &mut BTreeMap<u32, Handle>,
     number: u32,
@@ -240,7 +240,7 @@ pub fn add_file_and_handle(
     Ok(())
 }
 
-/// Takes the file of this name away.
+/// Removes a file.
 pub fn remove_file(files: &mut BTreeMap<Name, File>, name: &Name)
     ensures gone { files.new.entries ≡ without files.old.entries name.now }
     ensures names { IsStrictlySortedBy name_cmp (keys_of files.new.entries) }

@@ -15,7 +15,7 @@ use file_core::{Cursor, Room, is_bad_mode, writes};
 use per_base::{Holder, Limit, Name, OpenKind, OpenMode, PerError, Unit};
 
 impl FileTable {
-    /// Whether a file may be opened so: what refuses it, but the lack of space. Changes nothing.
+    /// Checks whether a file can be opened with this kind and mode. Space is not checked. Changes nothing.
     ///
     /// Errors, in this order: `InvalidOpenMode` where the flags contradict one another or ask a reader to change the
     /// file; `IllegalWriteAccess` where the kind writes and the storage is read-only; `FileNotFound` where the kind is
@@ -58,8 +58,8 @@ impl FileTable {
         Ok(())
     }
 
-    /// Opens a file with this kind, and gives the number of the handle, the lowest free one. A missing file that is to
-    /// be written is created empty.
+    /// Opens a file with this kind and mode, and gives the number of its handle, the lowest free one. A missing file is
+    /// created empty, unless it is opened only to read.
     ///
     /// # Errors
     ///
@@ -200,7 +200,7 @@ impl FileTable {
         }
     }
 
-    /// What all else takes beside the content of this name, and what the storage is allowed.
+    /// How many bytes all but the content of this file take, and how many the storage may have.
     #[tactic(auto, using(crate::specs::lemmas::Entries::len_fits, crate::specs::lemmas::Entries::name_fits))]
     pub(crate) fn room_for(&self, name: &Name) -> Room
         ensures room { result ≡ room_for self.now.session.files name.now self.now.storage.maximum }

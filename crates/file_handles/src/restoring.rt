@@ -244,7 +244,7 @@ impl FileTable {
         Ok(())
     }
 
-    /// Takes a file without a handle away.
+    /// Removes a file without a handle.
     #[tactic(auto, using(crate::specs::lemmas::Entries::len_fits))]
     pub(crate) fn vanish(&mut self, name: &Name)
         requires free { opening.busy (blocking OpenKind.Write name.now self.old.session.handles) ≡ None }

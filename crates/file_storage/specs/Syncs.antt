@@ -41,7 +41,7 @@ sync_refused s number = or_next (no_writer (open_at s.session number)) (worn s)
 abbrev pub close_refused : FilesInUse → Option PerError
 close_refused s = or_next (busy (lowest s.session.handles)) (worn s)
 
--- the view once the working files are durable: that of before where nothing differs
+-- the view once the working files are durable: the old one where nothing differs
 abbrev pub synced_view : FilesInUse → View
 synced_view s = maps.view_once_synced (store_shape s.store) (view_in s.store) (stored_in s.store) s.session.files
 

@@ -67,14 +67,14 @@ impl Files {
         self.table.current_size()
     }
 
-    /// Sets the moment, which writes and cuts of files take. Does not allocate.
+    /// Sets the time that is recorded in files that are written or truncated from now on. Does not allocate.
     pub fn set_now(&mut self, now: u64)
         ensures { self.new ≡ record self.old { moment = now } }
     {
         self.table.set_now(now);
     }
 
-    /// Takes the file of this name away.
+    /// Deletes a file.
     ///
     /// # Errors
     ///

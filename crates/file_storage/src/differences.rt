@@ -52,7 +52,7 @@ pub fn differences(
     Ok(list)
 }
 
-/// The changes that take these files away.
+/// Appends the changes that remove these files.
 fn remove_all(list: &mut Vec<Change>, entries: &[Entry]) -> Result<(), AllocError>
     ensures { OnOk result (list.new.items ≡ list.old.items ++ map (λ e. Change.Remove e.name) entries.now) }
 {

@@ -48,7 +48,7 @@ impl Model for Files {
 }
 
 impl Files {
-    /// What always holds of an open storage.
+    /// What always holds of an open storage, for the proofs of callers: it does nothing when it runs.
     pub fn invariants(&self)
         ensures table { IsTable (storage_of self.now.config) self.now.session.files self.now.session.handles }
         ensures configured { IsConfigured kinds.Files self.now.config (store_shape self.now.store) }

@@ -109,7 +109,7 @@ impl Files {
         self.table.open_file(name, kind, mode, now)
     }
 
-    /// Whether a file may be opened so: what refuses it, but the lack of space. Changes nothing.
+    /// Checks whether a file can be opened with this kind and mode. Space is not checked. Changes nothing.
     ///
     /// Errors, in this order: `InvalidOpenMode` where the flags contradict one another or ask a reader to change the
     /// file; `IllegalWriteAccess` where the kind writes and the storage is read-only; `FileNotFound` where the kind is

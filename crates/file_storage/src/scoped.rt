@@ -20,7 +20,7 @@ pub struct Scoped<'a> {
 }
 
 impl Files {
-    /// Opens a file with a handle that is closed when it is dropped: then the handles are those of before, and the
+    /// Opens a file with a handle that is closed when it is dropped: then the handles are as before, and the
     /// working files and the moment stay as it left them.
     ///
     /// # Errors

@@ -45,7 +45,7 @@ pub enum Closed {
 
 impl Files {
     /// Makes the working files of the whole storage durable, all at once, through a handle that writes: a stop at any
-    /// moment leaves the files of before or those of after. Only what differs is written: of a file that could be read
+    /// moment leaves the files as before or as after. Only what differs is written: of a file that could be read
     /// only the blocks that do, and of one whose info alone changed no content. Where nothing differs, the disk is not
     /// called. Handles and positions stay.
     ///
@@ -96,7 +96,7 @@ impl Files {
         ensures cause { IfErr result (λ fault. IsDeviceFault fault
             → Rose (D.medium disk.old).faults (D.medium disk.new).faults) }
 
-        // No file outside the place changes, and a stop at any moment leaves the storage of before or that of after.
+        // No file outside the place changes, and a stop at any moment leaves the storage as before or as after.
         ensures storing { IsStoring D.told (store_shape self.store) (Opens (synced_view self) []) (D.medium disk.old)
             (D.medium disk.new) }
     {
@@ -154,7 +154,7 @@ impl Files {
         ensures cause { IfErr result (λ fault. IsDeviceFault fault
             → Rose (D.medium disk.old).faults (D.medium disk.new).faults) }
 
-        // No file outside the place changes, and a stop at any moment leaves the storage of before or that of after.
+        // No file outside the place changes, and a stop at any moment leaves the storage as before or as after.
         ensures storing { IsStoring D.told (store_shape self.store) (Opens (synced_view self) []) (D.medium disk.old)
             (D.medium disk.new) }
     {

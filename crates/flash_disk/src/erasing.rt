@@ -8,7 +8,7 @@ ghost use Rattle.flash_disk.specs.Fresh.{IsBlankFlash};
 use crate::filling::is_blank;
 use flash_model::{BLANK_PAGE, BLOCK_PAGES, Flash, FlashFailed};
 
-/// Makes every page of a flash blank. Blocks that are blank are not erased. It does not allocate.
+/// Erases every block of a flash that is not blank, so that all pages are blank. Does not allocate.
 ///
 /// # Errors
 ///
@@ -25,7 +25,7 @@ pub fn erase_all<F: Flash>(flash: &mut F) -> Result<(), FlashFailed>
     Ok(())
 }
 
-// Makes a block blank, if it is not.
+// Erases a block, if it is not blank.
 fn make_blank<F: Flash>(flash: &mut F, block: u32) -> Result<(), FlashFailed>
     requires { block < (F.medium flash.old).blocks }
     ensures blank { IsTrue F.told → OnOk result ((p : ℕ) → p < 64

@@ -108,7 +108,7 @@ impl Table {
         self.load.get(block as usize).copied().unwrap_or(0)
     }
 
-    /// Sets the newest record of a page; `false`, and no change, where there is no room for it.
+    /// Sets the newest record of a page. Gives `false`, and changes nothing, where there is no room for it.
     pub fn put(&mut self, key: FilePage, new: Newest) -> bool
         ensures full { HasCapacity self.old → (IsFalse result ↔
             ((known self.old key ≡ None) × (limit_of self.old ≤ page_len self.old))) }
@@ -183,8 +183,8 @@ impl Table {
         }
     }
 
-    /// Makes a file at least so long; `false`, and no change, where there is no room for it. Only a file that has no
-    /// length yet takes room.
+    /// Makes a file at least `len` bytes long. Gives `false`, and changes nothing, where there is no room for it; only
+    /// a file that has no length yet takes room.
     pub fn lengthen(&mut self, file: u32, len: u64) -> bool
         ensures lengthened { IsTrue result → Lengthens self.old self.new file len }
         ensures has { IsTrue result → (f : ℕ) → HasLen self.old f ⊎ (f ≡ file) → HasLen self.new f }
@@ -199,8 +199,8 @@ impl Table {
         raise(&mut self.lens, file, len)
     }
 
-    /// The block whose newest records are moved next: `own`, if it is another than `but` and they leave a page of a
-    /// block, and else the lightest.
+    /// The block whose newest records are moved next: `own`, if it is not `but` and they leave a page of a block free,
+    /// and else the block other than `but` with the fewest pages to move.
     pub fn given_up(&self, own: u32, but: u32) -> u32
         ensures within { result ≢ but → result < self.now.blocks }
         ensures light { (block : ℕ) → block < self.now.blocks → block ≢ but → (result ≢ but)
@@ -213,14 +213,14 @@ impl Table {
         self.lightest_but(but)
     }
 
-    /// Whether the flash has enough blocks for each copy to go on in a block of its own.
+    /// Whether the flash has enough blocks for each copy to be written in blocks of its own.
     pub fn has_many_blocks(&self) -> bool
         ensures { IsTrue result ↔ (16 ≤ self.now.blocks) }
     {
         self.blocks >= LEAST_BLOCKS
     }
 
-    /// Whether the newest record of a page of a file is in this block, and of the copy of another file.
+    /// Whether the newest record of a page is in this block, and the page is of the same copy as `file`.
     pub fn has_in(&self, key: FilePage, file: u32, block: u32) -> bool
         ensures { IsTrue result → LeadsSome self.now (copy_of file) block }
     {
@@ -230,7 +230,8 @@ impl Table {
         }
     }
 
-    /// Marks each block that holds the newest record of a page of another copy than a file's.
+    /// Marks in `foreign`, a byte a block, each block that holds the newest record of a page of another copy than that
+    /// of `file`.
     pub fn mark_foreign(&self, file: u32, foreign: &mut [u8])
         ensures len { length foreign.new ≡ length foreign.old }
         ensures unique { HasOneEach self.now }

@@ -152,7 +152,7 @@ impl<S: System> Folder<S> {
         }
     }
 
-    /// The same, once another file was closed.
+    /// Closes another file, and then does what `find` does.
     fn find_in_room(&mut self, file: u32) -> Result<bool, DiskFailed>
         requires knows { Knows S.told (S.medium self.old.system) self.old.ranges.items self.old.is_fresh
             self.old.is_grown self.old.is_lost }
@@ -225,7 +225,7 @@ impl<S: System> Folder<S> {
         self.system.make(file)
     }
 
-    /// The same, once another file was closed.
+    /// Closes another file, and then does what `make` does.
     fn make_in_room(&mut self, file: u32) -> Result<(), DiskFailed>
         requires knows { Knows S.told (S.medium self.old.system) self.old.ranges.items self.old.is_fresh
             self.old.is_grown self.old.is_lost }

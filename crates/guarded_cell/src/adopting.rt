@@ -99,7 +99,7 @@ pub fn adopt_seen<D: Disk>(
     Ok(Cell::new(place, seen.generation))
 }
 
-// What `adopt` does, with all memory taken.
+// Does what `adopt` does, in `room`, once the text is sealed: nothing more is allocated.
 fn adopt_in<D: Disk>(
     disk: &mut D,
     place: Place,

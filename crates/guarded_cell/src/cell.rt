@@ -40,7 +40,7 @@ impl Cell {
         self.generation
     }
 
-    /// Room for writing a text of that many bytes later, with [`Cell::write_in`].
+    /// A buffer in which [`Cell::write_in`] writes a text of `len` bytes later.
     pub fn room(alloc: Global, len: usize) -> Result<Vec<u8>, AllocError>
         requires { len ≤ max_body }
         ensures { IfOk result (λ room. length room.items ≡ header + len) }

@@ -46,7 +46,7 @@ pub fn format_cell<D: Disk>(
     Ok(Cell::new(place, 1))
 }
 
-// The same with all memory taken.
+// Does what `format_cell` does, once the text is sealed: nothing more is allocated.
 fn format_in<D: Disk>(
     disk: &mut D,
     place: Place,

@@ -1,4 +1,4 @@
-//! Taking every text away but one.
+//! Blanking every text but one.
 
 ghost use Rattle.std.specs.Prelude.{◌≡◌, ◌≤◌, IsTrue, OnOk, IsErrOf, length};
 ghost use Rattle.disk_model.specs.Medium.{Quiet};
@@ -45,7 +45,7 @@ pub fn keep_only<D: Disk>(
     Ok(())
 }
 
-// The same with all memory taken.
+// Does what `keep_only` does, in `room`: nothing more is allocated.
 fn keep_in<D: Disk>(
     disk: &mut D,
     place: Place,

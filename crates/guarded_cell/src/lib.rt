@@ -8,7 +8,7 @@
 //!
 //! [`open_cell`] finds the text that stands and brings every copy to it, [`look`] only shows what the
 //! copies hold, [`standing_among`] chooses of that what stands, [`adopt`] brings every copy to a text that
-//! the caller chose, [`adopt_seen`] to one that was seen, [`keep_only`] takes every other text away, and
+//! the caller chose, [`adopt_seen`] to one that was seen, [`keep_only`] blanks every other text, and
 //! [`format_cell`] formats the register. Each call changes slots of its place alone.
 //!
 //! Limits: a body of at most 524,244 bytes, generations up to the greatest `u64`, and one caller at a

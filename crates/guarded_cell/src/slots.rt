@@ -12,7 +12,7 @@ use disk_model::{Disk, DiskFailed, Place};
 use hash_guard::{HEADER, MAX_BODY, Sealed, verify};
 use std::alloc::{AllocError, Global};
 
-/// At most that many bytes of a slot are read: those of the longest sealed text.
+/// How many bytes of a slot are read at most: those of the longest sealed text.
 pub(crate) const FRONT: usize = HEADER + MAX_BODY;
 
 /// The greatest number of copies of a place.
@@ -28,7 +28,7 @@ pub struct Slots {
 impl Slots {
     ghost use Rattle.guarded_cell.specs.Slots.{other_flags};
 
-    // Those of the parity in which no text of this generation belongs.
+    // The slots of the other parity, in which no text of this generation belongs.
     pub(crate) fn others(self, generation: u64) -> [bool; MAX_COPIES]
         ensures { result ≡ other_flags self generation }
     {
@@ -62,7 +62,7 @@ pub(crate) enum Pick {
     Others,
 }
 
-/// Room for the start of a slot.
+/// A buffer for the start of a slot.
 pub(crate) fn front_room(alloc: Global) -> Result<Vec<u8>, AllocError>
     ensures { IfOk result (λ room. length room.items ≡ front) }
 {
@@ -70,7 +70,7 @@ pub(crate) fn front_room(alloc: Global) -> Result<Vec<u8>, AllocError>
     Ok(room)
 }
 
-/// Makes everything durable before the first look.
+/// Syncs the disk before its slots are read, so that what is read is durable.
 pub(crate) fn settle<D: Disk>(disk: &mut D) -> Result<(), DiskFailed>
     ensures quiet { OnOk result (Quiet (D.medium disk.new)) }
     ensures image { (D.medium disk.new).image ≡ (D.medium disk.old).image }
@@ -83,7 +83,7 @@ pub(crate) fn settle<D: Disk>(disk: &mut D) -> Result<(), DiskFailed>
     Ok(())
 }
 
-/// Reads the start of a slot, and says how long it is.
+/// Reads the start of a slot into `room`, and says how many bytes were read.
 pub(crate) fn read_front<D: Disk>(
     disk: &mut D,
     file: u32,

@@ -49,7 +49,7 @@ pub(crate) fn write_starts<D: Disk>(
     Ok(())
 }
 
-/// The same, and makes it durable.
+/// Writes the bytes at the starts of the chosen slots of one parity, and makes them durable.
 pub(crate) fn write_durably<D: Disk>(
     disk: &mut D,
     place: Place,
@@ -116,7 +116,7 @@ pub(crate) fn put_starts<D: Disk>(
     Ok(())
 }
 
-/// The same, and makes it durable.
+/// Puts a text as `put_starts` does, and makes it durable.
 pub(crate) fn put_durably<D: Disk>(
     disk: &mut D,
     place: Place,

@@ -15,8 +15,8 @@ pub struct Sealed<'a> {
     pub body: &'a [u8],
 }
 
-/// The generation and the body of the sealed text at the slot's start; `None` exactly where no such
-/// text stands there. It does not allocate and reads nothing after the text.
+/// The generation and the body of the sealed text at the slot's start; `None` exactly where there is no such text. Does
+/// not allocate, and reads nothing after the text.
 pub fn verify(slot: &[u8]) -> Option<Sealed<'_>>
     ensures some { IfSome result (λ found. VerifiesAs slot.now found.generation found.body.now) }
     ensures none { IfNone result ((generation : ℕ) (body : List ℕ)

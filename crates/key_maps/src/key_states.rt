@@ -63,7 +63,7 @@ impl KeyState {
         self.synced.is_some()
     }
 
-    /// What a sync hands down for the key of this name, which has this state.
+    /// What a sync writes for the key of this name, which has this state.
     #[tactic(auto, using(crate::specs::lemmas::Differing::difference_same))]
     fn change(&self, alloc: Global, name: &Name) -> Result<Option<Change>, AllocError>
         ensures { IfOk result (λ change. change ≡ change_of name.now self.now) }
@@ -173,7 +173,7 @@ fn add_pending(
     add(states, name, state)
 }
 
-/// Puts a readable key at a name. Allocates only for a name that has no state.
+/// Sets a readable key. Allocates only for a name that has no state.
 pub fn put(
     states: &mut BTreeMap<Name, KeyState>,
     name: &Name,
@@ -201,7 +201,7 @@ fn is_synced(states: &BTreeMap<Name, KeyState>, name: &Name) -> bool
     }
 }
 
-/// Makes nothing visible at a name. Does not allocate.
+/// Removes a key. Does not allocate.
 pub fn remove(states: &mut BTreeMap<Name, KeyState>, name: &Name)
     requires { AreKeyStates states.old.entries }
     ensures { IsStep states.old.entries states.new.entries (without (visible_map states.old.entries) name.now) }
@@ -213,7 +213,7 @@ pub fn remove(states: &mut BTreeMap<Name, KeyState>, name: &Name)
     }
 }
 
-/// Makes nothing visible at all. Does not allocate.
+/// Removes all keys. Does not allocate.
 pub fn clear(states: &mut BTreeMap<Name, KeyState>)
     requires { AreKeyStates states.old.entries }
     ensures { IsStep states.old.entries states.new.entries [] }
@@ -224,7 +224,7 @@ pub fn clear(states: &mut BTreeMap<Name, KeyState>)
     });
 }
 
-/// Makes visible what is synchronised. Does not allocate.
+/// Discards the pending changes: the synchronised keys are visible again. Does not allocate.
 pub fn discard(states: &mut BTreeMap<Name, KeyState>)
     requires { AreKeyStates states.old.entries }
     ensures { IsStep states.old.entries states.new.entries (synced_map states.old.entries) }
@@ -235,7 +235,7 @@ pub fn discard(states: &mut BTreeMap<Name, KeyState>)
     });
 }
 
-/// Makes synchronised what is visible. Does not allocate.
+/// Marks the visible keys as synchronised. Does not allocate.
 pub fn mark_synced(states: &mut BTreeMap<Name, KeyState>)
     requires { AreKeyStates states.old.entries }
     ensures { IsMarkedSynced states.old.entries states.new.entries }
@@ -257,7 +257,7 @@ pub fn names(alloc: Global, states: &BTreeMap<Name, KeyState>) -> Result<Vec<Nam
     Ok(names)
 }
 
-/// What a sync hands down, in the order of the names.
+/// The changes that a sync writes, in the order of the names.
 #[tactic(auto, using(crate::specs::lemmas::Changing::changes_some, crate::specs::lemmas::Changing::changes_skip))]
 pub fn changes(alloc: Global, states: &BTreeMap<Name, KeyState>) -> Result<Vec<Change>, AllocError>
     ensures { IfOk result (λ changes. changes.items ≡ changes_of states.now.entries) }

@@ -6,7 +6,7 @@
 //!
 //! A map holds encodings, each beside the value that it encodes ([`StoredValue`]): a value is decoded once, when it
 //! comes from the disk, and encoded once, when it is put. What comes from the disk is judged: bytes that encode no
-//! value are unreadable, and no salvage. What a sync hands down ([`KeyMaps::changes`]) is exactly what differs between
+//! value are unreadable, and no salvage. What a sync writes ([`KeyMaps::changes`]) is exactly what differs between
 //! the maps.
 #![tactic(auto)]
 

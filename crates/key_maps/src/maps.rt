@@ -89,14 +89,14 @@ impl KeyMaps {
         key_states::names(alloc, &self.states)
     }
 
-    /// The size of the visible map with a key of this length under this name, in bytes. Does not allocate.
+    /// The size in bytes that the visible map would have with a key of this length under this name. Does not allocate.
     pub fn size_with(&self, name: &Name, len: u32) -> u64
         ensures { (key : Element) → key.len ≡ len → result ≡ size_of (with_element self.now.visible name.now key) }
     {
         self.extent_with(name, len).size
     }
 
-    /// The number and the size of the visible keys with a key of this length under this name.
+    /// The number and the size that the visible keys would have with a key of this length under this name.
     #[tactic(auto, using(crate::specs::lemmas::Both::size_set, crate::specs::lemmas::Both::size_new, crate::specs::lemmas::Both::size_gone, crate::specs::lemmas::Both::count_set, crate::specs::lemmas::Both::count_new, crate::specs::lemmas::Both::visible_sorted))]
     fn extent_with(&self, name: &Name, len: u32) -> Extent
         ensures counted { (key : Element) → key.len ≡ len → result.count
@@ -116,7 +116,7 @@ impl KeyMaps {
         }
     }
 
-    /// Puts a readable key under this name. Allocates only for a name that stands in neither map.
+    /// Sets a readable key. Allocates only for a name that is in neither map.
     pub fn put(&mut self, name: &Name, key: KeyElement) -> Result<(), AllocError>
         requires readable { IsTrue (is_readable key.content) }
         requires place { element_at self.old.visible name.now ≡ None → length self.old.visible < KEYS }
@@ -130,7 +130,7 @@ impl KeyMaps {
         Ok(())
     }
 
-    /// Makes nothing visible under this name, and says whether anything was. Does not allocate.
+    /// Removes a key, and says whether it was visible. Does not allocate.
     pub fn remove(&mut self, name: &Name) -> bool
         ensures was { result ≡ has self.old.visible name.now }
         ensures removed { self.new ≡ record self.old { visible = without self.old.visible name.now } }
@@ -148,7 +148,7 @@ impl KeyMaps {
         true
     }
 
-    /// Makes nothing visible at all. Does not allocate.
+    /// Removes all keys. Does not allocate.
     pub fn clear(&mut self)
         ensures { self.new ≡ record self.old { visible = [] } }
     {
@@ -156,7 +156,7 @@ impl KeyMaps {
         self.visible = Extent { count: 0, size: 0 };
     }
 
-    /// Makes visible what is synchronised. Does not allocate.
+    /// Discards the pending changes: the synchronised keys are visible again. Does not allocate.
     pub fn discard(&mut self)
         ensures { self.new ≡ record self.old { visible = self.old.synced } }
     {
@@ -164,7 +164,7 @@ impl KeyMaps {
         self.visible = self.synced;
     }
 
-    /// Makes synchronised what is visible. Does not allocate.
+    /// Marks the visible keys as synchronised. Does not allocate.
     pub fn mark_synced(&mut self)
         ensures { self.new ≡ record self.old { synced = self.old.visible } }
     {
@@ -181,8 +181,8 @@ impl KeyMaps {
         key_states::has_changes(&self.states)
     }
 
-    /// What a sync hands down: the changes that make the synchronised map into the visible one, exactly where they
-    /// differ.
+    /// The changes that a sync writes: those that make the synchronised map into the visible one, one for each key in
+    /// which they differ.
     pub fn changes(&self, alloc: Global) -> Result<Vec<Change>, AllocError>
         ensures { IfOk result (λ changes. AreChanges changes.items self.now.synced self.now.visible) }
     {

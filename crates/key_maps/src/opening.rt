@@ -1,4 +1,4 @@
-//! The maps of what is on the disk.
+//! The maps of a storage that is opened.
 
 ghost use Rattle.std.specs.Prelude.{◌≡◌, ◌≤◌, ◌+◌, IfOk, length, sum_by};
 ghost use Rattle.std.specs.List.{All};
@@ -17,7 +17,8 @@ use std::alloc::{AllocError, Global};
 use std::collections::BTreeMap;
 
 impl KeyMaps {
-    /// The maps of the keys that these entries are: each is judged, and nothing is pending.
+    /// The maps of the keys in these entries, with nothing pending. A content that is not the encoding of a value makes
+    /// its key unreadable.
     #[tactic(auto, using(crate::specs::lemmas::Opened::opened_synced, crate::specs::lemmas::Opened::opened_visible, crate::specs::lemmas::Opened::opened_measured, crate::specs::lemmas::Opened::judged_size))]
     pub fn new(alloc: Global, entries: &[Entry]) -> Result<KeyMaps, AllocError>
         requires keys { All IsKeyEntry entries.now }

@@ -95,7 +95,7 @@ impl StoredValue {
         self.bytes.len() as u32
     }
 
-    /// A copy that is equal.
+    /// An equal copy.
     pub fn copy(&self, alloc: Global) -> Result<StoredValue, AllocError>
         ensures { IfOk result (λ copy. copy ≡ self.now) }
     {

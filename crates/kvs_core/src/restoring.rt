@@ -13,7 +13,8 @@ use key_maps::{KeyElement, StoredValue};
 use per_base::{Limit, Name, PerError};
 
 impl KeySession {
-    /// A readable key stays; an unreadable one becomes its salvage, else its initial value, else it goes.
+    /// Recovers a key: a readable one stays as it is; an unreadable one becomes its salvage, else its initial value,
+    /// else it is removed.
     ///
     /// # Errors
     ///
@@ -95,7 +96,7 @@ impl KeySession {
         }
     }
 
-    /// The initial value of a key becomes its visible value.
+    /// Sets a key to its initial value.
     ///
     /// # Errors
     ///

@@ -8,7 +8,7 @@ use per_base::Change;
 use std::alloc::AllocError;
 
 impl KeySession {
-    /// Makes visible what is synchronised: the pending changes are gone. Does not allocate.
+    /// Discards the pending changes: the synchronised keys are visible again. Does not allocate.
     pub fn discard_pending_changes(&mut self)
         ensures { self.new ≡ record self.old { visible = self.old.synced } }
     {
@@ -22,15 +22,15 @@ impl KeySession {
         self.maps.has_changes()
     }
 
-    /// What a sync hands down: the changes that make the synchronised map into the visible one, exactly where they
-    /// differ.
+    /// The changes that a sync writes: those that make the synchronised map into the visible one, one for each key in
+    /// which they differ.
     pub fn changes(&self) -> Result<Vec<Change>, AllocError>
         ensures { IfOk result (λ changes. AreChanges changes.items self.now.synced self.now.visible) }
     {
         self.maps.changes(self.alloc)
     }
 
-    /// Makes synchronised what is visible, once the changes are written. Does not allocate.
+    /// Marks the visible keys as synchronised, once the changes are written. Does not allocate.
     pub fn mark_synced(&mut self)
         ensures { self.new ≡ record self.old { synced = self.old.visible } }
     {

@@ -20,7 +20,7 @@ use std::mem;
 use value_model::{Value, ValueError};
 
 impl KeySession {
-    /// Makes a value visible under a name.
+    /// Sets a key to a value. The key is created where the name is not visible.
     ///
     /// # Errors
     ///
@@ -46,7 +46,7 @@ impl KeySession {
         self.write(name, value)
     }
 
-    /// Makes the value of a Rust thing visible under a name.
+    /// Sets a key to a value of a Rust type. The key is created where the name is not visible.
     ///
     /// # Errors
     ///
@@ -75,7 +75,7 @@ impl KeySession {
         }
     }
 
-    /// Makes nothing visible under a name.
+    /// Removes a key.
     ///
     /// # Errors
     ///
@@ -97,7 +97,7 @@ impl KeySession {
         Ok(())
     }
 
-    /// Makes nothing visible at all.
+    /// Removes all keys.
     ///
     /// # Errors
     ///
@@ -115,7 +115,7 @@ impl KeySession {
         Ok(())
     }
 
-    /// Puts a value under a name, where there is a place and room for it.
+    /// Sets a key to a value, unless there are too many keys or it does not fit.
     #[tactic(auto, using(crate::proofs::Contents::few_without, crate::proofs::Contents::has_place, crate::proofs::Contents::placed_there))]
     fn write(&mut self, name: &Name, value: Value) -> Result<(), PerError>
         ensures ok { OnOk result (calls.with_placed self.old.config self.old.visible name.now (encoding value)
@@ -139,14 +139,14 @@ impl KeySession {
         }
     }
 
-    /// Whether a key of this name would be one too many.
+    /// Whether a key of this name would be one more than a storage may have.
     pub(crate) fn is_full(&self, name: &Name) -> bool
         ensures { result ≡ (not (has self.now.visible name.now) && nat_le 1024 (length self.now.visible)) }
     {
         self.maps.count() >= KEYS && !self.maps.has(name)
     }
 
-    /// Puts an encoding under a name that has a place, where there is room for it.
+    /// Sets a key to a stored value, unless it does not fit. The key is visible, or one more is allowed.
     pub(crate) fn fit(&mut self, name: &Name, stored: StoredValue) -> Result<(), PerError>
         requires { element_at self.old.visible name.now ≡ None → length self.old.visible < KEYS }
         ensures ok { OnOk result (calls.with_room self.old.config
@@ -185,7 +185,7 @@ impl KeySession {
         Ok(())
     }
 
-    /// Puts a readable key for which there is a place and room.
+    /// Sets a readable key, which fits. It is visible, or one more is allowed.
     pub(crate) fn put(&mut self, name: &Name, key: KeyElement) -> Result<(), PerError>
         requires readable { IsTrue (is_readable key.content) }
         requires place { element_at self.old.visible name.now ≡ None → length self.old.visible < KEYS }

@@ -34,7 +34,7 @@ pub record ReadsAs (asked : AskedKey) (shape : Shape) (value : Tree) (image : Im
   pub value_is : HasValue asked (keys_in view) value
 
 -- a stop in this case, and then damage that spares as many copies as must agree, of those that lacked nothing, leaves
--- the value of before or that of after
+-- the old value or the new one
 abbrev pub LeavesValue : AskedKey → Shape → (lacking : List ℕ) → (before after : Tree) → Case → Type 0
 LeavesValue asked shape lacking before after c = IsSound shape.place c → (damaged : List ℕ) (image : Image)
     → DecaysFor (IsPiece shape.place) damaged c.left image → HasEnough shape damaged lacking

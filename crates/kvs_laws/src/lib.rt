@@ -3,7 +3,7 @@
 //! These are the laws by which a program that embeds a key-value storage says what becomes of its values. Each is the
 //! contract of a function with nothing to do, which a caller calls to cite it. A value that was set is what is got
 //! ([`set_is_got`]). An open storage reads on its disk as it shows, and a stop at any moment of a sync, and then damage
-//! that spares as many copies as must agree, leaves the value of before or that of after ([`values_stand`]).
+//! that spares as many copies as must agree, leaves the old value or the new one ([`values_stand`]).
 #![tactic(auto)]
 
 mod laws;

@@ -21,7 +21,7 @@ is_synced kvs = maps.same_map kvs.session.synced kvs.session.visible
 abbrev pub marked_synced : TwoMaps → TwoMaps
 marked_synced session = record session { synced = session.visible }
 
--- the view after a sync: that of before where nothing differs
+-- the view after a sync: the old one where nothing differs
 abbrev pub synced_view : KvsSession → View
 synced_view kvs = maps.view_once_synced (store_shape kvs.store) (view_in kvs.store) kvs.session.synced
     kvs.session.visible

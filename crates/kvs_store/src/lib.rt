@@ -2,12 +2,12 @@
 //!
 //! [`open_kvs`] opens the storage and reads all of its keys into memory, each judged: bytes that encode no value are
 //! unreadable. A [`Kvs`] then holds what is synchronised and what the calls see. Every call but
-//! [`Kvs::sync_to_storage`] works on what the calls see alone and touches no disk; a sync hands down exactly the keys
+//! [`Kvs::sync_to_storage`] works on what the calls see alone and touches no disk; a sync writes exactly the keys
 //! that differ, all at once.
 //!
 //! The promises: an opening shows just what the storage denotes, and reports just what was lacking or unreadable
 //! before it. A sync that answers Ok has made what the calls see the storage's content, and one that hands the storage
-//! back has done nothing. A stop at any moment leaves the storage of before or that of after, and no file outside its
+//! back has done nothing. A stop at any moment leaves the storage as before or as after, and no file outside its
 //! place changes.
 //!
 //! Limits: those of the layers below, 1,024 keys and 4,194,304 bytes; a storage is used with the disk of its opening,

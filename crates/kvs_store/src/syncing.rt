@@ -71,7 +71,7 @@ impl Kvs {
         ensures text { is_synced self ≡ false → IfOk result (λ kvs. length (index_text (index_in kvs.store))
             ≡ index_length (store_shape self.store).kind (view_in kvs.store).entries) }
 
-        // No file outside the place changes, and a stop at any moment leaves the storage of before or that of after.
+        // No file outside the place changes, and a stop at any moment leaves the storage as before or as after.
         ensures storing { IsStoring D.told (store_shape self.store) (Opens (synced_view self) []) (D.medium disk.old)
             (D.medium disk.new) }
     {

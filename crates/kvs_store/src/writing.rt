@@ -16,7 +16,7 @@ use per_value::PerValue;
 use value_model::Value;
 
 impl Kvs {
-    /// Makes a value visible under a name.
+    /// Sets a key to a value. The key is created where the name is not visible.
     ///
     /// # Errors
     ///
@@ -40,7 +40,7 @@ impl Kvs {
         self.session.set_any(name, value)
     }
 
-    /// Makes the value of a Rust thing visible under a name.
+    /// Sets a key to a value of a Rust type. The key is created where the name is not visible.
     ///
     /// # Errors
     ///
@@ -61,7 +61,7 @@ impl Kvs {
         self.session.set_value(name, value)
     }
 
-    /// Makes nothing visible under a name. Does not allocate.
+    /// Removes a key. Does not allocate.
     ///
     /// # Errors
     ///
@@ -77,7 +77,7 @@ impl Kvs {
         self.session.remove_key(name)
     }
 
-    /// Makes nothing visible at all. Does not allocate.
+    /// Removes all keys. Does not allocate.
     ///
     /// # Errors
     ///
@@ -93,7 +93,8 @@ impl Kvs {
         self.session.remove_all_keys()
     }
 
-    /// A readable key stays; an unreadable one becomes its salvage, else its initial value, else it goes.
+    /// Recovers a key: a readable one stays as it is; an unreadable one becomes its salvage, else its initial value,
+    /// else it is removed.
     ///
     /// # Errors
     ///
@@ -117,7 +118,7 @@ impl Kvs {
         self.session.recover_key(name)
     }
 
-    /// The initial value of a key becomes its visible value.
+    /// Sets a key to its initial value.
     ///
     /// # Errors
     ///
@@ -138,7 +139,7 @@ impl Kvs {
         self.session.reset_key(name)
     }
 
-    /// Makes visible what is synchronised: the pending changes are gone. Does not allocate.
+    /// Discards the pending changes: the synchronised keys are visible again. Does not allocate.
     pub fn discard_pending_changes(&mut self)
         ensures discarded { self.new ≡ showing self.old (kvs_session self.old).synced }
     {

@@ -83,16 +83,15 @@ impl MemSystem {
         self.files == other.files
     }
 
-    /// Whether nothing is lost that a failed sync was to write: no sync of a file failed since the folder was made or
-    /// power was lost.
+    /// Whether no write was lost by a failed sync: none of a file failed since the folder was made or power was lost.
     pub fn is_whole(&self) -> bool
         ensures { IsTrue result → (f : ℕ) → IsWhole (mem_medium self.now) f }
     {
         drops_nothing(self.history.as_slice())
     }
 
-    /// That many bytes of a file, as far as it has them, cannot be read until they are written. They are zeros to any
-    /// who reads over them. Nothing of the folder may be pending: what is counts as durable from here on.
+    /// Makes `len` bytes of a file from `at` on, as far as it has them, unreadable until they are written; who reads on
+    /// after them takes them for zeros. Nothing of the folder may be pending: what is counts as durable from here on.
     pub fn spoil(&mut self, file: u32, at: u64, len: u64) -> Result<(), AllocError> {
         let there = (self.bytes(file).len() as u64).saturating_sub(at);
         let stretch = Stretch {

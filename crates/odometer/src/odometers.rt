@@ -96,7 +96,7 @@ impl<D: Disk + Drop> Odometer<D> {
         ensures too_far { IsErrOf result Refusal.TooFar ↔ (u32.MAX < self.old.total + kilometres) }
         ensures refused { IsErrOf result Refusal.TooFar → self.new ≡ self.old }
 
-        // A stop at any moment, however the call ends, leaves the total of before or that of after.
+        // A stop at any moment, however the call ends, leaves the old total or the new one.
         ensures any_moment { IsTrue D.told → TotalThroughout self.old.storage.kvs self.old.total
             (self.old.total + kilometres) (D.medium self.old.storage.disk) (D.medium self.new.storage.disk) }
         ensures cause { IsErrOf result (Refusal.Storage PerError.PhysicalStorageFailure)

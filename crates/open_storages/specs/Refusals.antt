@@ -23,7 +23,7 @@ has_nothing_pending o = same_map (synced_in_session (session_in o)) (seen_of (se
 abbrev pub worn : Open → Bool
 worn o = not (has_nothing_pending o) && is_worn (view_in (store_in o))
 
--- the view once what the calls see is durable: that of before where nothing differs
+-- the view once what the calls see is durable: the old one where nothing differs
 abbrev pub durable_view : Open → View
 durable_view o = view_once_synced (store_shape (store_in o)) (view_in (store_in o)) (synced_in_session (session_in o))
     (seen_of (session_in o))

@@ -5,7 +5,7 @@
 //! [`Open::flush`] and [`Open::close`] make durable what the calls see, all at once, and write only what differs.
 //!
 //! The promises: each call answers as its row says, every refusal in its order with what it carries, and a refused call
-//! changes nothing. A stop at any moment leaves the storage of before or that of after, and no file outside its place
+//! changes nothing. A stop at any moment leaves the storage as before or as after, and no file outside its place
 //! changes. Where memory ran out or the device failed, the storage is dropped, and what stands on the disk is what the
 //! next opening finds.
 #![tactic(auto)]

@@ -58,7 +58,7 @@ impl Open {
         ensures passes { OnOk result ((D.medium disk.new).faults ≡ (D.medium disk.old).faults) }
         ensures fed { IsErrOf result Stop.OutOfMemory → disk.new ≡ disk.old }
 
-        // No file outside the place changes, and a stop at any moment leaves the storage of before or that of after.
+        // No file outside the place changes, and a stop at any moment leaves the storage as before or as after.
         ensures storing { IsStoring D.told (store_shape (store_in self)) (Opens (durable_view self) [])
             (D.medium disk.old) (D.medium disk.new) }
     {

@@ -32,7 +32,7 @@ pub enum Cause {
     Application,
 }
 
-/// What is known of a file beside its content: three moments in seconds, and the causes of its making and last change.
+/// What is known of a file besides its content: three moments in seconds, and the causes of its making and last change.
 #[derive(Clone, Copy, Debug, PartialEq, Eq)]
 pub struct FileInfo {
     pub created: u64,
@@ -105,7 +105,7 @@ impl Content {
 }
 
 impl Element {
-    /// A copy that is equal in all.
+    /// An equal copy.
     pub fn copy(&self) -> Result<Element, AllocError>
         ensures { IfOk result (λ copy. copy ≡ self.now) }
     {
@@ -119,7 +119,7 @@ impl Element {
 }
 
 impl Entry {
-    /// A copy that is equal in all.
+    /// An equal copy.
     pub fn copy(&self) -> Result<Entry, AllocError>
         ensures { IfOk result (λ copy. copy ≡ self.now) }
     {
@@ -146,7 +146,7 @@ impl Entry {
 }
 
 impl Fresh {
-    /// A copy that is equal in all.
+    /// An equal copy.
     pub fn copy(&self) -> Result<Fresh, AllocError>
         ensures { IfOk result (λ copy. copy ≡ self.now) }
     {

@@ -105,7 +105,7 @@ pub enum PerError {
 }
 
 impl Unit {
-    /// A copy that is equal in all.
+    /// An equal copy.
     pub fn copy(&self) -> Result<Unit, AllocError>
         ensures { IfOk result (λ copy. copy ≡ self.now) }
     {
@@ -121,7 +121,7 @@ impl Unit {
 }
 
 impl Holder {
-    /// A copy that is equal in all.
+    /// An equal copy.
     pub fn copy(&self) -> Result<Holder, AllocError>
         ensures { IfOk result (λ copy. copy ≡ self.now) }
     {
@@ -134,7 +134,7 @@ impl Holder {
 }
 
 impl PerError {
-    /// A copy that is equal in all.
+    /// An equal copy.
     pub fn copy(&self) -> Result<PerError, AllocError>
         ensures { IfOk result (λ copy. copy ≡ self.now) }
     {

@@ -59,14 +59,14 @@ impl Flags for OpenMode {
 ghost use Rattle.per_base.specs.Modes.{appends, at_beginning, at_end, truncates};
 
 impl OpenMode {
-    /// Whether the position is to stand at the beginning.
+    /// Whether the file is opened with the position at its start.
     pub fn is_at_the_beginning(self) -> bool
         ensures { result ≡ at_beginning self }
     {
         self.contains(OpenMode::AT_THE_BEGINNING)
     }
 
-    /// Whether the position is to stand at the end.
+    /// Whether the file is opened with the position at its end.
     pub fn is_at_the_end(self) -> bool
         ensures { result ≡ at_end self }
     {

@@ -29,7 +29,7 @@ pub struct Report {
 }
 
 impl Report {
-    /// A copy that is equal in all.
+    /// An equal copy.
     pub fn copy(&self) -> Result<Report, AllocError>
         ensures { IfOk result (λ copy. copy ≡ self.now) }
     {

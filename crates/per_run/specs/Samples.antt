@@ -1,4 +1,4 @@
--- Samples, computed: words and the jobs that they say, and the summary of a synthetic workload.
+-- Samples, computed: arguments and the jobs that they ask for, and the summary of a synthetic workload.
 use Rattle.std.specs.Prelude.{◌≡◌, ℕ, [], ◌∷◌, Option, Some, None, codes}
 use Rattle.std.proofs.Common.{refl}
 use Rattle.std.specs.Fmt.{digits}
@@ -15,7 +15,7 @@ use Rattle.per_run.specs.declared.words.JobKind.TheVariants.{Import, RecoverRoot
 use Rattle.per_run.specs.Jobs.{summary}
 use Rattle.per_run.specs.Words.{job_of}
 
--- ---- words
+-- ---- arguments
 
 abbrev job : JobKind → Option Job
 job kind = Some (record { dir = codes "d"; kind = kind; flash = None })

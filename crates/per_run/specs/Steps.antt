@@ -54,6 +54,7 @@ pub record Blamed (ending : Ending) (before now : ℕ) : Type 0 where
   pub later : before ≤ now
   pub sink : ending ≡ Sink → Rose before now
 
+-- the same of a result: an error ends the handling midway, and it is the sink's only where the sink's count rose
 pub record Blames {T : Type 0} (before now : ℕ) (result : Result T Ending) : Type 0 where
   pub later : before ≤ now
   pub sink : IsErrOf result Sink → Rose before now

@@ -1,4 +1,4 @@
--- The words of the command line that are accepted, and the job that they say.
+-- The arguments of the command line that are accepted, and the job that they ask for.
 use Rattle.std.specs.Prelude.{◌≡◌, ◌==◌, ◌-◌, ℕ, List, [], ◌∷◌, ◌++◌, length, fold, ⊤, Bool, true, false, ◌&&◌}
 use Rattle.std.specs.Prelude.{nat_eq, Option, Some, None, option_map, Result, Ok, Err, codes, if◌then◌else◌}
 use Rattle.std.specs.Str.{bytes_eq}
@@ -33,12 +33,12 @@ option_rules = record (named_rule (codes "dir") Set) { required = true } ∷ nam
     ∷ named_rule (codes "export") Set ∷ named_rule (codes "import") Set ∷ named_rule (codes "serve") SetTrue
     ∷ named_rule (codes "list") Set ∷ named_rule (codes "recover-root") Set ∷ []
 
--- with these options; the words come without the program's name
+-- the program with these options; its arguments come without its name
 abbrev pub command : App
 command = fold with_rule
     (record (new_app (codes "per")) { top = record (new_app (codes "per")).top { no_binary_name = true } }) option_rules
 
--- it has matches for the words
+-- the program accepts the arguments
 abbrev pub has_matches : List (List ℕ) → Bool
 has_matches words = length (fault_of command words) == 0
 
@@ -119,7 +119,7 @@ abbrev pub flash_of : Option (List ℕ) → Option (Option ℕ)
 flash_of None = Some None
 flash_of (Some value) = option_map Some (number_in 4 4096 value)
 
--- the word that names the folder is there, and not empty
+-- the name of the folder, where it is given and not empty
 abbrev pub dir_of : Option (List ℕ) → Option (List ℕ)
 dir_of None = None
 dir_of (Some []) = None
@@ -132,9 +132,9 @@ job_in rows = do
   dir ← dir_of (first_of (codes "dir") rows)
   Some (record { dir = dir; kind = kind; flash = flash })
 
--- ---- the job, as the words say it
+-- ---- the job that the arguments ask for
 
--- they are accepted exactly where they say one
+-- the job, and none exactly where the arguments are refused
 unfoldable pub job_of : List (List ℕ) → Option Job
 job_of words = if has_matches words then job_in (matches_of command words) else None
 

@@ -97,7 +97,7 @@ open_step app r name kind = storage_in r.disk name (Some kind) >>= λ f. unless_
 
 -- ---- making a session durable
 
--- The state of an open storage once it holds what the calls see: that of before where nothing differs, and else the
+-- The state of an open storage once it holds what the calls see: the old one where nothing differs, and else the
 -- next generation's.
 abbrev pub durable_state : ℕ → FoundStorage → State → Session → Result State PerError
 durable_state app f (Opens v others) s = refuse (not (same_map (synced_in_session s) (seen_of s)) && is_worn v)

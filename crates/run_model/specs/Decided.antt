@@ -53,7 +53,7 @@ one_storage g bank version s state = record {
   states = state ∷ [];
 }
 
--- it opens at the view of before, or at that of after
+-- it opens at the view before, or at the one after
 abbrev pub OpensAsEither : State → View → State → Type 0
 OpensAsEither left before after = (w : View) × (rest : List View) × (left ≡ Opens w rest)
     × (SameHeadings w before ⊎ ((v : View) × (others : List View) × (after ≡ Opens v others) × SameHeadings w v))
@@ -73,7 +73,7 @@ is_something g bank version s state e = let no : 1 ≡ 0 = ap code e in omega (a
     code (absent h) = 1
     code (installed h active previous) = 1
 
--- A storage whose command failed at the device opens, by what reads then gave, at the view of before or at that of
+-- A storage whose command failed at the device opens, by what reads then gave, at the view before or at the one
 -- after: it is not emptied.
 pub opens_as_either : (app g bank version : ℕ) (s : StorageData) (v : View) (others : List View) (after : State)
     (d : Doubt)

@@ -114,7 +114,7 @@ NotFurtherBackLaw = (app : ℕ) (w : World) (next : Disks) (c : Case) → IsSoun
     → (disk_at (disks w) app).lacking ≡ [] → IsMomentOf app w [] next c
     → (says_at c.left app ≡ (disk_at (disks w) app).says) ⊎ (says_at c.left app ≡ (disk_at next app).says)
 
--- A storage whose command failed at the device opens, by what reads then gave, at the view of before or at that of
+-- A storage whose command failed at the device opens, by what reads then gave, at the view before or at the one
 -- after: it is not emptied.
 abbrev pub OpensAsEitherLaw : Type 0
 OpensAsEitherLaw = (app g bank version : ℕ) (s : StorageData) (v : View) (others : List View) (after : State)

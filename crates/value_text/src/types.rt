@@ -126,13 +126,13 @@ fn type_in(alloc: Global, text: &[u8]) -> Result<ValueType, DecodeError>
     Ok(value_type)
 }
 
-/// The type that the text spells, all of the text.
+/// Parses the whole text as a type.
 ///
 /// # Errors
 ///
-/// `NotAValue` exactly where the text is that of no type of depth at most 8; `OutOfMemory`.
+/// `NotAValue` exactly where the text is not that of a type of depth at most 8; `OutOfMemory`.
 pub fn parse_type(alloc: Global, text: &[u8]) -> Result<ValueType, DecodeError>
-    // what is read is spelled so, and what is spelled so is read
+    // the text is that of the type found, and no text of a type is refused
     ensures found { IfOk result (λ t. IsType (kind_of t) × (text.now ≡ type_text (kind_of t))) }
     ensures only { IsErrOf result DecodeError.NotAValue → (k : Kind) → IsType k → text.now ≢ type_text k }
 

@@ -26,11 +26,11 @@ fn unsigned_in(max: u64, text: &[u8]) -> Result<u64, DecodeError>
     Ok(n)
 }
 
-/// The number that the whole text writes in decimal, at most `max`: without a plus sign and without leading zeros.
+/// Parses the whole text as a decimal number, at most `max`, without a plus sign and without leading zeros.
 ///
 /// # Errors
 ///
-/// `NotAValue` exactly where the text is that of no such number. It does not allocate.
+/// `NotAValue` exactly where the text is no such number. Does not allocate.
 pub fn parse_unsigned(max: u64, text: &[u8]) -> Result<u64, DecodeError>
     ensures found { IfOk result (λ n. (n ≤ max) × (text.now ≡ decimal n)) }
     ensures only { IsErrOf result DecodeError.NotAValue → (n : ℕ) → n ≤ max → text.now ≢ decimal n }
@@ -56,12 +56,12 @@ fn signed_in(max: u64, text: &[u8]) -> Result<i64, DecodeError>
     Ok(z)
 }
 
-/// The number that the whole text writes in decimal, from `-max - 1` to `max`: a minus stands only before a number that
-/// is not 0.
+/// Parses the whole text as a decimal number from `-max - 1` to `max`, without a plus sign and without leading zeros; a
+/// minus sign before 0 is not allowed.
 ///
 /// # Errors
 ///
-/// `NotAValue` exactly where the text is that of no such number. It does not allocate.
+/// `NotAValue` exactly where the text is no such number. Does not allocate.
 pub fn parse_signed(max: u64, text: &[u8]) -> Result<i64, DecodeError>
     requires { max < 2 ^ 63 }
     ensures found { IfOk result (λ z. (mag z ≤ max) × (text.now ≡ signed_decimal z)) }
@@ -86,11 +86,11 @@ fn bytes_in(alloc: Global, text: &[u8]) -> Result<Bytes, DecodeError>
     Ok(bytes)
 }
 
-/// The bytes that the whole text writes in two lower-case hexadecimal digits each.
+/// Parses the whole text as bytes, each of two lower-case hexadecimal digits.
 ///
 /// # Errors
 ///
-/// `NotAValue` exactly where the text is that of no bytes; `OutOfMemory`.
+/// `NotAValue` exactly where the text is not of this form; `OutOfMemory`.
 pub fn parse_hex(alloc: Global, text: &[u8]) -> Result<Bytes, DecodeError>
     ensures found { IfOk result (λ b. text.now ≡ hex_text b) }
     ensures only { IsErrOf result DecodeError.NotAValue → (b : List ℕ) → ((i : ℕ) → slice_index b i < 256)
