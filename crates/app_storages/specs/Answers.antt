@@ -35,8 +35,8 @@ abbrev pub StorageCallMayLead : (app now : ℕ) → Call → (before : Applicati
 StorageCallMayLead app now c before next = (next ≡ before.disk)
     ⊎ (next ≡ (concluded before (app_step app before now c)).1.disk)
 
--- its device failed, after the refusals that need none: the application is what the failure leaves, and its files are
--- on the way
+-- the device of a call failed, after the refusals that need none: the application is what the failure leaves, and its
+-- files are on the way
 pub record HasStorageCallFailed (app now : ℕ) (c : Call) (before after : Application) (old new : Medium) : Type 0 where
   pub reaches : IsTrue (reaches_device app before now c)
   pub next : App
@@ -44,7 +44,7 @@ pub record HasStorageCallFailed (app now : ℕ) (c : Call) (before after : Appli
   pub is_after : after ≡ after_failure (app_at new.image app) before (found_named before c)
   pub calls : CallsTo app next old new
 
--- memory ran out: it is in progress
+-- memory ran out for a call: it is in progress
 pub record HasStorageCallStopped (app now : ℕ) (c : Call) (before : Application) (old new : Medium) : Type 0 where
   pub next : App
   pub leads : StorageCallMayLead app now c before next

@@ -36,7 +36,7 @@ area_of place number = area place (number - 1)
 abbrev pub AllFull : Place → (blocks bytes : List ℕ) → Image → Type 0
 AllFull place blocks bytes image = (c : ℕ) → c < place.copies → IsFull (image (area place c)) blocks bytes
 
--- so has each of these copies, counted from 1
+-- each of these copies, counted from 1, has these bytes within its area
 abbrev pub NamedFull : Place → (copies blocks bytes : List ℕ) → Image → Type 0
 NamedFull place copies blocks bytes image = (i : ℕ) → i < length copies
     → IsFull (image (area_of place (slice_index copies i))) blocks bytes
@@ -53,7 +53,7 @@ HoldsPart file blocks bytes i = (j : ℕ) → j < 256 → 256 * i + j < length b
 abbrev pub HoldsBytes : (file blocks bytes : List ℕ) → Type 0
 HoldsBytes file blocks bytes = (i : ℕ) → i < length blocks → HoldsPart file blocks bytes i
 
--- each block has its part where this is as in an earlier content
+-- each block whose part is as in an earlier content has that part
 abbrev pub HoldsShared : (file blocks bytes was : List ℕ) → Type 0
 HoldsShared file blocks bytes was = (i : ℕ) → i < length blocks → is_changed bytes was i ≡ false
     → HoldsPart file blocks bytes i

@@ -26,7 +26,7 @@ pub record IsFirstFree (set : List Bool) (block : ℕ) : Type 0 where
   pub taken : (b : ℕ) → b < block → contains set b ≡ true
   pub free : block < length set → contains set block ≡ false
 
--- each is above those before it
+-- each number is above those before it
 abbrev pub Ascend : List ℕ → Type 0
 Ascend numbers = (i j : ℕ) → i < j → j < length numbers → slice_index numbers i < slice_index numbers j
 

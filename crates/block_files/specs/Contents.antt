@@ -45,7 +45,7 @@ lacking_in value given inside = map suc (filter
     (λ c. lacks value (slice_index_or given c None) (slice_index_or inside c false))
     (range_with_len 0 (length given)))
 
--- each is the number of one of that many copies, counted from 1
+-- each number is that of one of that many copies, counted from 1
 abbrev pub AreCopies : ℕ → List ℕ → Type 0
 AreCopies copies numbers = (i : ℕ) → i < length numbers → (1 ≤ slice_index numbers i) × (slice_index numbers i ≤ copies)
 

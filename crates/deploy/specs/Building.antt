@@ -50,8 +50,8 @@ pub record IsStaged (app : ℕ) (s : Staged) : Type 0 where
   pub fit : AllFit (map storage_data s.version.deployment.storages) s.contents.items
   pub within : s.built ≤ length s.contents.items
 
--- it is in use on a disk: the root stands, and those of the next version's storages that are made open at their
--- contents
+-- an update in progress is in use on a disk: the root stands, and those of the next version's storages that are made
+-- open at their contents
 pub record StagedAt (told : Bool) (image : Image) (app : ℕ) (s : Staged) : Type 0 where
   pub memory : IsStaged app s
   pub root_on : IsTrue told → IsRootOn image app (Installed s.root)
@@ -63,7 +63,7 @@ abbrev pub begun_as : Begin → Result InProgress PerError
 begun_as (begin.Ready s) = Ok (staged_progress s)
 begun_as (begin.Refused root e) = Err e
 
--- it is ready over the same root, or the root is handed back
+-- an update that was begun is ready over the same root; one that was refused hands the root back
 abbrev pub IsUpdateBegun : (told : Bool) (image : Image) (app : ℕ) → Root → Begin → Type 0
 IsUpdateBegun told image app root (begin.Ready s) = StagedAt told image app s × (staged_root s ≡ root)
 IsUpdateBegun told image app root (begin.Refused same e) = (same ≡ root) × RootAt told image app same

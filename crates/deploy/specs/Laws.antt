@@ -25,7 +25,7 @@ RootFrameLaw = (told : Bool) (app : ℕ) (old new : Image) (root : Root) → app
     → (IsTrue told → Spares (IsRootFile app) old new)
     → RootAt told old app root → RootAt told new app root
 
--- and an update in progress where no file of its application does
+-- an update in progress stays in use where no file of its application changes
 abbrev pub StagedFrameLaw : Type 0
 StagedFrameLaw = (told : Bool) (app : ℕ) (old new : Image) (s : Staged) → (IsTrue told → Spares (IsFileOf app) old new)
     → StagedAt told old app s → StagedAt told new app s

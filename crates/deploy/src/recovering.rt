@@ -367,7 +367,7 @@ fn counts(alloc: Global, kind: StoreKind, bytes: &[u8]) -> Result<bool, AllocErr
     }
 }
 
-/// The bytes of the names and contents together, which a storage's maximum bounds.
+/// How many bytes the names and the contents are together: the size that a storage's maximum bounds.
 pub fn size_of(contents: &[Fresh]) -> u64
     requires few { length contents.now ≤ 1024 }
     requires small { AllByRecursion (λ x. length x.bytes ≤ 1048576) contents.now }

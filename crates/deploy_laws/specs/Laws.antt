@@ -51,7 +51,7 @@ abbrev pub AloneLaw : Type 0
 AloneLaw = (app g : ℕ) (text : List ℕ) (image : Image) → IsAlone image (root_place app) g text
     → app_at image app ≡ app_saying image app (says_by g (root_of text))
 
--- and its places are clean, where those that the text names are
+-- where a root's text is held alone, the application's places are clean if those that the text names are
 abbrev pub AloneCleanLaw : Type 0
 AloneCleanLaw = (app g : ℕ) (text : List ℕ) (root : Root) (image : Image)
     → IsAlone image (root_place app) g text → root_of text ≡ Some root
@@ -64,7 +64,7 @@ abbrev pub RootFilesLaw : Type 0
 RootFilesLaw = (app file : ℕ) → app < 8 → IsOfPlace (root_place app) file
     → (first_file app ≤ file) × (file < first_file app + 12)
 
--- and each storage of a bank 32
+-- each storage of a bank has 32 files
 abbrev pub StorageFilesLaw : Type 0
 StorageFilesLaw = (app bank number file : ℕ) (s : StorageData) → app < 8 → bank ≤ 1 → number < 16
     → IsOfPlace (storage_shape app bank number s).place file
@@ -112,7 +112,7 @@ abbrev pub OtherApplicationsLaw : Type 0
 OtherApplicationsLaw = (one other : ℕ) (old new : Image) → other < 8 → ¬ (one ≡ other) → Spares (IsNoFileOf one) old new
     → (app_at new other ≡ app_at old other) × (IsCleanApp other old → IsCleanApp other new)
 
--- and at every moment its files are settled
+-- a case that settles all files but those of one application settles those of another one
 abbrev pub OthersCaseLaw : Type 0
 OthersCaseLaw = (one other : ℕ) (start : Image) (c : Case) → ¬ (one ≡ other) → IsSettledOn (IsNoFileOf one) start c
     → IsSettledOn (IsFileOf other) start c
@@ -150,7 +150,8 @@ UntouchedAppLaw = (app : ℕ) (start : Image) (c : Case) → app < 8 → IsClean
     → IsSettledOn (IsFileOf app) start c
     → StandsCase app (app_at start app) (app_at start app) c
 
--- and so it does on its way to whatever may come of it: damage brings up no root of a greater generation
+-- an application of which no file is touched stands as it was also on its way to whatever may come of it: damage brings
+-- up no root of a greater generation
 abbrev pub StillAppLaw : Type 0
 StillAppLaw = (app : ℕ) (start : Image) (after : App) (c : Case) → app < 8 → IsCleanApp app start
     → IsSettledOn (IsFileOf app) start c

@@ -62,7 +62,8 @@ StandsCase app before after c = IsSoundApp app c → (damaged : List ℕ) (image
     → DecaysApp app damaged c.left image
     → Stands app image damaged before after
 
--- so it is of every moment since a start at which nothing was pending and the application's places were clean
+-- at each moment of calls the application stands between what it was and what it is on its way to, if at their start
+-- nothing was pending and its places were clean
 abbrev pub StandsThroughout : ℕ → (after : App) → (old new : Medium) → Type 0
 StandsThroughout app after old new = Quiet old → IsCleanApp app old.image
     → EachCase (StandsCase app (app_at old.image app) after) old new

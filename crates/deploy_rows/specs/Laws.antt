@@ -40,6 +40,6 @@ RejectedLaw = (text : List ℕ) (e : PerError) → deployment_of text ≡ Err e
 abbrev pub RefusesAlike : {A : Type 0} → (App → Result A PerError) → Type 0
 RefusesAlike row = (a b : App) (e : PerError) → a.says ≡ b.says → row a ≡ Err e → row b ≡ Err e
 
--- and so does what the next root says
+-- what the root says decides alone what the next root says
 abbrev pub SaysAlike : (App → Result App PerError) → Type 0
 SaysAlike row = (a b : App) → a.says ≡ b.says → (after a (row a)).says ≡ (after b (row b)).says

@@ -15,6 +15,6 @@ initial_content s name = option_and_then (λ (e : ElementData). e.initial) (elem
 abbrev pub storage_named : DeploymentData → List ℕ → Option StorageData
 storage_named d name = find (λ (s : StorageData). bytes_eq s.name name) d.storages
 
--- its number
+-- the number of the storage of this name
 abbrev pub storage_number : DeploymentData → List ℕ → Option ℕ
 storage_number d name = position (λ (s : StorageData). bytes_eq s.name name) d.storages

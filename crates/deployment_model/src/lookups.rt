@@ -45,7 +45,7 @@ impl Deployment {
         requires { IsDeployment (deployment_data self.now) }
         ensures found { result ≡ storage_number (deployment_data self.now) name.now }
 
-        // it leads to the storage of this name
+        // The number leads to the storage of this name.
         ensures bound { IfSome result (λ number. number < length self.now.storages) }
         ensures leads { IfSome result (λ number. slice_get (deployment_data self.now).storages number
             ≡ storage_named (deployment_data self.now) name.now) }

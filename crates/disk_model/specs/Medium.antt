@@ -91,6 +91,6 @@ pub record IsIdle (old new : Medium) : Type 0 where
   pub during : (c : Case) → new.since old.moment c → IsSettledAt old.image c
   pub written : new.written ≡ old.written
 
--- each crash since the start of a stretch of calls leaves what P says
+-- P holds of each case of a crash since the start of a stretch of calls
 abbrev pub EachCase : (P : Case → Type 0) → Medium → Medium → Type 0
 EachCase P old new = (c : Case) → new.since old.moment c → P c

@@ -39,7 +39,7 @@ is_stopped disk k = stops disk.orders k
 abbrev pub is_due : MemDisk → Bool
 is_due disk = is_planned disk 0 || is_stopped disk 0
 
--- it has no plan and no stop
+-- no call of the disk is planned to fail, and no stop is
 pub record HasNoOrders (disk : MemDisk) : Type 0 where
   pub planned : (k : ℕ) → is_planned disk k ≡ false
   pub stopped : (k : ℕ) → is_stopped disk k ≡ false

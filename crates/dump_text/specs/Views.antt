@@ -7,7 +7,7 @@ abbrev pub is_memory : DumpError → Bool
 is_memory (NotADump why) = false
 is_memory OutOfMemory = true
 
--- memory that ran out says nothing
+-- what an error says of a reading: memory that ran out says nothing
 abbrev pub FailsToRead : {Y : Type 0} → DumpError → Option Y → Type 0
 FailsToRead (NotADump why) read = read ≡ None
 FailsToRead OutOfMemory read = ⊤

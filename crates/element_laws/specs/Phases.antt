@@ -49,7 +49,7 @@ DamageLaw = (shape : Shape) (start left : Image) (damaged : List ℕ) → 1 ≤ 
     → DecaysFor (IsPiece shape.place) damaged start left
     → Kept shape damaged (store_at left shape) (store_at start shape) (store_at start shape) × IsClean shape left
 
--- and so it is kept while others call, whatever its next state is to be
+-- a storage of which nobody touches a file is kept while others call, whatever its next state is to be
 abbrev pub UntouchedLaw : Type 0
 UntouchedLaw = (shape : Shape) (start : Image) (after : State) (c : Case) → 1 ≤ shape.m → IsClean shape start
     → IsSettledOn (IsOfPlace shape.place) start c
@@ -68,7 +68,7 @@ pub record OpensAt (shape : Shape) (start : Image) (generation : ℕ) (text : Li
   pub opens : store_at start shape ≡ Opens view others
   pub generation_is : view.generation ≡ generation
 
--- it opens at the first of its texts that qualifies
+-- a storage opens at the first of its texts that qualifies
 abbrev pub OpenedLaw : Type 0
 OpenedLaw = (shape : Shape) (start : Image) (text : FitText)
     → find (qualifies start shape) (fit_texts shape start) ≡ Some text
@@ -79,7 +79,7 @@ abbrev pub IsCorruptAt : Shape → Image → Type 0
 IsCorruptAt shape start = (salvage : Option View) × (others : List View)
     × (store_at start shape ≡ Corrupt salvage others)
 
--- where none qualifies
+-- a storage of which no text qualifies is corrupt
 abbrev pub CorruptLaw : Type 0
 CorruptLaw = (shape : Shape) (start : Image) → find (qualifies start shape) (fit_texts shape start) ≡ None
     → IsCorruptAt shape start
@@ -108,14 +108,14 @@ pub record IsGivenUp (shape : Shape) (start now : Image) : Type 0 where
 
 -- ---- the index is adopted, or given up but for one text
 
--- bringing every copy to the text at which a storage opens
+-- a stop while every copy is brought to the text at which a storage opens keeps it
 abbrev pub AdoptLaw : Type 0
 AdoptLaw = (shape : Shape) (start : Image) (generation : ℕ) (text : List ℕ) (index : Index) (after : State) (c : Case)
     → 1 ≤ shape.m → IsClean shape start
     → OpensAt shape start generation text index → PutStops shape.place generation text start c
     → IsKeptCase shape start after c
 
--- taking every text away but that of the salvage of a corrupt storage
+-- a stop while every text is taken away but that of the salvage of a corrupt storage keeps it
 abbrev pub KeepLaw : Type 0
 KeepLaw = (shape : Shape) (start : Image) (text : FitText) (after : State) (c : Case) → 1 ≤ shape.m
     → IsClean shape start → IsSalvageAt shape start text
@@ -129,7 +129,7 @@ abbrev pub TakesBlocks : (taken : ℕ → Bool) → Index → Type 0
 TakesBlocks taken index = AllByRecursion (λ (e : IndexEntry). (i : ℕ) → i < length e.blocks
     → taken (slice_index e.blocks i) ≡ true) index.entries
 
--- writing contents into blocks outside those of the text that is held alone
+-- a stop while contents are written, into blocks outside those of the text that is held alone, keeps a storage
 abbrev pub ContentsLaw : Type 0
 ContentsLaw = (shape : Shape) (start now : Image) (generation : ℕ) (text : List ℕ) (index : Index) (taken : ℕ → Bool)
     (after : State) (old c : Case) → 1 ≤ shape.m
@@ -137,7 +137,7 @@ ContentsLaw = (shape : Shape) (start now : Image) (generation : ℕ) (text : Lis
     → IsSettledAt now old → KeepsCase (IsNoArea shape.place) (λ k. taken k ≡ true) old c
     → IsKeptCase shape start after c
 
--- and after they were made durable
+-- a stop after contents were made durable, in blocks outside those of the text that is held alone, keeps a storage
 abbrev pub ContentsDoneLaw : Type 0
 ContentsDoneLaw = (shape : Shape) (start now then : Image) (generation : ℕ) (text : List ℕ) (index : Index)
     (taken : ℕ → Bool) (after : State) (c : Case) → 1 ≤ shape.m
@@ -197,28 +197,28 @@ abbrev pub TakesNamed : (taken : ℕ → Bool) → Place → Image → Type 0
 TakesNamed taken place image = (at : Where) → IsNamed place image at
     → ((i : ℕ) → i < length at.blocks → taken (slice_index at.blocks i) ≡ true) × (at.len ≤ 256 * length at.blocks)
 
--- where one text alone is held, these are the contents of its index
+-- where one text alone is held, the contents that held indexes name are those of its index
 abbrev pub TakenBlocksLaw : Type 0
 TakenBlocksLaw = (place : Place) (image : Image) (text : List ℕ) (index : Index) (taken : ℕ → Bool)
     → ((copy h : ℕ) (u : List ℕ) → copy < place.copies → Holds image place copy h u → u ≡ text)
     → index_of text ≡ Some index → IsIndex index → TakesBlocks taken index → TakesNamed taken place image
 
--- writing contents into blocks that no held index names
+-- a stop while contents are written, into blocks that no held index names, keeps a corrupt storage
 abbrev pub RebuiltContentsLaw : Type 0
 RebuiltContentsLaw = (shape : Shape) (start now : Image) (taken : ℕ → Bool) (after : State) (old c : Case) → 1 ≤ shape.m
     → IsGivenUp shape start now → TakesNamed taken shape.place now
     → IsSettledAt now old → KeepsCase (IsNoArea shape.place) (λ k. taken k ≡ true) old c
     → IsKeptCase shape start after c
 
--- and after they were made durable
+-- a stop after contents were made durable, in blocks that no held index names, keeps a corrupt storage
 abbrev pub RebuiltDoneLaw : Type 0
 RebuiltDoneLaw = (shape : Shape) (start now then : Image) (taken : ℕ → Bool) (after : State) (c : Case) → 1 ≤ shape.m
     → IsGivenUp shape start now → TakesNamed taken shape.place now
     → Keeps (IsNoArea shape.place) (λ k. taken k ≡ true) now then → IsSettledAt then c
     → IsKeptCase shape start after c
 
--- and then the index, under a generation above those that are held: where there is a salvage the next one, so that each
--- copy that holds its text holds it until all have the new one
+-- A stop while the index of a rebuilt storage is written keeps it, under a generation above those that are held: where
+-- there is a salvage the next one, so that each copy that holds its text holds it until all have the new one.
 abbrev pub RebuiltIndexLaw : Type 0
 RebuiltIndexLaw = (shape : Shape) (start now then : Image) (taken : ℕ → Bool) (generation : ℕ) (next : List ℕ)
     (new_index : Index)
@@ -251,12 +251,12 @@ abbrev pub AdoptedLaw : Type 0
 AdoptedLaw = (shape : Shape) (start now : Image) (generation : ℕ) (text : List ℕ) (index : Index)
     → IsAdopted shape start now generation text index → IsClean shape now
 
--- where nothing is pending and the place is clean, the case is sound
+-- a case in which nothing is pending is sound, where the place is clean
 abbrev pub SoundLaw : Type 0
 SoundLaw = (shape : Shape) (image : Image) (c : Case) → IsSettledAt image c → IsClean shape image
     → IsSound shape.place c
 
--- and so the storage is kept on the image at the end of a phase
+-- where nothing is pending and the place is clean, what is kept in the case is kept on the image
 abbrev pub SettledLaw : Type 0
 SettledLaw = (shape : Shape) (start image : Image) (after : State) (c : Case) → IsSettledAt image c
     → IsClean shape image
@@ -307,12 +307,12 @@ pub record IsMending (shape : Shape) (start now : Image) (index : Index) (c : Ca
   pub left : IsSparing KeepsBlockBytes shape start now index c.left
   pub durable : (c.base ≡ now) ⊎ HasMended shape start c.base index
 
--- so it is at the beginning
+-- at its beginning a mending is under way: nothing is mended yet, and nothing is pending
 abbrev pub MendStartLaw : Type 0
 MendStartLaw = (shape : Shape) (start now : Image) (index : Index) (c : Case) → IsSettledAt now c
     → IsMending shape start now index c
 
--- after writing a content again, whole or cut short, in the copies that lacked it
+-- a mending stays under way when a content is written again, whole or cut short, in the copies that lacked it
 abbrev pub MendStepLaw : Type 0
 MendStepLaw = (shape : Shape) (start now : Image) (index : Index) (e : IndexEntry) (value : List ℕ) (old new : Case)
     → IsIndex index → Contains index.entries e
@@ -321,12 +321,12 @@ MendStepLaw = (shape : Shape) (start now : Image) (index : Index) (e : IndexEntr
     → KeepsCase (IsNoneOf shape.place (lacked shape start e)) (IsNotAmong e.blocks) old new
     → IsMending shape start now index new
 
--- and after a sync, once all of them are mended
+-- a mending stays under way after a sync, once all contents are mended
 abbrev pub MendSyncLaw : Type 0
 MendSyncLaw = (shape : Shape) (start now : Image) (index : Index) (old new : Case) → IsMending shape start now index old
     → HasMended shape start old.full index → IsSettledAt old.full new → IsMending shape start now index new
 
--- mending contents in the copies that lack them, after the text was adopted
+-- a stop while contents are mended in the copies that lack them, after the text was adopted, keeps a storage
 abbrev pub MendLaw : Type 0
 MendLaw = (shape : Shape) (start now : Image) (generation : ℕ) (text : List ℕ) (index : Index) (after : State)
     (c : Case) → 1 ≤ shape.m

@@ -45,7 +45,7 @@ IndexFirst = (shape : Shape) (g : ℕ) (was is : List ℕ) → shape.m ≤ shape
     → ¬ (Kept shape [] (Opens (one (g + 1) (Bad None)) []) (Opens (one g (Good was)) [])
     (Opens (one (g + 1) (Good is)) []))
 
--- and so while a corrupt storage is rebuilt
+-- an index that was written before its contents, while a corrupt storage is rebuilt
 abbrev pub IndexFirstRebuilt : Type 0
 IndexFirstRebuilt = (shape : Shape) (g : ℕ) (salvage : Option View) (is : List ℕ) → shape.m ≤ shape.place.copies
     → ¬ (Kept shape [] (Opens (one g (Bad None)) []) (Corrupt salvage []) (Opens (one g (Good is)) []))

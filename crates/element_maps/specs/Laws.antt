@@ -20,31 +20,31 @@ use Rattle.element_state.specs.Written.{commit_cost, map_cost}
 use Rattle.element_maps.specs.Differences.{MakeInto}
 use Rattle.element_maps.specs.Sessions.{IsNext, IsSync, PassesTest, same_map, synchronised, view_once_synced}
 
--- they may be committed
+-- the changes from one map to another may be committed
 abbrev pub CommittableLaw : Type 0
 CommittableLaw = (shape : Shape) (test : List ℕ → Bool) (v : View) (synced new : Map) (changes : List Change)
     → IsSync shape test v synced new changes
     → v.generation < greatest_generation → AreCommittable shape v changes
 
--- the storage is then the one that its two maps say
+-- after the changes from one map to another the storage is the one that both maps say
 abbrev pub CommittedLaw : Type 0
 CommittedLaw = (shape : Shape) (test : List ℕ → Bool) (v : View) (synced new : Map) (changes : List Change)
     → IsSync shape test v synced new changes
     → committed_by shape v changes ≡ committed shape v synced new
 
--- and holds the new map
+-- after the changes from one map to another the storage holds the new one
 abbrev pub HeldLaw : Type 0
 HeldLaw = (shape : Shape) (test : List ℕ → Bool) (v : View) (synced new : Map) (changes : List Change)
     → IsSync shape test v synced new changes
     → PassesTest test new → synchronised test (committed shape v synced new) ≡ new
 
--- as it will be read, where all its names are in the grammar
+-- after the changes from one map to another the storage is as it will be read, where all its names are in the grammar
 abbrev pub ReadLaw : Type 0
 ReadLaw = (shape : Shape) (test : List ℕ → Bool) (v : View) (synced new : Map) (changes : List Change)
     → IsSync shape test v synced new changes
     → AllByRecursion IsName (names_of new) → IsView shape (committed shape v synced new)
 
--- with the size of the new map
+-- after the changes from one map to another the storage has the size of the new one
 abbrev pub SizeLaw : Type 0
 SizeLaw = (shape : Shape) (test : List ℕ → Bool) (v : View) (synced new : Map) (changes : List Change)
     → IsSync shape test v synced new changes
@@ -80,7 +80,7 @@ UnchangedNamesLaw = (synced new : Map) (changes : List Change) → MakeInto chan
 
 -- ---- the map of a view
 
--- with no test it is the view's own
+-- with no test the map of a view is the view's own
 abbrev pub UntestedLaw : Type 0
 UntestedLaw = (v : View) → synchronised (λ bytes. true) v ≡ map_of v
 
@@ -99,11 +99,11 @@ SameLaw = (a b : Element) → IsTrue (same_element a b) ↔ (a ≡ b)
 abbrev pub DecidesLaw : Type 0
 DecidesLaw = (a b : Map) → (same_map a b ≡ true) ↔ (a ≡ b)
 
--- the view stays where nothing differs
+-- after a sync the view is the old one where nothing differs
 abbrev pub StaysLaw : Type 0
 StaysLaw = (shape : Shape) (v : View) (synced new : Map) → synced ≡ new → view_once_synced shape v synced new ≡ v
 
--- and is the next one where something does
+-- after a sync the view is the next one where something differs
 abbrev pub NextLaw : Type 0
 NextLaw = (shape : Shape) (v : View) (synced new : Map) → synced ≢ new
     → view_once_synced shape v synced new ≡ committed shape v synced new

@@ -174,21 +174,23 @@ pub record IsKeptOn (shape : Shape) (damaged : List ℕ) (start image : Image) (
 
 -- ---- every moment of a call
 
--- so it is of each case in which no torn piece passes its hash by chance, after each damage
+-- a crash in this case, and any damage after it, keeps a storage on its way to another state, if no torn piece passes
+-- its hash by chance
 abbrev pub IsKeptCase : Shape → (start : Image) → (after : State) → Case → Type 0
 IsKeptCase shape start after c = IsSoundFor (IsPiece shape.place) c → (damaged : List ℕ) (image : Image)
     → DecaysFor (IsPiece shape.place) damaged c.left image → IsKeptOn shape damaged start image after
 
--- so it is where contents may be mended in place, if no two contents have the same hash either
+-- `IsKeptCase` where contents may be mended in place: then no two contents may have the same hash either
 abbrev pub IsKeptMending : Shape → (start : Image) → (after : State) → Case → Type 0
 IsKeptMending shape start after c = HasNoTwins shape.place c → IsKeptCase shape start after c
 
--- so it is of every moment since a start at which nothing was pending and the place was clean
+-- a crash at any moment of calls, and damage after it, keeps a storage on its way to another state, if at their start
+-- nothing was pending and the place was clean
 abbrev pub KeptThroughout : Shape → (after : State) → (old new : Medium) → Type 0
 KeptThroughout shape after old new = Quiet old → IsClean shape old.image
     → EachCase (IsKeptCase shape old.image after) old new
 
--- and of a call that may mend contents in place
+-- `KeptThroughout` for calls that may mend contents in place: then no two contents may have the same hash either
 abbrev pub KeptWhileMending : Shape → (after : State) → (old new : Medium) → Type 0
 KeptWhileMending shape after old new = Quiet old → IsClean shape old.image
     → EachCase (IsKeptMending shape old.image after) old new

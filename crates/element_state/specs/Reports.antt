@@ -55,7 +55,7 @@ element_reports test shape e = cond (is_readable_by test e.content)
     (recovered_reports shape.scope shape e)
     (report_of (element_failed shape.kind) shape (Some e.name) e.lacking ∷ [])
 
--- the reports of an opening that found this view
+-- the reports of an opening that found this view, where a content is readable only if it passes the test
 unfoldable pub reports : (test : List ℕ → Bool) → Shape → View → List Report
 reports test shape v = report_some (store_recovered shape.kind) shape None v.lacking
     ++ flat_map (element_reports test shape) v.entries

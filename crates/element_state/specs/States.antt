@@ -41,7 +41,8 @@ abbrev pub state_of : (FitText → View) → List FitText → Option (FitText ×
 state_of view texts None = corrupt_state (map view texts)
 state_of view texts (Some found) = Opens (view found.0) (map view found.1)
 
--- the first text that fits and qualifies is what the storage opens at
+-- the state of a storage on an image: it opens at the first text that fits and qualifies, and is corrupt where none
+-- does
 unfoldable pub store_at : Image → Shape → State
 store_at image shape = state_of (view_of image shape) (fit_texts shape image)
     (first_picked (qualifies image shape) (fit_texts shape image))
@@ -113,7 +114,7 @@ fresh_element f = (f.name, record { info = f.info; len = length f.bytes; content
 abbrev pub fresh_map : List Fresh → Map
 fresh_map contents = map fresh_element contents
 
--- a storage that this generation made of these contents
+-- the view of a storage that was made of these contents under this generation
 abbrev pub fresh_view : (generation : ℕ) → Map → View
 fresh_view generation m = record {
   generation = generation;

@@ -19,19 +19,19 @@ use Rattle.element_store.specs.Hashing.{AreOfElement}
 use Rattle.element_store.specs.Spelled.{IsTextOf}
 use Rattle.element_store.specs.declared.store.Store.{Store}
 
--- how it is configured
+-- how a storage in use is configured
 abbrev pub store_shape : Store → Shape
 store_shape store = store.shape
 
--- its elements, ascending by name
+-- the elements of a storage in use, ascending by name
 abbrev pub entries_of : Store → List Entry
 entries_of store = store.entries.items
 
--- the generation of its index
+-- the generation of the index of a storage in use
 abbrev pub store_generation : Store → ℕ
 store_generation store = generation_of store.cell
 
--- the view that it shows
+-- the view that a storage in use shows
 abbrev pub view_in : Store → View
 view_in store = whole_view store.shape (generation_of store.cell) store.entries.items
 

@@ -49,8 +49,8 @@ pub struct OpenedStore {
 ///
 /// # Errors
 ///
-/// `Corrupt` exactly where no text qualifies: then nothing is written. `Device` where the disk fails, and
-/// `OutOfMemory`.
+/// `Corrupt` exactly where no text qualifies, as one does that enough copies support: then nothing is written. `Device`
+/// where the disk fails. `OutOfMemory`, before anything is written.
 pub fn open_store<D: Disk>(
     alloc: Global,
     disk: &mut D,

@@ -62,7 +62,7 @@ header_text kind count = mark ++ store_kind_code kind ∷ to_le_bytes w16 count
 abbrev pub export_body : Export → List ℕ
 export_body x = header_text x.kind (length x.contents) ++ flat_map fresh_text x.contents
 
--- all of it, and the hash of it
+-- the text of an export: its body, and the hash of that
 unfoldable pub export_text : Export → List ℕ
 export_text x = export_body x ++ sha256 (export_body x)
 

@@ -3,7 +3,7 @@ use Rattle.std.specs.Prelude.{◌≡◌, Option, Some, None, Result, Ok, Err, �
 use Rattle.export_text.specs.declared.errors.ExportError.{ExportError}
 use Rattle.export_text.specs.declared.errors.ExportError.TheVariants.{NotAnExport, OutOfMemory}
 
--- memory that ran out says nothing
+-- what an error says of a reading: memory that ran out says nothing
 abbrev pub FailsToRead : {Y : Type 0} → ExportError → Option Y → Type 0
 FailsToRead NotAnExport read = read ≡ None
 FailsToRead OutOfMemory read = ⊤

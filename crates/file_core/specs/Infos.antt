@@ -7,10 +7,10 @@ use Rattle.per_base.specs.declared.elements.FileInfo.{FileInfo}
 abbrev pub made : ℕ → Cause → FileInfo
 made now cause = record { created = now; modified = now; accessed = now; creation = cause; modification = cause }
 
--- its content changed now
+-- the info of a file whose content changed now
 abbrev pub info_changed : ℕ → Cause → FileInfo → FileInfo
 info_changed now cause info = record info { modified = now; modification = cause }
 
--- opened now
+-- the info of a file that was opened now
 abbrev pub opened_info : ℕ → FileInfo → FileInfo
 opened_info now info = record info { accessed = now }

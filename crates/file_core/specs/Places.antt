@@ -54,7 +54,7 @@ peek_byte cursor bytes = reading cursor bytes (λ rest. slice_index rest 0)
 abbrev pub get_byte : Cursor → List ℕ → Result (ℕ × Cursor) PerError
 get_byte cursor bytes = reading cursor bytes (λ rest. (slice_index rest 0, advanced cursor 1))
 
--- that many bytes, or the rest
+-- that many bytes from the place on, or the rest where fewer are left; the place is then after them
 abbrev pub read : Cursor → List ℕ → ℕ → Result (List ℕ × Cursor) PerError
 read cursor bytes count = reading cursor bytes (λ rest. (take count rest, advanced cursor (min count (length rest))))
 

@@ -83,7 +83,7 @@ impl Cursor {
     ///
     /// # Errors
     ///
-    /// `IllegalReadAccess`, `IsEof`.
+    /// `IllegalReadAccess` for a kind that only writes; `IsEof` where nothing is left.
     pub fn peek_byte(&self, bytes: &[u8]) -> Result<u8, PerError>
         ensures ok { IfOk result (λ byte. places.peek_byte self.now bytes.now ≡ Ok byte) }
         ensures refused { IfErr result (λ error. places.peek_byte self.now bytes.now ≡ Err error) }
@@ -96,7 +96,7 @@ impl Cursor {
     ///
     /// # Errors
     ///
-    /// `IllegalReadAccess`, `IsEof`.
+    /// `IllegalReadAccess` for a kind that only writes; `IsEof` where nothing is left.
     pub fn get_byte(&mut self, bytes: &[u8]) -> Result<u8, PerError>
         ensures ok { IfOk result (λ byte. places.get_byte self.old bytes.now ≡ Ok (byte, self.new)) }
         ensures refused { IfErr result (λ error. places.get_byte self.old bytes.now ≡ Err error) }
@@ -114,7 +114,8 @@ impl Cursor {
     ///
     /// # Errors
     ///
-    /// `IllegalReadAccess`, `IsEof`, also for a count of 0; `OutOfMemory`.
+    /// `IllegalReadAccess` for a kind that only writes; `IsEof` where nothing is left, also for a count of 0;
+    /// `OutOfMemory`.
     pub fn read(&mut self, alloc: Global, bytes: &[u8], count: u64) -> Result<Vec<u8>, PerError>
         ensures ok { IfOk result (λ piece. places.read self.old bytes.now count ≡ Ok (piece.items, self.new)) }
         ensures refused { IfErr result (λ error. IsRefusal (places.read self.old bytes.now count) error) }
@@ -135,7 +136,7 @@ impl Cursor {
     ///
     /// # Errors
     ///
-    /// `IllegalReadAccess`, `IsEof`; `OutOfMemory`.
+    /// `IllegalReadAccess` for a kind that only writes; `IsEof` where nothing is left; `OutOfMemory`.
     pub fn read_all(&mut self, alloc: Global, bytes: &[u8]) -> Result<Vec<u8>, PerError>
         ensures ok { IfOk result (λ piece. places.read_all self.old bytes.now ≡ Ok (piece.items, self.new)) }
         ensures refused { IfErr result (λ error. IsRefusal (places.read_all self.old bytes.now) error) }
@@ -155,7 +156,7 @@ impl Cursor {
     ///
     /// # Errors
     ///
-    /// `IllegalReadAccess`, `IsEof`; `OutOfMemory`.
+    /// `IllegalReadAccess` for a kind that only writes; `IsEof` where nothing is left; `OutOfMemory`.
     pub fn read_line(
         &mut self,
         alloc: Global,

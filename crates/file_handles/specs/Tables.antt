@@ -31,7 +31,7 @@ abbrev pub Numbered : Handles → Type 0
 Numbered handles = (number : ℕ) (handle : Handle) → handle_at handles number ≡ Some handle
     → (1 ≤ number) × (number ≤ 64)
 
--- each element is a file
+-- each element of a map is a file
 abbrev pub AreFiles : Map → Type 0
 AreFiles files = (name : List ℕ) → IsFileAt (element_at files name)
 

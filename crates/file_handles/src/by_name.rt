@@ -15,7 +15,7 @@ impl FileTable {
     ///
     /// # Errors
     ///
-    /// `FileNotFound`.
+    /// `FileNotFound` where there is no file of this name.
     pub fn current_file_size(&self, name: &Name) -> Result<u64, PerError>
         ensures ok { IfOk result (λ size. calls.current_file_size self.now.session.files name.now ≡ Ok size) }
         ensures refused { IfErr result (λ error. calls.current_file_size self.now.session.files name.now ≡ Err error) }
@@ -30,7 +30,7 @@ impl FileTable {
     ///
     /// # Errors
     ///
-    /// `FileNotFound`.
+    /// `FileNotFound` where there is no file of this name.
     pub fn file_info(&self, name: &Name) -> Result<FileInfo, PerError>
         ensures ok { IfOk result (λ info. calls.file_info self.now.session.files name.now ≡ Ok info) }
         ensures refused { IfErr result (λ error. calls.file_info self.now.session.files name.now ≡ Err error) }

@@ -95,7 +95,7 @@ impl FileTable {
     ///
     /// # Errors
     ///
-    /// `NotOpen`.
+    /// `NotOpen` for a number that no handle has.
     pub fn close(&mut self, number: u32) -> Result<(), PerError>
         ensures ok { OnOk result (calls.close self.old.session number ≡ Ok self.new.session) }
         ensures refused { IfErr result (λ error. calls.close self.old.session number ≡ Err error) }

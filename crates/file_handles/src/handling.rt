@@ -12,7 +12,8 @@ impl FileTable {
     ///
     /// # Errors
     ///
-    /// `NotOpen`, `IllegalReadAccess`, `IsEof`.
+    /// `NotOpen` for a number that no handle has; `IllegalReadAccess` for a kind that only writes;
+    /// `IsEof` where nothing is left.
     pub fn peek_byte(&self, number: u32) -> Result<u8, PerError>
         ensures ok { IfOk result (λ byte. calls.peek_byte self.now.session number ≡ Ok byte) }
         ensures refused { IfErr result (λ error. calls.peek_byte self.now.session number ≡ Err error) }
@@ -27,7 +28,8 @@ impl FileTable {
     ///
     /// # Errors
     ///
-    /// `NotOpen`, `IllegalReadAccess`, `IsEof`.
+    /// `NotOpen` for a number that no handle has; `IllegalReadAccess` for a kind that only writes;
+    /// `IsEof` where nothing is left.
     pub fn get_byte(&mut self, number: u32) -> Result<u8, PerError>
         ensures ok { IfOk result (λ byte. calls.get_byte self.old.session number ≡ Ok (byte, self.new.session)) }
         ensures refused { IfErr result (λ error. calls.get_byte self.old.session number ≡ Err error) }
@@ -48,7 +50,8 @@ impl FileTable {
     ///
     /// # Errors
     ///
-    /// `NotOpen`, `IllegalReadAccess`, `IsEof`, also for a count of 0; `OutOfMemory`.
+    /// `NotOpen` for a number that no handle has; `IllegalReadAccess` for a kind that only writes;
+    /// `IsEof` where nothing is left, also for a count of 0; `OutOfMemory`.
     pub fn read(&mut self, number: u32, count: u64) -> Result<Vec<u8>, PerError>
         ensures ok { IfOk result (λ piece. calls.read self.old.session number count
             ≡ Ok (piece.items, self.new.session)) }
@@ -73,7 +76,8 @@ impl FileTable {
     ///
     /// # Errors
     ///
-    /// `NotOpen`, `IllegalReadAccess`, `IsEof`; `OutOfMemory`.
+    /// `NotOpen` for a number that no handle has; `IllegalReadAccess` for a kind that only writes;
+    /// `IsEof` where nothing is left; `OutOfMemory`.
     pub fn read_all(&mut self, number: u32) -> Result<Vec<u8>, PerError>
         ensures ok { IfOk result (λ piece. calls.read_all self.old.session number
             ≡ Ok (piece.items, self.new.session)) }
@@ -98,7 +102,8 @@ impl FileTable {
     ///
     /// # Errors
     ///
-    /// `NotOpen`, `IllegalReadAccess`, `IsEof`; `OutOfMemory`.
+    /// `NotOpen` for a number that no handle has; `IllegalReadAccess` for a kind that only writes;
+    /// `IsEof` where nothing is left; `OutOfMemory`.
     pub fn read_line(&mut self, number: u32, delimiter: u8) -> Result<Vec<u8>, PerError>
         ensures ok { IfOk result (λ piece. calls.read_line self.old.session number delimiter
             ≡ Ok (piece.items, self.new.session)) }
@@ -123,7 +128,7 @@ impl FileTable {
     ///
     /// # Errors
     ///
-    /// `NotOpen`.
+    /// `NotOpen` for a number that no handle has.
     pub fn size(&self, number: u32) -> Result<u64, PerError>
         ensures ok { IfOk result (λ size. calls.size self.now.session number ≡ Ok size) }
         ensures refused { IfErr result (λ error. calls.size self.now.session number ≡ Err error) }
@@ -138,7 +143,7 @@ impl FileTable {
     ///
     /// # Errors
     ///
-    /// `NotOpen`.
+    /// `NotOpen` for a number that no handle has.
     pub fn position(&self, number: u32) -> Result<u64, PerError>
         ensures ok { IfOk result (λ position. calls.position self.now.session number ≡ Ok position) }
         ensures refused { IfErr result (λ error. calls.position self.now.session number ≡ Err error) }
@@ -153,7 +158,7 @@ impl FileTable {
     ///
     /// # Errors
     ///
-    /// `NotOpen`.
+    /// `NotOpen` for a number that no handle has.
     pub fn is_eof(&self, number: u32) -> Result<bool, PerError>
         ensures ok { IfOk result (λ is. calls.is_eof self.now.session number ≡ Ok is) }
         ensures refused { IfErr result (λ error. calls.is_eof self.now.session number ≡ Err error) }

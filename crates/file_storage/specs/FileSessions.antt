@@ -25,7 +25,7 @@ pub record FilesInUse : Type 0 where
 abbrev pub storage_of : StorageData → Storage
 storage_of config = record { name = config.name; read_only = config.read_only; maximum = config.maximum }
 
--- the synchronised files
+-- the synchronised files of a storage
 abbrev pub stored_in : Store → Map
 stored_in store = map_of (view_in store)
 

@@ -52,7 +52,7 @@ impl Files {
     ///
     /// # Errors
     ///
-    /// `NotOpen`.
+    /// `NotOpen` for a number that no handle has.
     pub fn close(&mut self, handle: u32) -> Result<(), PerError>
         ensures ok { OnOk result (calls.close self.old.session handle ≡ Ok self.new.session) }
         ensures refused { IfErr result (λ error. calls.close self.old.session handle ≡ Err error) }

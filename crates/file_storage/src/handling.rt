@@ -13,7 +13,8 @@ impl Files {
     ///
     /// # Errors
     ///
-    /// `NotOpen`, `IllegalReadAccess`, `IsEof`.
+    /// `NotOpen` for a number that no handle has; `IllegalReadAccess` for a kind that only writes;
+    /// `IsEof` where nothing is left.
     pub fn peek_byte(&self, handle: u32) -> Result<u8, PerError>
         ensures ok { IfOk result (λ byte. calls.peek_byte self.now.session handle ≡ Ok byte) }
         ensures refused { IfErr result (λ error. calls.peek_byte self.now.session handle ≡ Err error) }
@@ -25,7 +26,8 @@ impl Files {
     ///
     /// # Errors
     ///
-    /// `NotOpen`, `IllegalReadAccess`, `IsEof`.
+    /// `NotOpen` for a number that no handle has; `IllegalReadAccess` for a kind that only writes;
+    /// `IsEof` where nothing is left.
     pub fn get_byte(&mut self, handle: u32) -> Result<u8, PerError>
         ensures ok { IfOk result (λ byte. calls.get_byte self.old.session handle ≡ Ok (byte, self.new.session)) }
         ensures refused { IfErr result (λ error. calls.get_byte self.old.session handle ≡ Err error) }
@@ -39,7 +41,8 @@ impl Files {
     ///
     /// # Errors
     ///
-    /// `NotOpen`, `IllegalReadAccess`, `IsEof`, also for a count of 0; `OutOfMemory`.
+    /// `NotOpen` for a number that no handle has; `IllegalReadAccess` for a kind that only writes;
+    /// `IsEof` where nothing is left, also for a count of 0; `OutOfMemory`.
     pub fn read(&mut self, handle: u32, count: u64) -> Result<Vec<u8>, PerError>
         ensures ok { IfOk result (λ piece. calls.read self.old.session handle count
             ≡ Ok (piece.items, self.new.session)) }
@@ -56,7 +59,8 @@ impl Files {
     ///
     /// # Errors
     ///
-    /// `NotOpen`, `IllegalReadAccess`, `IsEof`; `OutOfMemory`.
+    /// `NotOpen` for a number that no handle has; `IllegalReadAccess` for a kind that only writes;
+    /// `IsEof` where nothing is left; `OutOfMemory`.
     pub fn read_all(&mut self, handle: u32) -> Result<Vec<u8>, PerError>
         ensures ok { IfOk result (λ piece. calls.read_all self.old.session handle
             ≡ Ok (piece.items, self.new.session)) }
@@ -73,7 +77,8 @@ impl Files {
     ///
     /// # Errors
     ///
-    /// `NotOpen`, `IllegalReadAccess`, `IsEof`; `OutOfMemory`.
+    /// `NotOpen` for a number that no handle has; `IllegalReadAccess` for a kind that only writes;
+    /// `IsEof` where nothing is left; `OutOfMemory`.
     pub fn read_line(&mut self, handle: u32, delimiter: u8) -> Result<Vec<u8>, PerError>
         ensures ok { IfOk result (λ piece. calls.read_line self.old.session handle delimiter
             ≡ Ok (piece.items, self.new.session)) }
@@ -90,7 +95,7 @@ impl Files {
     ///
     /// # Errors
     ///
-    /// `NotOpen`.
+    /// `NotOpen` for a number that no handle has.
     pub fn size(&self, handle: u32) -> Result<u64, PerError>
         ensures ok { IfOk result (λ size. calls.size self.now.session handle ≡ Ok size) }
         ensures refused { IfErr result (λ error. calls.size self.now.session handle ≡ Err error) }
@@ -102,7 +107,7 @@ impl Files {
     ///
     /// # Errors
     ///
-    /// `NotOpen`.
+    /// `NotOpen` for a number that no handle has.
     pub fn position(&self, handle: u32) -> Result<u64, PerError>
         ensures ok { IfOk result (λ position. calls.position self.now.session handle ≡ Ok position) }
         ensures refused { IfErr result (λ error. calls.position self.now.session handle ≡ Err error) }
@@ -114,7 +119,7 @@ impl Files {
     ///
     /// # Errors
     ///
-    /// `NotOpen`.
+    /// `NotOpen` for a number that no handle has.
     pub fn is_eof(&self, handle: u32) -> Result<bool, PerError>
         ensures ok { IfOk result (λ is. calls.is_eof self.now.session handle ≡ Ok is) }
         ensures refused { IfErr result (λ error. calls.is_eof self.now.session handle ≡ Err error) }

@@ -72,7 +72,7 @@ impl<'a> Scoped<'a> {
     ///
     /// # Errors
     ///
-    /// `IllegalReadAccess`, `IsEof`; `OutOfMemory`.
+    /// `IllegalReadAccess` for a kind that only writes; `IsEof` where nothing is left; `OutOfMemory`.
     pub fn read_all(&mut self) -> Result<Vec<u8>, PerError>
         ensures same_reference { self.new.files.ghost_name ≡ self.old.files.ghost_name }
         ensures handle { self.new.handle ≡ self.old.handle }

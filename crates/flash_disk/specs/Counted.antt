@@ -36,7 +36,7 @@ pub record IsInside (blocks : ℕ) (entry : Newest) : Type 0 where
   pub place : entry.place.block < blocks
   pub twin : IfSome entry.twin (λ twin. twin.block < blocks)
 
--- all entries do, and each block has as many as the table counts
+-- every entry of a table leads into one of these blocks, and into each block as many lead as the table counts
 pub record IsCountedTable (blocks : ℕ) (table : Table) : Type 0 where
   pub some : 4 ≤ blocks
   pub few : blocks ≤ 4096

@@ -19,15 +19,15 @@ known table key = get same_page table.newest key
 abbrev pub page_of : PageRecord → FilePage
 page_of r = record { file = r.file; page = r.page }
 
--- for how many pages it has something
+-- for how many pages a table has something
 abbrev pub page_len : Table → ℕ
 page_len table = hash_map_len table.newest
 
--- for how many it may
+-- for how many pages a table may have something
 abbrev pub limit_of : Table → ℕ
 limit_of table = table.limit
 
--- it has memory for as many
+-- a table has memory for as many pages as it may have something of
 abbrev pub HasCapacity : Table → Type 0
 HasCapacity table = table.limit ≤ hash_map_len table.newest + spare table.newest
 
@@ -38,7 +38,7 @@ len_in lens file = unwrap_or (get nat_eq lens file) 0
 abbrev pub HasLenIn : {S : Type 0} → HashMap ℕ ℕ S → ℕ → Type 0
 HasLenIn lens file = IsSome (get nat_eq lens file)
 
--- it has a length for this file
+-- a table has a length for this file
 abbrev pub HasLen : Table → ℕ → Type 0
 HasLen table file = HasLenIn table.lens file
 
@@ -56,7 +56,7 @@ pub record SetsEntry (old new : Table) (key : FilePage) (entry : Newest) : Type 
   pub room : HasCapacity old → HasCapacity new
   pub fits : page_len old ≤ limit_of old → page_len new ≤ limit_of new
 
--- all pages have what they had
+-- all pages have the entries that they had
 pub record SameRecords (old new : Table) : Type 0 where
   pub known_is : (k : FilePage) → known new k ≡ known old k
   pub len : page_len new ≡ page_len old
@@ -88,7 +88,7 @@ pub record IsLongest {S : Type 0} (entries : HashMap FilePage Newest S) (file le
   pub one : (len ≡ 0) ⊎ ((key : FilePage) × (entry : Newest) × (get same_page entries key ≡ Some entry)
       × (key.file ≡ file) × (len ≡ entry.len))
 
--- it has nothing of any page, and memory for the lengths of as many files as pages
+-- a table has nothing of any page, and memory for the lengths of as many files as pages
 pub record IsEmptyTable (table : Table) : Type 0 where
   pub nothing : (key : FilePage) → known table key ≡ None
   pub len : page_len table ≡ 0

@@ -6,8 +6,8 @@ use Rattle.flash_model.specs.FlashMedium.{FlashMedium}
 use Rattle.flash_disk.specs.Newest.{IsUsable, places}
 use Rattle.flash_disk.specs.Standing.{IsAgreed, StaysAgreed}
 
--- it can be opened as a disk at the end of calls, and after a crash at any moment of them: some block is spare, and
--- there are not too many pages
+-- a flash can be opened as a disk at the end of calls, and after a crash at any moment of them: some block is spare,
+-- and there are not too many pages
 pub record KeepsUsable (old new : FlashMedium) : Type 0 where
   pub blocks : new.blocks ≡ old.blocks
   pub now : IsUsable new.state.pages old.blocks

@@ -62,7 +62,7 @@ impl<F: Flash> FlashDisk<F> {
     }
 
     /// Whether the copies are kept apart on the flash as it is: then no loss of pages of one block costs files of two
-    /// of them. It does not allocate, and no call of the flash.
+    /// of them. It neither allocates nor calls the flash.
     pub fn keeps_copies_apart(&self) -> bool
         ensures { IsTrue F.told → IsTrue result → IsApart (F.medium self.now.flash).state.pages
             (F.medium self.now.flash).blocks }

@@ -230,8 +230,8 @@ impl Table {
         }
     }
 
-    /// Marks in `foreign`, a byte a block, each block that holds the newest record of a page of another copy than that
-    /// of `file`.
+    /// Marks in `foreign`, which has a byte for each block, the blocks with the newest record of a page of another copy
+    /// than that of `file`.
     pub fn mark_foreign(&self, file: u32, foreign: &mut [u8])
         ensures len { length foreign.new ≡ length foreign.old }
         ensures unique { HasOneEach self.now }

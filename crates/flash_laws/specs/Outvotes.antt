@@ -60,8 +60,8 @@ abbrev pub OutlastsLoss : FlashMedium → ℕ → Pages → Type 0
 OutlastsLoss m t pages = (block : ℕ) (new : Pages) → LosesPages block pages new
     → Outvotes (flash_files pages m.blocks) (flash_files new m.blocks) ⊎ LackedRoom m t
 
--- so it is of what a flash holds now, and of what a crash at any moment since this one leaves, if no page passes its
--- hash by chance
+-- the loss of the pages of one block is outlasted by what a flash holds now, and by what a crash at any moment since
+-- this one leaves, if no page passes its hash by chance
 pub record OutlastsSince (m : FlashMedium) (t : ℕ) : Type 0 where
   pub now : OutlastsLoss m t m.state.pages
   pub during : (c : FlashCase) → m.since t c → IsPlain c.before c.whole c.left → OutlastsLoss m t c.left

@@ -32,6 +32,6 @@ pub record FlashElapses (old new : FlashMedium) : Type 0 where
   pub faults : old.faults ≤ new.faults
   pub blocks : new.blocks ≡ old.blocks
 
--- each crash since the start of a stretch of calls leaves what P says
+-- P holds of each case of a crash since the start of a stretch of calls
 abbrev pub EachFlashCase : (P : FlashCase → Type 0) → FlashMedium → FlashMedium → Type 0
 EachFlashCase P old new = (c : FlashCase) → new.since old.moment c → P c

@@ -28,7 +28,7 @@ is_stopped flash k = stops flash.orders k
 abbrev pub is_due : MemFlash → Bool
 is_due flash = is_planned flash 0 || is_stopped flash 0
 
--- it has no plan and no stop
+-- no call of the flash is planned to fail, and no stop is
 pub record HasNoOrders (flash : MemFlash) : Type 0 where
   pub planned : (k : ℕ) → is_planned flash k ≡ false
   pub stopped : (k : ℕ) → is_stopped flash k ≡ false

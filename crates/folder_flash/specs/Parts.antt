@@ -10,7 +10,7 @@ part_of_flash Folder = Folder
 part_of_flash (File number) = Flash
 part_of_flash Flash = Flash
 
--- the same call, for the same reason, of the flash where it was of its file
+-- a failure of the flash's file, said of the flash: the same call, for the same reason
 pub record IsOfFlash (failure made : Failure) : Type 0 where
   pub asked : made.asked ≡ failure.asked
   pub part : made.part ≡ part_of_flash failure.part

@@ -5,11 +5,11 @@ use Rattle.disk_model.specs.Image.{Image}
 use Rattle.guarded_cell.specs.declared.cell.Cell.{Cell}
 use Rattle.guarded_cell.specs.Register.{IsAlone}
 
--- where a cell is
+-- the place of a cell's register
 abbrev pub place_of : Cell → Place
 place_of cell = cell.place
 
--- under which generation its text is held
+-- the generation under which a cell's text is held
 abbrev pub generation_of : Cell → ℕ
 generation_of cell = cell.generation
 

@@ -37,7 +37,7 @@ front_is_blank slot = bytes_eq (take 44 slot) (take (length slot) (replicate 44 
 abbrev pub front_cost : List ℕ → List ℕ → ℕ
 front_cost slot bytes = if front_is_blank slot then changed_len slot 0 bytes else length bytes
 
--- the same for the slots of the first copies
+-- at most that many bytes are written for a text at the starts of the slots of one parity of the first copies
 abbrev pub texts_cost : Place → (parity : ℕ) → List ℕ → Image → (copies : ℕ) → ℕ
 texts_cost place parity bytes image zero = 0
 texts_cost place parity bytes image (suc copy) =
@@ -76,7 +76,7 @@ pub record PutsOver (place : Place) (generation : ℕ) (lacking stale : List Boo
       → new (slot place copy (other generation))
       ≡ put_bytes (old (slot place copy (other generation))) 0 (replicate 44 0)
 
--- each slot of the generation's parity took the text at its start, and each other one zeros
+-- of every copy the slot of the generation's parity took these bytes at its start, and the other slot a header's zeros
 pub record IsOver (place : Place) (generation : ℕ) (bytes : List ℕ) (old new : Image) : Type 0 where
   pub own_slots : (copy : ℕ) → copy < place.copies
       → new (slot place copy (own generation)) ≡ put_bytes (old (slot place copy (own generation))) 0 bytes

@@ -6,7 +6,7 @@ use Rattle.disk_model.specs.declared.place.Place.{Place}
 use Rattle.guarded_cell.specs.declared.looking.Seen.{Seen}
 use Rattle.guarded_cell.specs.Held.{Text, is_seen, holds, copies_that}
 
--- it can be sealed again
+-- a text that was seen can be sealed again
 pub record IsSealable (seen : Seen) : Type 0 where
   pub positive : 1 ≤ seen.generation
   pub short : length seen.text ≤ max_body

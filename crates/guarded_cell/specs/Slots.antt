@@ -64,7 +64,7 @@ abbrev pub AreFlags : Image → Place → (n parity : ℕ) → List Bool → Typ
 AreFlags image place n parity flags = (copy : ℕ) → copy < n
     → IsFlag (image (slot place copy parity)) (get_or flags copy false)
 
--- they are right for all slots
+-- the flags are right for all slots of a place
 pub record IsSlotsOf (image : Image) (place : Place) (slots : Slots) : Type 0 where
   pub even : AreFlags image place place.copies 0 slots.even
   pub odd : AreFlags image place place.copies 1 slots.odd

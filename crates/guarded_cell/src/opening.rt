@@ -85,8 +85,8 @@ pub fn open_cell<D: Disk>(
     }
 }
 
-/// The text that stands among those that [`look`] gave: the first that at least `m` copies hold. Does not allocate and
-/// no disk, so that a text can be judged before [`adopt_seen`](crate::adopt_seen) brings every copy to it.
+/// The text that stands among those that [`look`] gave: the first that at least `m` copies hold. Neither allocates
+/// nor calls the disk, so that a text can be judged before [`adopt_seen`](crate::adopt_seen) brings every copy to it.
 pub fn standing_among(seens: Vec<Seen>, m: u32) -> Option<Seen>
     ensures { result ≡ standing_in m seens.items }
 {

@@ -19,11 +19,12 @@ use Rattle.index_text.specs.declared.errors.IndexError.{IndexError}
 use Rattle.index_text.specs.declared.errors.IndexError.TheVariants as errors
 use Rattle.index_text.specs.Rules.{max_len, is_format, names_of, blocks_of}
 
--- what a function returned, seen by view, is what reading gives, unless memory ran out
+-- what an error says of a reading: memory that ran out says nothing
 abbrev pub FailsToRead : {Y : Type 0} → IndexError → Option Y → Type 0
 FailsToRead errors.NotAnIndex read = read ≡ None
 FailsToRead errors.OutOfMemory read = Unit {0}
 
+-- what a function returned, seen by view, is what reading gives, unless memory ran out
 abbrev pub Gives : {X Y : Type 0} → (X → Y) → Result X IndexError → Option Y → Type 0
 Gives view (Ok x) read = read ≡ Some (view x)
 Gives view (Err e) read = FailsToRead e read

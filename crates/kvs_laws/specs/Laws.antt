@@ -28,7 +28,7 @@ pub record OpensWithValue (asked : AskedKey) (image : Image) (kvs : KvsSession) 
   pub shown : kvs.session.synced ≡ keys_in (view_in kvs.store)
   pub value_is : HasValue asked kvs.session.synced value
 
--- it reads so on the disk
+-- a key that has this value in an open storage reads so on the disk
 abbrev pub ReadsLaw : Type 0
 ReadsLaw = (asked : AskedKey) (image : Image) (kvs : KvsSession) (value : Tree) → OpensWithValue asked image kvs value
     → ReadsAs asked (store_shape kvs.store) value image
@@ -40,7 +40,7 @@ SyncLaw = (asked : AskedKey) (start : Image) (kvs : KvsSession) (before after : 
     → IsKeptMending (store_shape kvs.store) start (Opens (synced_view kvs) []) c
     → LeavesValue asked (store_shape kvs.store) (view_in kvs.store).lacking before after c
 
--- and so it does where nothing is pending
+-- where nothing is pending a stop leaves the value that is synchronised, or the one that the next sync is to bring
 abbrev pub StillLaw : Type 0
 StillLaw = (asked : AskedKey) (start : Image) (kvs : KvsSession) (before after : Tree) (c : Case)
     → OpensWithValue asked start kvs before → IsClean (store_shape kvs.store) start → IsSettledAt start c

@@ -18,11 +18,11 @@ pub record KvsSession : Type 0 where
   pub store : Store
   pub session : TwoMaps
 
--- all but the storage below it
+-- what the calls of a storage of keys work on: all of it but the storage below
 abbrev pub kvs_session : KvsSession → Session
 kvs_session kvs = record { config = kvs.config; synced = kvs.session.synced; visible = kvs.session.visible }
 
--- the same, where the calls see this map
+-- the storage of keys with this map as what the calls see
 abbrev pub showing : KvsSession → Map → KvsSession
 showing kvs m = record kvs { session = record kvs.session { visible = m } }
 

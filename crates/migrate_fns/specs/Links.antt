@@ -11,7 +11,7 @@ use Rattle.migrate_fns.specs.declared.numbering.Link.{Link}
 abbrev pub AllDiffer : List Kind → Type 0
 AllDiffer kinds = (i j : ℕ) (k : Kind) → slice_get kinds i ≡ Some k → slice_get kinds j ≡ Some k → i ≡ j
 
--- each type keeps its number
+-- each type of one list has the same number in the other
 abbrev pub KeepsNumbers : List Kind → List Kind → Type 0
 KeepsNumbers kinds more = (i : ℕ) (k : Kind) → slice_get kinds i ≡ Some k → slice_get more i ≡ Some k
 

@@ -20,7 +20,7 @@ abbrev pub is_for : Option (List ℕ) → List ℕ → Bool
 is_for None element = true
 is_for (Some name) element = bytes_eq name element
 
--- it leads from the one type to the other, and names this element or none
+-- a converter leads from the one type to the other, and names this element or none
 abbrev pub serves : List ℕ → Kind → Kind → Rule → Bool
 serves element from to r = is_for r.element element && (same_kind r.from from && same_kind r.to to)
 

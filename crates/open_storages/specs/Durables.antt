@@ -23,7 +23,8 @@ pub record IsMadeDurable (told : Bool) (image : Image) (before later : Open) : T
   pub view : view_in (store_in later) ≡ durable_view before
   pub used : IsUsed told image (store_in later)
 
--- it was not to be refused and is durable, or it was refused for what was due and is handed back as it was
+-- making a storage durable was not to be refused, and it is; or it was refused for what was due, and the storage is
+-- handed back as it was
 abbrev pub IsDurableOrRefused : (told : Bool) → Image → Open → Option PerError → Durable → Type 0
 IsDurableOrRefused told image before refused (made.Done later) = (refused ≡ None)
     × IsMadeDurable told image before later
@@ -38,7 +39,7 @@ abbrev pub IsClosedOrRefused : Open → Option PerError → Closing → Type 0
 IsClosedOrRefused before refused left.Done = refused ≡ None
 IsClosedOrRefused before refused (left.Refused same error) = (refused ≡ Some error) × (same ≡ before)
 
--- it was closed, and then this holds
+-- P holds where the storage was closed
 abbrev pub OnClosed : Closing → Type 0 → Type 0
 OnClosed left.Done P = P
 OnClosed (left.Refused same error) P = ⊤

@@ -28,17 +28,17 @@ IsOpeningOf (Opens v others) shape config (given.Corrupt report) = ⊥
 IsOpeningOf (Corrupt salvage others) shape config (given.Opened o reported) = ⊥
 IsOpeningOf (Corrupt salvage others) shape config (given.Corrupt report) = report ≡ failed_report shape
 
--- where it was opened, this holds of the storage
+-- P holds of the storage where it was opened
 abbrev pub OnOpened : Opening → (Open → Type 0) → Type 0
 OnOpened (given.Opened o reported) P = P o
 OnOpened (given.Corrupt report) P = ⊤
 
--- where it was found corrupt, this holds
+-- P holds where the storage was found corrupt
 abbrev pub OnCorrupt : Opening → Type 0 → Type 0
 OnCorrupt (given.Opened o reported) P = ⊤
 OnCorrupt (given.Corrupt report) P = P
 
--- it is where it is configured to
+-- an open storage is the one that was configured, at its place
 pub record IsWhereConfigured (shape : Shape) (config : StorageData) (o : Open) : Type 0 where
   pub configured : config_in o ≡ config
   pub placed : store_shape (store_in o) ≡ shape

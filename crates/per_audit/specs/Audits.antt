@@ -115,7 +115,7 @@ findings_at image = flat_map (λ app. findings_of app (root_sole image app) (app
 unfoldable pub elements_at : Image → List Listed
 elements_at image = flat_map (λ app. elements_of app (app_at image app)) (range_with_len 0 8)
 
--- nothing was found
+-- an audit found nothing
 abbrev pub is_sound : List Finding → Bool
 is_sound [] = true
 is_sound (f ∷ findings) = false

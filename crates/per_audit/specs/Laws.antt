@@ -29,7 +29,7 @@ pub record IsIntactApp (image : Image) (app : ℕ) : Type 0 where
 abbrev pub SoundIsIntactLaw : Type 0
 SoundIsIntactLaw = (image : Image) → findings_at image ≡ [] → (app : ℕ) → app < 8 → IsIntactApp image app
 
--- and where every application is intact nothing is found
+-- where every application is intact nothing is found
 abbrev pub IntactIsSoundLaw : Type 0
 IntactIsSoundLaw = (image : Image) → ((app : ℕ) → app < 8 → IsIntactApp image app) → findings_at image ≡ []
 

@@ -108,7 +108,7 @@ dumping_over a nothing = Err (error.IntegrityCorrupted unit.Root)
 dumping_over a (absent g) = Err error.NotInstalled
 dumping_over a (installed g active previous) = exports_of a active.deployment.storages
 
--- those of all storages of the active version
+-- the exports of all storages of the active version, or the refusal
 unfoldable pub dumping : App → Result (List (List ℕ)) PerError
 dumping a = dumping_over a a.says
 

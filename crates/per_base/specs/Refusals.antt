@@ -27,11 +27,11 @@ abbrev pub with_initial : {A : Type 0} → Option (List ℕ) → (List ℕ → R
 with_initial None call = Err InitValueNotAvailable
 with_initial (Some bytes) call = call bytes
 
--- the error is the one that is due, or OutOfMemory, which may come at any time
+-- the error is the one with which the call is to be refused, or OutOfMemory, which may come at any time
 abbrev pub IsRefusal : {A : Type 0} → Result A PerError → PerError → Type 0
 IsRefusal due error = error ≢ OutOfMemory → due ≡ Err error
 
--- not refused: an answer is due
+-- the call is not to be refused: an answer is due
 abbrev pub IsDue : {A : Type 0} → Result A PerError → Type 0
 IsDue (Ok answer) = Unit {0}
 IsDue (Err error) = ⊥

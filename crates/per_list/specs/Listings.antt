@@ -227,7 +227,7 @@ abbrev pub listing_end : Form → List ℕ
 listing_end Lines = []
 listing_end Json = codes "]}\n"
 
--- its eight applications, in their order
+-- the listing of a disk: its eight applications, in their order
 unfoldable pub listing_text : Form → Image → List ℕ
 listing_text form image = listing_head form
     ++ flat_map (λ app. app_text form app (app_at image app)) (range_with_len 0 8) ++ listing_end form

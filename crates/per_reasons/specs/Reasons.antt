@@ -41,7 +41,7 @@ column_text None column ending = codes "it is to end before column " ++ (decimal
 column_text (Some needed) column ending =
     codes "column " ++ (decimal column ++ (codes " is to be " ++ (needed ++ ending)))
 
--- where the text stops being a line
+-- what is said of a text that is no line: where it stops being one, and what is needed there
 abbrev pub no_line_text : List ℕ → Option (List ℕ)
 no_line_text line = option_map
     (λ (flaw : Flaw). column_text (needed_text flaw.needed) flaw.column (ending_text line)) (flaw_in line)
@@ -70,7 +70,7 @@ manifest_of_line line =
     if has_space line && (has_space (after_space line) && takes_text (leading_word (after_space line)))
     then Some (after_space (after_space line)) else None
 
--- where a bad line stops being one
+-- the answer to a bad line, and where the line stops being one
 abbrev pub explained_text : (answer line : List ℕ) → Option (List ℕ)
 explained_text answer line = option_map (λ why. answer ++ (codes ": " ++ why)) (no_line_text line)
 

@@ -57,8 +57,8 @@ IsOutputWritten status = (status ≡ 0) ⊎ ((status ≡ 8) ⊎ (status ≡ 9))
 abbrev pub CameToOutput : ℕ → Type 0
 CameToOutput status = IsOutputWritten status ⊎ (status ≡ 6)
 
--- all of the text; where the sink failed a proper prefix of it; and nothing where the job did not come to its
--- output
+-- what a job wrote: all of the text; where the sink failed a proper prefix of it; and nothing where the job did not
+-- come to its output
 pub record WritesOutput (status : ℕ) (before now : Option (List ℕ)) (text : List ℕ) : Type 0 where
   pub whole : IsOutputWritten status → Appends before now text
   pub front : status ≡ 6 → WroteProperPrefix before now text

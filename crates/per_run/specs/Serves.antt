@@ -180,7 +180,7 @@ pub data IsPreparedDisk {D : Type 0} (told : Bool) (medium : D → Medium) (old 
 abbrev pub HadNothing : {D : Type 0} → (told : Bool) → (medium : D → Medium) → (old new : D) → Type 0
 HadNothing told medium old new = (IsTrue told → HasNoBytes (medium old).image) ⊎ OnlyReads (medium old) (medium new)
 
--- It ran on the disk that was prepared; or no start on it has ended, and no line was taken.
+-- A run that stays went over the disk that was prepared; or no start on it has ended, and no line was taken.
 pub data Serves {D : Type 0} (told : Bool) (medium : D → Medium) (rules : List Rule) (answers : Answers) (status : ℕ)
     (left_before left_now before now : Option (List ℕ))
     (source_before source_now sink_before sink_now : ℕ) (old new : D) : Type 0 where

@@ -33,7 +33,7 @@ pub record IsReadied {D : Type 0} (told : Bool) (medium : D → Medium) (memory 
   pub starts : IsTrue told → Starts memory (medium start) (medium new)
   pub time : Elapses (medium start) (medium new)
 
--- it did not: on a disk that is not empty, or before it came so far
+-- the runtime did not start: on a disk that is not empty, or before the preparation came so far
 abbrev pub IsUnready : {D : Type 0} → (told : Bool) → (medium : D → Medium) → (old new : D) → Type 0
 IsUnready told medium old new = ((IsTrue told → HasNoBytes (medium old).image → ⊥)
     × (IsTrue told → StartKeeps (medium old) (medium new))) ⊎ HadNothing told medium old new

@@ -54,7 +54,8 @@ pub record Blamed (ending : Ending) (before now : ℕ) : Type 0 where
   pub later : before ≤ now
   pub sink : ending ≡ Sink → Rose before now
 
--- the same of a result: an error ends the handling midway, and it is the sink's only where the sink's count rose
+-- the sink's count of failures never falls; an error ends the handling midway, and it is the sink's only where the
+-- count rose
 pub record Blames {T : Type 0} (before now : ℕ) (result : Result T Ending) : Type 0 where
   pub later : before ≤ now
   pub sink : IsErrOf result Sink → Rose before now
@@ -62,7 +63,7 @@ pub record Blames {T : Type 0} (before now : ℕ) (result : Result T Ending) : T
 
 -- ---- a text to the sink
 
--- all of it; or the sink failed and took a proper prefix; or memory ran out and it took nothing
+-- the sink took all of the text; or it failed and took a proper prefix; or memory ran out and it took nothing
 abbrev pub PutsOutput : {T : Type 0} → (text : List ℕ) → (before now : Option (List ℕ)) → Result T Ending → Type 0
 PutsOutput text before now (Ok x) = Appends before now text
 PutsOutput text before now (Err Sink) = WroteProperPrefix before now text

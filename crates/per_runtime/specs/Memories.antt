@@ -15,7 +15,7 @@ pub record AreRunning (told : Bool) (image : Image) (apps : List Running) : Type
   pub eight : length apps ≡ 8
   pub each : (app : ℕ) (a : Running) → slice_get apps app ≡ Some a → (a.app ≡ app) × IsRunning told image a
 
--- and without a doubt nothing is pending
+-- the applications of a runtime are in use on the disk, and nothing is pending where it is not in doubt
 pub record IsRuntime (told : Bool) (m : Medium) (r : Runtime) : Type 0 where
   pub apps : AreRunning told m.image r.apps.items
   pub quiet : r.in_doubt ≡ false → Quiet m

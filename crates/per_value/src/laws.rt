@@ -12,7 +12,8 @@ use crate::conversion::PerValue;
 use crate::favourite::Favourite;
 use per_base::{Bytes, ValueText};
 
-/// Truth values, numbers, texts and bytes are the values of their names.
+/// The kind and the tree of each type without members: a `bool` is a truth value, a `u16` a number of two bytes without
+/// a sign, an `i8` one of one byte with a sign.
 pub fn scalars_have_trees()
     ensures truth { (⟦<bool as PerValue>⟧.kind ≡ bool_kind) × (⟦<bool as PerValue>⟧.tree ≡ bool_tree) }
     ensures u8 { (⟦<u8 as PerValue>⟧.kind ≡ unsigned_kind one) × (⟦<u8 as PerValue>⟧.tree ≡ unsigned_tree one) }
@@ -27,7 +28,7 @@ pub fn scalars_have_trees()
     ensures bytes { (⟦<Bytes as PerValue>⟧.kind ≡ bytes_kind) × (⟦<Bytes as PerValue>⟧.tree ≡ bytes_tree) }
 {}
 
-/// A list is a list of its items, in their order.
+/// A `Vec` is the list of its items, in their order.
 pub fn lists_have_trees<T: PerValue + Drop>()
     ensures kind { ⟦<Vec<T> as PerValue>⟧.kind ≡ list_kind T.kind }
     ensures tree { ⟦<Vec<T> as PerValue>⟧.tree ≡ (λ list. list_tree T.kind (trees_each T.tree list.items)) }

@@ -19,7 +19,7 @@ options_in is_value [] = []
 options_in is_value (w ∷ ws) =
     if is_value || is_option w then w ∷ options_in (not is_value && takes_value w) ws else options_in false ws
 
--- all other words
+-- all words but options and their values
 abbrev pub named_words : Bool → List (List ℕ) → List (List ℕ)
 named_words is_value [] = []
 named_words is_value (w ∷ ws) =

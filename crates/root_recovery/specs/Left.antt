@@ -38,6 +38,6 @@ IsRowOf image app reads = ¬ (says_at image app ≡ nothing)
 IsRowOf image app none_left = NoneIsLeft image app
 IsRowOf image app (takes g root copies) = IsRootLeft image app g root copies
 
--- so it is of every image
+-- the row of each application of every image is the right one
 abbrev pub RowLaw : (Image → ℕ → RootRow) → Type 0
 RowLaw row = (image : Image) (app : ℕ) → IsRowOf image app (row image app)

@@ -28,11 +28,12 @@ parts_seen fields = record {
       option_map borrowed_bytes fields.previous;
 }
 
--- what a function returned, seen by view, is what reading gives, unless memory ran out
+-- what an error says of a reading: memory that ran out says nothing
 abbrev pub FailsToRead : {Y : Type 0} → RootError → Option Y → Type 0
 FailsToRead errors.NotARoot read = read ≡ None
 FailsToRead errors.OutOfMemory read = ⊤
 
+-- what a function returned, seen by view, is what reading gives, unless memory ran out
 abbrev pub Gives : {X Y : Type 0} → (X → Y) → Result X RootError → Option Y → Type 0
 Gives view (Ok x) read = read ≡ Some (view x)
 Gives view (Err e) read = FailsToRead e read

@@ -73,30 +73,31 @@ StorageLaterLaw = (a : App) (f : FoundStorage) (state : State) → IsLater a (wi
 
 -- ---- what is so of every world
 
--- The clock keeps it.
+-- Setting the moment keeps what is so of every world.
 abbrev pub NowLastsLaw : List Rule → Answers → Type 0
 NowLastsLaw rules answers = (w w' : World) (t : ℕ) (reply : Reply) → IsWorld w
     → StepsTo rules answers w (event.Now t) reply w' → IsWorld w'
 
--- A command that was answered keeps it. Of one that makes a session durable it takes that the session shows, once it
--- is on the disk, what it shows now.
+-- A command that was answered keeps what is so of every world. Where it makes a session durable, this needs that the
+-- session shows, once it is on the disk, what it shows now.
 abbrev pub AnswersLastLaw : List Rule → Answers → Type 0
 AnswersLastLaw rules answers = (w w' : World) (app : ℕ) (c : Call) (reply : Reply)
     → (synchronises c ≡ true → AreSeenAgain app (root_opened (app_of w app))) → IsWorld w
     → Step rules answers w (event.App app c) reply w' → IsWorld w'
 
--- So does a sync of a doubt that failed;
+-- A failed sync that was to end a doubt keeps what is so of every world.
 abbrev pub FailedSyncLastsLaw : Type 0
 FailedSyncLastsLaw = (w w' : World) (app : ℕ) (c : Call) (reply : Reply) → IsWorld w
     → SyncFails w (event.App app c) reply w' → IsWorld w'
 
--- a command that names no storage and whose device failed, whatever was read then;
+-- A command that names no storage and whose device failed keeps what is so of every world, whatever was read then.
 abbrev pub FailureLastsLaw : List Rule → Answers → Type 0
 FailureLastsLaw rules answers = (w w' : World) (app : ℕ) (c : Call) (reply : Reply) → device_storage c ≡ None
     → IsWorld w
     → FailsElsewhere rules answers w (event.App app c) reply w' → IsWorld w'
 
--- and one on a storage, where what was read is what was there but for that storage.
+-- A command on a storage whose device failed keeps what is so of every world, where what was read is what was there but
+-- for that storage.
 abbrev pub StorageFailureLastsLaw : List Rule → Answers → Type 0
 StorageFailureLastsLaw rules answers = (w w' : World) (app : ℕ) (c : Call) (reply : Reply) (name : List ℕ)
     (f : FoundStorage) → device_storage c ≡ Some name
@@ -126,28 +127,28 @@ OpensAsEitherLaw = (app g bank version : ℕ) (s : StorageData) (v : View) (othe
 
 -- ---- how each kind of command keeps each application
 
--- one that calls no disk
+-- a command that calls no disk keeps each application
 abbrev pub IdleKeepsLaw : Medium → Type 0
 IdleKeepsLaw m = (app : ℕ) (w w' : World) → app < 8 → IsDiskOf app (disks w) m → disks w' ≡ disks w → w'.doubt ≡ w.doubt
     → StepKeeps app w w' m m
 
--- one in a doubt whose sync failed
+-- a command in a doubt whose sync failed keeps each application
 abbrev pub FailedSyncKeepsLaw : (old new : Medium) → Type 0
 FailedSyncKeepsLaw old new = (app : ℕ) (w : World) (d : Doubt) → w.doubt ≡ Some d → OnlyReads old new
     → StepKeeps app w w old new
 
--- one in a doubt whose sync succeeded, and then what goes on without a doubt
+-- a command in a doubt whose sync succeeded keeps each application, as it does without a doubt
 abbrev pub SyncedKeepsLaw : (old now new : Medium) → Type 0
 SyncedKeepsLaw old now new = (app : ℕ) (w w' : World) (d : Doubt) → w.doubt ≡ Some d → Elapses old now
     → WritesNothing old now → Quiet now → Elapses now new
     → StepKeeps app (without_doubt w) w' now new → StepKeeps app w w' old new
 
--- the opening of a root, for each application
+-- the opening of a root keeps each application on its way
 abbrev pub OnTheWayLaw : (old new : Medium) → Type 0
 OnTheWayLaw old new = (a app : ℕ) (ds : Disks) → app < 8 → IsDiskOf app ds old → Quiet old → IsCleanApp app old.image
     → OpensRoot a old new → StaysOnTheWay app ds old new
 
--- one whose application's root was opened first
+-- a command whose application's root was opened first keeps each application
 abbrev pub RootKeepsLaw : (old now new : Medium) → Type 0
 RootKeepsLaw old now new = (app : ℕ) (w v w' : World) → IsLater (disk_at (disks w) app) (disk_at (disks w') app)
     → w.doubt ≡ None → v.doubt ≡ None
@@ -156,29 +157,31 @@ RootKeepsLaw old now new = (app : ℕ) (w v w' : World) → IsLater (disk_at (di
     → StepKeeps app v w' now new → w'.doubt ≡ None
     → StepKeeps app w w' old new
 
--- and its moments alone, where the command then fails or stops
+-- Where a command fails or stops after its application's root was opened, each moment is between what was before that
+-- and what the command leads to.
 abbrev pub RootThenLaw : (old now new : Medium) → Type 0
 RootThenLaw old now new = (app : ℕ) (before opened after : Disks) → IsLater (disk_at before app) (disk_at after app)
     → (disk_at opened app ≡ disk_at before app) ⊎ (disk_at opened app ≡ reopened (disk_at before app))
     → Elapses old now → Elapses now new → StaysOnTheWay app before old now
     → EachCase (Between app opened after) now new → EachCase (Between app before after) old new
 
--- one on an application that was answered
+-- a command on an application that was answered keeps each application
 abbrev pub CallKeepsLaw : (old new : Medium) → Type 0
 CallKeepsLaw old new = (a app : ℕ) (w w' : World) → app < 8 → Calls a (disks w') old new
     → ((b : ℕ) → a ≢ b → disk_at (disks w') b ≡ disk_at (disks w) b)
     → w.doubt ≡ None → w'.doubt ≡ None → (IsCleanApp a old.image → IsCleanApp a new.image) → IsDiskOf app (disks w) old
     → StepKeeps app w w' old new
 
--- one whose device failed: the world after it is in doubt between what was and what it leads to, with a case whose
--- image is what reads give
+-- A command whose device failed keeps each application: the world after it is in doubt between what was and what the
+-- command leads to, with a case whose image is what reads give.
 abbrev pub CallFailsLaw : (old new : Medium) → Type 0
 CallFailsLaw old new = (a app : ℕ) (w w' : World) (d : Doubt) → app < 8 → Elapses old new → Calls a d.after old new
     → ((b : ℕ) → a ≢ b → disk_at d.after b ≡ disk_at (disks w) b) → w.doubt ≡ None → w'.doubt ≡ Some d
     → d.before ≡ disks w → new.now d.case
     → d.case.left ≡ new.image → IsDiskOf app (disks w) old → StepKeeps app w w' old new
 
--- the same from all of its moments, also those of a root that was opened before it
+-- A command whose device failed keeps each application also where its moments include those of a root that was opened
+-- before it.
 abbrev pub FailureKeepsLaw : (old new : Medium) → Type 0
 FailureKeepsLaw old new = (app : ℕ) (w w' : World) (d : Doubt) → w'.doubt ≡ Some d → d.before ≡ disks w
     → Elapses old new → IsDiskOf app (disks w) old
@@ -187,15 +190,15 @@ FailureKeepsLaw old new = (app : ℕ) (w w' : World) (d : Doubt) → w'.doubt �
 
 -- ---- the start
 
--- before any root is opened, after a sync
+-- a start whose sync has ended has opened no root yet
 abbrev pub NoneOpenedLaw : (old now : Medium) → Type 0
 NoneOpenedLaw old now = Elapses old now → WritesNothing old now → Quiet now → OpenedUpTo 0 old now
 
--- one root more
+-- a start goes on by opening one root more
 abbrev pub OneOpenedLaw : (old now new : Medium) → Type 0
 OneOpenedLaw old now new = (a : ℕ) → a < 8 → OpenedUpTo a old now → OpensRoot a now new → OpenedUpTo (a + 1) old new
 
--- all eight
+-- a start that has opened all eight roots keeps what was there
 abbrev pub AllOpenedLaw : (old now : Medium) → Type 0
 AllOpenedLaw old now = OpenedUpTo 8 old now → StartKeeps old now
 
@@ -228,7 +231,7 @@ abbrev pub RunBeginsLaw : List Rule → Answers → (old new : Medium) → Type 
 RunBeginsLaw rules answers old new = (memory : Memory) → Elapses old new → Starts memory old new
     → Going rules answers (world_at old.image) (after_start (world_at old.image)) [] memory None old new
 
--- and one that did not is a run that ended there, before any line was taken
+-- a start that did not end is a run that ended there, before any line was taken
 abbrev pub StartStopsLaw : List Rule → Answers → (old new : Medium) → Type 0
 StartStopsLaw rules answers old new = (ending : Ending) (before after : Option (List ℕ)) → Elapses old new
     → ¬ (HasStarted ending) → StartKeeps old new
@@ -243,7 +246,7 @@ RunGoesOnLaw rules answers old now new = (turns : List Turn) (e : Event) (reply 
     → Going rules answers (world_at old.image) (after_start (world_at old.image))
     (turns ++ turn e reply new (world_of new.image memory' s.doubt') ∷ []) memory' s.doubt' old new
 
--- where every command has ended, all that is promised follows
+-- where every command has ended, all that a run promises of the disk follows
 abbrev pub RunEndsLaw : List Rule → Answers → (old now : Medium) → Type 0
 RunEndsLaw rules answers old now = (ending : Ending) (lines all : List (List ℕ)) (turns : List Turn)
     (before after : Option (List ℕ)) (memory : Memory) (doubt : Option Doubt)
@@ -252,7 +255,8 @@ RunEndsLaw rules answers old now = (ending : Ending) (lines all : List (List ℕ
     now
     → DiskSide rules answers ending lines all turns before after old now
 
--- and so it does where the command of the next line is in progress, after the text of every reply
+-- all that a run promises of the disk follows also where the command of the next line is in progress, after the text of
+-- every reply
 abbrev pub RunStopsLaw : List Rule → Answers → (old now new : Medium) → Type 0
 RunStopsLaw rules answers old now new = (ending : Ending) (lines all others : List (List ℕ)) (text : List ℕ)
     (turns : List Turn) (before after : Option (List ℕ)) (e : Event)

@@ -32,14 +32,14 @@ AppStep rules answers app now r c outcome = StepBeside rules answers app now (ro
 
 -- ---- which commands call the device
 
--- all that name it by their word, refused or not; to close calls it for files alone
+-- whether the command itself calls the device, refused or not; a close does so for files alone
 abbrev pub uses_device : App → Call → Bool
 uses_device a call.Status = false
 uses_device a call.UpdateAbort = false
 uses_device a (call.Close n) = is_ok (storage_in a n (Some kinds.Files))
 uses_device a other = is_none (local_on other)
 
--- and every command of an application whose root is to be opened
+-- whether a command calls the device, if only to open its application's root
 abbrev pub calls_device : Application → Call → Bool
 calls_device r c = is_to_open r.stage || uses_device r.disk c
 

@@ -35,7 +35,7 @@ pub fn parse_unsigned(max: u64, text: &[u8]) -> Result<u64, DecodeError>
     ensures found { IfOk result (λ n. (n ≤ max) × (text.now ≡ decimal n)) }
     ensures only { IsErrOf result DecodeError.NotAValue → (n : ℕ) → n ≤ max → text.now ≢ decimal n }
 
-    // the text alone decides
+    // What it gives depends on the text and the bound alone.
     ensures exact { Gives (λ n. n) result (unsigned_in (max + 1) text.now) }
     ensures memory { result ≢ Err DecodeError.OutOfMemory }
 {
