@@ -1,4 +1,4 @@
-"""A course: runs of the program over one folder, stops, restarts and damage, beside what may be so.
+"""A random workload: runs of the program over one folder, stops, restarts and damage, beside what may be so.
 
 What may be so is a list of worlds, each of two applications. A command in which the program was stopped leaves the
 world before it and the one after it; a reply rules out the worlds that do not give it.
@@ -100,7 +100,7 @@ class Course:
         self.log = log or (lambda _text: None)
 
     def take(self):
-        """Takes the course; raises what differs."""
+        """Runs the workload; raises what differs."""
         for _ in range(RUNS):
             self.restart()
             self.bear()
@@ -190,7 +190,7 @@ class Course:
             except Difference as difference:
                 faults.append(difference)
         if not worlds:
-            # Of several worlds the one is told that went along with the program for longest.
+            # Of several worlds the one is shown that went along with the program for longest.
             raise max(faults, key=lambda difference: difference.lines)
         self.worlds = list(worlds)
 

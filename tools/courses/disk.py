@@ -150,7 +150,7 @@ class Nothing:
 
 
 class Some:
-    """Every other call or so; of a write at times its front, its end, or other bytes in its place."""
+    """Every other call or so; of a write at times its start, its end, or other bytes in its place."""
 
     text = "some"
 

@@ -1,5 +1,5 @@
 #!/usr/bin/env -S python3 -B
-"""Shows that the courses find mistakes.
+"""Shows that the random workloads find mistakes.
 
 usage: tools/courses/mistakes.py [PROGRAM]
 
@@ -71,7 +71,7 @@ class WithoutSyncs(Bench):
 
 
 def first_found(bench):
-    """Returns the first course that finds a mistake, with what differs, or None."""
+    """Returns the first workload that finds a mistake, with what differs, or None."""
     bench.format()
     for seed in COURSES:
         course = Course(bench, seed)

@@ -1,4 +1,4 @@
-"""What an application answers, told without a disk.
+"""What an application answers, computed without a disk.
 
 An application is installed, updated, rolled back and wiped, and stores keys and files. Here it is a value: a command
 gives a reply and a new application. Of copies it knows only how many were damaged, and how many can be.

@@ -1,4 +1,4 @@
-"""Takes courses, each of a seed, and says which replies of the program no world gives.
+"""Runs seeded random workloads, and says which replies of the program no world gives.
 
 usage: .ci/courses [PROGRAM] [FIRST LAST]
 
@@ -45,7 +45,7 @@ def built_stopping(work):
 
 
 def taken(program, library, seeds, log=None):
-    """Takes courses, and returns what was counted and each that differs with the reason."""
+    """Runs workloads, and returns what was counted and each that differs with the reason."""
     counts, differences = Counts(), []
     with tempfile.TemporaryDirectory(dir=MEMORY if os.access(MEMORY, os.W_OK) else None) as work:
         bench = Bench(program, library, work)
