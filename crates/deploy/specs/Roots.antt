@@ -23,7 +23,7 @@ root_says (Absent cell) = absent (generation_of cell)
 root_says (Installed i) = installed (generation_of i.cell) (named_in_bank i.bank (version_said i.active))
     (option_map (λ v. named_in_bank (1 - i.bank) (version_said v)) i.previous)
 
--- as an application whose storages have these states
+-- a root as an application whose storages have these states
 abbrev pub root_app : Root → List State → App
 root_app root states = record { says = root_says root; lacking = []; states = states }
 

@@ -68,7 +68,7 @@ root_lacking image app (installed g active previous) None = []
 root_lacking image app (installed g active previous) (Some seen) =
     lacking image (root_place app) seen.generation seen.text
 
--- the application, on every image
+-- what an image says of an application
 unfoldable pub app_at : Image → ℕ → App
 app_at image app = record {
   says = says_at image app;
@@ -122,7 +122,7 @@ pub record IsCleanRoot (app : ℕ) (image : Image) : Type 0 where
 abbrev pub AreClean : Image → List Shape → Type 0
 AreClean image shapes = AllByRecursion (λ shape. IsClean shape image) shapes
 
--- the places of an application: its root's, and those that its root names
+-- the places of an application are clean: its root's, and those that its root names
 pub record IsCleanApp (app : ℕ) (image : Image) : Type 0 where
   pub root : IsCleanRoot app image
   pub storages : AreClean image (shapes_named app (says_at image app))

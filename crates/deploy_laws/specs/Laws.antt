@@ -159,28 +159,30 @@ StillAppLaw = (app : ℕ) (start : Image) (after : App) (c : Case) → app < 8 �
 
 -- ---- on the way
 
--- the text of the root that stands is brought to every copy, before whatever may come of the application
+-- a stop while the text of the root that stands is brought to every copy leaves the application on its way to whatever
+-- may come of it
 abbrev pub OpeningLaw : Type 0
 OpeningLaw = (app : ℕ) (seen : Seen) (start : Image) (after : App) (c : Case) → app < 8 → IsCleanApp app start
     → standing start (root_place app) agreeing_of_root ≡ Some seen
     → PutStops (root_place app) seen.generation seen.text start c
     → IsLater (app_at start app) after → StandsCase app (app_at start app) after c
 
--- a bad root is formatted
+-- a stop while a bad root is formatted leaves it bad, or the application without a version
 abbrev pub FormattingLaw : Type 0
 FormattingLaw = (app : ℕ) (next : List ℕ) (start : Image) (c : Case) → IsCleanApp app start
     → says_at start app ≡ nothing → root_of next ≡ Some text.absent
     → FormatStops (root_place app) 1 next start c
     → StandsCase app (app_at start app) (record { says = absent 1; lacking = []; states = [] }) c
 
--- storages are made in a bank in which no version is, before whatever may come of the application
+-- a stop while storages are made in a bank in which no version is leaves the application on its way to whatever may
+-- come of it
 abbrev pub CreatingLaw : Type 0
 CreatingLaw = (app bank : ℕ) (start : Image) (after : App) (c : Case) → app < 8 → bank ≤ 1 → IsCleanApp app start
     → IsFree bank (says_at start app)
     → IsSettledOn (IsOutsideBank app bank) start c → IsLater (app_at start app) after
     → StandsCase app (app_at start app) after c
 
--- the root, whose text is held alone, is written
+-- a stop while the root is written, over a text that is held alone, leaves the application as before or as after
 abbrev pub WritingLaw : Type 0
 WritingLaw = (app g : ℕ) (text next : List ℕ) (root : Root) (start : Image) (after : App) (c : Case) → app < 8
     → IsCleanApp app start
@@ -189,7 +191,8 @@ WritingLaw = (app g : ℕ) (text next : List ℕ) (root : Root) (start : Image) 
     → AreOn start (shapes_named app after.says) after.states → PutStops (root_place app) (g + 1) next start c
     → StandsCase app (app_at start app) after c
 
--- a storage of the active version is on its way to another state, and nothing else of the application is touched
+-- a stop while a storage of the active version is on its way to another state, and nothing else of the application is
+-- touched, leaves the application on the same way
 abbrev pub StoringLaw : Type 0
 StoringLaw = (app g number : ℕ) (start : Image) (active : Named) (previous : Option Named) (s : StorageData)
     (after : State) (c : Case)

@@ -36,6 +36,7 @@ IsRootSpared app damaged lacking copy = IsUndamaged damaged (root_place app) cop
 abbrev pub HasEnoughRoot : (app : ℕ) (damaged lacking : List ℕ) → Type 0
 HasEnoughRoot app damaged lacking = AtLeast (IsRootSpared app damaged lacking) copies_of_root agreeing_of_root
 
+-- What a stop and damage leave of an application that was on its way from one state to another.
 pub record Stands (app : ℕ) (image : Image) (damaged : List ℕ) (before after : App) : Type 0 where
   -- a root that said nothing says nothing, or what it says after
   pub bad : before.says ≡ nothing → (says_at image app ≡ nothing) ⊎ (says_at image app ≡ after.says)
@@ -56,14 +57,15 @@ pub record Stands (app : ℕ) (image : Image) (damaged : List ℕ) (before after
 
 -- ---- every moment of a call
 
--- so it is of each sound case, after each damage
+-- a crash in this case, and any damage after it, leaves the application between what it was and what it is on its way
+-- to, if the case is sound
 abbrev pub StandsCase : ℕ → (before after : App) → Case → Type 0
 StandsCase app before after c = IsSoundApp app c → (damaged : List ℕ) (image : Image)
     → DecaysApp app damaged c.left image
     → Stands app image damaged before after
 
--- at each moment of calls the application stands between what it was and what it is on its way to, if at their start
--- nothing was pending and its places were clean
+-- a crash at any moment of calls, and damage after it, leaves the application between what it was and what it is on its
+-- way to, if at their start nothing was pending and its places were clean
 abbrev pub StandsThroughout : ℕ → (after : App) → (old new : Medium) → Type 0
 StandsThroughout app after old new = Quiet old → IsCleanApp app old.image
     → EachCase (StandsCase app (app_at old.image app) after) old new

@@ -65,6 +65,7 @@ installed_app g now d = record {
   states = made_states (initial_all now d);
 }
 
+-- an install: the application with the version that the manifest describes in bank 0, or the refusal
 unfoldable pub installing : (now : ℕ) → List ℕ → App → Result App PerError
 installing now text a = elim a.says [
   | nothing ↦ Err (error.IntegrityCorrupted unit.Root)
@@ -86,6 +87,7 @@ finish_with a g active (Some previous) = not_worn g (Ok (record {
   states = take (storage_count active) a.states;
 }))
 
+-- a finish: the application without its previous version, or the refusal
 unfoldable pub finishing : App → Result App PerError
 finishing a = elim a.says [
   | nothing ↦ Err (error.IntegrityCorrupted unit.Root)
@@ -102,6 +104,7 @@ rollback_with busy a g active (Some previous) = not_busy busy (not_worn g (Ok (r
   states = drop (storage_count active) a.states;
 })))
 
+-- a rollback: the application with its previous version active, or the refusal
 unfoldable pub rolling_back : (busy : Option (List ℕ)) → App → Result App PerError
 rolling_back busy a = elim a.says [
   | nothing ↦ Err (error.IntegrityCorrupted unit.Root)
@@ -112,7 +115,7 @@ rolling_back busy a = elim a.says [
 abbrev pub empty_app : ℕ → App
 empty_app g = record { says = absent g; lacking = []; states = [] }
 
--- a bad root is formatted
+-- a wipe: the application without a version, also where its root is bad, or the refusal
 unfoldable pub wiping : (busy : Option (List ℕ)) → App → Result App PerError
 wiping busy a = not_busy busy (elim a.says [
   | nothing ↦ Ok (empty_app 1)

@@ -9,7 +9,7 @@ use Rattle.disk_model.specs.Medium.{Medium, Quiet, Elapses, OnlyReads}
 use Rattle.disk_model.specs.History.{image_of, start_image, recorded, base_after, pending_after, torn_after}
 use Rattle.disk_model.specs.Orders.{names, stops}
 
--- what is said of it as a disk
+-- what is said of a disk in memory as a disk
 abbrev pub mem_medium : MemDisk → Medium
 mem_medium disk = recorded (image_of disk.files) (start_image disk.files disk.start) disk.calls.items disk.faults
     disk.written

@@ -6,7 +6,7 @@ use Rattle.mem_system.specs.declared.memory.MemSystem.{MemSystem}
 use Rattle.mem_system.specs.declared.record.Call.{Call}
 use Rattle.mem_system.specs.History.{folder_after}
 
--- what is said of it as a system
+-- what is said of a system in memory as a system
 abbrev pub mem_medium : MemSystem → SystemMedium
 mem_medium system = folder_after (image_of system.start) system.history.items
 
