@@ -11,7 +11,7 @@ use Rattle.std.proofs.Math.Path.{fun_ext}
 use Rattle.disk_model.specs.Image.{Image, end_of, Torn}
 use Rattle.flash_model.specs.Pages.{blank_page, program_page, erase_block}
 use Rattle.folder_flash.specs.Bytes.{flash_byte, AreFlashBytes, PutsIntoFlash}
-use Rattle.folder_flash.specs.FilePages.{page_start, file_page, file_pages, IsSpared, TornFile, TornPageOf, TornBlockOf}
+use Rattle.folder_flash.specs.FilePages.{page_start, file_page, file_pages, IsPageSpared, TornFile, TornPageOf, TornBlockOf}
 
 blank_length : length blank_page ≡ 512
 unfolding blank_page
@@ -184,7 +184,7 @@ kept_byte old new at n i some torn out =
     (cases_lt i (length old))
 
 kept_page : (old new : List ℕ) (at n b p : ℕ) → 0 < n
-    → Torn (min (length old) at) (at + n - min (length old) at) old new → IsSpared old at b p
+    → Torn (min (length old) at) (at + n - min (length old) at) old new → IsPageSpared old at b p
     → ((j : ℕ) → j < 512 → (page_start b p + j < at) ⊎ (at + n ≤ page_start b p + j))
     → file_page new b p ≡ file_page old b p
 kept_page old new at n b p some torn spared outside = page_alike old new b p (λ j l.

@@ -24,18 +24,18 @@ abbrev pub TornFile : (at n : ℕ) → (old new : Image) → Type 0
 TornFile at n old new = TornImage 0 (min (length (old 0)) at) (at + n - min (length (old 0)) at) old new
 
 -- the file reaches this place, or had the page whole
-abbrev pub IsSpared : (file : List ℕ) (at b p : ℕ) → Type 0
-IsSpared file at b p = (at ≤ length file) ⊎ (page_start b p + 512 ≤ length file)
+abbrev pub IsPageSpared : (file : List ℕ) (at b p : ℕ) → Type 0
+IsPageSpared file at b p = (at ≤ length file) ⊎ (page_start b p + 512 ≤ length file)
 
 -- what programming a page that is cut short leaves: each other page as it was, but for those that the file lacked up to
 -- this one
 abbrev pub TornPageOf : (block page : ℕ) → (old new : List ℕ) → Type 0
-TornPageOf block page old new = (b p : ℕ) → (b ≢ block) ⊎ (p ≢ page) → IsSpared old (page_start block page) b p
+TornPageOf block page old new = (b p : ℕ) → (b ≢ block) ⊎ (p ≢ page) → IsPageSpared old (page_start block page) b p
     → file_pages new b p ≡ file_pages old b p
 
 -- the same of a block that is erased
 abbrev pub TornBlockOf : (block : ℕ) → (old new : List ℕ) → Type 0
-TornBlockOf block old new = (b p : ℕ) → b ≢ block → IsSpared old (page_start block 0) b p
+TornBlockOf block old new = (b p : ℕ) → b ≢ block → IsPageSpared old (page_start block 0) b p
     → file_pages new b p ≡ file_pages old b p
 
 -- ---- what is seen of a flash
