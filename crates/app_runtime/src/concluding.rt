@@ -42,18 +42,10 @@ impl Running {
         match mem::replace(&mut self.stage, Stage::ToOpen) {
             Stage::Updating(staged) => Some(staged),
             other => {
-                self.keep(other);
+                self.stage = other;
                 None
             }
         }
-    }
-
-    // Keeps in memory what is going on from now on. An assignment would let go of each part of what was in a step of its
-    // own, wherever it stands, which takes long to prove.
-    pub(crate) fn keep(&mut self, stage: Stage)
-        ensures { self.new ≡ record self.old { stage = stage } }
-    {
-        drop(mem::replace(&mut self.stage, stage));
     }
 
     // Keeps the root that a call leaves, and builds the reply. On a failure all storages are closed.
@@ -63,7 +55,7 @@ impl Running {
     {
         match made {
             Ok(Outcome { root, refused }) => {
-                self.keep(Stage::AtRest(root));
+                self.stage = Stage::AtRest(root);
                 Ok(match refused {
                     None => self.reply(Answer::Done),
                     Some(error) => self.refuse(error),

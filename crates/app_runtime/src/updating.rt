@@ -91,11 +91,11 @@ impl Running {
     {
         match begun {
             Ok(Begin::Ready(staged)) => {
-                self.keep(Stage::Updating(staged));
+                self.stage = Stage::Updating(staged);
                 Ok(self.reply(Answer::Done))
             }
             Ok(Begin::Refused(root, error)) => {
-                self.keep(Stage::AtRest(root));
+                self.stage = Stage::AtRest(root);
                 Ok(self.refuse(error))
             }
             Err(stop) => {
@@ -124,7 +124,7 @@ impl Running {
         };
         let staged = staged.next_storage(disk)?;
         let remaining = staged.remaining();
-        self.keep(Stage::Updating(staged));
+        self.stage = Stage::Updating(staged);
         Ok(self.reply(Answer::Number(u64::from(remaining))))
     }
 
@@ -147,7 +147,7 @@ impl Running {
             return Ok(self.without_update());
         };
         let root = staged.commit_update(disk)?;
-        self.keep(Stage::AtRest(root));
+        self.stage = Stage::AtRest(root);
         Ok(self.reply(Answer::Done))
     }
 
@@ -158,7 +158,7 @@ impl Running {
         let Some(staged) = self.take_update() else {
             return self.without_update();
         };
-        self.keep(Stage::AtRest(staged.abort()));
+        self.stage = Stage::AtRest(staged.abort());
         self.reply(Answer::Done)
     }
 }

@@ -38,7 +38,7 @@ impl OpenSlots {
         ensures { self.new.open.items ≡ replicate {A = Option Open} 16 None }
     {
         for number in 0..16 {
-            drop(self.open[number].take());
+            self.open[number] = None;
         }
     }
 
@@ -110,6 +110,6 @@ impl OpenSlots {
         requires { number < length self.old.open.items }
         ensures { self.new.open.items ≡ slice_set self.old.open.items number (Some storage) }
     {
-        drop(self.open[number as usize].replace(storage));
+        self.open[number as usize] = Some(storage);
     }
 }

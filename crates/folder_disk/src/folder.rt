@@ -194,45 +194,9 @@ impl<S: System> Folder<S> {
         if bytes.is_empty() {
             return Ok(());
         }
-        self.sync_full(file)?;
-        self.find_or_make(file)
-    }
-
-    /// Syncs the file where much of it waits for that.
-    fn sync_full(&mut self, file: u32) -> Result<(), DiskFailed>
-        requires knows { Knows S.told (S.medium self.old.system) self.old.ranges.items self.old.is_fresh
-            self.old.is_grown self.old.is_lost }
-        requires lost { IsFalse self.old.is_lost }
-        ensures lost { OnOk result (IsFalse self.new.is_lost) }
-        ensures reads { OnlyReads (S.medium self.old.system).disk (S.medium self.new.system).disk }
-        ensures time { Elapses (S.medium self.old.system).disk (S.medium self.new.system).disk }
-        ensures knows { Knows S.told (S.medium self.new.system) self.new.ranges.items self.new.is_fresh
-            self.new.is_grown self.new.is_lost }
-        ensures cause { OnErr result (Rose self.old.faults self.new.faults) }
-        ensures later { self.old.faults ≤ self.new.faults }
-        ensures passes { OnOk result (self.new.faults ≡ self.old.faults) }
-        ensures written { self.new.written ≡ self.old.written }
-    {
         if is_full(self.ranges.as_slice(), file) {
-            return self.sync_early(file);
+            self.sync_early(file)?;
         }
-        Ok(())
-    }
-
-    /// Opens the file, or makes it where it is not there.
-    fn find_or_make(&mut self, file: u32) -> Result<(), DiskFailed>
-        requires knows { Knows S.told (S.medium self.old.system) self.old.ranges.items self.old.is_fresh
-            self.old.is_grown self.old.is_lost }
-        requires lost { IsFalse self.old.is_lost }
-        ensures reads { OnlyReads (S.medium self.old.system).disk (S.medium self.new.system).disk }
-        ensures time { Elapses (S.medium self.old.system).disk (S.medium self.new.system).disk }
-        ensures knows { Knows S.told (S.medium self.new.system) self.new.ranges.items self.new.is_fresh
-            self.new.is_grown self.new.is_lost }
-        ensures cause { OnErr result (Rose self.old.faults self.new.faults) }
-        ensures later { self.old.faults ≤ self.new.faults }
-        ensures passes { OnOk result (self.new.faults ≡ self.old.faults) }
-        ensures written { self.new.written ≡ self.old.written }
-    {
         if self.find(file)? {
             return Ok(());
         }

@@ -69,20 +69,14 @@ impl Open {
         untouched_is_kept();
         self.invariants();
         match self {
-            Open::Keys(kvs) => {
-                drop(kvs);
-                Ok(Closing::Done)
-            }
+            Open::Keys(_kvs) => Ok(Closing::Done),
             Open::Files(files) => match files.close_storage(disk) {
                 Ok(Closed::Done) => Ok(Closing::Done),
                 Ok(Closed::Refused(files, error)) => {
                     Ok(Closing::Refused(Open::Files(files), error))
                 }
                 Err(Fault::Device) => Err(Stop::Device),
-                Err(Fault::OutOfMemory(files)) => {
-                    drop(files);
-                    Err(Stop::OutOfMemory)
-                }
+                Err(Fault::OutOfMemory(_files)) => Err(Stop::OutOfMemory),
             },
         }
     }

@@ -104,9 +104,7 @@ returns g c = λ now.
     (length (staged_progress t).contents) f
     (subst (λ n. n < 8) (sym of_app) at.0.memory.below) (free_low (staged_root t)) (contents_few s.app t at.0.memory)
     is) c.commit_update.ensures.outside (c.commit_update.ensures.any_moment tells)) in
-    subst (λ (x : Running). Promises told rules answers now call.UpdateCommit s x
-    (c.commit_update.new.disk ≡ c.args.disk.now) old new (Ok c.reply.result)) (sym c.keep.ensures)
-    (subst (λ (x : Running). Promises told rules answers now call.UpdateCommit s
+    subst (λ (x : Running). Promises told rules answers now call.UpdateCommit s
     (record x { stage = AtRest c.in_ok-root.root }) (c.commit_update.new.disk ≡ c.args.disk.now) old new
     (Ok c.reply.result)) (sym c.in-Some.ensures.left)
     (subst (λ (x : Reply). Promises told rules answers now call.UpdateCommit s
@@ -121,4 +119,4 @@ returns g c = λ now.
     (λ tells. subst (λ n. app_at new.image n ≡ updated_app (staged_progress t) (app_at old.image n)) of_app
     (c.in_ok-root.ensures.app tells)) calls
     (λ tells. subst (λ n. IsCleanApp n old.image → IsCleanApp n new.image) of_app (c.in_ok-root.ensures.clean tells))
-    (λ quiet. c.in_ok-root.ensures.quiet) c.in_ok-root.ensures.passes c.commit_update.ensures.time))))
+    (λ quiet. c.in_ok-root.ensures.quiet) c.in_ok-root.ensures.passes c.commit_update.ensures.time)))

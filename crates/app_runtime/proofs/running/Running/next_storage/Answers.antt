@@ -93,9 +93,7 @@ returns g c = λ now.
     tells (λ f is. beside t.app (free_bank (staged_root t)) (staged_progress t).built f (free_low (staged_root t))
     (built_few s.app t at.0.memory) is) c.next_storage.ensures.outside
     (c.next_storage.ensures.any_moment tells)) in
-    subst (λ (x : Running). Promises told rules answers now call.UpdateNext s x
-    (c.next_storage.new.disk ≡ c.args.disk.now) old new (Ok c.reply.result)) (sym c.keep.ensures)
-    (subst (λ (x : Running). Promises told rules answers now call.UpdateNext s
+    subst (λ (x : Running). Promises told rules answers now call.UpdateNext s
     (record x { stage = Updating c.in_ok-staged.staged }) (c.next_storage.new.disk ≡ c.args.disk.now) old new
     (Ok c.reply.result)) (sym c.in-Some.ensures.left)
     (subst (λ (x : Reply). Promises told rules answers now call.UpdateNext s
@@ -110,4 +108,4 @@ returns g c = λ now.
     (subst (λ n. StagedAt told new.image n c.in_ok-staged.staged) of_app c.in_ok-staged.ensures.staged)
     (λ tells. subst (λ n. app_at new.image n ≡ app_at old.image n) of_app (c.next_storage.ensures.app tells)) calls
     (λ tells. subst (λ n. IsCleanApp n old.image → IsCleanApp n new.image) of_app (c.next_storage.ensures.clean tells))
-    c.in_ok-staged.ensures.quiet c.in_ok-staged.ensures.passes c.next_storage.ensures.time))))
+    c.in_ok-staged.ensures.quiet c.in_ok-staged.ensures.passes c.next_storage.ensures.time)))
