@@ -1,6 +1,6 @@
 //! Values: nodes that keep the rules.
 
-ghost use Rattle.std.specs.Prelude.{◌≡◌, ◌≢◌, ◌<◌, ◌≤◌, ◌↔◌, IfOk, IsTrue, OnOk, length, IsErrOf};
+ghost use Rattle.std.specs.Prelude.{◌≡◌, ◌≢◌, ◌<◌, ◌≤◌, ◌↔◌, IfOk, IsTrue, length, IsErrOf};
 ghost use Rattle.value_model.specs.Encoding.{encoding};
 ghost use Rattle.value_model.specs.Kinds.{kind_depth};
 ghost use Rattle.value_model.specs.Trees.{type_of};
@@ -57,13 +57,16 @@ impl Value {
             × ((kind_depth (type_of (tree_of node)) ≤ 8) × (65536 < length (encoding (tree_of node)))) }
         ensures no_memory { result ≢ Err ValueError.OutOfMemory }
     {
-        match check(&node) {
-            Ok(()) => Ok(Value { node }),
-            Err(error) => {
-                drop(node);
-                Err(error)
-            }
+        if !is_typed(&node) {
+            return Err(ValueError::IllTyped);
         }
+        if node_depth(&node) > MAX_DEPTH {
+            return Err(ValueError::TooDeep);
+        }
+        if encoded_length(&node) > MAX_LENGTH {
+            return Err(ValueError::TooLong);
+        }
+        Ok(Value { node })
     }
 
     /// A copy of the value.
@@ -103,26 +106,4 @@ impl Value {
     {
         self.node
     }
-}
-
-/// The first rule that the node breaks, as [`Value::new`] has them.
-fn check(node: &Node) -> Result<(), ValueError>
-    ensures valid { OnOk result (IsValue (tree_of node.now)) }
-    ensures ill_typed { IsErrOf result ValueError.IllTyped → ¬ IsTyped (tree_of node.now) }
-    ensures too_deep { IsErrOf result ValueError.TooDeep
-        → IsTyped (tree_of node.now) × (8 < kind_depth (type_of (tree_of node.now))) }
-    ensures too_long { IsErrOf result ValueError.TooLong → IsTyped (tree_of node.now)
-        × ((kind_depth (type_of (tree_of node.now)) ≤ 8) × (65536 < length (encoding (tree_of node.now)))) }
-    ensures no_memory { result ≢ Err ValueError.OutOfMemory }
-{
-    if !is_typed(node) {
-        return Err(ValueError::IllTyped);
-    }
-    if node_depth(node) > MAX_DEPTH {
-        return Err(ValueError::TooDeep);
-    }
-    if encoded_length(node) > MAX_LENGTH {
-        return Err(ValueError::TooLong);
-    }
-    Ok(())
 }
