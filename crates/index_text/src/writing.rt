@@ -1,8 +1,8 @@
 //! Writing an index as its text.
 
-ghost use Rattle.std.specs.Prelude.{◌≡◌, ◌≤◌, ◌<◌, ◌^◌, ◌++◌, IfOk, OnOk, Some, length};
+ghost use Rattle.std.specs.Prelude.{[], ◌∷◌, ◌≡◌, ◌≤◌, ◌<◌, ◌^◌, ◌++◌, IfOk, OnOk, Some, length};
 ghost use Rattle.std.specs.List.{AllByRecursion, flat_map};
-ghost use Rattle.std.specs.Int.{to_le_bytes, w32};
+ghost use Rattle.std.specs.Int.{to_le_bytes, w32, w64};
 ghost use Rattle.index_text.specs.Rules.{EntryInRange, InfoInRange, InfoIsInRange, IsIndex};
 ghost use Rattle.index_text.specs.Spelling.{cause_code, changed_text, entry_text, file_info_text, index_text};
 ghost use Rattle.index_text.specs.Spelling.{info_text, name_text, store_kind_code};
@@ -104,12 +104,24 @@ fn put_file_info(text: &mut Vec<u8>, info: &FileInfo) -> Result<(), AllocError>
     ensures text { OnOk result (text.new.items ≡ text.old.items ++ file_info_text info.now) }
     ensures in_range { OnOk result (InfoInRange info.now) }
 {
-    text.extend_from_slice(&info.created.to_le_bytes())?;
-    text.extend_from_slice(&info.modified.to_le_bytes())?;
-    text.extend_from_slice(&info.accessed.to_le_bytes())?;
-    let causes = [cause_byte(info.creation), cause_byte(info.modification)];
-    text.extend_from_slice(&causes)?;
-    Ok(())
+    put_moment(text, info.created)?;
+    put_moment(text, info.modified)?;
+    put_moment(text, info.accessed)?;
+    put_causes(text, info)
+}
+
+fn put_moment(text: &mut Vec<u8>, moment: u64) -> Result<(), AllocError>
+    ensures text { OnOk result (text.new.items ≡ text.old.items ++ to_le_bytes w64 moment) }
+    ensures in_range { moment < 2 ^ 64 }
+{
+    text.extend_from_slice(&moment.to_le_bytes())
+}
+
+fn put_causes(text: &mut Vec<u8>, info: &FileInfo) -> Result<(), AllocError>
+    ensures { OnOk result (text.new.items
+        ≡ text.old.items ++ cause_code info.now.creation ∷ cause_code info.now.modification ∷ []) }
+{
+    text.extend_from_slice(&[cause_byte(info.creation), cause_byte(info.modification)])
 }
 
 fn put_changed(text: &mut Vec<u8>, format: u8, changed: u64) -> Result<(), AllocError>

@@ -151,7 +151,10 @@ pub fn add(
     ensures added { OnOk result (states.new.entries ≡ with_state states.old.entries name.now state) }
     ensures unchanged { OnErr result (states.new.entries ≡ states.old.entries) }
 {
-    let name = name.copy()?;
+    let Ok(name) = name.copy() else {
+        drop(state);
+        return Err(AllocError);
+    };
     drop(states.insert(name, state)?);
     Ok(())
 }

@@ -1,7 +1,7 @@
 //! Writing the payloads of nodes.
 
 ghost use Rattle.std.specs.Int.{w32, to_le_bytes};
-ghost use Rattle.std.specs.Prelude.{◌≡◌, ◌++◌, ◌<◌, ◌≤◌, ◌^◌, OnOk, length};
+ghost use Rattle.std.specs.Prelude.{[], ◌∷◌, ◌≡◌, ◌++◌, ◌<◌, ◌≤◌, ◌^◌, OnOk, length};
 ghost use Rattle.value_model.specs.Encoding.{payload, payloads};
 ghost use Rattle.value_model.specs.Validity.{AllTyped, IsTyped};
 ghost use Rattle.value_model.specs.Views.{tree_of, trees_view};
@@ -17,24 +17,23 @@ pub(crate) fn put_payload(node: &Node, out: &mut Vec<u8>) -> Result<(), AllocErr
     ensures { OnOk result (out.new.items ≡ out.old.items ++ payload (tree_of node.now)) }
 {
     match node {
-        Node::Bool(truth) => out.push(if *truth { 1 } else { 0 })?,
-        Node::U8(number) => out.extend_from_slice(&number.to_le_bytes())?,
-        Node::U16(number) => out.extend_from_slice(&number.to_le_bytes())?,
-        Node::U32(number) => out.extend_from_slice(&number.to_le_bytes())?,
-        Node::U64(number) => out.extend_from_slice(&number.to_le_bytes())?,
-        Node::I8(number) => out.extend_from_slice(&number.to_le_bytes())?,
-        Node::I16(number) => out.extend_from_slice(&number.to_le_bytes())?,
-        Node::I32(number) => out.extend_from_slice(&number.to_le_bytes())?,
-        Node::I64(number) => out.extend_from_slice(&number.to_le_bytes())?,
-        Node::Text(text) => put_counted(text.as_str().as_bytes(), out)?,
-        Node::Bytes(bytes) => put_counted(bytes.as_slice(), out)?,
+        Node::Bool(truth) => put_byte(if *truth { 1 } else { 0 }, out),
+        Node::U8(number) => out.extend_from_slice(&number.to_le_bytes()),
+        Node::U16(number) => out.extend_from_slice(&number.to_le_bytes()),
+        Node::U32(number) => out.extend_from_slice(&number.to_le_bytes()),
+        Node::U64(number) => out.extend_from_slice(&number.to_le_bytes()),
+        Node::I8(number) => out.extend_from_slice(&number.to_le_bytes()),
+        Node::I16(number) => out.extend_from_slice(&number.to_le_bytes()),
+        Node::I32(number) => out.extend_from_slice(&number.to_le_bytes()),
+        Node::I64(number) => out.extend_from_slice(&number.to_le_bytes()),
+        Node::Text(text) => put_counted(text.as_str().as_bytes(), out),
+        Node::Bytes(bytes) => put_counted(bytes.as_slice(), out),
         Node::List(_, items) => {
             put_length(items.len(), out)?;
-            put_payloads(items.as_slice(), out)?;
+            put_payloads(items.as_slice(), out)
         }
-        Node::Fields(members) => put_payloads(members.as_slice(), out)?,
+        Node::Fields(members) => put_payloads(members.as_slice(), out),
     }
-    Ok(())
 }
 
 #[cycle(put_payload)]
@@ -63,4 +62,12 @@ fn put_length(length: usize, out: &mut Vec<u8>) -> Result<(), AllocError>
     ensures { OnOk result (out.new.items ≡ out.old.items ++ to_le_bytes w32 length) }
 {
     out.extend_from_slice(&(length as u32).to_le_bytes())
+}
+
+/// Writes a byte after what is written.
+pub(crate) fn put_byte(byte: u8, out: &mut Vec<u8>) -> Result<(), AllocError>
+    ensures { OnOk result (out.new.items ≡ out.old.items ++ byte ∷ []) }
+{
+    out.push(byte)?;
+    Ok(())
 }

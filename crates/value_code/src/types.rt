@@ -8,6 +8,7 @@ ghost use Rattle.value_model.specs.Decoding.{Gives};
 
 use crate::codes;
 use crate::fields::byte_at;
+use crate::payloads::put_byte;
 use std::alloc::{AllocError, Global};
 use value_model::{DecodeError, MAX_MEMBERS, ValueType};
 
@@ -109,28 +110,27 @@ pub(crate) fn put_type(value_type: &ValueType, out: &mut Vec<u8>) -> Result<(), 
     ensures { OnOk result (out.new.items ≡ out.old.items ++ type_code (kind_of value_type.now)) }
 {
     match value_type {
-        ValueType::Bool => out.push(codes::BOOL)?,
-        ValueType::U8 => out.push(codes::U8)?,
-        ValueType::U16 => out.push(codes::U16)?,
-        ValueType::U32 => out.push(codes::U32)?,
-        ValueType::U64 => out.push(codes::U64)?,
-        ValueType::I8 => out.push(codes::I8)?,
-        ValueType::I16 => out.push(codes::I16)?,
-        ValueType::I32 => out.push(codes::I32)?,
-        ValueType::I64 => out.push(codes::I64)?,
-        ValueType::Text => out.push(codes::TEXT)?,
-        ValueType::Bytes => out.push(codes::BYTES)?,
+        ValueType::Bool => put_byte(codes::BOOL, out),
+        ValueType::U8 => put_byte(codes::U8, out),
+        ValueType::U16 => put_byte(codes::U16, out),
+        ValueType::U32 => put_byte(codes::U32, out),
+        ValueType::U64 => put_byte(codes::U64, out),
+        ValueType::I8 => put_byte(codes::I8, out),
+        ValueType::I16 => put_byte(codes::I16, out),
+        ValueType::I32 => put_byte(codes::I32, out),
+        ValueType::I64 => put_byte(codes::I64, out),
+        ValueType::Text => put_byte(codes::TEXT, out),
+        ValueType::Bytes => put_byte(codes::BYTES, out),
         ValueType::List(item) => {
-            out.push(codes::LIST)?;
-            put_type(item, out)?;
+            put_byte(codes::LIST, out)?;
+            put_type(item, out)
         }
         ValueType::Fields(members) => {
-            out.push(codes::FIELDS)?;
-            out.push(members.len() as u8)?;
-            put_types(members.as_slice(), out)?;
+            put_byte(codes::FIELDS, out)?;
+            put_byte(members.len() as u8, out)?;
+            put_types(members.as_slice(), out)
         }
     }
-    Ok(())
 }
 
 #[cycle(put_type)]

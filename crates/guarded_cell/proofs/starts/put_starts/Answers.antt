@@ -2,6 +2,7 @@ use Rattle.std.proofs.Common.{◌≡◌, ◌∙◌, ◌+◌, ◌≤◌, ℕ, tru
 use Rattle.disk_model.specs.Image.{put_image}
 use Rattle.disk_model.specs.Case.{Follows}
 use Rattle.changed_runs.specs.Parts.{HasNoFailedWrite}
+use Rattle.disk_model.specs.Laws.{elapses_on}
 use Rattle.guarded_cell.specs.Differing.{FrontCase, front_cost}
 use Rattle.guarded_cell.proofs.Putfronts.{putting_skips, putting_puts, cut_during, cut_costs, all_during}
 use Rattle.guarded_cell.proofs.starts.put_starts.Goals as goal
@@ -59,3 +60,15 @@ loop-copy-preserved g c =
 pub returns-clause-during : goal.returns-clause-during
 returns-clause-during g c = all_during c.args.place c.args.parity c.args.chosen.now c.args.bytes.now c.loop-copy.copy
     (omega arith) c.loop-copy.invariant
+
+pub returns-in_err-write_front-clause-time : goal.returns-in_err-write_front-clause-time
+returns-in_err-write_front-clause-time g c = elapses_on c.loop-copy.invariant.time c.write_front.ensures.time
+
+pub returns-clause-time : goal.returns-clause-time
+returns-clause-time g c = c.loop-copy.invariant.time
+
+pub returns-in_err-write_front-clause-faults : goal.returns-in_err-write_front-clause-faults
+returns-in_err-write_front-clause-faults g c = record { cause = search rules; passes = search rules }
+
+pub returns-clause-faults : goal.returns-clause-faults
+returns-clause-faults g c = record { cause = search rules; passes = search rules }

@@ -1,6 +1,7 @@
 use Rattle.std.proofs.Common.{◌≡◌, ◌∙◌, ℕ, true, false, get_or, ap, subst, rules, arith}
 use Rattle.disk_model.specs.Image.{put_image}
 use Rattle.disk_model.specs.Case.{WriteOrNot, Follows}
+use Rattle.disk_model.specs.Laws.{elapses_on}
 use Rattle.guarded_cell.proofs.Writing.{writing_writes, cut_during, cut_none}
 use Rattle.guarded_cell.proofs.starts.write_starts.Goals as goal
 
@@ -34,3 +35,15 @@ loop-copy-preserved g c =
     (λ tells. c.in_ok-write_at.ensures.image tells ∙ ap (λ (f : ℕ). put_image mid.image f 0 c.args.bytes.now)
     c.slot.ensures)
     write c.write_at.ensures.at_most c.write_at.ensures.time c.in_ok-write_at.ensures.passes
+
+pub returns-in_err-write_at-clause-time : goal.returns-in_err-write_at-clause-time
+returns-in_err-write_at-clause-time g c = elapses_on c.loop-copy.invariant.time c.write_at.ensures.time
+
+pub returns-clause-time : goal.returns-clause-time
+returns-clause-time g c = c.loop-copy.invariant.time
+
+pub returns-in_err-write_at-clause-faults : goal.returns-in_err-write_at-clause-faults
+returns-in_err-write_at-clause-faults g c = record { cause = search rules; passes = search rules }
+
+pub returns-clause-faults : goal.returns-clause-faults
+returns-clause-faults g c = record { cause = search rules; passes = search rules }
