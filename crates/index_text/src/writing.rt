@@ -110,6 +110,7 @@ fn put_file_info(text: &mut Vec<u8>, info: &FileInfo) -> Result<(), AllocError>
     put_causes(text, info)
 }
 
+// A moment, in eight bytes.
 fn put_moment(text: &mut Vec<u8>, moment: u64) -> Result<(), AllocError>
     ensures text { OnOk result (text.new.items ≡ text.old.items ++ to_le_bytes w64 moment) }
     ensures in_range { moment < 2 ^ 64 }
@@ -117,6 +118,7 @@ fn put_moment(text: &mut Vec<u8>, moment: u64) -> Result<(), AllocError>
     text.extend_from_slice(&moment.to_le_bytes())
 }
 
+// What created a file and what last changed it, a byte each.
 fn put_causes(text: &mut Vec<u8>, info: &FileInfo) -> Result<(), AllocError>
     ensures { OnOk result (text.new.items
         ≡ text.old.items ++ cause_code info.now.creation ∷ cause_code info.now.modification ∷ []) }

@@ -33,6 +33,7 @@ pub fn with_converters<T: WithConverters + Drop>(
     Ok(what.with_converters(&Migrations::new(list)))
 }
 
+// Every converter that the program has.
 fn converters(alloc: Global) -> Result<Vec<Migration>, AllocError>
     ensures { IfOk result (λ list. length list.items ≡ 6) }
 {
@@ -42,6 +43,7 @@ fn converters(alloc: Global) -> Result<Vec<Migration>, AllocError>
     Ok(list)
 }
 
+// From each unsigned type to the next wider one.
 fn add_unsigned(alloc: Global, list: &mut Vec<Migration>) -> Result<(), AllocError>
     ensures { OnOk result (length list.new.items ≡ length list.old.items + 3) }
 {
@@ -53,6 +55,7 @@ fn add_unsigned(alloc: Global, list: &mut Vec<Migration>) -> Result<(), AllocErr
     add(list, ValueType::U32, ValueType::U64, to_u64)
 }
 
+// From each signed type to the next wider one.
 fn add_signed(alloc: Global, list: &mut Vec<Migration>) -> Result<(), AllocError>
     ensures { OnOk result (length list.new.items ≡ length list.old.items + 3) }
 {
