@@ -13,6 +13,9 @@ use crate::entries::{Index, IndexEntry};
 use per_base::{Cause, FileInfo, StoreKind};
 use std::alloc::{AllocError, Global};
 
+/// Room for an entry whose name is short and whose content has few blocks; the list grows where a text needs more.
+const ENTRY_ROOM: usize = 80;
+
 /// The one text of an index that keeps the rules: format 1 or 2, at most 1,024 entries with ascending names, contents
 /// within the limit of their kind, an info exactly for files, numbers of the last change in format 2 alone, and no
 /// block twice.
@@ -25,7 +28,7 @@ pub fn write_index(alloc: Global, index: &Index) -> Result<Vec<u8>, AllocError>
     ensures spells { IfOk result (λ text. index_of text.items ≡ Some index.now) }
 {
     let entries = index.entries.as_slice();
-    let mut text = Vec::new(alloc);
+    let mut text = Vec::with_capacity(alloc, entries.len() * ENTRY_ROOM)?;
     text.push(index.format)?;
     text.push(kind_byte(index.kind))?;
     text.extend_from_slice(&(entries.len() as u16).to_le_bytes())?;
