@@ -1,6 +1,7 @@
 pub mod Apart
 pub mod FlawSamples
 pub mod Flaws
+pub mod Prompts
 pub mod Samples
 pub mod Shown
 pub mod Words

@@ -133,7 +133,7 @@ fn unmet_last(
 }
 
 /// How many bytes stand before the first space.
-fn leading_length(text: &[u8]) -> usize
+pub(crate) fn leading_length(text: &[u8]) -> usize
     ensures value { result ≡ leading_length text.now }
     ensures bound { result ≤ length text.now }
 {
@@ -146,7 +146,7 @@ fn leading_length(text: &[u8]) -> usize
 }
 
 /// What stands before the first space.
-fn leading_word(text: &[u8]) -> &[u8]
+pub(crate) fn leading_word(text: &[u8]) -> &[u8]
     ensures { result.now ≡ leading_word text.now }
 {
     let (word, _) = text.split_at(leading_length(text));
@@ -154,7 +154,7 @@ fn leading_word(text: &[u8]) -> &[u8]
 }
 
 /// What stands after the first space, where there is one.
-fn after_space(text: &[u8]) -> Option<&[u8]>
+pub(crate) fn after_space(text: &[u8]) -> Option<&[u8]>
     ensures found { IfSome result (λ rest. (has_space text.now ≡ true) × (rest.now ≡ after_space text.now)) }
     ensures none { IfNone result (has_space text.now ≡ false) }
 {

@@ -7,6 +7,8 @@
 //! what is written of it: a value stands without the word before it, and bytes as they are.
 //!
 //! The words of a shell are told apart by [`options_in`] and [`named_words`]; [`unknown_in`] finds one that is refused.
+//! At a terminal [`call_shown`] is what a prompt shows, and [`rows_of`] the rows of a help of which a line asks
+//! ([`help_asked`]).
 #![tactic(auto)]
 
 mod flaws;
@@ -15,6 +17,7 @@ mod lines;
 mod meeting;
 mod needs;
 mod places;
+mod prompting;
 mod pushing;
 mod putting;
 mod showing;
@@ -24,6 +27,7 @@ pub use flaws::{Flaw, flaw_in};
 pub use kinds::{CallKind, call_word, is_call, takes_manifest};
 pub use lines::{call_lines, manifest_lines};
 pub use needs::Needed;
+pub use prompting::{call_shown, column_after, help_asked, is_line_word, row_word, rows_of};
 pub use putting::content_lines;
 pub use showing::{Shown, shown_bytes, shown_in};
 pub use words::{named_words, options_in, unknown_in};

@@ -100,14 +100,14 @@ fn text_after_word(line: &[u8]) -> Option<&[u8]>
 }
 
 /// Whether the line begins with this word.
-fn begins(word: &[u8], line: &[u8]) -> bool
+pub(crate) fn begins(word: &[u8], line: &[u8]) -> bool
     ensures { result ≡ begins word.now line.now }
 {
     after(word, line).is_some()
 }
 
 /// What follows the word, where the line begins with it.
-fn after<'a>(word: &[u8], line: &'a [u8]) -> Option<&'a [u8]>
+pub(crate) fn after<'a>(word: &[u8], line: &'a [u8]) -> Option<&'a [u8]>
     ensures { Finds (λ rest. rest.now) result (literal_at word.now line.now) }
 {
     line.strip_prefix(word)
