@@ -3,11 +3,9 @@
 use crate::help;
 use command_text::{LineError, parse_line};
 use per_reasons::why_no_line;
+use per_words::{call_shown, help_asked};
 use std::alloc::Global;
 use std::io::{self, Input, Read};
-
-/// What stands before each line.
-const PROMPT: &str = "per> ";
 
 /// An input that asks for each line, and again for one that is outside the grammar. A line that a run is given is
 /// answered before it asks for the next.
@@ -15,6 +13,8 @@ const PROMPT: &str = "per> ";
 pub(crate) struct Asking<'a, R: Input + Print + Eprint> {
     rt: &'a R,
     alloc: Global,
+    /// The application and the call of the last line that has them.
+    call: String,
     line: String,
     /// How many bytes of the line were given.
     given: usize,
@@ -25,6 +25,7 @@ impl<'a, R: Input + Print + Eprint> Asking<'a, R> {
         Asking {
             rt,
             alloc,
+            call: String::new(alloc),
             line: String::new(alloc),
             given: 0,
         }
@@ -33,14 +34,34 @@ impl<'a, R: Input + Print + Eprint> Asking<'a, R> {
     /// Reads the next line that is in the grammar; an empty text at the end of the input.
     fn ask(&mut self) -> io::Result<()> {
         for _ in 0..u64::MAX {
-            print!(self.rt; "{PROMPT}")?;
+            self.show_prompt()?;
             self.line.clear();
             self.given = 0;
             if self.rt.read_line(&mut self.line)? == 0 {
                 return self.rt.println("");
             }
             if self.is_accepted()? {
-                return Ok(());
+                return self.note_call();
+            }
+        }
+        Ok(())
+    }
+
+    fn show_prompt(&self) -> io::Result<()> {
+        match self.call.as_str() {
+            "" => print!(self.rt; "per> "),
+            call => print!(self.rt; "per {call}> "),
+        }
+    }
+
+    /// Notes the call of the line for the next prompt.
+    fn note_call(&mut self) -> io::Result<()> {
+        let line = self.line.as_bytes();
+        let line = line.strip_suffix(b"\n").unwrap_or(line);
+        if let Some(call) = call_shown(line) {
+            if let Ok(call) = str::from_utf8(call) {
+                self.call.clear();
+                self.call.push_str(call)?;
             }
         }
         Ok(())
@@ -50,8 +71,8 @@ impl<'a, R: Input + Print + Eprint> Asking<'a, R> {
     fn is_accepted(&self) -> io::Result<bool> {
         let line = self.line.as_str();
         let line = line.strip_suffix('\n').unwrap_or(line);
-        if line == "help" {
-            help::show_lines(self.rt)?;
+        if let Some(word) = help_asked(line.as_bytes()) {
+            help::show_asked(self.rt, self.alloc, word)?;
             return Ok(false);
         }
         match parse_line(self.alloc, line.as_bytes()) {
@@ -67,12 +88,8 @@ impl<'a, R: Input + Print + Eprint> Asking<'a, R> {
     /// Says why this is no line.
     fn say_flaw(&self, line: &str) -> io::Result<()> {
         match why_no_line(self.alloc, line.as_bytes()) {
-            Ok(Some(why)) => {
-                eprintln!(self.rt; "per: this is no line: {why}; help lists them, and end ends")
-            }
-            Ok(None) | Err(_) => {
-                eprintln!(self.rt; "per: this is no line; help lists them, and end ends")
-            }
+            Ok(Some(why)) => { eprintln!(self.rt; "per: this is no line: {why} (help, or end)") }
+            Ok(None) | Err(_) => { eprintln!(self.rt; "per: this is no line (help, or end)") }
         }
     }
 }

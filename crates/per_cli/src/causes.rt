@@ -5,8 +5,14 @@ use std::{fmt, fs, io};
 use system_model::{Asked, Failure};
 
 /// What is said of invalid arguments.
-const USAGE: &str =
-    "usage: per --dir DIR [--flash N] [--serve | --format | --generate N | --audit | --export A:S | --import A:S | --list FORM | --recover-root A]";
+const USAGE: &str = "usage: per --dir DIR [--flash N] [--serve | --format | --generate N | --audit |
+           --export A:S | --import A:S | --list FORM | --recover-root A]
+       per WORD .. --dir DIR [--flash N], where WORD is one of
+           ls dump restore recover-root install update status finish rollback
+           wipe get set get-as keys exists remove remove-all recover-key
+           reset-key cat put files file-exists size-of info delete recover-file
+           reset-file recover-storage reset-storage
+       per --help, --version or --demo";
 
 /// Why calls of the disk failed.
 #[derive(Clone, Copy, Debug)]
@@ -118,8 +124,8 @@ pub(crate) fn say<R: Files + Eprint>(rt: &R, ended: &Ended<'_>) -> io::Result<()
 /// Says which arguments there are, and which one is none of them.
 fn say_usage<R: Eprint>(rt: &R, unknown: Option<&[u8]>) -> io::Result<()> {
     match str::from_utf8(unknown.unwrap_or(&[])) {
-        Ok("") | Err(_) => eprintln!(rt; "{USAGE} (per --help)"),
-        Ok(word) => eprintln!(rt; "{USAGE}, and not {word} (per --help)"),
+        Ok("") | Err(_) => eprintln!(rt; "{USAGE}"),
+        Ok(word) => eprintln!(rt; "{USAGE}\nper: {word} is none of these"),
     }
 }
 

@@ -1,10 +1,15 @@
 //! What a person gets who asks for help.
 
 use crate::NO_OUTPUT;
-use std::io;
+use per_words::{column_after, is_line_word, row_word, rows_of};
+use std::alloc::{AllocError, Global};
+use std::io::{self, Write};
 
 /// The version of the sources.
 const VERSION: &str = "0.14.0";
+
+/// A column after which no word stands.
+const FULL: usize = 80;
 
 /// The arguments of the program.
 const WORDS: &str = "per keeps the data of up to eight applications in a folder, so that it outlives
@@ -133,40 +138,100 @@ are passed over. Examples:
   0 move f 1 current -2         goes on from begin, current or end
   0 eof f 1                     whether the end is reached
   0 flush f 1                   makes the whole storage durable
- Values are bool:true, u8:1 to u64:1, i8:-1 to i64:-1, text:\"a\", bytes:00ff,
+";
+
+/// What a value is in a line.
+const VALUES: &str = " Values are bool:true, u8:1 to u64:1, i8:-1 to i64:-1, text:\"a\", bytes:00ff,
  list<u8>[u8:1,u8:2], {u8:1,text:\"a\"}.
 ";
 
-/// What an end may be.
-const ENDINGS: &str = "Errors
-  1 StorageNotFound          no such storage of this kind
-  2 KeyNotFound
-  3 IllegalWriteAccess       the storage is read-only, or the handle reads
-  4 PhysicalStorageFailure   the disk failed; standard error says where
-  5 IntegrityCorrupted       too few copies agree: root, a storage, an element
-  7 DataTypeMismatch         the stored type and the one that was asked for
-  8 InitValueNotAvailable
-  9 ResourceBusy             an open storage, a handle, or an update in progress
- 10 OutOfStorageSpace        bytes needed, bytes allowed
- 11 FileNotFound
- 12 InvalidPosition
- 13 IsEof
- 14 InvalidOpenMode
- 15 InvalidSize
- 20 NotInstalled
- 21 AlreadyInstalled
- 22 ManifestRejected         the first violated rule; docs/FORMATS.md lists them
- 23 NoPreviousVersion
- 24 NotOpen
- 25 LimitReached             elements, handles, file-bytes, value-bytes,
-                             value-depth or generations
- 26 IllegalReadAccess        the handle writes
- 27 UpdateNotFinished        the previous version, which is still kept
- 28 VersionNotNewer          the active version, the offered one
- 30 NoUpdateInProgress
- 31 ExportRejected           the text is no export of a storage of this kind
+/// The errors by their numbers.
+const ERRORS: &str = "Errors
+  1  StorageNotFound          no such storage of this kind
+  2  KeyNotFound
+  3  IllegalWriteAccess       the storage is read-only, or the handle reads
+  4  PhysicalStorageFailure   the disk failed; standard error says where
+  5  IntegrityCorrupted       too few copies agree: root, a storage, an element
+  7  DataTypeMismatch         the stored type and the one that was asked for
+  8  InitValueNotAvailable
+  9  ResourceBusy             an open storage, a handle or an update in progress
+  10 OutOfStorageSpace        bytes needed, bytes allowed
+  11 FileNotFound
+  12 InvalidPosition
+  13 IsEof
+  14 InvalidOpenMode
+  15 InvalidSize
+  20 NotInstalled
+  21 AlreadyInstalled
+  22 ManifestRejected         the first violated rule; docs/FORMATS.md has them
+  23 NoPreviousVersion
+  24 NotOpen
+  25 LimitReached             elements, handles, file-bytes, value-bytes,
+                              value-depth or generations
+  26 IllegalReadAccess        the handle writes
+  27 UpdateNotFinished        the previous version, which is still kept
+  28 VersionNotNewer          the active version, the offered one
+  30 NoUpdateInProgress
+  31 ExportRejected           the text is no export of a storage of this kind
+";
 
-Status
+/// Which errors refuse which call.
+const REFUSALS: &str = "Refusals. What may refuse each call, by numbers of errors; 4 may answer any:
+  status           5
+  install          5 21 22 25
+  update           5 7 9 10 20 22 25 27 28
+  finish           5 9 20 23 25
+  rollback         5 9 20 23 25
+  wipe             9 25
+  update-begin     5 7 9 10 20 22 25 27 28
+  update-next      5 20 30
+  update-commit    5 20 30
+  update-abort     5 20 30
+  open-kvs         1 5 9 20
+  open-files       1 5 9 20
+  close            1 5 9 20 24 25
+  size             1 5 9 20 24
+  recover-storage  1 5 9 10 20 25
+  reset-storage    1 5 9 20 25
+  keys             1 5 9 20 24
+  exists           1 5 9 20 24
+  get              1 2 5 9 20 24
+  get-as           1 2 5 7 9 20 24
+  set              1 3 5 7 9 10 20 24 25
+  remove           1 2 3 5 9 20 24
+  remove-all       1 3 5 9 20 24
+  recover-key      1 2 3 5 9 10 20 24
+  reset-key        1 3 5 8 9 10 20 24 25
+  sync             1 5 9 20 24 25
+  discard          1 5 9 20 24
+  files            1 5 9 20 24
+  file-exists      1 5 9 20 24
+  cat              1 5 9 11 20 24 25
+  put              1 3 5 9 10 20 24 25
+  size-of          1 5 9 11 20 24
+  info             1 5 9 11 20 24
+  delete           1 3 5 9 11 20 24
+  recover-file     1 3 5 9 10 11 20 24
+  reset-file       1 3 5 8 9 10 20 24 25
+  open-file        1 3 5 9 10 11 14 20 24 25
+  close-file       1 5 9 20 24
+  peek             1 5 9 13 20 24 26
+  byte             1 5 9 13 20 24 26
+  read             1 5 9 13 20 24 26
+  read-all         1 5 9 13 20 24 26
+  line             1 5 9 13 20 24 26
+  write            1 3 5 9 10 20 24 25
+  set-size         1 3 5 9 15 20 24
+  handle-size      1 5 9 20 24
+  position         1 5 9 20 24
+  seek             1 5 9 12 20 24
+  move             1 5 9 12 20 24
+  eof              1 5 9 20 24
+  flush            1 3 5 9 20 24 25
+";
+
+/// What an end may be.
+const STATUS: &str = "Status
   0 all lines were handled and answered, or the job was done
   1 the arguments are invalid, also a number of blocks outside 4 to 4096
   2 a line is outside the grammar; bad-line and its number are the last reply;
@@ -199,15 +264,12 @@ pub(crate) fn show_version(rt: &impl Print) -> u8 {
     status_of(println!(rt; "per {VERSION}"))
 }
 
-/// Writes what the lines of an input are.
-pub(crate) fn show_lines(rt: &impl Print) -> io::Result<()> {
-    print!(rt; "{LINES}")
-}
-
 fn written(rt: &impl Print) -> io::Result<()> {
     println!(rt; "{WORDS}")?;
-    println!(rt; "{LINES}")?;
-    print!(rt; "{ENDINGS}")
+    println!(rt; "{LINES}{VALUES}")?;
+    println!(rt; "{ERRORS}")?;
+    println!(rt; "{REFUSALS}")?;
+    print!(rt; "{STATUS}")
 }
 
 fn status_of(written: io::Result<()>) -> u8 {
@@ -215,4 +277,82 @@ fn status_of(written: io::Result<()>) -> u8 {
         Ok(()) => 0,
         Err(_) => NO_OUTPUT,
     }
+}
+
+/// Says what a call is, or where the text is the word of none, which calls there are.
+pub(crate) fn show_asked<R: Print + Eprint>(rt: &R, alloc: Global, word: &[u8]) -> io::Result<()> {
+    if is_line_word(word) {
+        return show_call(rt, alloc, word);
+    }
+    match str::from_utf8(word) {
+        Ok("") | Err(_) => {}
+        Ok(word) => eprintln!(rt; "per: there is no call {word}")?,
+    }
+    show_calls(rt)
+}
+
+/// Shows the words of all calls, in their groups.
+fn show_calls(rt: &impl Print) -> io::Result<()> {
+    let mut column = 0;
+    for row in LINES.as_bytes().split(|byte| *byte == b'\n') {
+        column = show_word(rt, column, row)?;
+    }
+    println!(rt; "\n help CALL says what a line of it takes, and what refuses it; end ends.")
+}
+
+/// Shows the word of a row after those before it, or the heading that the row is, and gives the column.
+fn show_word(rt: &impl Print, column: usize, row: &[u8]) -> io::Result<usize> {
+    match row_word(row) {
+        Some([]) => Ok(column),
+        Some(word) => match column_after(column, word) {
+            Some(after) => show_bytes(rt, b" ", word, after),
+            None => show_bytes(rt, b"\n  ", word, word.len().saturating_add(2)),
+        },
+        None if row.starts_with(b" ") => show_bytes(rt, b"\n", row, FULL),
+        None => Ok(column),
+    }
+}
+
+/// Shows both, and gives the column after them.
+fn show_bytes(rt: &impl Print, before: &[u8], text: &[u8], column: usize) -> io::Result<usize> {
+    let mut out = io::writer(rt);
+    out.write_all(before)?;
+    out.write_all(text)?;
+    Ok(column)
+}
+
+/// Says how a line of the call is written, what it does, and what may refuse it.
+fn show_call(rt: &impl Print, alloc: Global, word: &[u8]) -> io::Result<()> {
+    show_rows(rt, alloc, LINES, word)?;
+    if word == b"set".as_slice() || word == b"get-as".as_slice() {
+        print!(rt; "{VALUES}")?;
+    }
+    let all = rows_in(alloc, REFUSALS)?;
+    for row in rows_of(alloc, all.as_slice(), word)? {
+        rt.println(" What may refuse it, beside 4 PhysicalStorageFailure")?;
+        for number in row.split(|byte| *byte == b' ') {
+            if !number.is_empty() {
+                show_rows(rt, alloc, ERRORS, number)?;
+            }
+        }
+    }
+    Ok(())
+}
+
+/// Shows the rows of the text that this word has.
+fn show_rows(rt: &impl Print, alloc: Global, text: &'static str, word: &[u8]) -> io::Result<()> {
+    let all = rows_in(alloc, text)?;
+    for row in rows_of(alloc, all.as_slice(), word)? {
+        show_bytes(rt, row, b"\n", 0)?;
+    }
+    Ok(())
+}
+
+/// The rows of a text.
+fn rows_in(alloc: Global, text: &'static str) -> Result<Vec<&'static [u8]>, AllocError> {
+    let mut rows = Vec::new(alloc);
+    for row in text.as_bytes().split(|byte| *byte == b'\n') {
+        rows.push(row)?;
+    }
+    Ok(rows)
 }
