@@ -47,6 +47,7 @@ impl<'a, R: Input + Print + Eprint> Asking<'a, R> {
         Ok(())
     }
 
+    /// What stands before each line.
     fn show_prompt(&self) -> io::Result<()> {
         match self.call.as_str() {
             "" => print!(self.rt; "per> "),

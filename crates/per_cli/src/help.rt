@@ -6,7 +6,7 @@ use std::alloc::{AllocError, Global};
 use std::io::{self, Write};
 
 /// The version of the sources.
-const VERSION: &str = "0.14.0";
+const VERSION: &str = "0.15.0";
 
 /// A column after which no word stands.
 const FULL: usize = 80;
