@@ -29,42 +29,44 @@ pub fn with_converters<T: WithConverters + Drop>(
     alloc: Global,
     what: T,
 ) -> Result<T::Answer, AllocError> {
-    let list = converters(alloc)?;
-    Ok(what.with_converters(&Migrations::new(list)))
-}
-
-// Every converter that the program has.
-fn converters(alloc: Global) -> Result<Vec<Migration>, AllocError>
-    ensures { IfOk result (λ list. length list.items ≡ 6) }
-{
     let mut list = Vec::new(alloc);
-    add_unsigned(alloc, &mut list)?;
-    add_signed(alloc, &mut list)?;
-    Ok(list)
-}
-
-// From each unsigned type to the next wider one.
-fn add_unsigned(alloc: Global, list: &mut Vec<Migration>) -> Result<(), AllocError>
-    ensures { OnOk result (length list.new.items ≡ length list.old.items + 3) }
-{
-    let to_u16 = Box::new(alloc, u8_to_u16)?;
-    add(list, ValueType::U8, ValueType::U16, to_u16)?;
-    let to_u32 = Box::new(alloc, u16_to_u32)?;
-    add(list, ValueType::U16, ValueType::U32, to_u32)?;
-    let to_u64 = Box::new(alloc, u32_to_u64)?;
-    add(list, ValueType::U32, ValueType::U64, to_u64)
-}
-
-// From each signed type to the next wider one.
-fn add_signed(alloc: Global, list: &mut Vec<Migration>) -> Result<(), AllocError>
-    ensures { OnOk result (length list.new.items ≡ length list.old.items + 3) }
-{
-    let to_i16 = Box::new(alloc, i8_to_i16)?;
-    add(list, ValueType::I8, ValueType::I16, to_i16)?;
-    let to_i32 = Box::new(alloc, i16_to_i32)?;
-    add(list, ValueType::I16, ValueType::I32, to_i32)?;
-    let to_i64 = Box::new(alloc, i32_to_i64)?;
-    add(list, ValueType::I32, ValueType::I64, to_i64)
+    add(
+        &mut list,
+        ValueType::U8,
+        ValueType::U16,
+        Box::new(alloc, u8_to_u16)?,
+    )?;
+    add(
+        &mut list,
+        ValueType::U16,
+        ValueType::U32,
+        Box::new(alloc, u16_to_u32)?,
+    )?;
+    add(
+        &mut list,
+        ValueType::U32,
+        ValueType::U64,
+        Box::new(alloc, u32_to_u64)?,
+    )?;
+    add(
+        &mut list,
+        ValueType::I8,
+        ValueType::I16,
+        Box::new(alloc, i8_to_i16)?,
+    )?;
+    add(
+        &mut list,
+        ValueType::I16,
+        ValueType::I32,
+        Box::new(alloc, i16_to_i32)?,
+    )?;
+    add(
+        &mut list,
+        ValueType::I32,
+        ValueType::I64,
+        Box::new(alloc, i32_to_i64)?,
+    )?;
+    Ok(what.with_converters(&Migrations::new(list)))
 }
 
 /// Adds a converter for every element.

@@ -89,8 +89,8 @@ impl<'a, R: Input + Print + Eprint> Asking<'a, R> {
     /// Says why this is no line.
     fn say_flaw(&self, line: &str) -> io::Result<()> {
         match why_no_line(self.alloc, line.as_bytes()) {
-            Ok(Some(why)) => { eprintln!(self.rt; "per: this is no line: {why} (help, or end)") }
-            Ok(None) | Err(_) => { eprintln!(self.rt; "per: this is no line (help, or end)") }
+            Ok(Some(why)) => { eprintln!(self.rt; "per: no line: {why}; try help") }
+            Ok(None) | Err(_) => { eprintln!(self.rt; "per: no line; try help") }
         }
     }
 }

@@ -293,7 +293,8 @@ pub(crate) fn show_asked<R: Print + Eprint>(rt: &R, alloc: Global, word: &[u8]) 
 
 /// Shows the words of all calls, in their groups.
 fn show_calls(rt: &impl Print) -> io::Result<()> {
-    let mut column = 0;
+    print!(rt; " ")?;
+    let mut column = 1;
     for row in LINES.as_bytes().split(|byte| *byte == b'\n') {
         column = show_word(rt, column, row)?;
     }
