@@ -4,7 +4,7 @@ _per() {
     if [ "$before" = --dir ]; then
         mapfile -t COMPREPLY < <(compgen -d -- "$word")
     else
-        mapfile -t COMPREPLY < <(compgen -W "--format --dir --serve --generate --audit --json --list --export --import --recover-root --flash --demo --help --version --build --force install update status set get keys ls put cat recover-root finish rollback wipe exists get-as remove remove-all recover-key reset-key files file-exists size-of info delete recover-file reset-file recover-storage reset-storage" -- "$word")
+        mapfile -t COMPREPLY < <(compgen -W "--format --dir --serve --generate --audit --json --list --export --import --recover-root --flash --demo --help --version --build --force ls dump restore install update status set get keys put cat recover-root finish rollback wipe exists get-as remove remove-all recover-key reset-key files file-exists size-of info delete recover-file reset-file recover-storage reset-storage" -- "$word")
     fi
 }
 complete -o default -F _per per ./per
