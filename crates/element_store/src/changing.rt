@@ -21,11 +21,10 @@ ghost use Rattle.element_store.specs.Changing.{AreStandingEntries};
 ghost use Rattle.element_store.specs.Changing.{IsEarlierContent, IsPlanned, KeepsOthers, IsGrownBy, IsTraced};
 ghost use Rattle.element_store.specs.Changing.{touched_entry};
 
-use crate::hashing::Hashed;
 use crate::jobs::Job;
 use crate::named::{place_of, put_in, take_out};
 use crate::planning::{Plan, entry_of};
-use block_files::{BlockSet, reserve_hashed};
+use block_files::{BlockSet, Hashed, reserve_hashed};
 use index_text::IndexEntry;
 use per_base::{Change, Content, Entry, FileInfo, Fresh, Name, StoreKind};
 use std::alloc::{AllocError, Global};

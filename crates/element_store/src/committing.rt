@@ -20,14 +20,14 @@ ghost use Rattle.element_store.specs.Stores.{IsStore, IsUsed, store_shape, view_
 
 use crate::changing::{Standing, plan_changes};
 use crate::creating::fresh_entry;
-use crate::hashing::{Hashed, kept_after};
+use crate::hashing::kept_after;
 use crate::jobs::{Job, write_durably};
 use crate::named::{place_of, put_in, take_out};
 use crate::planning::Plan;
 use crate::spelling::{Spelled, spell};
 use crate::store::Store;
 use crate::taking::release_replaced;
-use block_files::BlockSet;
+use block_files::{BlockSet, Hashed};
 use disk_model::Disk;
 use element_laws::{contents_keep, index_keeps, untouched_is_kept, use_is_adopted};
 use element_state::StoreError;
@@ -256,10 +256,9 @@ fn moved(entries: Vec<Entry>, roomy: Vec<Entry>) -> Vec<Entry>
     ensures items { result.items ≡ entries.items }
     ensures capacity { vec_capacity roomy ≤ vec_capacity result }
 {
+    let mut entries = entries;
     let mut roomy = roomy;
-    for entry in entries {
-        let _ = roomy.push(entry);
-    }
+    let _ = roomy.append(&mut entries);
     roomy
 }
 

@@ -3,7 +3,7 @@ use Rattle.std.proofs.Common.{◌≡◌, ℕ, ◌+◌, ◌*◌, ◌<◌, ◌≤�
 use Rattle.std.proofs.lemmas.List.{get_or-take, length-take-le, take-take}
 use Rattle.sha2.specs.Hashers.{Holds256}
 use Rattle.sha2.specs.declared.Sha256.{Sha256}
-use Rattle.element_store.specs.Hashing.{AreStatesOf}
+use Rattle.block_files.specs.States.{AreStatesOf}
 
 -- states before the first byte that differs are those of both
 pub shared_states : (bytes was : List ℕ) (states : List Sha256) (n : ℕ) → AreStatesOf was states → n ≤ length states

@@ -1,5 +1,5 @@
-use Rattle.element_store.proofs.States.{shared_states}
-use Rattle.element_store.proofs.hashing.hash_beside.Goals as goal
+use Rattle.block_files.proofs.States.{shared_states}
+use Rattle.block_files.proofs.hashing.hash_beside.Goals as goal
 
 pub hash_from-requires-clause-states : goal.hash_from-requires-clause-states
 hash_from-requires-clause-states c = shared_states c.args.bytes.now c.args.known.bytes.now c.args.known.states.now

@@ -1,7 +1,7 @@
 use Rattle.std.proofs.Common.{◌*◌, take}
 use Rattle.sha2.specs.Hashers.{Holds256}
-use Rattle.element_store.specs.Hashing.{AreStatesOf}
-use Rattle.element_store.proofs.hashing.hash_from.Given as goal
+use Rattle.block_files.specs.States.{AreStatesOf}
+use Rattle.block_files.proofs.hashing.hash_from.Given as goal
 
 abbrev pub invariant-loop-i : goal.invariant-loop-i
 invariant-loop-i l = record {
