@@ -21,7 +21,7 @@ use Rattle.dump_text.specs.declared.errors.DumpError.{DumpError}
 use Rattle.dump_text.specs.declared.errors.DumpError.TheVariants.{NotADump, OutOfMemory}
 use Rattle.dump_text.specs.declared.dumps.DumpedStorage.{DumpedStorage}
 use Rattle.dump_text.specs.Dumps.{dumped_names}
-use Rattle.dump_text.specs.Elements.{are_so_many, dumped_element_in, dumped_elements_in, has_members}
+use Rattle.dump_text.specs.Elements.{are_so_many, dumped_element_in, dumped_elements_in, has_members, named_in}
 use Rattle.dump_text.specs.Views.{FailsToRead, is_memory}
 
 -- each of them
@@ -73,14 +73,14 @@ module _ (kind : StoreKind) (known : List Fresh) (e : Entry) (left : List Entry)
   pub element_more : (f : Fresh) → dumped_element_in kind (string_bytes e.0) (view e.1) ≡ Some f
       → known_first known (dumped_elements_in kind (members_view (e ∷ left)))
       ≡ known_first (known ++ f ∷ []) (dumped_elements_in kind (members_view left))
-  unfolding dumped_elements_in
+  unfolding named_in
   element_more f is = ap (λ (o : Option Fresh). known_first known (o >>= λ first.
       dumped_elements_in kind (members_view left) >>= λ others. Some (first ∷ others))) is
       ∙ one_more known f (dumped_elements_in kind (members_view left))
 
   pub element_bad : dumped_element_in kind (string_bytes e.0) (view e.1) ≡ None
       → known_first known (dumped_elements_in kind (members_view (e ∷ left))) ≡ None
-  unfolding dumped_elements_in
+  unfolding named_in
   element_bad is = ap (λ (o : Option Fresh). known_first known (o >>= λ first.
       dumped_elements_in kind (members_view left) >>= λ others. Some (first ∷ others))) is
 
@@ -94,7 +94,7 @@ module _ (kind : StoreKind) (known : List Fresh) (e : Entry) (left : List Entry)
 
 -- none is left
 pub elements_none : (kind : StoreKind) → dumped_elements_in kind (members_view []) ≡ Some []
-unfolding dumped_elements_in
+unfolding named_in
 elements_none kind = refl
 
 -- ---- names, one beside another

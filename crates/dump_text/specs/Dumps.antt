@@ -1,6 +1,11 @@
 -- The parts of an application of a dump, and what keeps each that is read.
-use Rattle.std.specs.Prelude.{◌≡◌, ℕ, List, map, Some}
+use Rattle.std.specs.Prelude.{◌≡◌, ℕ, List, codes, map, Option, Some, None}
 use Rattle.std.specs.List.{AllByRecursion}
+use Rattle.per_base.specs.declared.elements.StoreKind.{StoreKind}
+use Rattle.per_base.specs.declared.elements.StoreKind.TheVariants.{Files, Keys}
+use Rattle.per_base.specs.Fields.{◌>>=◌, only_if}
+use Rattle.serde_json.specs.Data.{Data}
+use Rattle.serde_json.specs.Find.{get}
 use Rattle.deployment_model.specs.Conditions.{storage_names}
 use Rattle.deployment_model.specs.Data.{DeploymentData}
 use Rattle.manifest.specs.Reading.{deployment_in}
@@ -8,6 +13,7 @@ use Rattle.export_text.specs.Exports.{IsExport, export_text}
 use Rattle.export_text.specs.declared.exports.Export.{Export}
 use Rattle.dump_text.specs.declared.dumps.DumpedApplication.{DumpedApplication}
 use Rattle.dump_text.specs.declared.dumps.DumpedStorage.{DumpedStorage}
+use Rattle.dump_text.specs.Elements.{dumped_elements_in, dumped_word, has_members, member_object}
 
 abbrev pub dumped_names : List DumpedStorage → List (List ℕ)
 dumped_names storages = map (λ (s : DumpedStorage). s.name) storages
@@ -29,3 +35,26 @@ AreSaid manifest storages = (d : DeploymentData) → deployment_in manifest ≡ 
 pub record IsDumped (d : DumpedApplication) : Type 0 where
   pub exports : AllByRecursion HasExport d.storages.items
   pub said : AreSaid d.manifest d.storages.items
+
+-- ---- what a text has
+
+abbrev pub kind_by : Option Data → StoreKind
+kind_by (Some d) = Keys
+kind_by None = Files
+
+-- a storage with the member `keys` is one of keys
+abbrev pub kind_in : Data → StoreKind
+kind_in d = kind_by (get (codes "keys") d)
+
+-- the kind of a storage and its elements, which are its only member
+unfoldable pub dumped_export_in : Data → Option Export
+dumped_export_in d = do
+  members ← member_object (dumped_word (kind_in d)) d
+  alone ← only_if (has_members 1 d) members
+  contents ← dumped_elements_in (kind_in d) alone
+  Some (record { kind = kind_in d; contents = contents })
+
+unfoldable pub dumped_storage_in : (name : List ℕ) → Data → Option DumpedStorage
+dumped_storage_in name d = do
+  export ← dumped_export_in d
+  Some (record { name = name; text = export_text export })

@@ -1,6 +1,6 @@
 -- An element of a dump as JSON: of a key the text of its value, and of a file an object with its content in hexadecimal
 -- and its info.
-use Rattle.std.specs.Prelude.{ℕ, List, [], ◌∷◌, codes, Bool, false, nat_eq, Option, Some, None, option_and_then}
+use Rattle.std.specs.Prelude.{◌≡◌, ℕ, List, [], ◌∷◌, codes, Bool, false, nat_eq, Option, Some, None, option_and_then}
 use Rattle.per_base.specs.declared.elements.Cause.{Cause}
 use Rattle.per_base.specs.declared.elements.Cause.TheVariants.{Installation, Update, Reset, Recovery, Application}
 use Rattle.per_base.specs.declared.elements.FileInfo.{FileInfo}
@@ -112,13 +112,22 @@ dumped_element_in Files name d = do
   file ← file_in d
   Some (record { name = known; info = Some file.0; bytes = file.1 })
 
--- the elements of a storage, by their names
-unfoldable pub dumped_elements_in : StoreKind → Members → Option (List Fresh)
-dumped_elements_in kind no_members = Some []
-dumped_elements_in kind (member name d members) = do
-  first ← dumped_element_in kind name d
-  others ← dumped_elements_in kind members
+-- what each member of an object is read as, where each is read
+unfoldable pub named_in : {A : Type 0} → (List ℕ → Data → Option A) → Members → Option (List A)
+named_in read no_members = Some []
+named_in read (member name d members) = do
+  first ← read name d
+  others ← named_in read members
   Some (first ∷ others)
+
+-- the elements of a storage, by their names
+abbrev pub dumped_elements_in : StoreKind → Members → Option (List Fresh)
+dumped_elements_in kind members = named_in (dumped_element_in kind) members
+
+-- an object in which these are the elements, by their names
+abbrev pub AreElements : StoreKind → List Fresh → Data → Type 0
+AreElements kind contents d = (members : Members) × (d ≡ object members)
+    × (dumped_elements_in kind members ≡ Some contents)
 
 abbrev pub dumped_word : StoreKind → List ℕ
 dumped_word Keys = codes "keys"

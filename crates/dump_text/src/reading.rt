@@ -8,8 +8,8 @@ ghost use Rattle.deployment_model.specs.Data.{storage_data};
 ghost use Rattle.export_text.specs.declared.exports.Export.{Export};
 ghost use Rattle.export_text.specs.Exports.{IsExport, export_text};
 ghost use Rattle.serde_json.specs.View.{members_view, view};
-ghost use Rattle.dump_text.specs.Dumps.{AreSaid, HasExport, IsDumped, dumped_names};
-ghost use Rattle.dump_text.specs.Elements.{dumped_element_in, dumped_elements_in};
+ghost use Rattle.dump_text.specs.Dumps.{AreSaid, HasExport, IsDumped, dumped_names, dumped_storage_in, kind_in};
+ghost use Rattle.dump_text.specs.Elements.{dumped_element_in, dumped_elements_in, dumped_word, member_object};
 ghost use Rattle.dump_text.specs.Views.{Gives};
 
 use crate::dumps::{AppNumber, DumpedApplication, DumpedStorage, FORMAT};
@@ -157,13 +157,12 @@ fn storages_in(
     Ok(found)
 }
 
+/// The storage of this name, with the elements that it has in the text and no others.
 fn storage_in(alloc: Global, name: &str, storage: &Value) -> Result<DumpedStorage, DumpError>
-    ensures { IfOk result HasExport }
+    ensures exported { IfOk result HasExport }
+    ensures read { IfOk result (λ found. dumped_storage_in name.now (view storage.now) ≡ Some found) }
 {
-    let (kind, elements) = match storage.get("keys") {
-        Some(_) => (StoreKind::Keys, object_in(alloc, storage, "keys")?),
-        None => (StoreKind::Files, object_in(alloc, storage, "files")?),
-    };
+    let (kind, elements) = elements_of(alloc, storage)?;
     no_others(alloc, storage, 1)?;
     let name = name_in(alloc, name)?;
     let contents = elements_in(alloc, kind, elements)?;
@@ -171,9 +170,25 @@ fn storage_in(alloc: Global, name: &str, storage: &Value) -> Result<DumpedStorag
     Ok(DumpedStorage { name, text })
 }
 
+/// The kind of a storage, and the object with its elements.
+fn elements_of<'a>(
+    alloc: Global,
+    storage: &'a Value,
+) -> Result<(StoreKind, &'a Map<String, Value>), DumpError>
+    ensures kind { IfOk result (λ x. kind_in (view storage.now) ≡ x.0) }
+    ensures elements { IfOk result (λ x. member_object (dumped_word x.0) (view storage.now)
+        ≡ Some (members_view x.1.now.entries)) }
+{
+    match storage.get("keys") {
+        Some(_) => Ok((StoreKind::Keys, object_in(alloc, storage, "keys")?)),
+        None => Ok((StoreKind::Files, object_in(alloc, storage, "files")?)),
+    }
+}
+
 /// The text of the export of these elements.
 fn text_of(alloc: Global, kind: StoreKind, contents: &[Fresh]) -> Result<Bytes, DumpError>
-    ensures { IfOk result (λ text. (x : Export) × IsExport x × (text ≡ export_text x)) }
+    ensures exported { IfOk result (λ text. (x : Export) × IsExport x × (text ≡ export_text x)) }
+    ensures text { IfOk result (λ text. text ≡ export_text (record { kind = kind; contents = contents.now })) }
 {
     if !are_exportable(alloc, kind, contents)? {
         return Err(DumpError::NotADump(String::from_str(

@@ -2,10 +2,12 @@
 
 ghost use Rattle.std.specs.Prelude.{◌≡◌, IfOk, Some};
 ghost use Rattle.std.specs.List.{AllByRecursion};
-ghost use Rattle.per_base.specs.Names.{IsName};
-ghost use Rattle.export_text.specs.Exports.{IsExport, IsExportable, export_text};
+ghost use Rattle.std.specs.List.Sorted.{IsStrictlySortedBy};
+ghost use Rattle.per_base.specs.Names.{IsName, name_cmp};
+ghost use Rattle.export_text.specs.Exports.{IsExport, IsExportable, export_text, names_of};
 ghost use Rattle.serde_json.specs.View.{view};
-ghost use Rattle.dump_text.specs.Elements.{dumped_element_in, dumped_word};
+ghost use Rattle.dump_text.specs.Dumps.{dumped_storage_in};
+ghost use Rattle.dump_text.specs.Elements.{AreElements, dumped_element_in, dumped_word};
 
 use crate::dumps::{DumpedApplication, DumpedStorage, FORMAT};
 use crate::errors::DumpError;
@@ -61,8 +63,11 @@ fn application_value(alloc: Global, dumped: &DumpedApplication) -> Result<Value,
     Ok(Value::Object(members))
 }
 
-/// A storage of keys or of files, with its elements by their names.
-fn storage_value(alloc: Global, storage: &DumpedStorage) -> Result<Value, DumpError> {
+/// A storage of keys or of files, with its elements by their names. What is written of it is read back as the same
+/// storage, under its name.
+fn storage_value(alloc: Global, storage: &DumpedStorage) -> Result<Value, DumpError>
+    ensures { IfOk result (λ value. dumped_storage_in storage.now.name (view value) ≡ Some storage.now) }
+{
     let export = export_of(alloc, storage)?;
     let elements = elements_value(alloc, export.kind, export.contents.as_slice())?;
     let mut members = Map::new(alloc);
@@ -93,9 +98,11 @@ fn elements_word(kind: StoreKind) -> &'static str
     }
 }
 
-/// Elements by their names.
+/// Elements by their names. What is written of them is read back as the same elements, all of them.
 fn elements_value(alloc: Global, kind: StoreKind, contents: &[Fresh]) -> Result<Value, DumpError>
-    requires { AllByRecursion (IsExportable kind) contents.now }
+    requires each { AllByRecursion (IsExportable kind) contents.now }
+    requires ascend { IsStrictlySortedBy name_cmp (names_of contents.now) }
+    ensures { IfOk result (λ value. AreElements kind contents.now (view value)) }
 {
     let mut elements = Map::new(alloc);
     for element in contents {
