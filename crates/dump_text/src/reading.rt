@@ -1,15 +1,17 @@
 //! The applications that the text of a dump spells.
 
-ghost use Rattle.std.specs.Prelude.{◌≡◌, IfOk, IfSome, IsTrue, OnOk, Some, map};
+ghost use Rattle.std.specs.Prelude.{◌≡◌, IfOk, IfSome, IsTrue, OnOk, Some, decimal, map};
 ghost use Rattle.std.specs.List.{AllByRecursion};
 ghost use Rattle.per_base.specs.Fields.{only_if};
 ghost use Rattle.per_base.specs.Names.{is_name};
 ghost use Rattle.deployment_model.specs.Data.{storage_data};
 ghost use Rattle.export_text.specs.declared.exports.Export.{Export};
 ghost use Rattle.export_text.specs.Exports.{IsExport, export_text};
+ghost use Rattle.serde_json.specs.Read.{read as read_text};
 ghost use Rattle.serde_json.specs.View.{members_view, view};
-ghost use Rattle.dump_text.specs.Dumps.{AreSaid, HasExport, IsDumped, dumped_names, dumped_storage_in, kind_in};
-ghost use Rattle.dump_text.specs.Elements.{dumped_element_in, dumped_elements_in, dumped_word, member_object};
+ghost use Rattle.dump_text.specs.Dumps.{AreSaid, HasExport, IsDumped, application_data, dump_in, dumped_application_in};
+ghost use Rattle.dump_text.specs.Dumps.{dumped_names, dumped_storage_in, kind_in};
+ghost use Rattle.dump_text.specs.Elements.{dumped_element_in, dumped_elements_in, dumped_word, member_object, named_in};
 ghost use Rattle.dump_text.specs.Views.{Gives};
 
 use crate::dumps::{AppNumber, DumpedApplication, DumpedStorage, FORMAT};
@@ -33,7 +35,9 @@ use std::alloc::Global;
 ///
 /// `NotADump` with the part of the text that is no dump and why, and `OutOfMemory`.
 pub fn read_dump(alloc: Global, text: &[u8]) -> Result<Vec<DumpedApplication>, DumpError>
-    ensures { IfOk result (λ applications. AllByRecursion IsDumped applications.items) }
+    ensures dumped { IfOk result (λ applications. AllByRecursion IsDumped applications.items) }
+    // what the text has, all of it and nothing else
+    ensures read { IfOk result (λ applications. dump_in text.now ≡ Some (map application_data applications.items)) }
 {
     let dump = value_of(alloc, text)?;
     if text_in(alloc, &dump, "format")? != FORMAT {
@@ -47,7 +51,9 @@ pub fn read_dump(alloc: Global, text: &[u8]) -> Result<Vec<DumpedApplication>, D
     applications_in(alloc, applications)
 }
 
-fn value_of(alloc: Global, text: &[u8]) -> Result<Value, DumpError> {
+fn value_of(alloc: Global, text: &[u8]) -> Result<Value, DumpError>
+    ensures { IfOk result (λ value. read_text text.now ≡ Some (view value)) }
+{
     match Value::from_slice(alloc, text) {
         Ok(value) => Ok(value),
         Err(error) if error.is_memory() => Err(DumpError::OutOfMemory),
@@ -64,7 +70,9 @@ fn applications_in(
     alloc: Global,
     applications: &Map<String, Value>,
 ) -> Result<Vec<DumpedApplication>, DumpError>
-    ensures { IfOk result (λ found. AllByRecursion IsDumped found.items) }
+    ensures dumped { IfOk result (λ found. AllByRecursion IsDumped found.items) }
+    ensures read { IfOk result (λ found. named_in dumped_application_in (members_view applications.now.entries)
+        ≡ Some (map application_data found.items)) }
 {
     let mut found = Vec::new(alloc);
     for (number, value) in applications {
@@ -82,7 +90,9 @@ fn application_in(
     number: &str,
     value: &Value,
 ) -> Result<DumpedApplication, DumpError>
-    ensures { IfOk result IsDumped }
+    ensures dumped { IfOk result IsDumped }
+    ensures read { IfOk result (λ found. dumped_application_in number.now (view value.now)
+        ≡ Some (application_data found)) }
 {
     let Some(application) = number_of(number) else {
         return Err(DumpError::NotADump(String::from_str(alloc, "its number is not 0 to 7")?));
@@ -105,7 +115,9 @@ fn application_in(
 }
 
 /// The number of an application, which is one digit.
-fn number_of(number: &str) -> Option<AppNumber> {
+fn number_of(number: &str) -> Option<AppNumber>
+    ensures { IfSome result (λ application. number.now ≡ decimal application) }
+{
     match number.as_bytes() {
         [digit] if *digit >= b'0' && *digit <= b'7' => {
             Some(AppNumber::new(u32::from(*digit - b'0')))
@@ -144,7 +156,9 @@ fn storages_in(
     alloc: Global,
     storages: &Map<String, Value>,
 ) -> Result<Vec<DumpedStorage>, DumpError>
-    ensures { IfOk result (λ found. AllByRecursion HasExport found.items) }
+    ensures exported { IfOk result (λ found. AllByRecursion HasExport found.items) }
+    ensures read { IfOk result (λ found. named_in dumped_storage_in (members_view storages.now.entries)
+        ≡ Some found.items) }
 {
     let mut found = Vec::new(alloc);
     for (name, storage) in storages {

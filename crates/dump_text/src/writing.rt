@@ -1,11 +1,12 @@
 //! Applications as the text of a dump.
 
-ghost use Rattle.std.specs.Prelude.{◌≡◌, IfOk, Some};
+ghost use Rattle.std.specs.Prelude.{◌≡◌, IfOk, Some, decimal};
 ghost use Rattle.std.specs.List.{AllByRecursion};
 ghost use Rattle.std.specs.List.Sorted.{IsStrictlySortedBy};
 ghost use Rattle.per_base.specs.Names.{IsName, name_cmp};
 ghost use Rattle.export_text.specs.Exports.{IsExport, IsExportable, export_text, names_of};
 ghost use Rattle.serde_json.specs.View.{view};
+ghost use Rattle.dump_text.specs.Dumps.{AreInOrder, IsTextOf, StoragesAscend, application_data, dumped_application_in};
 ghost use Rattle.dump_text.specs.Dumps.{dumped_storage_in};
 ghost use Rattle.dump_text.specs.Elements.{AreElements, dumped_element_in, dumped_word};
 
@@ -23,7 +24,9 @@ use std::alloc::Global;
 /// # Errors
 ///
 /// `NotADump` where a text of a storage is no export or a manifest is not UTF-8, and `OutOfMemory`.
-pub fn write_dump(alloc: Global, applications: &[DumpedApplication]) -> Result<Vec<u8>, DumpError> {
+pub fn write_dump(alloc: Global, applications: &[DumpedApplication]) -> Result<Vec<u8>, DumpError>
+    ensures { IfOk result (λ text. AreInOrder applications.now → IsTextOf applications.now text.items) }
+{
     let mut members = Map::new(alloc);
     for dumped in applications {
         let number = format!(in alloc; "{}", dumped.application.number())?;
@@ -43,7 +46,12 @@ pub fn write_dump(alloc: Global, applications: &[DumpedApplication]) -> Result<V
     Ok(text)
 }
 
-fn application_value(alloc: Global, dumped: &DumpedApplication) -> Result<Value, DumpError> {
+/// An application with its manifest and its storages by their names. What is written of it is read back as the same
+/// application, where the names of its storages ascend.
+fn application_value(alloc: Global, dumped: &DumpedApplication) -> Result<Value, DumpError>
+    ensures { IfOk result (λ value. StoragesAscend dumped.now
+        → dumped_application_in (decimal dumped.now.application) (view value) ≡ Some (application_data dumped.now)) }
+{
     let Ok(manifest) = str::from_utf8(dumped.manifest.as_slice()) else {
         return Err(DumpError::NotADump(String::from_str(alloc, "the manifest is not UTF-8")?));
     };
