@@ -96,7 +96,13 @@ fn twice_silent(alloc: Global) -> Result<String, CaseError> {
 
 fn twice_in_memory(alloc: Global) -> Result<String, CaseError> {
     let mut disk = MemDisk::new(alloc);
-    let said = written(&mut disk);
+    let said = twice_on(alloc, &mut disk);
+    drop(disk);
+    said
+}
+
+fn twice_on(alloc: Global, disk: &mut MemDisk) -> Result<String, CaseError> {
+    let said = written(disk);
     let size = disk.size(3)?;
     let count = disk.written();
     Ok(format!(in alloc; "{said} {size} {count}")?)

@@ -4,19 +4,11 @@ ghost use Rattle.std.specs.Prelude.{IsTrue, IfOk};
 ghost use Rattle.index_text.specs.Contents.{AreContents, SuitsKind};
 ghost use Rattle.base_tests.specs.Single.{IsAddition};
 
+use crate::names::name_of;
 use case_words::{CaseError, bytes_of, cut};
 use element_store::Shape;
-use per_base::{Bytes, Cause, Change, FileInfo, Fresh, Name, PerError, StoreKind};
+use per_base::{Bytes, Cause, Change, FileInfo, Fresh, StoreKind};
 use std::alloc::Global;
-
-// A name.
-fn name_of(alloc: Global, word: &str) -> Result<Name, CaseError> {
-    match Name::new(alloc, word) {
-        Ok(name) => Ok(name),
-        Err(PerError::BadName) => Err(CaseError::NoCase),
-        Err(_) => Err(CaseError::OutOfMemory),
-    }
-}
 
 /// `NAME=BYTES`: an element of these, with an info where the kind asks for one.
 pub fn element_of(alloc: Global, kind: StoreKind, word: &str) -> Result<Fresh, CaseError> {

@@ -18,6 +18,7 @@ mod contents;
 mod elements;
 mod images;
 mod indexes;
+mod names;
 mod plans;
 mod runs;
 mod seals;

@@ -3,10 +3,11 @@
 ghost use Rattle.std.specs.Prelude.{IfOk};
 ghost use Rattle.element_state.specs.Conditions.{IsShape};
 
+use crate::names::name_of;
 use case_words::{CaseError, cut, number, small};
 use disk_model::Place;
 use element_store::Shape;
-use per_base::{Name, Scope, StoreKind};
+use per_base::{Scope, StoreKind};
 use std::alloc::Global;
 
 /// How a storage is kept.
@@ -62,11 +63,8 @@ impl Plan {
         {
             return Err(CaseError::NoCase);
         }
-        let Ok(name) = Name::new(alloc, "fav") else {
-            return Err(CaseError::OutOfMemory);
-        };
         Ok(Shape {
-            name,
+            name: name_of(alloc, "fav")?,
             place: Place {
                 first: self.first,
                 copies: self.copies,
