@@ -36,18 +36,25 @@ fn put_and_get(alloc: Global, place: Place, m: u32, bytes: &[u8]) -> Result<Blob
     requires few { length bytes.now ≤ 1048576 }
 {
     let mut disk = MemDisk::new(alloc);
+    let blob = put_and_get_on(alloc, &mut disk, place, m, bytes);
+    drop(disk);
+    blob
+}
+
+fn put_and_get_on(
+    alloc: Global,
+    disk: &mut MemDisk,
+    place: Place,
+    m: u32,
+    bytes: &[u8],
+) -> Result<Blob, BlobError>
+    requires m { 1 ≤ m }
+    requires few { length bytes.now ≤ 1048576 }
+{
     let mut used = BlockSet::new(alloc, 4096)?;
-    let put = put_blob(alloc, &mut disk, place, &mut used, bytes)?;
-    let blob = get_blob(
-        alloc,
-        &mut disk,
-        place,
-        put.blocks.as_slice(),
-        bytes.len() as u32,
-        &put.hash,
-        m,
-    )?;
-    Ok(blob)
+    let put = put_blob(alloc, disk, place, &mut used, bytes)?;
+    let blocks = put.blocks.as_slice();
+    get_blob(alloc, disk, place, blocks, bytes.len() as u32, &put.hash, m)
 }
 
 fn described(alloc: Global, blob: &Blob, bytes: &[u8]) -> Result<String, CaseError> {
@@ -85,11 +92,26 @@ fn put_beside(alloc: Global, place: Place, old: &[u8], new: &[u8]) -> Result<Str
     requires new { length new.now ≤ 1048576 }
 {
     let mut disk = MemDisk::new(alloc);
+    let said = put_beside_on(alloc, &mut disk, place, old, new);
+    drop(disk);
+    said
+}
+
+fn put_beside_on(
+    alloc: Global,
+    disk: &mut MemDisk,
+    place: Place,
+    old: &[u8],
+    new: &[u8],
+) -> Result<String, CaseError>
+    requires old { length old.now ≤ 1048576 }
+    requires new { length new.now ≤ 1048576 }
+{
     let mut used = BlockSet::new(alloc, 8192)?;
-    let put = put_blob(alloc, &mut disk, place, &mut used, old)?;
+    let put = put_blob(alloc, disk, place, &mut used, old)?;
     let before = disk.written();
     let old_blocks = put.blocks.as_slice();
-    let again = put_shared(alloc, &mut disk, place, &mut used, new, old, old_blocks)?;
+    let again = put_shared(alloc, disk, place, &mut used, new, old, old_blocks)?;
     let written = disk.written().saturating_sub(before);
     let old_blocks = numbers_text(alloc, old_blocks)?;
     let new_blocks = numbers_text(alloc, again.blocks.as_slice())?;

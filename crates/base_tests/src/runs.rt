@@ -1,49 +1,57 @@
 //! The words of a course, one after the other.
 
-ghost use Rattle.std.specs.Prelude.{IfOk};
+ghost use Rattle.std.specs.Prelude.{IfOk, OnOk};
 ghost use Rattle.base_tests.specs.Usage.{IsKeptStore};
 
 use crate::images::{fill, flip, hold};
-use crate::plans::{Plan, plan_of};
-use crate::usage::{Kept, created, disk_of, opened, rebuilt, stopped, used};
+use crate::plans::Plan;
+use crate::usage::{Kept, created, opened, put, rebuilt};
 use case_words::{CaseError, cut, number, text};
 use disk_model::MemDisk;
 use std::alloc::Global;
+use std::mem;
 
 /// What the words leave, from a disk of empty files on.
 pub fn run(alloc: Global, plan: Plan, words: &str) -> Result<Kept, CaseError>
     ensures { IfOk result IsKeptStore }
 {
-    let mut kept = Kept::Closed(MemDisk::new(alloc));
-    for word in words.split(' ') {
-        let (next, _answer) = step(alloc, plan, kept, word)?;
-        kept = next;
+    let mut kept = Kept::new(alloc);
+    match run_on(alloc, plan, &mut kept, words) {
+        Ok(()) => Ok(kept),
+        Err(trouble) => {
+            drop(kept);
+            Err(trouble)
+        }
     }
-    Ok(kept)
 }
 
-/// One word: what it leaves, and what it answers.
-pub fn step(alloc: Global, plan: Plan, kept: Kept, word: &str) -> Result<(Kept, String), CaseError>
-    requires { IsKeptStore kept }
-    ensures { IfOk result (λ next. IsKeptStore next.0) }
+fn run_on(alloc: Global, plan: Plan, kept: &mut Kept, words: &str) -> Result<(), CaseError>
+    requires { IsKeptStore kept.old }
+    ensures { OnOk result (IsKeptStore kept.new) }
+{
+    for word in words.split(' ') {
+        drop(step(alloc, plan, kept, word)?);
+    }
+    Ok(())
+}
+
+/// One word: what it answers.
+pub fn step(alloc: Global, plan: Plan, kept: &mut Kept, word: &str) -> Result<String, CaseError>
+    requires { IsKeptStore kept.old }
+    ensures { OnOk result (IsKeptStore kept.new) }
 {
     let (verb, rest) = cut(word, ':');
     match verb {
-        "create" => created(alloc, plan, disk_of(kept), rest),
-        "open" => opened(alloc, plan, disk_of(kept)),
-        "put" => used(alloc, kept, rest),
+        "create" => created(alloc, plan, kept, rest),
+        "open" => opened(alloc, plan, kept),
+        "put" => put(alloc, kept, rest),
         "stop" => {
-            let kept = stopped(kept, number(rest)?);
-            Ok((kept, text(alloc, "ok")?))
-        }
-        "restart" => {
-            let disk = restarted(disk_of(kept), rest)?;
-            Ok((Kept::Closed(disk), text(alloc, "ok")?))
+            kept.disk.stop_after(number(rest)?);
+            text(alloc, "ok")
         }
         _ => {
-            let mut disk = disk_of(kept);
-            let said = apart(alloc, plan, &mut disk, verb, rest)?;
-            Ok((Kept::Closed(disk), said))
+            kept.close();
+            apart(alloc, plan, &mut kept.disk, verb, rest)
         }
     }
 }
@@ -59,6 +67,13 @@ pub fn restarted(disk: MemDisk, word: &str) -> Result<MemDisk, CaseError> {
     Ok(disk)
 }
 
+/// A disk after a power loss.
+pub fn restart(alloc: Global, disk: &mut MemDisk, word: &str) -> Result<(), CaseError> {
+    let stopped = mem::replace(disk, MemDisk::new(alloc));
+    drop(mem::replace(disk, restarted(stopped, word)?));
+    Ok(())
+}
+
 // A word that takes the storage out of use.
 fn apart(
     alloc: Global,
@@ -68,6 +83,7 @@ fn apart(
     rest: &str,
 ) -> Result<String, CaseError> {
     match verb {
+        "restart" => restart(alloc, disk, rest)?,
         "rebuild" => return rebuilt(alloc, plan, disk, rest),
         "hold" => hold(alloc, disk, rest)?,
         "fill" => fill(alloc, disk, rest)?,

@@ -1,13 +1,16 @@
 //! Sessions of a disk in memory, and of a register of three copies on it.
 
-ghost use Rattle.std.specs.Prelude.{IfOk};
+ghost use Rattle.std.specs.Prelude.{OnOk};
 ghost use Rattle.base_tests.specs.Sessions.{IsRegisterInUse};
 
+use crate::runs::restart;
 use case_words::{
     CaseError, add, bytes_of, bytes_text, cut, number, numbers, numbers_text, small, text,
 };
 use disk_model::{Disk, MemDisk, Place};
-use guarded_cell::{Cell, CellError, Seen, adopt, format_cell, keep_only, look, open_cell};
+use guarded_cell::{
+    Cell, CellError, OpenedCell, Seen, adopt, format_cell, keep_only, look, open_cell,
+};
 use hash_guard::{MAX_BODY, seal};
 use per_base::Fault;
 use std::alloc::Global;
@@ -33,114 +36,118 @@ pub fn session(alloc: Global, words: &str) -> Result<String, CaseError> {
         disk: MemDisk::new(alloc),
         cell: None,
     };
+    let said = answers(alloc, &mut run, words);
+    drop(run);
+    said
+}
+
+fn answers(alloc: Global, run: &mut Run, words: &str) -> Result<String, CaseError>
+    requires { IsRegisterInUse run.old }
+{
     let mut said = String::new(alloc);
     for word in words.split(' ') {
-        let (next, answer) = step(alloc, run, word)?;
+        let answer = step(alloc, run, word)?;
         add(&mut said, answer.as_str())?;
-        run = next;
     }
     Ok(said)
 }
 
 // One word of a session.
-fn step(alloc: Global, run: Run, word: &str) -> Result<(Run, String), CaseError>
-    requires { IsRegisterInUse run }
-    ensures { IfOk result (λ next. IsRegisterInUse next.0) }
+fn step(alloc: Global, run: &mut Run, word: &str) -> Result<String, CaseError>
+    requires { IsRegisterInUse run.old }
+    ensures { OnOk result (IsRegisterInUse run.new) }
 {
     let (verb, rest) = cut(word, ':');
     match verb {
         "format" => format(alloc, run, rest),
         "put" => put(alloc, run, rest),
         "stop" => stop(alloc, run, rest),
-        "crash" => crash(alloc, run, rest),
-        _ => apart(alloc, run, verb, rest),
+        _ => {
+            run.cell = None;
+            apart(alloc, &mut run.disk, verb, rest)
+        }
     }
 }
 
 // `format:BYTES`: formats a register.
-fn format(alloc: Global, run: Run, word: &str) -> Result<(Run, String), CaseError>
-    ensures { IfOk result (λ next. IsRegisterInUse next.0) }
+fn format(alloc: Global, run: &mut Run, word: &str) -> Result<String, CaseError>
+    ensures { OnOk result (IsRegisterInUse run.new) }
 {
-    let Run { mut disk, cell: _ } = run;
+    run.cell = None;
     let body = bytes_of(alloc, word)?;
     if body.len() > MAX_BODY {
         return Err(CaseError::NoCase);
     }
-    match format_cell(alloc, &mut disk, place(), &body) {
+    match format_cell(alloc, &mut run.disk, place(), &body) {
         Ok(cell) => {
-            let cell = Some(cell);
-            Ok((Run { disk, cell }, text(alloc, "ok")?))
+            run.cell = Some(cell);
+            text(alloc, "ok")
         }
-        Err(error) => Ok((Run { disk, cell: None }, fault(alloc, error)?)),
+        Err(error) => fault(alloc, error),
     }
 }
 
 // `put:BYTES`: writes the next text of the register in use.
-fn put(alloc: Global, run: Run, word: &str) -> Result<(Run, String), CaseError>
-    requires { IsRegisterInUse run }
-    ensures { IfOk result (λ next. IsRegisterInUse next.0) }
+fn put(alloc: Global, run: &mut Run, word: &str) -> Result<String, CaseError>
+    requires { IsRegisterInUse run.old }
+    ensures { OnOk result (IsRegisterInUse run.new) }
 {
-    let Run { mut disk, cell } = run;
-    let Some(cell) = cell else {
+    let Some(cell) = run.cell.take() else {
         return Err(CaseError::NoCase);
     };
     let body = bytes_of(alloc, word)?;
     if body.len() > MAX_BODY || cell.generation() == u64::MAX {
         return Err(CaseError::NoCase);
     }
-    match cell.write(alloc, &mut disk, &body) {
+    match cell.write(alloc, &mut run.disk, &body) {
         Ok(cell) => {
-            let cell = Some(cell);
-            Ok((Run { disk, cell }, text(alloc, "ok")?))
+            run.cell = Some(cell);
+            text(alloc, "ok")
         }
-        Err(Fault::Device) => Ok((Run { disk, cell: None }, text(alloc, "failed")?)),
+        Err(Fault::Device) => text(alloc, "failed"),
         Err(Fault::OutOfMemory(_)) => Err(CaseError::OutOfMemory),
     }
 }
 
 // `stop:K`: from now on K calls of the disk pass.
-fn stop(alloc: Global, run: Run, word: &str) -> Result<(Run, String), CaseError>
-    requires { IsRegisterInUse run }
-    ensures { IfOk result (λ next. IsRegisterInUse next.0) }
+fn stop(alloc: Global, run: &mut Run, word: &str) -> Result<String, CaseError>
+    requires { IsRegisterInUse run.old }
+    ensures { OnOk result (IsRegisterInUse run.new) }
 {
-    let Run { mut disk, cell } = run;
-    disk.stop_after(number(word)?);
-    Ok((Run { disk, cell }, text(alloc, "ok")?))
+    run.disk.stop_after(number(word)?);
+    text(alloc, "ok")
+}
+
+// A word that takes the register out of use.
+fn apart(alloc: Global, disk: &mut MemDisk, verb: &str, rest: &str) -> Result<String, CaseError> {
+    match verb {
+        "read" => read(alloc, disk, rest),
+        "write" => write(alloc, disk, rest),
+        "seal" => seal_front(alloc, disk, rest),
+        "flip" => flip(alloc, disk, rest),
+        "spoil" => spoil(alloc, disk, rest),
+        "files" => files(alloc, disk),
+        "crash" => crash(alloc, disk, rest),
+        _ => looking(alloc, disk, verb, rest),
+    }
 }
 
 // `crash:all`, `crash:none`, `crash:PATTERN`: a power loss that keeps all writes since the last sync, none, or those of
 // the pattern.
-fn crash(alloc: Global, run: Run, word: &str) -> Result<(Run, String), CaseError>
-    ensures { IfOk result (λ next. IsRegisterInUse next.0) }
-{
-    let Run { disk, cell: _ } = run;
-    let disk = match word {
-        "all" => disk.crash(true)?,
-        "none" => disk.crash(false)?,
-        _ => disk.crash_torn(number(word)?)?,
-    };
-    Ok((Run { disk, cell: None }, text(alloc, "ok")?))
+fn crash(alloc: Global, disk: &mut MemDisk, word: &str) -> Result<String, CaseError> {
+    restart(alloc, disk, word)?;
+    text(alloc, "ok")
 }
 
-// A word that takes the register out of use.
-fn apart(alloc: Global, run: Run, verb: &str, rest: &str) -> Result<(Run, String), CaseError>
-    ensures { IfOk result (λ next. IsRegisterInUse next.0) }
-{
-    let Run { mut disk, cell: _ } = run;
-    let said = match verb {
-        "read" => read(alloc, &mut disk, rest)?,
-        "write" => write(alloc, &mut disk, rest)?,
-        "seal" => seal_front(alloc, &mut disk, rest)?,
-        "flip" => flip(alloc, &mut disk, rest)?,
-        "spoil" => spoil(alloc, &mut disk, rest)?,
-        "files" => files(alloc, &mut disk)?,
-        "look" => looked(alloc, &mut disk)?,
-        "open" => opened(alloc, &mut disk, rest)?,
-        "adopt" => adopted(alloc, &mut disk, rest)?,
-        "keep" => kept(alloc, &mut disk, rest)?,
-        _ => called(alloc, &mut disk, verb, rest)?,
-    };
-    Ok((Run { disk, cell: None }, said))
+// A word that looks at the register, or writes it in every copy.
+fn looking(alloc: Global, disk: &mut MemDisk, verb: &str, rest: &str) -> Result<String, CaseError> {
+    match verb {
+        "look" => looked(alloc, disk),
+        "open" => opened(alloc, disk, rest),
+        "adopt" => adopted(alloc, disk, rest),
+        "keep" => kept(alloc, disk, rest),
+        _ => called(alloc, disk, verb, rest),
+    }
 }
 
 // The short calls of a disk.
@@ -290,14 +297,16 @@ fn opened(alloc: Global, disk: &mut MemDisk, rest: &str) -> Result<String, CaseE
         return Err(CaseError::NoCase);
     }
     match open_cell(alloc, disk, place(), m) {
-        Ok(opened) => {
-            let generation = opened.cell.generation();
-            let bytes = bytes_text(alloc, opened.text.as_slice())?;
-            let lacking = numbers_text(alloc, opened.lacking.as_slice())?;
-            Ok(format!(in alloc; "{generation}={bytes}~{lacking}")?)
-        }
+        Ok(opened) => opened_text(alloc, &opened),
         Err(error) => fault(alloc, error),
     }
+}
+
+fn opened_text(alloc: Global, opened: &OpenedCell) -> Result<String, CaseError> {
+    let generation = opened.cell.generation();
+    let bytes = bytes_text(alloc, opened.text.as_slice())?;
+    let lacking = numbers_text(alloc, opened.lacking.as_slice())?;
+    Ok(format!(in alloc; "{generation}={bytes}~{lacking}")?)
 }
 
 // `adopt:GENERATION:BYTES`: brings every copy to this text.

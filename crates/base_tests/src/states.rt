@@ -6,23 +6,41 @@ use crate::plans::Plan;
 use crate::views::{fault, store_text, view_text};
 use case_words::{CaseError, numbers_text, text};
 use disk_model::{MemDisk, Place};
-use element_store::{Shape, StoreError, open_store, salvage};
+use element_store::{Shape, Store, StoreError, View, open_store, salvage};
 use guarded_cell::{CellError, Seen, look};
 use std::alloc::Global;
 use std::fmt::Write;
 
 /// The storage that opens, and the format and the copies of its index; or `corrupt`, with the salvage.
-pub fn state(alloc: Global, plan: Plan, mut disk: MemDisk) -> Result<String, CaseError> {
+pub fn state(alloc: Global, plan: Plan, disk: MemDisk) -> Result<String, CaseError> {
+    let mut disk = disk;
+    let said = state_on(alloc, plan, &mut disk);
+    drop(disk);
+    said
+}
+
+fn state_on(alloc: Global, plan: Plan, disk: &mut MemDisk) -> Result<String, CaseError> {
     let shape = plan.shape(alloc)?;
-    match open_store(alloc, &mut disk, shape.copy()?) {
+    match open_store(alloc, disk, shape.copy()?) {
         Ok(opened) => {
-            let mut said = store_text(alloc, &opened.store)?;
-            put_texts(alloc, &mut said, &mut disk, shape.place)?;
-            Ok(said)
+            let said = opened_text(alloc, disk, &opened.store, shape.place);
+            drop(opened);
+            said
         }
-        Err(StoreError::Corrupt) => corrupt(alloc, &mut disk, &shape),
+        Err(StoreError::Corrupt) => corrupt(alloc, disk, &shape),
         Err(error) => fault(alloc, error),
     }
+}
+
+fn opened_text(
+    alloc: Global,
+    disk: &mut MemDisk,
+    store: &Store,
+    place: Place,
+) -> Result<String, CaseError> {
+    let mut said = store_text(alloc, store)?;
+    put_texts(alloc, &mut said, disk, place)?;
+    Ok(said)
 }
 
 // Adds the format of each text, and the copies that hold it.
@@ -57,10 +75,16 @@ fn corrupt(alloc: Global, disk: &mut MemDisk, shape: &Shape) -> Result<String, C
 {
     match salvage(alloc, disk, shape) {
         Ok(Some(view)) => {
-            let salvage = view_text(alloc, &view)?;
-            Ok(format!(in alloc; "corrupt {salvage}")?)
+            let said = corrupt_text(alloc, &view);
+            drop(view);
+            said
         }
         Ok(None) => text(alloc, "corrupt"),
         Err(error) => fault(alloc, error),
     }
+}
+
+fn corrupt_text(alloc: Global, view: &View) -> Result<String, CaseError> {
+    let salvage = view_text(alloc, view)?;
+    Ok(format!(in alloc; "corrupt {salvage}")?)
 }

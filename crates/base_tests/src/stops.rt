@@ -3,7 +3,6 @@
 use crate::plans::{Plan, plan_of};
 use crate::runs::{restarted, run, step};
 use crate::states::state;
-use crate::usage::{disk_of, stopped};
 use case_words::{CaseError, cut, text};
 use disk_model::MemDisk;
 use std::alloc::Global;
@@ -67,7 +66,7 @@ fn cut_part(text: &str) -> (&str, &str) {
 
 // What an opening finds after these words.
 fn state_after(alloc: Global, plan: Plan, words: &str) -> Result<String, CaseError> {
-    state(alloc, plan, disk_of(run(alloc, plan, words)?))
+    state(alloc, plan, run(alloc, plan, words)?.into_disk())
 }
 
 fn follow_all(alloc: Global, course: Course<'_>) -> Result<String, CaseError> {
@@ -105,9 +104,15 @@ fn stopped_at(
     course: Course<'_>,
     passing: u64,
 ) -> Result<(MemDisk, bool), CaseError> {
-    let kept = run(alloc, course.plan, course.earlier)?;
-    let (kept, said) = step(alloc, course.plan, stopped(kept, passing), course.word)?;
-    Ok((disk_of(kept), said.as_str() != "failed"))
+    let mut kept = run(alloc, course.plan, course.earlier)?;
+    kept.disk.stop_after(passing);
+    match step(alloc, course.plan, &mut kept, course.word) {
+        Ok(said) => Ok((kept.into_disk(), said.as_str() != "failed")),
+        Err(trouble) => {
+            drop(kept);
+            Err(trouble)
+        }
+    }
 }
 
 fn is_allowed(course: Course<'_>, is_over: bool, now: &str) -> bool {

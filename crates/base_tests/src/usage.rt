@@ -1,7 +1,8 @@
 //! Storages on a disk in memory, made and changed one element at a time.
 
-ghost use Rattle.std.specs.Prelude.{IfOk};
-ghost use Rattle.element_state.specs.Conditions.{IsShape, AreCommittable};
+ghost use Rattle.std.specs.Prelude.{◌≡◌, IfOk, IsTrue, OnOk, Some, None};
+ghost use Rattle.element_state.specs.Conditions.{AreCommittable};
+ghost use Rattle.element_store.specs.Rebuilds.{HasNext};
 ghost use Rattle.element_store.specs.Stores.{store_shape, view_in};
 ghost use Rattle.base_tests.specs.Usage.{IsKeptStore, IsStoreInUse};
 
@@ -10,96 +11,96 @@ use crate::plans::Plan;
 use crate::views::fault;
 use case_words::{CaseError, text};
 use disk_model::MemDisk;
-use element_store::{OpenedStore, Shape, Store, create, open_store, rebuild, salvage};
+use element_store::{OpenedStore, Shape, Store, View, create, open_store, rebuild, salvage};
 use per_base::{Change, Fault};
 use std::alloc::Global;
 
-/// A storage that is in use on a disk in memory.
+/// A storage that is in use, and how it is kept.
 #[derive(Drop)]
 pub struct InUse {
-    pub disk: MemDisk,
     pub store: Store,
     pub shape: Shape,
 }
 
-/// A disk, and the storage that is in use there, if one is.
+/// A disk in memory, and the storage that is in use there, if one is.
 #[derive(Drop)]
-pub enum Kept {
-    Closed(MemDisk),
-    Open(InUse),
+pub struct Kept {
+    pub disk: MemDisk,
+    pub used: Option<InUse>,
 }
 
-/// The disk alone.
-pub fn disk_of(kept: Kept) -> MemDisk {
-    match kept {
-        Kept::Closed(disk) => disk,
-        Kept::Open(
-            InUse {
-                disk,
-                store: _,
-                shape: _,
-            },
-        ) => disk,
+impl Kept {
+    /// A disk of empty files.
+    pub fn new(alloc: Global) -> Kept
+        ensures { IsKeptStore result }
+    {
+        Kept {
+            disk: MemDisk::new(alloc),
+            used: None,
+        }
     }
-}
 
-/// From now on that many calls of the disk pass.
-pub fn stopped(kept: Kept, passing: u64) -> Kept
-    requires { IsKeptStore kept }
-    ensures { IsKeptStore result }
-{
-    match kept {
-        Kept::Closed(mut disk) => {
-            disk.stop_after(passing);
-            Kept::Closed(disk)
-        }
-        Kept::Open(mut kept) => {
-            kept.disk.stop_after(passing);
-            Kept::Open(kept)
-        }
+    /// The disk alone.
+    pub fn into_disk(self) -> MemDisk {
+        let Kept { disk, used } = self;
+        drop(used);
+        disk
+    }
+
+    /// Takes the storage out of use.
+    pub fn close(&mut self)
+        ensures disk { self.new.disk ≡ self.old.disk }
+        ensures used { self.new.used ≡ None }
+    {
+        drop(self.used.take());
+    }
+
+    // Has this storage in use.
+    fn keep(&mut self, used: InUse)
+        ensures disk { self.new.disk ≡ self.old.disk }
+        ensures used { self.new.used ≡ Some used }
+    {
+        drop(self.used.replace(used));
     }
 }
 
 /// `create:NAME=BYTES`: rebuilds the storage with one element.
-pub fn created(
-    alloc: Global,
-    plan: Plan,
-    mut disk: MemDisk,
-    word: &str,
-) -> Result<(Kept, String), CaseError>
-    ensures { IfOk result (λ next. IsKeptStore next.0) }
+pub fn created(alloc: Global, plan: Plan, kept: &mut Kept, word: &str) -> Result<String, CaseError>
+    ensures { OnOk result (IsKeptStore kept.new) }
 {
+    kept.close();
     let shape = plan.shape(alloc)?;
     let contents = alone(alloc, &shape, element_of(alloc, plan.kind, word)?)?;
-    match create(alloc, &mut disk, shape.copy()?, contents) {
-        Ok(store) => shown(alloc, InUse { disk, store, shape }),
-        Err(error) => Ok((Kept::Closed(disk), fault(alloc, error)?)),
+    match create(alloc, &mut kept.disk, shape.copy()?, contents) {
+        Ok(store) => {
+            kept.keep(InUse { store, shape });
+            text(alloc, "ok")
+        }
+        Err(error) => fault(alloc, error),
     }
 }
 
 /// `open`: opens the storage.
-pub fn opened(alloc: Global, plan: Plan, mut disk: MemDisk) -> Result<(Kept, String), CaseError>
-    ensures { IfOk result (λ next. IsKeptStore next.0) }
+pub fn opened(alloc: Global, plan: Plan, kept: &mut Kept) -> Result<String, CaseError>
+    ensures { OnOk result (IsKeptStore kept.new) }
 {
+    kept.close();
     let shape = plan.shape(alloc)?;
-    match open_store(alloc, &mut disk, shape.copy()?) {
+    match open_store(alloc, &mut kept.disk, shape.copy()?) {
         Ok(
             OpenedStore {
                 store,
-                reports: _,
-                before: _,
+                reports,
+                before,
             },
-        ) => shown(alloc, InUse { disk, store, shape }),
-        Err(error) => Ok((Kept::Closed(disk), fault(alloc, error)?)),
+        ) => {
+            drop(reports);
+            drop(before);
+            kept.keep(InUse { store, shape });
+            text(alloc, "ok")
+        }
+        Err(error) => fault(alloc, error),
     }
-}
-
-// A storage in use, after a call that was done.
-fn shown(alloc: Global, kept: InUse) -> Result<(Kept, String), CaseError>
-    requires { IsStoreInUse kept }
-    ensures { IfOk result (λ next. IsKeptStore next.0) }
-{
-    Ok((Kept::Open(kept), text(alloc, "ok")?))
 }
 
 /// `rebuild:NAME=BYTES`: rebuilds the storage with one element, beside what the place holds.
@@ -111,10 +112,14 @@ pub fn rebuilt(
 ) -> Result<String, CaseError> {
     let shape = plan.shape(alloc)?;
     let contents = alone(alloc, &shape, element_of(alloc, plan.kind, word)?)?;
-    match salvage(alloc, disk, &shape) {
+    let found = match salvage(alloc, disk, &shape) {
+        Ok(found) => found,
         Err(error) => return fault(alloc, error),
-        Ok(Some(view)) if view.generation == u64::MAX => return Err(CaseError::NoCase),
-        Ok(_) => {}
+    };
+    let is_next = has_next(&found);
+    drop(found);
+    if !is_next {
+        return Err(CaseError::NoCase);
     }
     match rebuild(alloc, disk, &shape, contents) {
         Ok(()) => text(alloc, "ok"),
@@ -122,10 +127,20 @@ pub fn rebuilt(
     }
 }
 
+// Whether a generation comes after that of the salvage.
+fn has_next(salvage: &Option<View>) -> bool
+    ensures { IsTrue result → HasNext salvage.now }
+{
+    match salvage {
+        Some(view) => view.generation != u64::MAX,
+        None => true,
+    }
+}
+
 impl InUse {
     // The change alone, where the storage can take it.
     fn single(&self, alloc: Global, change: Change) -> Result<Vec<Change>, CaseError>
-        requires { IsStoreInUse self.now }
+        requires { store_shape self.now.store ≡ self.now.shape }
         ensures { IfOk result (λ changes. AreCommittable (store_shape self.now.store)
             (view_in self.now.store) changes.items) }
     {
@@ -138,61 +153,67 @@ impl InUse {
         Ok(vec![in alloc; change]?)
     }
 
-    // Commits one change; where the disk fails, the storage is closed.
-    fn commit(self, alloc: Global, change: Change) -> Result<Kept, CaseError>
-        requires { IsStoreInUse self }
-        ensures { IfOk result IsKeptStore }
-    {
-        let changes = self.single(alloc, change)?;
-        let InUse {
-            mut disk,
-            store,
-            shape,
-        } = self;
-        match store.commit(&mut disk, changes) {
-            Ok(store) => Ok(Kept::Open(InUse { disk, store, shape })),
-            Err(Fault::Device) => Ok(Kept::Closed(disk)),
-            Err(Fault::OutOfMemory(_)) => Err(CaseError::OutOfMemory),
-        }
-    }
-
-    // Commits another content of an element.
-    fn changed(self, alloc: Global, word: &str) -> Result<Kept, CaseError>
-        requires { IsStoreInUse self }
-        ensures { IfOk result IsKeptStore }
+    // Another content of an element, as the change alone.
+    fn put(&self, alloc: Global, word: &str) -> Result<Vec<Change>, CaseError>
+        requires { store_shape self.now.store ≡ self.now.shape }
+        ensures { IfOk result (λ changes. AreCommittable (store_shape self.now.store)
+            (view_in self.now.store) changes.items) }
     {
         let fresh = element_of(alloc, self.shape.kind, word)?;
-        self.commit(alloc, Change::Put(fresh))
+        self.single(alloc, Change::Put(fresh))
     }
 }
 
-// The storage that is still in use.
-fn in_use(kept: Kept) -> Result<InUse, CaseError>
-    requires { IsKeptStore kept }
-    ensures { IfOk result IsStoreInUse }
+/// `put:NAME=BYTES`: commits another content of an element of a storage in use. Where the disk fails, the storage is
+/// closed.
+pub fn put(alloc: Global, kept: &mut Kept, word: &str) -> Result<String, CaseError>
+    requires { IsKeptStore kept.old }
+    ensures { OnOk result (IsKeptStore kept.new) }
 {
-    match kept {
-        Kept::Open(kept) => Ok(kept),
-        Kept::Closed(_) => Err(CaseError::NoCase),
+    let Some(used) = kept.used.take() else {
+        return Err(CaseError::NoCase);
+    };
+    match used.put(alloc, word) {
+        Ok(changes) => committed(alloc, kept, used, changes),
+        Err(trouble) => {
+            drop(used);
+            Err(trouble)
+        }
     }
 }
 
-/// `put:NAME=BYTES`: commits another content of an element of a storage in use.
-pub fn used(alloc: Global, kept: Kept, word: &str) -> Result<(Kept, String), CaseError>
-    requires { IsKeptStore kept }
-    ensures { IfOk result (λ next. IsKeptStore next.0) }
+// Commits changes.
+fn committed(
+    alloc: Global,
+    kept: &mut Kept,
+    used: InUse,
+    changes: Vec<Change>,
+) -> Result<String, CaseError>
+    requires used { IsStoreInUse kept.old.disk used }
+    requires changes { AreCommittable (store_shape used.store) (view_in used.store) changes.items }
+    ensures { OnOk result (IsKeptStore kept.new) }
 {
-    let kept = in_use(kept)?;
-    told(alloc, kept.changed(alloc, word)?)
+    let InUse { store, shape } = used;
+    match store.commit(&mut kept.disk, changes) {
+        Ok(store) => {
+            kept.keep(InUse { store, shape });
+            text(alloc, "ok")
+        }
+        Err(fault) => {
+            drop(shape);
+            kept.close();
+            failed(alloc, fault)
+        }
+    }
 }
 
-// Whether it is still in use; where it is closed, its disk failed.
-fn told(alloc: Global, kept: Kept) -> Result<(Kept, String), CaseError>
-    requires { IsKeptStore kept }
-    ensures { IfOk result (λ next. IsKeptStore next.0) }
-{
-    match kept {
-        Kept::Open(kept) => shown(alloc, kept),
-        Kept::Closed(disk) => Ok((Kept::Closed(disk), text(alloc, "failed")?)),
+// Why changes were not committed.
+fn failed(alloc: Global, fault: Fault<Store>) -> Result<String, CaseError> {
+    match fault {
+        Fault::Device => text(alloc, "failed"),
+        Fault::OutOfMemory(store) => {
+            drop(store);
+            Err(CaseError::OutOfMemory)
+        }
     }
 }

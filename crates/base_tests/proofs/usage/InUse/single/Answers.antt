@@ -16,7 +16,7 @@ returns c =
     let of_size : IsAddition c.args.self.now.shape (size_of (entries_of store)) c.args.change =
     subst (λ (n : ℕ). IsAddition c.args.self.now.shape n c.args.change) c.size.ensures fits in
     let of_shape : IsAddition (store_shape store) (size_of (entries_of store)) c.args.change =
-    subst (λ (s : Shape). IsAddition s (size_of (entries_of store)) c.args.change) (sym c.requires.1) of_size in
+    subst (λ (s : Shape). IsAddition s (size_of (entries_of store)) c.args.change) (sym c.requires) of_size in
     let few : length (entries_of store) < 1024 = let same = ap length c.entries.ensures in omega (arith, same) in
     let not_worn : (view_in store).generation < greatest_generation =
     omega (arith, c.generation.ensures, c.if-generation.false) in

@@ -4,7 +4,7 @@ use Rattle.disk_model.specs.History.{image_of}
 use Rattle.block_files.specs.Areas.{AllFull}
 use Rattle.block_files.specs.BlockSets.{AreDistinct}
 use Rattle.block_files.specs.lemmas.PartLemmas.{changed_to-le}
-use Rattle.base_tests.proofs.contents.put_beside.Goals as goal
+use Rattle.base_tests.proofs.contents.put_beside_on.Goals as goal
 
 pub put_shared-requires-clause-whole : goal.put_shared-requires-clause-whole
 put_shared-requires-clause-whole c = λ tells.
