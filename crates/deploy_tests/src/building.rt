@@ -5,11 +5,10 @@ ghost use Rattle.disk_model.specs.Memory.{mem_medium};
 ghost use Rattle.deploy.specs.Building.{StagedAt};
 ghost use Rattle.deploy.specs.Roots.{RootAt};
 
-use crate::calls::UPDATED;
+use crate::calls::{UPDATED, put_outcome};
 use crate::courses::add;
-use crate::faults::Fault;
+use crate::faults::{Fault, kept};
 use crate::manifests::manifest;
-use crate::refusals::refusal_text;
 use case_words::{cut, small};
 use deploy::{Begin, Root, Staged, begin_update, open_root};
 use disk_model::MemDisk;
@@ -32,13 +31,16 @@ pub fn built(
 {
     let (name, rest) = cut(rest, '/');
     let (steps, end) = cut(rest, '/');
-    let steps = small(steps)?;
+    let Ok(steps) = small(steps) else {
+        drop(root);
+        return Err(Fault::CaseError);
+    };
     let text = manifest(name).as_bytes();
     match begin_update(alloc, disk, app, root, None, text, migrations, UPDATED)? {
         Begin::Refused(root, refused) => {
-            let answer = refusal_text(alloc, &refused)?;
-            add(said, answer.as_str())?;
-            Ok(root)
+            let told = put_outcome(alloc, Some(&refused), said);
+            drop(refused);
+            kept(root, told)
         }
         Begin::Ready(staged) => {
             let staged = stepped(alloc, disk, app, staged, steps, said)?;
@@ -59,18 +61,26 @@ fn stepped(
     requires { StagedAt true (mem_medium disk.old).image app staged }
     ensures { IfOk result (StagedAt true (mem_medium disk.new).image app) }
 {
-    let mut staged = staged;
-    let offered = staged.offered();
-    let remaining = staged.remaining();
-    let answer = format!(in alloc; "offers {offered}, {remaining} remain")?;
-    add(said, answer.as_str())?;
+    let told = put_offer(alloc, said, staged.offered(), staged.remaining());
+    let mut staged = kept(staged, told)?;
     for _ in 0..steps {
-        staged = staged.next_storage(disk)?;
-        let remaining = staged.remaining();
-        let answer = format!(in alloc; "{remaining} remain")?;
-        add(said, answer.as_str())?;
+        let next = staged.next_storage(disk)?;
+        let told = put_remaining(alloc, said, next.remaining());
+        staged = kept(next, told)?;
     }
     Ok(staged)
+}
+
+fn put_offer(alloc: Global, said: &mut String, offered: u32, remaining: u32) -> Result<(), Fault> {
+    let answer = format!(in alloc; "offers {offered}, {remaining} remain")?;
+    add(said, answer.as_str())?;
+    Ok(())
+}
+
+fn put_remaining(alloc: Global, said: &mut String, remaining: u32) -> Result<(), Fault> {
+    let answer = format!(in alloc; "{remaining} remain")?;
+    add(said, answer.as_str())?;
+    Ok(())
 }
 
 // The root at the end of an update.
@@ -88,9 +98,14 @@ fn ended(
     let root = match end {
         "commit" => staged.commit_update(disk)?,
         "abort" => staged.abort(),
-        "forget" => open_root(alloc, disk, app)?,
-        _ => return Err(Fault::CaseError),
+        "forget" => {
+            drop(staged);
+            open_root(alloc, disk, app)?
+        }
+        _ => {
+            drop(staged);
+            return Err(Fault::CaseError);
+        }
     };
-    add(said, "ok")?;
-    Ok(root)
+    Ok(kept(root, add(said, "ok"))?)
 }

@@ -1,12 +1,12 @@
 //! Calls on a root.
 
-ghost use Rattle.std.specs.Prelude.{◌<◌, IfOk, true};
+ghost use Rattle.std.specs.Prelude.{◌≡◌, ◌<◌, IfOk, true};
 ghost use Rattle.disk_model.specs.Memory.{mem_medium};
-ghost use Rattle.deploy.specs.Roots.{RootAt};
+ghost use Rattle.deploy.specs.Roots.{IsRootOf, RootAt};
 
 use crate::building::built;
 use crate::courses::add;
-use crate::faults::Fault;
+use crate::faults::{Fault, kept};
 use crate::manifests::manifest;
 use crate::refusals::outcome_text;
 use crate::roots::looked;
@@ -58,18 +58,44 @@ fn called(
     let (verb, rest) = cut(call, '=');
     match verb {
         "look" => {
-            let answer = looked(alloc, disk, app, &root)?;
-            add(said, answer.as_str())?;
-            Ok(root)
+            let told = put_look(alloc, disk, app, &root, said);
+            kept(root, told)
         }
         "build" => built(alloc, disk, app, root, migrations, rest, said),
         _ => {
-            let outcome = made(alloc, disk, app, root, migrations, verb, rest)?;
-            let answer = outcome_text(alloc, outcome.refused.as_ref())?;
-            add(said, answer.as_str())?;
-            Ok(outcome.root)
+            let Outcome { root, refused } = made(alloc, disk, app, root, migrations, verb, rest)?;
+            let told = put_outcome(alloc, refused.as_ref(), said);
+            drop(refused);
+            kept(root, told)
         }
     }
+}
+
+fn put_look(
+    alloc: Global,
+    disk: &mut MemDisk,
+    app: u32,
+    root: &Root,
+    said: &mut String,
+) -> Result<(), Fault>
+    requires app { app < 8 }
+    requires root { IsRootOf app root.now }
+    ensures { (mem_medium disk.new).image ≡ (mem_medium disk.old).image }
+{
+    let answer = looked(alloc, disk, app, root)?;
+    add(said, answer.as_str())?;
+    Ok(())
+}
+
+/// Adds `ok`, or the refusal.
+pub fn put_outcome(
+    alloc: Global,
+    refused: Option<&PerError>,
+    said: &mut String,
+) -> Result<(), Fault> {
+    let answer = outcome_text(alloc, refused)?;
+    add(said, answer.as_str())?;
+    Ok(())
 }
 
 // A call with an outcome.
@@ -132,8 +158,13 @@ fn rolled_back(
     requires root { RootAt true (mem_medium disk.old).image app root }
     ensures root { IfOk result (λ o. RootAt true (mem_medium disk.new).image app o.root) }
 {
-    let busy = busy_of(alloc, rest)?;
-    Ok(rollback(alloc, disk, root, busy.as_ref())?)
+    match busy_of(alloc, rest) {
+        Ok(busy) => Ok(rollback(alloc, disk, root, busy.as_ref())?),
+        Err(trouble) => {
+            drop(root);
+            Err(trouble.into())
+        }
+    }
 }
 
 // `BUSY`.
@@ -148,8 +179,13 @@ fn wiped(
     requires root { RootAt true (mem_medium disk.old).image app root }
     ensures root { IfOk result (λ o. RootAt true (mem_medium disk.new).image app o.root) }
 {
-    let busy = busy_of(alloc, rest)?;
-    Ok(wipe(alloc, disk, app, root, busy.as_ref())?)
+    match busy_of(alloc, rest) {
+        Ok(busy) => Ok(wipe(alloc, disk, app, root, busy.as_ref())?),
+        Err(trouble) => {
+            drop(root);
+            Err(trouble.into())
+        }
+    }
 }
 
 // `MANIFEST/BUSY`: an update in one call.
@@ -166,18 +202,17 @@ fn updated(
     ensures root { IfOk result (λ o. RootAt true (mem_medium disk.new).image app o.root) }
 {
     let (name, busy) = cut(rest, '/');
-    let busy = busy_of(alloc, busy)?;
     let text = manifest(name).as_bytes();
-    Ok(update(
-        alloc,
-        disk,
-        app,
-        root,
-        busy.as_ref(),
-        text,
-        migrations,
-        UPDATED,
-    )?)
+    match busy_of(alloc, busy) {
+        Ok(busy) => {
+            let busy = busy.as_ref();
+            Ok(update(alloc, disk, app, root, busy, text, migrations, UPDATED)?)
+        }
+        Err(trouble) => {
+            drop(root);
+            Err(trouble.into())
+        }
+    }
 }
 
 // The open storage, where one is named.
@@ -192,7 +227,15 @@ fn busy_of(alloc: Global, word: &str) -> Result<Option<Name>, CaseError> {
 pub fn name_of(alloc: Global, word: &str) -> Result<Name, CaseError> {
     match Name::new(alloc, word) {
         Ok(name) => Ok(name),
-        Err(PerError::BadName) => Err(CaseError::NoCase),
-        Err(_) => Err(CaseError::OutOfMemory),
+        Err(error) => Err(trouble_of(error)),
     }
+}
+
+fn trouble_of(error: PerError) -> CaseError {
+    let trouble = match &error {
+        PerError::BadName => CaseError::NoCase,
+        _ => CaseError::OutOfMemory,
+    };
+    drop(error);
+    trouble
 }

@@ -46,27 +46,19 @@ pub fn with_converters(
 ) -> Result<(), Fault>
     requires { app < 8 }
 {
-    let mut list = Vec::new(alloc);
-    add(
-        &mut list,
-        ValueType::U8,
-        ValueType::U16,
-        Box::new(alloc, u8_to_u16)?,
-    )?;
-    add(
-        &mut list,
-        ValueType::U16,
-        ValueType::U32,
-        Box::new(alloc, u16_to_u32)?,
-    )?;
-    add(
-        &mut list,
-        ValueType::U32,
-        ValueType::U64,
-        Box::new(alloc, u32_to_u64)?,
-    )?;
-    let migrations = Migrations::new(list);
+    let migrations = migrations(alloc)?;
     calls(alloc, disk, app, &migrations, words, said)
+}
+
+fn migrations(alloc: Global) -> Result<Migrations, AllocError> {
+    let mut list = Vec::new(alloc);
+    let to_u16 = Box::new(alloc, u8_to_u16)?;
+    add(&mut list, ValueType::U8, ValueType::U16, to_u16)?;
+    let to_u32 = Box::new(alloc, u16_to_u32)?;
+    add(&mut list, ValueType::U16, ValueType::U32, to_u32)?;
+    let to_u64 = Box::new(alloc, u32_to_u64)?;
+    add(&mut list, ValueType::U32, ValueType::U64, to_u64)?;
+    Ok(Migrations::new(list))
 }
 
 // Adds a converter.

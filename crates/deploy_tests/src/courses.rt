@@ -11,43 +11,39 @@ use case_words::{CaseError, cut, number, numbers, small};
 use deploy::format_all;
 use disk_model::MemDisk;
 use std::alloc::Global;
+use std::mem;
 
 /// `course WORD ..`: what each word answers, from a disk of empty files on.
 pub fn course(alloc: Global, words: &str) -> Result<String, CaseError> {
-    let (_disk, said) = run(alloc, MemDisk::new(alloc), words)?;
+    let mut disk = MemDisk::new(alloc);
+    let said = run(alloc, &mut disk, words);
+    drop(disk);
+    said
+}
+
+/// What each word answers.
+pub fn run(alloc: Global, disk: &mut MemDisk, words: &str) -> Result<String, CaseError> {
+    let mut said = String::new(alloc);
+    for word in words.split_whitespace() {
+        step(alloc, disk, word, &mut said)?;
+    }
     Ok(said)
 }
 
-/// What the words leave of a disk, and what each answers.
-pub fn run(alloc: Global, disk: MemDisk, words: &str) -> Result<(MemDisk, String), CaseError> {
-    let mut disk = disk;
-    let mut said = String::new(alloc);
-    for word in words.split_whitespace() {
-        disk = step(alloc, disk, word, &mut said)?;
-    }
-    Ok((disk, said))
-}
-
-/// What one word leaves of a disk; its answers are added. Where the disk fails, the last is `failed`.
+/// One word; its answers are added. Where the disk fails, the last is `failed`.
 pub fn step(
     alloc: Global,
-    disk: MemDisk,
+    disk: &mut MemDisk,
     word: &str,
     said: &mut String,
-) -> Result<MemDisk, CaseError> {
+) -> Result<(), CaseError> {
     let (verb, rest) = cut(word, ':');
-    if verb == "restart" {
-        add(said, "ok")?;
-        return restarted(disk, rest);
+    match told(alloc, disk, verb, rest, said) {
+        Ok(()) => Ok(()),
+        Err(Fault::Device) => add(said, "failed"),
+        Err(Fault::CaseError) => Err(CaseError::NoCase),
+        Err(Fault::OutOfMemory) => Err(CaseError::OutOfMemory),
     }
-    let mut disk = disk;
-    match told(alloc, &mut disk, verb, rest, said) {
-        Ok(()) => {}
-        Err(Fault::Device) => add(said, "failed")?,
-        Err(Fault::CaseError) => return Err(CaseError::NoCase),
-        Err(Fault::OutOfMemory) => return Err(CaseError::OutOfMemory),
-    }
-    Ok(disk)
 }
 
 /// Adds an answer after others.
@@ -59,8 +55,14 @@ pub fn add(said: &mut String, answer: &str) -> Result<(), CaseError> {
     Ok(())
 }
 
-/// After a power loss that keeps all writes since the last sync, none, or those of the pattern.
-pub fn restarted(disk: MemDisk, way: &str) -> Result<MemDisk, CaseError> {
+/// Restarts the disk after a power loss that keeps all writes since the last sync, none, or those of the pattern.
+pub fn restart(alloc: Global, disk: &mut MemDisk, way: &str) -> Result<(), CaseError> {
+    let stopped = mem::replace(disk, MemDisk::new(alloc));
+    drop(mem::replace(disk, restarted(stopped, way)?));
+    Ok(())
+}
+
+fn restarted(disk: MemDisk, way: &str) -> Result<MemDisk, CaseError> {
     let disk = match way {
         "all" => disk.crash(true)?,
         "none" => disk.crash(false)?,
@@ -85,6 +87,7 @@ fn told(
         "wear" => wear(alloc, disk, rest)?,
         "fail" => disk.fail_calls(numbers(alloc, rest)?),
         "stop" => disk.stop_after(number(rest)?),
+        "restart" => restart(alloc, disk, rest)?,
         "view" => return viewed(alloc, disk, app_of(rest)?, said),
         "open" | "set" | "recover" | "reset" => {
             let (app, rest) = cut(rest, ':');

@@ -1,5 +1,7 @@
 //! Why a word did not come to its end.
 
+ghost use Rattle.std.specs.Prelude.{◌≡◌, IfOk};
+
 use case_words::CaseError;
 use deploy::Stop;
 use disk_model::DiskFailed;
@@ -8,7 +10,7 @@ use guarded_cell::CellError;
 use std::alloc::{AllocError, AllocFailed};
 
 /// Why a word did not come to its end.
-#[derive(Clone, Copy, Debug, PartialEq, Eq)]
+#[derive(Clone, Copy)]
 pub enum Fault {
     /// The disk failed.
     Device,
@@ -71,5 +73,15 @@ impl From<AllocError> for Fault {
 impl<T: Drop> From<AllocFailed<T>> for Fault {
     fn from(_failed: AllocFailed<T>) -> Fault {
         Fault::OutOfMemory
+    }
+}
+
+/// The value where it was done; else the value is let go.
+pub fn kept<T: Drop, E: Drop>(value: T, done: Result<(), E>) -> Result<T, E>
+    ensures { IfOk result (λ kept. kept ≡ value) }
+{
+    match done {
+        Ok(()) => Ok(value),
+        Err(error) => Err(error),
     }
 }

@@ -64,8 +64,9 @@ pub fn viewed(alloc: Global, disk: &mut MemDisk, app: u32, said: &mut String) ->
     requires { app < 8 }
 {
     let view = view_root(alloc, disk, app)?;
-    let answer = view_text(alloc, &view)?;
-    add(said, answer.as_str())?;
+    let answer = view_text(alloc, &view);
+    drop(view);
+    add(said, answer?.as_str())?;
     Ok(())
 }
 

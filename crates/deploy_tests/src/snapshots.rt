@@ -1,7 +1,8 @@
 //! The bytes of a disk, kept to begin from once more.
 
+use crate::faults::kept;
 use case_words::CaseError;
-use disk_model::{Disk, MemDisk};
+use disk_model::{Disk, DiskFailed, MemDisk};
 use std::alloc::Global;
 
 /// The files of applications 0 and 1.
@@ -33,10 +34,14 @@ impl Snapshot {
     /// A quiet disk with these files.
     pub fn disk(&self, alloc: Global) -> Result<MemDisk, CaseError> {
         let mut disk = MemDisk::new(alloc);
+        let filled = self.fill(&mut disk);
+        Ok(kept(disk, filled)?.crash(true)?)
+    }
+
+    fn fill(&self, disk: &mut MemDisk) -> Result<(), DiskFailed> {
         for (file, bytes) in &self.files {
             disk.write_at(*file, 0, bytes)?;
         }
-        disk.sync()?;
-        Ok(disk.crash(true)?)
+        disk.sync()
     }
 }

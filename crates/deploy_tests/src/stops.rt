@@ -1,6 +1,6 @@
 //! A word that is stopped after each write to the disk.
 
-use crate::courses::{restarted, run, step};
+use crate::courses::{restart, run, step};
 use crate::snapshots::Snapshot;
 use case_words::{CaseError, text};
 use disk_model::MemDisk;
@@ -46,22 +46,45 @@ pub fn damaged(alloc: Global, rest: &str) -> Result<String, CaseError> {
 fn follow_all(alloc: Global, rest: &str, damages: &[&str]) -> Result<String, CaseError> {
     let (earlier, rest) = cut_part(rest);
     let course = course_of(rest);
-    let (mut disk, _said) = run(alloc, MemDisk::new(alloc), earlier)?;
-    let start = Snapshot::taken(alloc, &mut disk)?;
+    let start = start_of(alloc, earlier)?;
     let moments = moments(alloc, &start, course.word)?;
-    for way in RESTARTS {
-        if let Some(fault) = follow(alloc, &start, course, &moments, "", way)? {
+    if let Some(fault) = follow_damaged(alloc, &start, course, &moments, "")? {
+        return Ok(fault);
+    }
+    for damage in damages {
+        if let Some(fault) = follow_damaged(alloc, &start, course, &moments, damage)? {
             return Ok(fault);
         }
     }
-    for damage in damages {
-        for way in RESTARTS {
-            if let Some(fault) = follow(alloc, &start, course, &moments, damage, way)? {
-                return Ok(fault);
-            }
+    text(alloc, "kept")
+}
+
+// What the words leave, from a disk of empty files on.
+fn start_of(alloc: Global, words: &str) -> Result<Snapshot, CaseError> {
+    let mut disk = MemDisk::new(alloc);
+    let start = start_on(alloc, &mut disk, words);
+    drop(disk);
+    start
+}
+
+fn start_on(alloc: Global, disk: &mut MemDisk, words: &str) -> Result<Snapshot, CaseError> {
+    drop(run(alloc, disk, words)?);
+    Snapshot::taken(alloc, disk)
+}
+
+fn follow_damaged(
+    alloc: Global,
+    start: &Snapshot,
+    course: Course<'_>,
+    moments: &[u64],
+    damage: &str,
+) -> Result<Option<String>, CaseError> {
+    for way in RESTARTS {
+        if let Some(fault) = follow(alloc, start, course, moments, damage, way)? {
+            return Ok(Some(fault));
         }
     }
-    text(alloc, "kept")
+    Ok(None)
 }
 
 fn course_of(rest: &str) -> Course<'_> {
@@ -91,16 +114,30 @@ fn moments(alloc: Global, start: &Snapshot, word: &str) -> Result<Vec<u64>, Case
     let mut moments = Vec::new(alloc);
     let mut written = 0;
     for passing in 0..ENOUGH {
-        let (disk, done) = stopped_at(alloc, start, word, passing)?;
-        if done || passing == 0 || disk.written() > written {
+        let (now, done) = written_at(alloc, start, word, passing)?;
+        if done || passing == 0 || now > written {
             moments.push(passing)?;
         }
         if done {
             return Ok(moments);
         }
-        written = disk.written();
+        written = now;
     }
     Err(CaseError::NoCase)
+}
+
+// How many bytes the word writes in that many calls, and whether it succeeds.
+fn written_at(
+    alloc: Global,
+    start: &Snapshot,
+    word: &str,
+    passing: u64,
+) -> Result<(u64, bool), CaseError> {
+    let mut disk = start.disk(alloc)?;
+    let done = is_done(alloc, &mut disk, word, passing);
+    let written = disk.written();
+    drop(disk);
+    Ok((written, done?))
 }
 
 // Stops the word at each of these moments. Where a restart keeps all writes or none, the answer is that of after from
@@ -116,9 +153,7 @@ fn follow(
     let is_whole = way == "all" || way == "none";
     let mut is_over = false;
     for passing in moments {
-        let (disk, done) = stopped_at(alloc, start, course.word, *passing)?;
-        let (disk, _said) = run(alloc, restarted(disk, way)?, damage)?;
-        let (_disk, now) = run(alloc, disk, course.look)?;
+        let (now, done) = found_at(alloc, start, course, *passing, damage, way)?;
         if !is_allowed(course, done || is_over, now.as_str()) {
             let fault = format!(in alloc; "{damage} restart {way} after {passing} calls: {now}")?;
             return Ok(Some(fault));
@@ -128,18 +163,41 @@ fn follow(
     Ok(None)
 }
 
-// The disk on which the word is stopped after that many calls, and whether it succeeded.
-fn stopped_at(
+// What the words that look answer after a stop, and whether the word succeeded.
+fn found_at(
     alloc: Global,
     start: &Snapshot,
-    word: &str,
+    course: Course<'_>,
     passing: u64,
-) -> Result<(MemDisk, bool), CaseError> {
+    damage: &str,
+    way: &str,
+) -> Result<(String, bool), CaseError> {
     let mut disk = start.disk(alloc)?;
+    let found = found_on(alloc, &mut disk, course, passing, damage, way);
+    drop(disk);
+    found
+}
+
+fn found_on(
+    alloc: Global,
+    disk: &mut MemDisk,
+    course: Course<'_>,
+    passing: u64,
+    damage: &str,
+    way: &str,
+) -> Result<(String, bool), CaseError> {
+    let done = is_done(alloc, disk, course.word, passing)?;
+    restart(alloc, disk, way)?;
+    drop(run(alloc, disk, damage)?);
+    Ok((run(alloc, disk, course.look)?, done))
+}
+
+// Whether the word succeeds, stopped after that many calls.
+fn is_done(alloc: Global, disk: &mut MemDisk, word: &str, passing: u64) -> Result<bool, CaseError> {
     disk.stop_after(passing);
     let mut said = String::new(alloc);
-    let disk = step(alloc, disk, word, &mut said)?;
-    Ok((disk, !said.as_str().ends_with("failed")))
+    step(alloc, disk, word, &mut said)?;
+    Ok(!said.as_str().ends_with("failed"))
 }
 
 fn is_allowed(course: Course<'_>, is_over: bool, now: &str) -> bool {

@@ -1,23 +1,26 @@
 //! Words on a storage of the active version.
 
-ghost use Rattle.std.specs.Prelude.{◌≡◌, ◌<◌, OnOk};
+ghost use Rattle.std.specs.Prelude.{◌≡◌, ◌<◌, OnOk, true};
+ghost use Rattle.deploy.specs.Roots.{IsRootOf};
 ghost use Rattle.deployment_model.specs.Conditions.{IsStorage};
 ghost use Rattle.deployment_model.specs.Data.{storage_data};
 ghost use Rattle.element_maps.specs.Storages.{IsConfigured};
+ghost use Rattle.disk_model.specs.Memory.{mem_medium};
 ghost use Rattle.element_state.specs.Conditions.{IsShape};
+ghost use Rattle.element_store.specs.Stores.{IsUsed};
 ghost use Rattle.per_base.specs.declared.elements.StoreKind.TheVariants.{Keys};
 
 use crate::calls::name_of;
 use crate::courses::add;
-use crate::faults::Fault;
-use crate::refusals::{outcome_text, refusal_text};
+use crate::faults::{Fault, kept};
+use crate::refusals::outcome_text;
 use case_words::{cut, text};
-use deploy::{Root, open_root, recover_storage, reset_storage, shape_of};
+use deploy::{Installed, Root, open_root, recover_storage, reset_storage, shape_of};
 use deployment_model::StorageConfig;
 use disk_model::MemDisk;
 use element_store::{Shape, StoreError, open_store};
-use kvs_store::{Kvs, SyncFault, open_kvs};
-use per_base::StoreKind;
+use kvs_store::{Kvs, OpenedKvs, SyncFault, open_kvs};
+use per_base::{PerError, StoreKind};
 use std::alloc::Global;
 use value_text::parse_value;
 
@@ -35,10 +38,29 @@ pub fn stored(
 ) -> Result<(), Fault>
     requires { app < 8 }
 {
+    match open_root(alloc, disk, app)? {
+        Root::Installed(root) => {
+            let told = stored_in(alloc, disk, app, &root, verb, rest, said);
+            drop(root);
+            told
+        }
+        Root::Absent(_) | Root::Bad => Err(Fault::CaseError),
+    }
+}
+
+fn stored_in(
+    alloc: Global,
+    disk: &mut MemDisk,
+    app: u32,
+    root: &Installed,
+    verb: &str,
+    rest: &str,
+    said: &mut String,
+) -> Result<(), Fault>
+    requires app { app < 8 }
+    requires root { IsRootOf app (Root.Installed root.now) }
+{
     let (name, rest) = cut(rest, ':');
-    let Root::Installed(root) = open_root(alloc, disk, app)? else {
-        return Err(Fault::CaseError);
-    };
     let mut number = 0;
     for config in root.active.deployment.storages.as_slice() {
         if config.name.as_str() == name {
@@ -67,16 +89,22 @@ fn worded(
     match verb {
         "open" => opened(alloc, disk, shape),
         "set" if config.kind == StoreKind::Keys => set(alloc, disk, shape, config, rest),
-        "recover" => {
-            let refused = recover_storage(alloc, disk, &shape, config, RECOVERED)?;
-            Ok(outcome_text(alloc, refused.as_ref())?)
-        }
-        "reset" => {
-            let refused = reset_storage(alloc, disk, &shape, config, RECOVERED)?;
-            Ok(outcome_text(alloc, refused.as_ref())?)
-        }
+        "recover" => told(
+            alloc,
+            recover_storage(alloc, disk, &shape, config, RECOVERED)?,
+        ),
+        "reset" => told(
+            alloc,
+            reset_storage(alloc, disk, &shape, config, RECOVERED)?,
+        ),
         _ => Err(Fault::CaseError),
     }
+}
+
+fn told(alloc: Global, refused: Option<PerError>) -> Result<String, Fault> {
+    let told = outcome_text(alloc, refused.as_ref());
+    drop(refused);
+    Ok(told?)
 }
 
 // `open`: brings every copy to what the storage opens at.
@@ -84,7 +112,10 @@ fn opened(alloc: Global, disk: &mut MemDisk, shape: Shape) -> Result<String, Fau
     requires { IsShape shape }
 {
     match open_store(alloc, disk, shape) {
-        Ok(_opened) => Ok(text(alloc, "ok")?),
+        Ok(opened) => {
+            drop(opened);
+            Ok(text(alloc, "ok")?)
+        }
         Err(StoreError::Corrupt) => Ok(text(alloc, "corrupt")?),
         Err(error) => Err(error.into()),
     }
@@ -101,16 +132,42 @@ fn set(
     requires config { IsStorage (storage_data config.now) }
     requires configured { IsConfigured Keys (storage_data config.now) shape }
 {
-    let mut kvs = open_kvs(alloc, disk, shape, config)?.kvs;
+    let OpenedKvs { kvs, reports } = open_kvs(alloc, disk, shape, config)?;
+    drop(reports);
+    let mut kvs = kvs;
+    let all = set_all(alloc, &mut kvs, pairs);
+    synced(alloc, disk, kept(kvs, all)?)
+}
+
+fn set_all(alloc: Global, kvs: &mut Kvs, pairs: &str) -> Result<(), Fault>
+    ensures { OnOk result (kvs.new.store ≡ kvs.old.store) }
+{
     for pair in pairs.split('+') {
-        set_one(alloc, &mut kvs, pair)?;
+        set_one(alloc, kvs, pair)?;
     }
+    Ok(())
+}
+
+fn synced(alloc: Global, disk: &mut MemDisk, kvs: Kvs) -> Result<String, Fault>
+    requires { IsUsed true (mem_medium disk.old).image kvs.store }
+{
     match kvs.sync_to_storage(disk) {
-        Ok(_kvs) => Ok(text(alloc, "ok")?),
-        Err(SyncFault::Device) => Err(Fault::Device),
-        Err(SyncFault::WornOut(_)) => Err(Fault::CaseError),
-        Err(SyncFault::OutOfMemory(_)) => Err(Fault::OutOfMemory),
+        Ok(kvs) => {
+            drop(kvs);
+            Ok(text(alloc, "ok")?)
+        }
+        Err(fault) => Err(fault_of(fault)),
     }
+}
+
+fn fault_of(fault: SyncFault) -> Fault {
+    let cause = match &fault {
+        SyncFault::Device => Fault::Device,
+        SyncFault::WornOut(_) => Fault::CaseError,
+        SyncFault::OutOfMemory(_) => Fault::OutOfMemory,
+    };
+    drop(fault);
+    cause
 }
 
 fn set_one(alloc: Global, kvs: &mut Kvs, pair: &str) -> Result<(), Fault>
@@ -123,6 +180,9 @@ fn set_one(alloc: Global, kvs: &mut Kvs, pair: &str) -> Result<(), Fault>
     };
     match kvs.set_any(&key, value) {
         Ok(()) => Ok(()),
-        Err(_) => Err(Fault::CaseError),
+        Err(refused) => {
+            drop(refused);
+            Err(Fault::CaseError)
+        }
     }
 }

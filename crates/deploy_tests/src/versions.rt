@@ -61,8 +61,9 @@ fn put_storage(
     let name = config.name.as_str();
     match inspect(alloc, disk, &shape) {
         Ok(view) => {
-            write!(said, " {name}")?;
-            put_view(alloc, said, config.kind, &view)
+            let told = put_view(alloc, said, config, &view);
+            drop(view);
+            told
         }
         Err(StoreError::Corrupt) => {
             write!(said, " {name} corrupt")?;
@@ -72,15 +73,21 @@ fn put_storage(
     }
 }
 
-fn put_view(alloc: Global, said: &mut String, kind: StoreKind, view: &View) -> Result<(), Fault> {
+fn put_view(
+    alloc: Global,
+    said: &mut String,
+    config: &StorageConfig,
+    view: &View,
+) -> Result<(), Fault> {
+    let name = config.name.as_str();
     let generation = view.generation;
-    write!(said, "@{generation}")?;
+    write!(said, " {name}@{generation}")?;
     put_lacking(alloc, said, &view.lacking)?;
     said.push('(')?;
     let mut mark = "";
     for entry in view.entries.as_slice() {
         said.push_str(mark)?;
-        put_entry(alloc, said, kind, entry)?;
+        put_entry(alloc, said, config.kind, entry)?;
         mark = " ";
     }
     said.push(')')?;
@@ -120,7 +127,11 @@ fn content_text(alloc: Global, kind: StoreKind, content: &Content) -> Result<Str
 // The value of a key, or its bytes where they encode none.
 fn key_text(alloc: Global, bytes: &[u8]) -> Result<String, Fault> {
     match decode(alloc, bytes) {
-        Ok(value) => Ok(print_value(alloc, &value)?),
+        Ok(value) => {
+            let said = print_value(alloc, &value);
+            drop(value);
+            Ok(said?)
+        }
         Err(DecodeError::NotAValue) => Ok(bytes_text(alloc, bytes)?),
         Err(DecodeError::OutOfMemory) => Err(Fault::OutOfMemory),
     }
