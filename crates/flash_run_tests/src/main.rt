@@ -48,14 +48,25 @@ impl<'a, R: Input + Print> WithConverters for Printing<'a, R> {
     fn with_converters(self, migrations: &Migrations) -> anyhow::Result<()> {
         let Printing { rt, alloc } = self;
         let mut session = Session::new(alloc);
-        for row in BufReader::new(alloc, rt.reader())?.lines(alloc) {
-            let row = row?;
-            let told = session.take(migrations, row.as_str())?;
-            println!(rt; "{row}")?;
-            rt.print(told)?;
-        }
-        Ok(())
+        let printed = print_rows(rt, alloc, &mut session, migrations);
+        drop(session);
+        printed
     }
+}
+
+fn print_rows(
+    rt: &(impl Input + Print),
+    alloc: Global,
+    session: &mut Session,
+    migrations: &Migrations,
+) -> anyhow::Result<()> {
+    for row in BufReader::new(alloc, rt.reader())?.lines(alloc) {
+        let row = row?;
+        let told = session.take(migrations, row.as_str())?;
+        println!(rt; "{row}")?;
+        rt.print(told)?;
+    }
+    Ok(())
 }
 
 fn main(rt: HostRuntime) -> anyhow::Result<()> {

@@ -44,8 +44,9 @@ impl Script {
     /// One line more.
     pub(crate) fn add_line(&mut self, line: &str) -> Result<(), AllocError> {
         self.front.push_str(self.last.as_str())?;
-        self.last = format!(in self.alloc; "{line}\n")?;
-        Ok(())
+        self.last.clear();
+        self.last.push_str(line)?;
+        self.last.push('\n')
     }
 
     /// Lines that set a key to 1, 2 and so on, and synchronise it each time.
@@ -60,8 +61,8 @@ impl Script {
     /// The lines so far, that many times.
     pub(crate) fn repeat(&mut self, count: u32) -> Result<(), AllocError> {
         let once = self.input()?;
-        self.front = String::new(self.alloc);
-        self.last = String::new(self.alloc);
+        self.front.clear();
+        self.last.clear();
         for _ in 0..count {
             self.front.push_str(once.as_str())?;
         }
@@ -82,8 +83,8 @@ impl Script {
             input: input.clone()?,
         };
         self.past.push(past)?;
-        self.front = String::new(self.alloc);
-        self.last = String::new(self.alloc);
+        self.front.clear();
+        self.last.clear();
         Ok(input)
     }
 
@@ -106,9 +107,9 @@ impl Script {
                 found = now;
             }
         }
-        self.front = String::new(self.alloc);
-        self.last = String::new(self.alloc);
-        self.look = String::new(self.alloc);
+        self.front.clear();
+        self.last.clear();
+        self.look.clear();
         Ok(shown)
     }
 
@@ -119,7 +120,10 @@ impl Script {
         words: &str,
     ) -> Result<String, AllocError> {
         let lines = self.input()?;
-        self.sweep(migrations, words, lines.as_str())?.outages()
+        let sweep = self.sweep(migrations, words, lines.as_str())?;
+        let shown = sweep.outages();
+        drop(sweep);
+        shown
     }
 
     /// What comes of the lines with each call failing alone.
@@ -129,17 +133,28 @@ impl Script {
         words: &str,
     ) -> Result<String, AllocError> {
         let lines = self.input()?;
-        self.sweep(migrations, words, lines.as_str())?.failures()
+        let sweep = self.sweep(migrations, words, lines.as_str())?;
+        let shown = sweep.failures();
+        drop(sweep);
+        shown
     }
 
     /// What the lines cost.
     pub(crate) fn cost(&self, migrations: &Migrations, words: &str) -> Result<String, AllocError> {
-        let start = self.replayed(migrations, Device::new(self.alloc, self.blocks)?)?;
-        let input = self.input()?;
-        let flash = start.copy(self.alloc, None)?;
-        let (_, flash) = run_over_flash(self.alloc, words, migrations, input.as_str(), flash)?;
-        let (programmed, erased) = flash.cost();
+        let (programmed, erased) = self.costs(migrations, words)?;
         format!(in self.alloc; "= {programmed} pages programmed, {erased} blocks erased\n")
+    }
+
+    fn costs(&self, migrations: &Migrations, words: &str) -> Result<(u64, u64), AllocError> {
+        let input = self.input()?;
+        let start = self.replayed(migrations, Device::new(self.alloc, self.blocks)?)?;
+        let flash = start.copy(self.alloc, None);
+        drop(start);
+        let (ran, flash) = run_over_flash(self.alloc, words, migrations, input.as_str(), flash?)?;
+        drop(ran);
+        let costs = flash.cost();
+        drop(flash);
+        Ok(costs)
     }
 
     /// What a look finds where pages of the flash are lost.
@@ -157,7 +172,9 @@ impl Script {
             flash: self.replayed(migrations, Device::new(self.alloc, self.blocks)?)?,
             look: self.look.as_str(),
         };
-        losses.shown(count as usize, step as usize)
+        let shown = losses.shown(count as usize, step as usize);
+        drop(losses);
+        shown
     }
 
     /// Lines on the flash on which all was run that was run so far.
@@ -195,13 +212,14 @@ impl Script {
     ) -> Result<F, AllocError> {
         let mut flash = fresh;
         for past in &self.past {
-            let (_, left) = run_over_flash(
+            let (ran, left) = run_over_flash(
                 self.alloc,
                 past.words.as_str(),
                 migrations,
                 past.input.as_str(),
                 flash,
             )?;
+            drop(ran);
             flash = left;
         }
         Ok(flash)
@@ -226,14 +244,28 @@ impl Script {
         let mut few: u64 = 0;
         for _ in 0..20 {
             let middle = few.saturating_add(enough) / 2;
-            let (_, flash) = self.stopped(migrations, words, input, middle)?;
-            if flash.faults() == 0 {
+            if self.is_enough(migrations, words, input, middle)? {
                 enough = middle;
             } else {
                 few = middle;
             }
         }
         Ok(enough)
+    }
+
+    /// Whether no call fails where that many pass.
+    fn is_enough(
+        &self,
+        migrations: &Migrations,
+        words: &str,
+        input: &str,
+        passing: u64,
+    ) -> Result<bool, AllocError> {
+        let (ran, flash) = self.stopped(migrations, words, input, passing)?;
+        drop(ran);
+        let faults = flash.faults();
+        drop(flash);
+        Ok(faults == 0)
     }
 
     /// What a look finds after a stop.
@@ -244,9 +276,13 @@ impl Script {
         input: &str,
         passing: u64,
     ) -> Result<String, AllocError> {
-        let (_, mut flash) = self.stopped(migrations, words, input, passing)?;
+        let (ran, flash) = self.stopped(migrations, words, input, passing)?;
+        drop(ran);
+        let mut flash = flash;
         flash.restart();
-        let (ran, _) = run_over_flash(self.alloc, words, migrations, self.look.as_str(), flash)?;
+        let look = self.look.as_str();
+        let (ran, flash) = run_over_flash(self.alloc, words, migrations, look, flash)?;
+        drop(flash);
         ran.answers(self.alloc)
     }
 }

@@ -1,7 +1,7 @@
 //! Sessions: a flash and a disk from run to run.
 
 use crate::full::fill;
-use crate::runs::{run_over_disk, run_over_flash};
+use crate::runs::{Ran, run_over_disk, run_over_flash};
 use crate::scripts::Script;
 use disk_model::MemDisk;
 use flash_model::MemFlash;
@@ -53,9 +53,10 @@ impl Session {
 
     /// Begins with a fresh flash and an empty disk.
     fn begin(&mut self, blocks: u32) -> Result<(), AllocError> {
-        self.flash = Some(MemFlash::new(self.alloc, blocks)?);
-        self.disk = MemDisk::new(self.alloc);
-        self.script = Script::new(self.alloc, blocks);
+        drop(self.flash.replace(MemFlash::new(self.alloc, blocks)?));
+        drop(mem::replace(&mut self.disk, MemDisk::new(self.alloc)));
+        let script = Script::new(self.alloc, blocks);
+        drop(mem::replace(&mut self.script, script));
         Ok(())
     }
 
@@ -73,12 +74,8 @@ impl Session {
 
     /// Runs the lines over both.
     fn run(&mut self, migrations: &Migrations, words: &str) -> Result<String, RowError> {
-        let Some(flash) = self.flash.take() else {
-            return Err(RowError::NotARow);
-        };
         let input = self.script.next_input(words)?;
-        let (ran, flash) = run_over_flash(self.alloc, words, migrations, input.as_str(), flash)?;
-        self.flash = Some(flash);
+        let ran = self.run_on_flash(migrations, words, input.as_str())?;
         let other = run_over_disk(
             self.alloc,
             words,
@@ -95,6 +92,20 @@ impl Session {
         Ok(shown)
     }
 
+    fn run_on_flash(
+        &mut self,
+        migrations: &Migrations,
+        words: &str,
+        input: &str,
+    ) -> Result<Ran, RowError> {
+        let Some(flash) = self.flash.take() else {
+            return Err(RowError::NotARow);
+        };
+        let (ran, flash) = run_over_flash(self.alloc, words, migrations, input, flash)?;
+        drop(self.flash.replace(flash));
+        Ok(ran)
+    }
+
     /// Loses pages of the flash.
     fn losses(&self, migrations: &Migrations, rest: &str) -> Result<String, RowError> {
         let (count, rest) = parted(rest);
@@ -108,7 +119,7 @@ impl Session {
     /// Restarts the disk with all that was written.
     fn restart(&mut self) -> Result<(), AllocError> {
         let disk = mem::replace(&mut self.disk, MemDisk::new(self.alloc));
-        self.disk = disk.crash(true)?;
+        drop(mem::replace(&mut self.disk, disk.crash(true)?));
         Ok(())
     }
 }

@@ -31,7 +31,7 @@ impl<'a> Sweep<'a> {
         for (count, state) in states.iter().enumerate() {
             write!(shown, "< {count}: {state}\n")?;
         }
-        let changes = self.whole()?.into_changes();
+        let changes = self.changes()?;
         for leaves in LEFT {
             for call in &changes {
                 if let Some(fault) = self.stopped(&states, *call, leaves)? {
@@ -50,12 +50,12 @@ impl<'a> Sweep<'a> {
     /// the first call for which it is not so.
     pub(crate) fn failures(&self) -> Result<String, AllocError> {
         let states = self.states()?;
-        for call in 0..self.whole()?.calls() {
+        for call in 0..self.calls()? {
             if let Some(fault) = self.failed(&states, call, Leaves::Nothing)? {
                 return Ok(fault);
             }
         }
-        let changes = self.whole()?.into_changes();
+        let changes = self.changes()?;
         for leaves in [Leaves::All, Leaves::EveryOther] {
             for call in &changes {
                 if let Some(fault) = self.failed(&states, *call, leaves)? {
@@ -79,14 +79,29 @@ impl<'a> Sweep<'a> {
     }
 
     fn state(&self, input: &str) -> Result<String, AllocError> {
-        let (_, flash) = self.ran(input, None)?;
+        let (ran, flash) = self.ran(input, None)?;
+        drop(ran);
         self.found(flash)
     }
 
     /// The flash after all lines.
     fn whole(&self) -> Result<Device, AllocError> {
-        let (_, flash) = self.ran(self.lines, None)?;
+        let (ran, flash) = self.ran(self.lines, None)?;
+        drop(ran);
         Ok(flash)
+    }
+
+    /// How many calls all lines make.
+    fn calls(&self) -> Result<u64, AllocError> {
+        let flash = self.whole()?;
+        let calls = flash.calls();
+        drop(flash);
+        Ok(calls)
+    }
+
+    /// The numbers of the calls by which all lines program or erase.
+    fn changes(&self) -> Result<Vec<u64>, AllocError> {
+        Ok(self.whole()?.into_changes())
     }
 
     /// What comes of the words over an input, and the flash.
@@ -98,7 +113,14 @@ impl<'a> Sweep<'a> {
     /// What a look finds on a flash.
     fn found(&self, flash: Device) -> Result<String, AllocError> {
         let flash = flash.restarted();
-        let (ran, _) = run_over_flash(self.alloc, self.words, self.migrations, self.look, flash)?;
+        let (ran, flash) = run_over_flash(
+            self.alloc,
+            self.words,
+            self.migrations,
+            self.look,
+            flash,
+        )?;
+        drop(flash);
         ran.answers(self.alloc)
     }
 
@@ -115,8 +137,9 @@ impl<'a> Sweep<'a> {
             is_last: true,
         };
         let (ran, flash) = self.ran(self.lines, Some(cut))?;
-        let found = self.found(flash)?;
         let count = answered(ran.output.as_str());
+        drop(ran);
+        let found = self.found(flash)?;
         let next = count.saturating_add(1);
         if is_state(states, count, found.as_str()) || is_state(states, next, found.as_str()) {
             return Ok(None);
@@ -143,6 +166,7 @@ impl<'a> Sweep<'a> {
         let input = format!(in self.alloc; "{}{}", self.lines, self.look)?;
         let (ran, flash) = self.ran(input.as_str(), Some(cut))?;
         if ran.status == 3 && ran.output.is_empty() && flash.is_like(&self.start) {
+            drop(flash);
             return Ok(None);
         }
         let found = self.found(flash)?;

@@ -48,19 +48,31 @@ impl Failing {
 }
 
 impl<'a> Sweep<'a> {
+    /// What the row of this word prints.
+    pub(crate) fn told(&self, word: &str) -> Result<String, RowError> {
+        match word {
+            "kills" => self.kills(),
+            "failures" => self.failing(self.counts()?.0, Failing::Call),
+            "syncs" => self.failing(self.counts()?.1, Failing::Sync),
+            _ => self.damages(),
+        }
+    }
+
     /// What a look finds after each number of lines; then `= kept` where it finds, after a kill at each call of the
     /// system, what it does after the lines that were answered or after one more, and does so after a power loss
     /// after each change of the run that looked, whatever is left of what was not synced; and where power is lost
     /// after that run, the same as it did. Else the first call for which it does not.
-    pub(crate) fn kills(&self) -> Result<String, RowError> {
+    fn kills(&self) -> Result<String, RowError> {
         let states = self.states()?;
         let mut shown = self.shown(&states)?;
         let mut last = None;
-        for call in 0..self.whole()?.calls() {
+        for call in 0..self.counts()?.0 {
             let (ran, system) = self.ran(self.lines, Trouble::Kill(call))?;
             let count = answered(ran.output.as_str());
+            drop(ran);
             let place = Some((system.changes(), count));
             if place == last {
+                drop(system);
                 continue;
             }
             last = place;
@@ -73,26 +85,14 @@ impl<'a> Sweep<'a> {
         Ok(shown)
     }
 
-    /// What a look finds after each number of lines; then `= kept` where, after each call that fails alone and a power
-    /// loss after the run, it finds what it does after the last line that was handled and changes that, or after a
-    /// later one. Else the first call for which it does not.
-    pub(crate) fn failures(&self) -> Result<String, RowError> {
-        self.failing(self.whole()?.calls(), Failing::Call)
-    }
-
-    /// The same with each sync failing alone.
-    pub(crate) fn syncs(&self) -> Result<String, RowError> {
-        self.failing(self.whole()?.syncs(), Failing::Sync)
-    }
-
+    /// What a look finds after each number of lines; then `= kept` where, after each call or sync that fails alone and
+    /// a power loss after the run, it finds what it does after the last line that was handled and changes that, or
+    /// after a later one. Else the first call for which it does not.
     fn failing(&self, count: u64, failing: Failing) -> Result<String, RowError> {
         let states = self.states()?;
         let mut shown = self.shown(&states)?;
         for call in 0..count {
-            let (ran, system) = self.ran(self.lines, failing.at(call))?;
-            let least = handled(&states, &ran);
-            let later = states.get(least..).unwrap_or(&[]);
-            if let Some(fault) = self.lost_behind(later, &system)? {
+            if let Some(fault) = self.failed(&states, failing.at(call))? {
                 write!(shown, "= call {call}: {fault}\n")?;
                 return Ok(shown);
             }
@@ -101,18 +101,27 @@ impl<'a> Sweep<'a> {
         Ok(shown)
     }
 
+    /// What is wrong after a power loss after a run with this trouble.
+    fn failed(&self, states: &[String], trouble: Trouble) -> Result<Option<String>, AllocError> {
+        let (ran, system) = self.ran(self.lines, trouble)?;
+        let least = handled(states, &ran);
+        drop(ran);
+        let later = states.get(least..).unwrap_or(&[]);
+        let fault = self.lost_behind(later, &system);
+        drop(system);
+        fault
+    }
+
     /// What a look finds; then `= kept` where it finds the same with each file unreadable alone, whole, in its second
     /// half and in its middle byte. Else the first file for which it does not.
-    pub(crate) fn damages(&self) -> Result<String, RowError> {
+    fn damages(&self) -> Result<String, RowError> {
         let whole = self.found(self.start.restarted()?)?;
         let mut shown = String::new(self.alloc);
         write!(shown, "< {whole}\n")?;
         for file in &self.files {
             let len = self.start.bytes(*file).len() as u64;
             for (at, count) in [(0, len), (len / 2, len), (len / 2, 1)] {
-                let mut system = self.start.restarted()?;
-                system.spoil(*file, at, count)?;
-                let found = self.found(system)?;
+                let found = self.found_damaged(*file, at, count)?;
                 if found.as_str() != whole.as_str() {
                     write!(shown, "= file {file} from {at} on: {found}\n")?;
                     return Ok(shown);
@@ -121,6 +130,18 @@ impl<'a> Sweep<'a> {
         }
         shown.push_str("= kept\n")?;
         Ok(shown)
+    }
+
+    /// What a look finds with a stretch of a file unreadable.
+    fn found_damaged(&self, file: u32, at: u64, count: u64) -> Result<String, AllocError> {
+        let mut system = self.start.restarted()?;
+        match system.spoil(file, at, count) {
+            Ok(()) => self.found(system),
+            Err(error) => {
+                drop(system);
+                Err(error)
+            }
+        }
     }
 
     fn shown(&self, states: &[String]) -> Result<String, AllocError> {
@@ -144,14 +165,18 @@ impl<'a> Sweep<'a> {
     }
 
     fn state(&self, input: &str) -> Result<String, AllocError> {
-        let (_, system) = self.ran(input, Trouble::Nothing)?;
+        let (ran, system) = self.ran(input, Trouble::Nothing)?;
+        drop(ran);
         self.found(system)
     }
 
-    /// The folder after all lines.
-    fn whole(&self) -> Result<MemSystem, AllocError> {
-        let (_, system) = self.ran(self.lines, Trouble::Nothing)?;
-        Ok(system)
+    /// How many calls of the system all lines make, and how many of them are syncs.
+    fn counts(&self) -> Result<(u64, u64), AllocError> {
+        let (ran, system) = self.ran(self.lines, Trouble::Nothing)?;
+        drop(ran);
+        let counts = (system.calls(), system.syncs());
+        drop(system);
+        Ok(counts)
     }
 
     /// What comes of an input, and the folder.
@@ -163,7 +188,8 @@ impl<'a> Sweep<'a> {
 
     /// What a look finds in a folder.
     fn found(&self, system: MemSystem) -> Result<String, AllocError> {
-        let (ran, _) = run(self.alloc, self.words, self.migrations, self.look, system)?;
+        let (ran, system) = run(self.alloc, self.words, self.migrations, self.look, system)?;
+        drop(system);
         ran.answers(self.alloc)
     }
 
@@ -180,16 +206,29 @@ impl<'a> Sweep<'a> {
         let first = system.changes();
         system.set_trouble(Trouble::Nothing);
         let (looked, system) = run(self.alloc, self.words, self.migrations, self.look, system)?;
+        let fault = self.looked(wanted, &looked, &system, first);
+        drop(system);
+        fault
+    }
+
+    /// What is wrong after a run that looked, whose changes begin with the first one.
+    fn looked(
+        &self,
+        wanted: &[String],
+        looked: &Ran,
+        system: &MemSystem,
+        first: usize,
+    ) -> Result<Option<String>, AllocError> {
         let found = looked.answers(self.alloc)?;
         if !is_among(wanted, found.as_str()) {
             return Ok(Some(found));
         }
         for seed in SEEDS {
-            if let Some(fault) = self.lost(wanted, &system, first, seed)? {
+            if let Some(fault) = self.lost(wanted, system, first, seed)? {
                 return Ok(Some(fault));
             }
         }
-        self.lost_behind(&[found], &system)
+        self.lost_behind(&[found], system)
     }
 
     /// What is wrong after a power loss after the run.
@@ -214,14 +253,12 @@ impl<'a> Sweep<'a> {
         first: usize,
         seed: u64,
     ) -> Result<Option<String>, AllocError> {
-        let mut last: Option<MemSystem> = None;
+        let mut last = None;
         for changes in first..=system.changes() {
             let left = system.power_loss(changes, seed)?;
-            if is_same(&last, &left) {
+            let Some(found) = self.found_anew(&mut last, left)? else {
                 continue;
-            }
-            last = Some(left.restarted()?);
-            let found = self.found(left)?;
+            };
             if !is_among(wanted, found.as_str()) {
                 let fault = format!(in self.alloc;
                     "power lost after change {changes}, {seed}: {found}"
@@ -230,6 +267,28 @@ impl<'a> Sweep<'a> {
             }
         }
         Ok(None)
+    }
+
+    /// What a look finds in a folder, which is then the last one; nothing where the last one is like it.
+    fn found_anew(
+        &self,
+        last: &mut Option<MemSystem>,
+        left: MemSystem,
+    ) -> Result<Option<String>, AllocError> {
+        if is_same(last, &left) {
+            drop(left);
+            return Ok(None);
+        }
+        match left.restarted() {
+            Ok(copy) => {
+                drop(last.replace(copy));
+                Ok(Some(self.found(left)?))
+            }
+            Err(error) => {
+                drop(left);
+                Err(error)
+            }
+        }
     }
 }
 

@@ -51,6 +51,7 @@ fn missing(rt: &impl Files<File = File>, alloc: Global) -> anyhow::Result<String
     let count = disk.read(0, 0, &mut out).unwrap_or(99);
     let is_synced = disk.sync().is_ok();
     let is_written = disk.write_at(0, 0, b"a").is_ok();
+    drop(disk);
     Ok(format!(in alloc; "read {count}, synced {is_synced}, written {is_written}")?)
 }
 
@@ -65,7 +66,10 @@ fn disk_in<'a, R: Files<File = File>>(
     )?;
     match FolderDisk::open(alloc, system) {
         Ok(disk) => Ok(disk),
-        Err(_) => Err(io::Error::from(io::ErrorKind::Other).into()),
+        Err(refused) => {
+            drop(refused);
+            Err(io::Error::from(io::ErrorKind::Other).into())
+        }
     }
 }
 

@@ -55,14 +55,25 @@ impl<'a, R: Files<File = File> + Input + Print> WithConverters for Printing<'a, 
     fn with_converters(self, migrations: &Migrations) -> anyhow::Result<()> {
         let Printing { rt, alloc } = self;
         let mut session = Session::new(alloc);
-        for row in BufReader::new(alloc, rt.reader())?.lines(alloc) {
-            let row = row?;
-            if let Some(text) = shown(rt, alloc, &mut session, migrations, row.as_str())? {
-                rt.print(text)?;
-            }
-        }
-        Ok(())
+        let printed = print_rows(rt, alloc, &mut session, migrations);
+        drop(session);
+        printed
     }
+}
+
+fn print_rows(
+    rt: &(impl Files<File = File> + Input + Print),
+    alloc: Global,
+    session: &mut Session,
+    migrations: &Migrations,
+) -> anyhow::Result<()> {
+    for row in BufReader::new(alloc, rt.reader())?.lines(alloc) {
+        let row = row?;
+        if let Some(text) = shown(rt, alloc, session, migrations, row.as_str())? {
+            rt.print(text)?;
+        }
+    }
+    Ok(())
 }
 
 fn main(rt: HostRuntime) -> anyhow::Result<()> {

@@ -98,11 +98,21 @@ impl Script {
         Ok(())
     }
 
+    /// What the row of this word prints.
+    pub(crate) fn told(&self, migrations: &Migrations, word: &str) -> Result<String, RowError> {
+        match word {
+            "stops" => self.stops(migrations),
+            "failures" => self.failures(migrations),
+            "rejects" => self.rejects(migrations),
+            _ => self.cuts(migrations),
+        }
+    }
+
     /// What a look finds after each number of lines; then `= kept` where, after a stop at each call of the disk and
     /// each restart, it finds what it does after the lines that were answered or after one more, and once it found the
     /// latter it stays so. Else the first stop after which it does not. Lines count as answered up to the first that
     /// failed at the disk.
-    pub(crate) fn stops(&self, migrations: &Migrations) -> Result<String, RowError> {
+    fn stops(&self, migrations: &Migrations) -> Result<String, RowError> {
         let states = self.states(migrations)?;
         let mut shown = String::new(self.alloc);
         for (count, state) in states.iter().enumerate() {
@@ -123,7 +133,7 @@ impl Script {
     /// and a look at the end of the run finds what one in a new run finds, which is one of the states that the lines
     /// lead through. Where the start fails, the status is 3, and nothing is written. Else the first call for which it
     /// is not so.
-    pub(crate) fn failures(&self, migrations: &Migrations) -> Result<String, RowError> {
+    fn failures(&self, migrations: &Migrations) -> Result<String, RowError> {
         let states = self.states(migrations)?;
         let mut input = self.input.clone()?;
         input.extend_from_slice(self.look.as_bytes())?;
@@ -140,9 +150,8 @@ impl Script {
 
     /// `= kept` where a call of the source that fails gives status 5 and the replies to all whole lines before it, and
     /// a call of the sink that fails status 6 and a prefix of the output. Else the first call for which it is not so.
-    pub(crate) fn cuts(&self, migrations: &Migrations) -> Result<String, RowError> {
-        let mut disk = self.start.disk(self.alloc)?;
-        let whole = self.ran(migrations, self.input.as_slice(), &mut disk)?;
+    fn cuts(&self, migrations: &Migrations) -> Result<String, RowError> {
+        let whole = self.whole(migrations)?;
         if let Some(fault) = self.source_cuts(migrations, whole.output.as_str())? {
             return Ok(fault);
         }
@@ -152,9 +161,17 @@ impl Script {
         text(self.alloc, "= kept\n")
     }
 
+    /// What comes of all lines.
+    fn whole(&self, migrations: &Migrations) -> Result<Ran, RowError> {
+        let mut disk = self.start.disk(self.alloc)?;
+        let ran = self.ran(migrations, self.input.as_slice(), &mut disk);
+        drop(disk);
+        Ok(ran?)
+    }
+
     /// `= rejected` where the input, cut off at each length and with each byte as another, is answered error 31 with
     /// status 9, and a look finds what it did before. Else the first input for which it is not so.
-    pub(crate) fn rejects(&self, migrations: &Migrations) -> Result<String, RowError> {
+    fn rejects(&self, migrations: &Migrations) -> Result<String, RowError> {
         let before = self.found(migrations, self.start.disk(self.alloc)?)?;
         for place in 0..self.input.len() {
             let cut = self.input.get(..place).unwrap_or(&[]);
@@ -162,16 +179,22 @@ impl Script {
                 return Ok(format!(in self.alloc; "= cut at {place}\n")?);
             }
             for change in CHANGES {
-                let mut changed = self.input.clone()?;
-                if let Some(byte) = changed.get_mut(place) {
-                    *byte ^= change;
-                }
+                let changed = self.changed(place, change)?;
                 if !self.is_rejected(migrations, changed.as_slice(), before.as_str())? {
                     return Ok(format!(in self.alloc; "= byte {place} changed by {change}\n")?);
                 }
             }
         }
         text(self.alloc, "= rejected\n")
+    }
+
+    /// The input with another byte at a place.
+    fn changed(&self, place: usize, change: u8) -> Result<Vec<u8>, AllocError> {
+        let mut changed = self.input.clone()?;
+        if let Some(byte) = changed.get_mut(place) {
+            *byte ^= change;
+        }
+        Ok(changed)
     }
 
     /// Whether an input is rejected as no export, and a look finds what it did before.
@@ -181,8 +204,7 @@ impl Script {
         input: &[u8],
         before: &str,
     ) -> Result<bool, RowError> {
-        let mut disk = self.start.disk(self.alloc)?;
-        let ran = self.ran(migrations, input, &mut disk)?;
+        let (ran, disk) = self.ran_from_start(migrations, input)?;
         let found = self.found(migrations, disk.crash(true)?)?;
         let is_answered = ran.output.as_str() == "error 31 ExportRejected\n";
         Ok(ran.status == 9 && is_answered && found.as_str() == before)
@@ -202,9 +224,25 @@ impl Script {
 
     /// What a look finds after an input.
     fn state(&self, migrations: &Migrations, input: &[u8]) -> Result<String, RowError> {
-        let mut disk = self.start.disk(self.alloc)?;
-        self.ran(migrations, input, &mut disk)?;
+        let (ran, disk) = self.ran_from_start(migrations, input)?;
+        drop(ran);
         self.found(migrations, disk.crash(true)?)
+    }
+
+    /// What comes of the words over an input, and the disk.
+    fn ran_from_start(
+        &self,
+        migrations: &Migrations,
+        input: &[u8],
+    ) -> Result<(Ran, MemDisk), RowError> {
+        let mut disk = self.start.disk(self.alloc)?;
+        match self.ran(migrations, input, &mut disk) {
+            Ok(ran) => Ok((ran, disk)),
+            Err(error) => {
+                drop(disk);
+                Err(error.into())
+            }
+        }
     }
 
     /// What comes of the words over an input.
@@ -221,20 +259,35 @@ impl Script {
     fn found(&self, migrations: &Migrations, disk: MemDisk) -> Result<String, RowError> {
         let mut disk = disk;
         let look = self.look.as_bytes();
-        let ran = run_over(self.alloc, PLAIN, migrations, look, &mut disk)?;
-        Ok(answers(self.alloc, ran.output.as_str())?)
+        let ran = run_over(self.alloc, PLAIN, migrations, look, &mut disk);
+        drop(disk);
+        Ok(answers(self.alloc, ran?.output.as_str())?)
     }
 
     /// After how many calls of the disk the lines are stopped: none, each after which something was written or synced,
     /// and all. What a stop after another call leaves is what one of these leaves.
     fn moments(&self, migrations: &Migrations) -> Result<Vec<u64>, RowError> {
-        let disk = self.start.disk(self.alloc)?;
-        let mut counting = Counting::new(disk, vec![in self.alloc; 0]?);
-        self.ran(migrations, self.input.as_slice(), &mut counting)?;
+        let counting = self.counted(migrations, vec![in self.alloc; 0]?)?;
         let calls = counting.calls();
         let mut moments = counting.into_moments();
         moments.push(calls)?;
         Ok(moments)
+    }
+
+    /// A disk that counted the calls of the lines.
+    fn counted(&self, migrations: &Migrations, moments: Vec<u64>) -> Result<Counting, RowError> {
+        let disk = self.start.disk(self.alloc)?;
+        let mut counting = Counting::new(disk, moments);
+        match self.ran(migrations, self.input.as_slice(), &mut counting) {
+            Ok(ran) => {
+                drop(ran);
+                Ok(counting)
+            }
+            Err(error) => {
+                drop(counting);
+                Err(error.into())
+            }
+        }
     }
 
     /// The first stop that does not keep what it should, under one kind of restart.
@@ -247,10 +300,7 @@ impl Script {
     ) -> Result<Option<String>, RowError> {
         let mut last = Stop::default();
         for passing in moments {
-            let mut disk = self.start.disk(self.alloc)?;
-            disk.stop_after(*passing);
-            let ran = self.ran(migrations, self.input.as_slice(), &mut disk)?;
-            let answered = answered(ran.output.as_str());
+            let (answered, disk) = self.stopped_at(migrations, *passing)?;
             let found = self.found(migrations, restart.restarted(disk)?)?;
             let now = Stop::at(&last, states, answered, found.as_str());
             if !now.is_kept {
@@ -264,12 +314,29 @@ impl Script {
         Ok(None)
     }
 
+    /// How many lines are answered before a stop after that many calls, and the disk.
+    fn stopped_at(
+        &self,
+        migrations: &Migrations,
+        passing: u64,
+    ) -> Result<(usize, MemDisk), RowError> {
+        let mut disk = self.start.disk(self.alloc)?;
+        disk.stop_after(passing);
+        match self.ran(migrations, self.input.as_slice(), &mut disk) {
+            Ok(ran) => Ok((answered(ran.output.as_str()), disk)),
+            Err(error) => {
+                drop(disk);
+                Err(error.into())
+            }
+        }
+    }
+
     /// How many calls of the disk the lines make.
     fn calls(&self, migrations: &Migrations) -> Result<u64, RowError> {
-        let disk = self.start.disk(self.alloc)?;
-        let mut counting = Counting::new(disk, Vec::new(self.alloc));
-        self.ran(migrations, self.input.as_slice(), &mut counting)?;
-        Ok(counting.calls())
+        let counting = self.counted(migrations, Vec::new(self.alloc))?;
+        let calls = counting.calls();
+        drop(counting);
+        Ok(calls)
     }
 
     /// The lines with one call of the disk failing, and the disk after a restart.
@@ -279,10 +346,16 @@ impl Script {
         input: &[u8],
         call: u64,
     ) -> Result<(Ran, MemDisk), RowError> {
+        let failing = vec![in self.alloc; call]?;
         let mut disk = self.start.disk(self.alloc)?;
-        disk.fail_calls(vec![in self.alloc; call]?);
-        let ran = self.ran(migrations, input, &mut disk)?;
-        Ok((ran, disk.crash(true)?))
+        disk.fail_calls(failing);
+        match self.ran(migrations, input, &mut disk) {
+            Ok(ran) => Ok((ran, disk.crash(true)?)),
+            Err(error) => {
+                drop(disk);
+                Err(error.into())
+            }
+        }
     }
 
     fn source_cuts(
@@ -333,10 +406,12 @@ impl Script {
 
     /// The lines over streams that fail.
     fn cut(&self, migrations: &Migrations, failing: Failing) -> Result<Ran, RowError> {
-        let mut disk = self.start.disk(self.alloc)?;
         let input = self.input.clone()?;
+        let mut disk = self.start.disk(self.alloc)?;
         let words = self.words.as_str();
-        Ok(run(self.alloc, words, migrations, input, failing, &mut disk)?)
+        let ran = run(self.alloc, words, migrations, input, failing, &mut disk);
+        drop(disk);
+        Ok(ran?)
     }
 }
 
