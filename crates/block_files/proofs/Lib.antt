@@ -4,3 +4,5 @@ pub mod Spread
 pub mod BlockReads
 pub mod Runs
 pub mod Counting
+pub mod First
+pub mod States

@@ -25,6 +25,11 @@ first_content [] = None
 first_content (Some text ∷ contents) = Some text
 first_content (None ∷ contents) = first_content contents
 
+-- what there is where there is no value
+abbrev pub unvoted : (value salvage : Option (List ℕ)) → Option (List ℕ)
+unvoted (Some value) salvage = None
+unvoted None salvage = salvage
+
 -- whether a copy lacks the value: it does not count, or gives other bytes, or does not have them all within its file.
 -- Where there is no value, a copy lacks it that does not count.
 abbrev pub lacks : (value given : Option (List ℕ)) (inside : Bool) → Bool

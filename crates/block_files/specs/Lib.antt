@@ -3,5 +3,6 @@ pub mod Aside
 pub mod BlockSets
 pub mod Contents
 pub mod Parts
+pub mod States
 pub mod Writes
 pub mod lemmas

@@ -1,18 +1,20 @@
 //! What the copies of a content agree on.
 
-ghost use Rattle.std.specs.Prelude.{◌≡◌, ◌≤◌, ◌*◌, min, IsTrue, IfOk, IfSome, IsErrOf, length, OnOk};
+ghost use Rattle.std.specs.Prelude.{◌≡◌, ◌≤◌, ◌*◌, ◌↔◌, min, IsTrue, IfOk, IfSome, IsErrOf, length, OnOk, Some};
 ghost use Rattle.std.specs.Option.{option_copied, option_map};
 ghost use Rattle.per_base.specs.Causes.{Rose};
 ghost use Rattle.disk_model.specs.Medium.{Elapses, OnlyReads};
 ghost use Rattle.m_of_n.specs.Vote.{texts_of, voted};
 ghost use Rattle.block_files.specs.BlockSets.{Ascend};
-ghost use Rattle.block_files.specs.Contents.{contents, first_content, lacking, lacking_in, lacks, AreCopies};
+ghost use Rattle.block_files.specs.Contents.{contents, first_content, lacking, lacking_in, lacks, unvoted, AreCopies};
+ghost use Rattle.block_files.specs.States.{AreOfFirst, AreStatesOf};
 
 use crate::errors::BlobError;
-use crate::reading::{Looked, look};
+use crate::reading::{Looked, first_text, look};
 use disk_model::{Disk, Place};
 use m_of_n::vote;
 use per_base::{Bytes, Numbers};
+use sha2::Sha256;
 use std::alloc::{AllocError, Global};
 
 /// What the copies of a content hold.
@@ -20,8 +22,10 @@ use std::alloc::{AllocError, Global};
 pub struct Blob {
     /// The bytes on which enough copies agree.
     pub value: Option<Bytes>,
-    /// The bytes of the first copy that has the hash, whatever the others hold.
+    /// Where there is no value, the bytes of the first copy that has the hash, whatever the others hold.
     pub salvage: Option<Bytes>,
+    /// States of the hasher after each 32 KiB of the value, in order; fewer where memory was short.
+    pub states: Vec<Sha256>,
     /// The copies that lack the value, counted from 1 and ascending; where there is no value, those that do not have
     /// the hash.
     pub lacking: Numbers,
@@ -29,7 +33,8 @@ pub struct Blob {
 
 /// The content of these blocks: a copy counts where its blocks, joined and cut to `len`, with zeros past the area's
 /// end, have this hash. The value is the vote of the counting copies for `m`, and the copies lack it that do not count,
-/// that have other bytes, or whose area does not reach to the end of all of them. No byte changes.
+/// that have other bytes, or whose area does not reach to the end of all of them. Where there is no value, the salvage
+/// is the first content that counts. No byte changes.
 ///
 /// # Errors
 ///
@@ -47,11 +52,12 @@ pub fn get_blob<D: Disk>(
     ensures value { IsTrue D.told → IfOk result (λ blob. blob.value
         ≡ voted m (contents place blocks.now len hash.now (D.medium disk.old).image)) }
     ensures salvage { IsTrue D.told → IfOk result (λ blob. blob.salvage
-        ≡ first_content (contents place blocks.now len hash.now (D.medium disk.old).image)) }
+        ≡ unvoted blob.value (first_content (contents place blocks.now len hash.now (D.medium disk.old).image))) }
     ensures lacking { IsTrue D.told → IfOk result (λ blob. blob.lacking
         ≡ lacking blob.value place blocks.now len hash.now (D.medium disk.old).image) }
 
     // Whether the disk's bytes are modelled or not.
+    ensures states { IfOk result (λ blob. IfSome blob.value (λ value. AreStatesOf value blob.states.items)) }
     ensures size { IfOk result (λ blob. IfSome blob.value (λ value. length value ≡ min len (256 * length blocks.now))) }
     ensures salvage_size { IfOk result (λ blob. IfSome blob.salvage
         (λ salvage. length salvage ≡ min len (256 * length blocks.now))) }
@@ -65,51 +71,69 @@ pub fn get_blob<D: Disk>(
     ensures fed { IsErrOf result BlobError.OutOfMemory → (D.medium disk.new).faults ≡ (D.medium disk.old).faults }
 {
     let looked = look(alloc, disk, place, blocks, len, hash)?;
-    let blob = judge(alloc, &looked, m)?;
+    let blob = judge(alloc, looked, m)?;
     Ok(blob)
 }
 
-// What the copies agree on, by what each gives.
-fn judge(alloc: Global, looked: &Looked, m: u32) -> Result<Blob, AllocError>
+// What the copies agree on, by what each gives. The first content is moved, and no other copied, where it is the value.
+fn judge(alloc: Global, looked: Looked, m: u32) -> Result<Blob, AllocError>
     requires m { 1 ≤ m }
-    requires copies { (length looked.now.texts.items ≡ length looked.now.inside.items)
-        × (length looked.now.texts.items ≤ 8) }
-    ensures value { IfOk result (λ blob. blob.value ≡ voted m (texts_of looked.now.texts.items)) }
-    ensures salvage { IfOk result (λ blob. blob.salvage ≡ first_content (texts_of looked.now.texts.items)) }
+    requires copies { (length looked.texts.items ≡ length looked.inside.items) × (length looked.texts.items ≤ 8) }
+    requires states { AreOfFirst (texts_of looked.texts.items) looked.states.items }
+    ensures value { IfOk result (λ blob. blob.value ≡ voted m (texts_of looked.texts.items)) }
+    ensures salvage { IfOk result (λ blob. blob.salvage
+        ≡ unvoted blob.value (first_content (texts_of looked.texts.items))) }
     ensures lacking { IfOk result (λ blob. blob.lacking
-        ≡ lacking_in blob.value (texts_of looked.now.texts.items) looked.now.inside.items) }
+        ≡ lacking_in blob.value (texts_of looked.texts.items) looked.inside.items) }
+    ensures states { IfOk result (λ blob. IfSome blob.value (λ value. AreStatesOf value blob.states.items)) }
 {
     let value = vote(m, &looked.texts);
+    let lacking = list_lacking(alloc, value, &looked)?;
+    let Some(value) = value else {
+        return Ok(Blob {
+            value: None,
+            salvage: take_first(looked.texts),
+            states: Vec::new(alloc),
+            lacking,
+        });
+    };
+    if is_first(&looked.texts, value) {
+        return Ok(Blob {
+            value: take_first(looked.texts),
+            salvage: None,
+            states: looked.states,
+            lacking,
+        });
+    }
+    let value = Vec::from_slice(alloc, value)?;
     Ok(Blob {
-        value: copied(alloc, value)?,
-        salvage: copied(alloc, first_text(&looked.texts))?,
-        lacking: list_lacking(alloc, value, looked)?,
+        value: Some(Bytes::new(value)),
+        salvage: None,
+        states: Vec::new(alloc),
+        lacking,
     })
 }
 
-// The first content that some copy gives.
-fn first_text(texts: &[Option<Vec<u8>>]) -> Option<&[u8]>
-    ensures { option_copied result ≡ first_content (texts_of texts.now) }
+// Whether this is the first content that some copy gives.
+fn is_first(texts: &[Option<Vec<u8>>], value: &[u8]) -> bool
+    ensures { IsTrue result ↔ (first_content (texts_of texts.now) ≡ Some value.now) }
+{
+    match first_text(texts) {
+        Some(first) => first == value,
+        None => false,
+    }
+}
+
+// The first content that some copy gives, moved.
+fn take_first(texts: Vec<Option<Vec<u8>>>) -> Option<Bytes>
+    ensures { result ≡ first_content (texts_of texts.items) }
 {
     for text in texts {
-        if let Some(text) = text {
-            return Some(text);
+        if let Some(bytes) = text {
+            return Some(Bytes::new(bytes));
         }
     }
     None
-}
-
-// A copy of the bytes.
-fn copied(alloc: Global, text: Option<&[u8]>) -> Result<Option<Bytes>, AllocError>
-    ensures { IfOk result (λ copy. copy ≡ option_copied text.entry) }
-{
-    match text {
-        Some(bytes) => {
-            let bytes = Vec::from_slice(alloc, bytes)?;
-            Ok(Some(Bytes::new(bytes)))
-        }
-        None => Ok(None),
-    }
 }
 
 // The copies that lack the value, counted from 1.

@@ -1,28 +1,39 @@
 //! What the copies of a content hold.
 
 ghost use Rattle.std.specs.Prelude.{◌≡◌, ◌≢◌, ◌<◌, ◌≤◌, ◌+◌, ◌*◌, ℕ, IsTrue, IfOk, IfSome, OnOk, OnErr, IsErrOf};
-ghost use Rattle.std.specs.Prelude.{length, map, min, slice_index};
+ghost use Rattle.std.specs.Prelude.{length, map, min, slice_index, None};
 ghost use Rattle.std.specs.List.{range_with_len};
-ghost use Rattle.std.specs.Option.{option_map};
+ghost use Rattle.std.specs.Option.{option_copied, option_map};
 ghost use Rattle.per_base.specs.Causes.{Rose};
 ghost use Rattle.disk_model.specs.Place.{area};
 ghost use Rattle.disk_model.specs.Medium.{Elapses, OnlyReads};
 ghost use Rattle.m_of_n.specs.Vote.{texts_of};
 ghost use Rattle.block_files.specs.Areas.{joined, is_within, has_all_bytes};
-ghost use Rattle.block_files.specs.Contents.{counting, contents, HaveSize};
+ghost use Rattle.block_files.specs.Contents.{counting, contents, first_content, HaveSize};
+ghost use Rattle.block_files.specs.States.{AreOfFirst, AreStatesOf};
 
 use crate::errors::BlobError;
+use crate::hashing::{Hashed, hash_from};
 use crate::parts::count_blocks;
 use disk_model::{Disk, DiskFailed, Place};
-use hash_guard::hash as hash_of;
 use per_base::BLOCK;
-use std::alloc::{AllocError, Global};
+use sha2::Sha256;
+use std::alloc::Global;
 
 /// What each copy of a content gives, in order: its bytes where they have the hash, and whether its file has them all.
 #[derive(Drop)]
 pub(crate) struct Looked {
     pub(crate) texts: Vec<Option<Vec<u8>>>,
     pub(crate) inside: Vec<bool>,
+    /// States of the hasher on the way through the first of the texts.
+    pub(crate) states: Vec<Sha256>,
+}
+
+/// What one copy gives: its bytes where they have the hash, and states of the hasher on the way through them.
+#[derive(Drop)]
+struct ReadText {
+    text: Option<Vec<u8>>,
+    states: Vec<Sha256>,
 }
 
 // Looks at every copy of a content.
@@ -42,6 +53,7 @@ pub(crate) fn look<D: Disk>(
     ensures copies { IfOk result (λ looked. (length looked.texts.items ≡ place.copies)
         × (length looked.inside.items ≡ place.copies)) }
     ensures size { IfOk result (λ looked. HaveSize (min len (256 * length blocks.now)) (texts_of looked.texts.items)) }
+    ensures states { IfOk result (λ looked. AreOfFirst (texts_of looked.texts.items) looked.states.items) }
     ensures reads { OnlyReads (D.medium disk.old) (D.medium disk.new) }
     ensures time { Elapses (D.medium disk.old) (D.medium disk.new) }
     ensures cause { IsErrOf result BlobError.Device → Rose (D.medium disk.old).faults (D.medium disk.new).faults }
@@ -50,14 +62,49 @@ pub(crate) fn look<D: Disk>(
 {
     let mut texts = Vec::new(alloc);
     let mut inside = Vec::new(alloc);
+    let mut states = Vec::new(alloc);
     for copy in 0..place.copies {
         let file = place.area(copy);
-        let text = read_text(alloc, disk, file, blocks, len, hash)?;
-        texts.push(text)?;
+        let read = read_text(alloc, disk, file, blocks, len, hash)?;
+        states = first_states(&texts, states, read.states);
+        texts.push(read.text)?;
         let size = disk.size(file)?;
         inside.push(is_inside(size, blocks, len as usize))?;
     }
-    Ok(Looked { texts, inside })
+    Ok(Looked {
+        texts,
+        inside,
+        states,
+    })
+}
+
+// The states to keep: those at hand once some text has the hash, and until then those of the next.
+fn first_states(texts: &[Option<Vec<u8>>], states: Vec<Sha256>, next: Vec<Sha256>) -> Vec<Sha256>
+    ensures next { first_content (texts_of texts.now) ≡ None → result ≡ next }
+    ensures stay { first_content (texts_of texts.now) ≢ None → result ≡ states }
+{
+    match first_text(texts) {
+        None => {
+            drop(states);
+            next
+        }
+        Some(_) => {
+            drop(next);
+            states
+        }
+    }
+}
+
+// The first content that some copy gives.
+pub(crate) fn first_text(texts: &[Option<Vec<u8>>]) -> Option<&[u8]>
+    ensures { option_copied result ≡ first_content (texts_of texts.now) }
+{
+    for text in texts {
+        if let Some(text) = text {
+            return Some(text);
+        }
+    }
+    None
 }
 
 // What one copy gives.
@@ -68,10 +115,11 @@ fn read_text<D: Disk>(
     blocks: &[u32],
     len: u32,
     hash: &[u8; 32],
-) -> Result<Option<Vec<u8>>, BlobError>
-    ensures text { IsTrue D.told → IfOk result (λ text. option_map (λ t. t.items) text
+) -> Result<ReadText, BlobError>
+    ensures text { IsTrue D.told → IfOk result (λ read. option_map (λ t. t.items) read.text
         ≡ counting ((D.medium disk.old).image file) blocks.now len hash.now) }
-    ensures size { IfOk result (λ text. IfSome text (λ t. length t.items ≡ min len (256 * length blocks.now))) }
+    ensures size { IfOk result (λ read. IfSome read.text (λ t. length t.items ≡ min len (256 * length blocks.now))) }
+    ensures states { IfOk result (λ read. IfSome read.text (λ t. AreStatesOf t.items read.states.items)) }
     ensures reads { OnlyReads (D.medium disk.old) (D.medium disk.new) }
     ensures time { Elapses (D.medium disk.old) (D.medium disk.new) }
     ensures cause { IsErrOf result BlobError.Device → Rose (D.medium disk.old).faults (D.medium disk.new).faults }
@@ -79,10 +127,17 @@ fn read_text<D: Disk>(
     ensures fed { IsErrOf result BlobError.OutOfMemory → (D.medium disk.new).faults ≡ (D.medium disk.old).faults }
 {
     let bytes = read_joined(alloc, disk, file, blocks, len as usize)?;
-    if hash_of(&bytes) != *hash {
-        return Ok(None);
+    let Hashed {
+        hash: found,
+        states,
+    } = hash_from(alloc, &bytes, &[]);
+    if found != *hash {
+        return Ok(ReadText { text: None, states });
     }
-    Ok(Some(bytes))
+    Ok(ReadText {
+        text: Some(bytes),
+        states,
+    })
 }
 
 // The bytes of the blocks, joined and cut to the length.

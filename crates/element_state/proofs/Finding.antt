@@ -1,7 +1,7 @@
 -- The first that passes a test, and the texts that fit among those that are held.
 use Rattle.std.proofs.Common.{◌≡◌, ℕ, zero, suc, ◌+◌, ◌<◌, ◌≤◌, not, List, [], ◌∷◌, ◌++◌, length, get_or, take, map}
 use Rattle.std.proofs.Common.{Bool, true, false, cond, Option, Some, None, All, find, refl, sym, ap, ◌∙◌, subst, arith}
-use Rattle.std.proofs.Common.{IfSome}
+use Rattle.std.proofs.Common.{IfSome, Vec, Global}
 use Rattle.std.specs.List.{AllByRecursion, AllZip, cons_option}
 use Rattle.std.specs.Option.{option_map}
 use Rattle.std.proofs.lemmas.Bool.{cond-true, cond-false}
@@ -13,6 +13,8 @@ use Rattle.guarded_cell.specs.Held.{held, holds, copies_that}
 use Rattle.guarded_cell.specs.Slots.{IsSlotsOf}
 use Rattle.guarded_cell.specs.lemmas.ShownLaws.{held_shows}
 use Rattle.index_text.specs.declared.entries.Index.{Index}
+use Rattle.sha2.specs.declared.Sha256.{Sha256}
+use Rattle.element_state.specs.declared.reading.ReadEntries.{ReadEntries}
 use Rattle.element_state.specs.declared.shapes.Shape.{Shape}
 use Rattle.element_state.specs.declared.shapes.View.{View}
 use Rattle.element_state.specs.declared.surveying.Found.{Found}
@@ -21,7 +23,7 @@ use Rattle.element_state.specs.Views.{qualifies, view_of, entries_seen}
 use Rattle.element_state.specs.States.{State, Corrupt, store_at, salvage_of, state_of, first_picked, beside}
 use Rattle.element_state.specs.Chosen.{chosen, or_first, first_fit, opened_of, IsFit, IsReadBy}
 use Rattle.element_state.specs.Surveys.{IsFoundView, IsHeldOn, OpensOrSalvages, IsViewedOn, opened_view, opened_if}
-use Rattle.element_state.specs.Surveys.{found_text, view_by}
+use Rattle.element_state.specs.Surveys.{AreOfEntry, HasStates, found_text, view_by}
 use Rattle.element_state.specs.lemmas.Entrywise.{all_at}
 use Rattle.element_state.proofs.Viewing.{view_is}
 use Rattle.element_state.specs.lemmas.ViewsRead.{AreNumbers, view_read, lacking_are}
@@ -234,3 +236,11 @@ pub found_slots : (image : Image) (place : Place) (slots : Slots) (found : Optio
     → IfSome found (λ f. IsSlotsOf image place f.slots)
 found_slots image place slots None same are = tt
 found_slots image place slots (Some f) same are = subst (IsSlotsOf image place) (sym same) are
+
+-- its states
+pub found_states : (shape : Shape) (f : Found) (r : ReadEntries) (sole : Bool)
+    → f.view ≡ view_by shape f.seen sole r.entries → f.states ≡ r.states
+    → AllZip AreOfEntry r.entries r.states.items → HasStates f
+found_states shape f r sole view states all =
+    subst (λ (v : View). AllZip AreOfEntry v.entries f.states.items) (sym view)
+    (subst (λ (ss : Vec (Vec Sha256 Global) Global). AllZip AreOfEntry r.entries ss.items) (sym states) all)

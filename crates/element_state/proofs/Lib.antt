@@ -1,3 +1,4 @@
 pub mod Finding
 pub mod Viewing
 mod Ranges
+pub mod Contents

@@ -12,11 +12,11 @@ ghost use Rattle.element_state.specs.Fit.{fit_texts};
 ghost use Rattle.element_state.specs.Views.{lacks_one, lacks_number, entries_seen, qualifies, store_lacking};
 ghost use Rattle.element_state.specs.Chosen.{chosen, IsFit, IsReadBy};
 ghost use Rattle.element_state.specs.Surveys.{IsFirstQualified, IsFoundView, IsHeldOn, IsReadText, IsTried, IsViewedOn};
-ghost use Rattle.element_state.specs.Surveys.{found_text};
+ghost use Rattle.element_state.specs.Surveys.{AreOfEntry, HasStates, found_text};
 ghost use Rattle.element_state.specs.Surveys.{view_by};
 
 use crate::errors::StoreError;
-use crate::reading::read_entries;
+use crate::reading::{ReadEntries, read_entries};
 use crate::shapes::{Shape, View};
 use crate::supporting::count_whole;
 use crate::surveying::Found;
@@ -44,6 +44,7 @@ pub(crate) fn choose<D: Disk>(
         IfSome found (IsViewedOn (D.medium disk.old).image shape.now)) }
     ensures slots { IfOk result (λ found. IfSome found (λ f. f.slots ≡ slots)) }
     ensures found { IfOk result (λ found. IfSome found (IsFoundView shape.now)) }
+    ensures states { IfOk result (λ found. IfSome found HasStates) }
     ensures reads { OnlyReads (D.medium disk.old) (D.medium disk.new) }
     ensures time { Elapses (D.medium disk.old) (D.medium disk.new) }
     ensures never_corrupt { ¬ (IsErrOf result StoreError.Corrupt) }
@@ -52,30 +53,21 @@ pub(crate) fn choose<D: Disk>(
     ensures fed { IsErrOf result StoreError.OutOfMemory → (D.medium disk.new).faults ≡ (D.medium disk.old).faults }
 {
     let sole = texts.len() <= 1;
-    if let Some((at, entries)) = first_qualifying(alloc, disk, shape, &texts)? {
-        let found = found_at(alloc, shape, slots, texts, at, true, sole, entries)?;
+    if let Some((at, read)) = first_qualifying(alloc, disk, shape, &texts)? {
+        let found = found_at(alloc, shape, slots, texts, at, true, sole, read)?;
         return Ok(Some(found));
     }
     if texts.is_empty() {
         return Ok(None);
     }
-    let entries = read_entries(
+    let read = read_entries(
         alloc,
         disk,
         shape.place,
         shape.m,
         texts[0].1.entries.as_slice(),
     )?;
-    let found = found_at(
-        alloc,
-        shape,
-        slots,
-        texts,
-        0,
-        false,
-        sole,
-        Sequence::new(entries),
-    )?;
+    let found = found_at(alloc, shape, slots, texts, 0, false, sole, read)?;
     Ok(Some(found))
 }
 
@@ -88,23 +80,25 @@ fn found_at(
     at: usize,
     opens: bool,
     sole: bool,
-    entries: Sequence<Entry>,
+    read: ReadEntries,
 ) -> Result<Found, AllocError>
     requires { at < length texts.items }
     ensures opens { IfOk result (λ found. found.opens ≡ opens) }
     ensures slots { IfOk result (λ found. found.slots ≡ slots) }
     ensures text { IfOk result (λ found. (found.seen, found.index)
         ≡ slice_index_or texts.items at (found.seen, found.index)) }
-    ensures view { IfOk result (λ found. found.view ≡ view_by shape.now found.seen sole entries) }
+    ensures view { IfOk result (λ found. found.view ≡ view_by shape.now found.seen sole read.entries) }
+    ensures states { IfOk result (λ found. found.states ≡ read.states) }
 {
     let mut texts = texts;
     let (seen, index) = texts.swap_remove(at);
-    let view = view_of(alloc, shape, &seen, sole, entries)?;
+    let view = view_of(alloc, shape, &seen, sole, read.entries)?;
     Ok(Found {
         opens,
         seen,
         index,
         view,
+        states: read.states,
         slots,
     })
 }
@@ -115,13 +109,14 @@ fn first_qualifying<D: Disk>(
     disk: &mut D,
     shape: &Shape,
     texts: &[(Seen, Index)],
-) -> Result<Option<(usize, Sequence<Entry>)>, StoreError>
+) -> Result<Option<(usize, ReadEntries)>, StoreError>
     requires shape { IsShape shape.now }
     requires fit { AllByRecursion (IsFit shape.now) texts.now }
     requires held { IsTrue D.told → AllByRecursion (IsHeldOn (D.medium disk.old).image shape.now) texts.now }
     ensures first { IsTrue D.told → IfOk result (λ found. IsFirstQualified
         (D.medium disk.old).image shape.now texts.now found) }
     ensures among { IfOk result (λ found. IfSome found (IsReadText shape.now.place.copies texts.now)) }
+    ensures states { IfOk result (λ found. IfSome found (λ f. AllZip AreOfEntry f.1.entries f.1.states.items)) }
     ensures reads { OnlyReads (D.medium disk.old) (D.medium disk.new) }
     ensures time { Elapses (D.medium disk.old) (D.medium disk.new) }
     ensures never_corrupt { ¬ (IsErrOf result StoreError.Corrupt) }
@@ -131,8 +126,8 @@ fn first_qualifying<D: Disk>(
 {
     for at in 0..texts.len() {
         let tried = try_text(alloc, disk, shape, &texts[at])?;
-        if let Some(entries) = tried {
-            return Ok(Some((at, entries)));
+        if let Some(read) = tried {
+            return Ok(Some((at, read)));
         }
     }
     Ok(None)
@@ -144,13 +139,14 @@ fn try_text<D: Disk>(
     disk: &mut D,
     shape: &Shape,
     text: &(Seen, Index),
-) -> Result<Option<Sequence<Entry>>, StoreError>
+) -> Result<Option<ReadEntries>, StoreError>
     requires shape { IsShape shape.now }
     requires fit { IsFit shape.now text.now }
     requires held { IsTrue D.told → IsHeldOn (D.medium disk.old).image shape.now text.now }
     ensures tried { IsTrue D.told → IfOk result (λ tried. IsTried (D.medium disk.old).image shape.now text.now tried) }
-    ensures read { IfOk result (λ tried. IfSome tried (λ entries.
-        AllZip (IsReadBy shape.now.place.copies) text.now.1.entries entries)) }
+    ensures read { IfOk result (λ tried. IfSome tried (λ read.
+        AllZip (IsReadBy shape.now.place.copies) text.now.1.entries read.entries)) }
+    ensures states { IfOk result (λ tried. IfSome tried (λ read. AllZip AreOfEntry read.entries read.states.items)) }
     ensures reads { OnlyReads (D.medium disk.old) (D.medium disk.new) }
     ensures time { Elapses (D.medium disk.old) (D.medium disk.new) }
     ensures never_corrupt { ¬ (IsErrOf result StoreError.Corrupt) }
@@ -162,11 +158,11 @@ fn try_text<D: Disk>(
     if seen.copies.as_slice().len() < shape.m as usize {
         return Ok(None);
     }
-    let entries = read_entries(alloc, disk, shape.place, shape.m, index.entries.as_slice())?;
-    if !is_supported(alloc, disk, shape, seen, index, &entries)? {
+    let read = read_entries(alloc, disk, shape.place, shape.m, index.entries.as_slice())?;
+    if !is_supported(alloc, disk, shape, seen, index, read.entries.as_slice())? {
         return Ok(None);
     }
-    Ok(Some(Sequence::new(entries)))
+    Ok(Some(read))
 }
 
 // Whether a text that enough copies hold qualifies.

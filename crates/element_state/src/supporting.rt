@@ -161,5 +161,5 @@ fn read_counted<D: Disk>(
         &entry.hash,
         1,
     )?;
-    Ok(blob.salvage.is_some())
+    Ok(blob.value.is_some())
 }

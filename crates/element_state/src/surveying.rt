@@ -9,7 +9,7 @@ ghost use Rattle.element_state.specs.Conditions.{IsShape};
 ghost use Rattle.element_state.specs.States.{store_at, salvage_of};
 ghost use Rattle.element_state.specs.Chosen.{chosen, opened_of};
 ghost use Rattle.element_state.specs.Read.{IsView};
-ghost use Rattle.element_state.specs.Surveys.{IsFoundView, IsViewedOn, found_text, opened_view};
+ghost use Rattle.element_state.specs.Surveys.{HasStates, IsFoundView, IsViewedOn, found_text, opened_view};
 
 use crate::choosing::choose;
 use crate::errors::StoreError;
@@ -18,6 +18,7 @@ use crate::shapes::{Shape, View};
 use disk_model::Disk;
 use guarded_cell::{Looked, Seen, Slots, look};
 use index_text::Index;
+use sha2::Sha256;
 use std::alloc::Global;
 
 /// A text that denotes a storage, with all that was read of it.
@@ -31,6 +32,9 @@ pub struct Found {
     pub index: Index,
     /// What it denotes.
     pub view: View,
+    /// Of each element of the view the states of the hasher after each 32 KiB of its content, in order; fewer where
+    /// memory was short, and none of a content that cannot be read.
+    pub states: Vec<Vec<Sha256>>,
     /// Which slots of the place hold a text.
     pub slots: Slots,
 }
@@ -63,6 +67,7 @@ pub fn survey<D: Disk>(
 
     // Whether the disk's bytes are modelled or not.
     ensures found { IfOk result (λ found. IfSome found (IsFoundView shape.now)) }
+    ensures states { IfOk result (λ found. IfSome found HasStates) }
 
     ensures quiet { OnOk result (Quiet (D.medium disk.new)) }
     ensures image { (D.medium disk.new).image ≡ (D.medium disk.old).image }

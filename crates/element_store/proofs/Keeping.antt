@@ -19,9 +19,10 @@ use Rattle.element_state.specs.Changes.{item_at, insert_item, without_item, entr
 use Rattle.element_state.specs.Changes.{touched}
 use Rattle.element_state.specs.Changes.{after_changes}
 use Rattle.element_state.specs.States.{fresh_entry, fresh_element}
-use Rattle.element_store.specs.declared.hashing.Hashed.{Hashed}
+use Rattle.block_files.specs.declared.hashing.Hashed.{Hashed}
 use Rattle.element_store.specs.declared.hashing.KeptStates.{KeptStates}
-use Rattle.element_store.specs.Hashing.{AreStatesOf, AreOfElement}
+use Rattle.block_files.specs.States.{AreStatesOf}
+use Rattle.element_store.specs.Hashing.{AreOfElement}
 use Rattle.element_store.proofs.InOrder.{eq_names, apart_without}
 use Rattle.element_store.proofs.Places.{fold_push}
 use Rattle.element_store.proofs.Traced.{other_without, other_insert}
@@ -142,11 +143,11 @@ pub touched_kept : (generation : ℕ) (name : List ℕ) (info : FileInfo) (es : 
     → All (AreOfElement es) ks → All (AreOfElement (map (touched generation name info) es)) ks
 touched_kept generation name info es ks all i d lt = kept_touched generation name info es (get_or ks i d) (all i d lt)
 
--- ---- the changes with their hashes, from one on
+-- ---- two lists side by side, from one place on
 
-pub zip_from : (R : Change → Hashed → Type 0) (changes : List Change) (at : ℕ) (one : Hashed) (rest : List Hashed)
-    → AllZip R (drop at changes) (one ∷ rest)
-    → (at < length changes) × ((d : Change) → R (get_or changes at d) one) × AllZip R (drop (suc at) changes) rest
+pub zip_from : {A B : Type 0} (R : A → B → Type 0) (xs : List A) (at : ℕ) (one : B) (rest : List B)
+    → AllZip R (drop at xs) (one ∷ rest)
+    → (at < length xs) × ((d : A) → R (get_or xs at d) one) × AllZip R (drop (suc at) xs) rest
 zip_from R [] zero one rest zip = absurd zip
 zip_from R [] (suc at) one rest zip = absurd zip
 zip_from R (c ∷ cs) zero one rest zip = (omega arith, (λ d. zip.0), zip.1)

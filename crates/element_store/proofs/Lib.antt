@@ -1,5 +1,4 @@
 pub mod Working
-mod States
 mod Keeping
 pub mod Alone
 pub mod Fulls
@@ -33,3 +32,4 @@ pub mod RebuiltKept
 mod Standing
 mod Room
 mod Finished
+mod ReadStates

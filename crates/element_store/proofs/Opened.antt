@@ -53,7 +53,6 @@ use Rattle.element_laws.specs.lemmas.Frames.{slot_no_area, area_no_slot}
 use Rattle.element_store.specs.declared.opening.OpeningPlan.{OpeningPlan}
 use Rattle.element_store.specs.declared.store.Store.{Store}
 use Rattle.element_store.specs.declared.hashing.KeptStates.{KeptStates}
-use Rattle.element_store.proofs.Keeping.{none_kept_of}
 use Rattle.element_store.specs.Mends.{IsAsBefore, IsWholeIn, AreShown, SparesOthers}
 use Rattle.element_store.specs.Opened.{IsOpeningPlan, IsFoundOn, OpensBy}
 use Rattle.element_store.specs.Stores.{IsUsed, view_in}
@@ -543,8 +542,8 @@ module _ (told : Bool) (start now image : Image) (shape : Shape) (r : OpeningPla
   opening_view alloc kept s e = ap (λ (x : Store). view_in x) e ∙ view_is alloc kept
       ∙ ap (λ (g : ℕ). whole_view shape g (map mended_entry r.before.entries)) (sym ready.generation)
 
-  used_now : (alloc : Global) (kept : Vec KeptStates Global) → kept.items ≡ [] → IsUsed told image (store alloc kept)
-  used_now alloc kept none = record {
+  used_now : (alloc : Global) → IsUsed told image (store alloc r.kept)
+  used_now alloc = record {
     memory = record {
       place = of.lies;
       shape = is;
@@ -553,14 +552,13 @@ module _ (told : Bool) (start now image : Image) (shape : Shape) (r : OpeningPla
       entries = subst (λ (fs : List Entry). AllZip (IsReadBy shape.place.copies) r.index.entries fs) (sym ready.entries)
           (read_mended shape.place.copies r.index.entries r.before.entries ready.read);
       taken = ready.taken;
-      kept = none_kept_of r.entries.items kept none;
+      kept = ready.kept;
     };
-    disk = λ tells. subst (λ (v : View). IsInUse shape image r.index v) (sym (view_is alloc kept)) (in_use tells);
+    disk = λ tells. subst (λ (v : View). IsInUse shape image r.index v) (sym (view_is alloc r.kept)) (in_use tells);
   }
 
-  pub opening_used : (alloc : Global) (kept : Vec KeptStates Global) → kept.items ≡ [] → (s : Store)
-      → s ≡ store alloc kept → IsUsed told image s
-  opening_used alloc kept none s e = subst (λ (x : Store). IsUsed told image x) (sym e) (used_now alloc kept none)
+  pub opening_used : (alloc : Global) (s : Store) → s ≡ store alloc r.kept → IsUsed told image s
+  opening_used alloc s e = subst (λ (x : Store). IsUsed told image x) (sym e) (used_now alloc)
 
 -- ---- what the moments of an opening ask
 

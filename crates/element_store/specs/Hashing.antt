@@ -1,20 +1,14 @@
 -- The states of the hasher on the way through contents, and which contents they are of.
-use Rattle.std.specs.Prelude.{◌≡◌, ◌*◌, ◌+◌, ◌<◌, ℕ, List, length, take, Some, slice_index_or, ⊤}
+use Rattle.std.specs.Prelude.{◌≡◌, ℕ, List, Some, ⊤}
 use Rattle.sha2.specs.Sha256.{sha256}
-use Rattle.sha2.specs.Hashers.{Holds256}
-use Rattle.sha2.specs.declared.Sha256.{Sha256}
 use Rattle.per_base.specs.declared.elements.Content.TheVariants.{Good}
 use Rattle.per_base.specs.declared.elements.Entry.{Entry}
 use Rattle.per_base.specs.declared.elements.Change.{Change}
 use Rattle.per_base.specs.declared.elements.Change.TheVariants.{Put, Remove, Touch}
+use Rattle.block_files.specs.States.{AreStatesOf}
+use Rattle.block_files.specs.declared.hashing.Hashed.{Hashed}
 use Rattle.element_state.specs.Changes.{entry_by_name}
-use Rattle.element_store.specs.declared.hashing.Hashed.{Hashed}
 use Rattle.element_store.specs.declared.hashing.KeptStates.{KeptStates}
-
--- each state is that of the hasher after that many times 32 KiB of the bytes
-abbrev pub AreStatesOf : (bytes : List ℕ) → List Sha256 → Type 0
-AreStatesOf bytes states = (i : ℕ) (d : Sha256) → i < length states
-    → Holds256 (slice_index_or states i d) (take (32768 * (i + 1)) bytes)
 
 -- the hash of what a change puts, and states on the way to it
 abbrev pub IsHashedAs : Change → Hashed → Type 0

@@ -1,6 +1,6 @@
 -- An opening: what it knows before it writes.
 use Rattle.std.specs.Prelude.{◌≡◌, map, true, Some, find}
-use Rattle.std.specs.List.{AllZip}
+use Rattle.std.specs.List.{All, AllZip}
 use Rattle.disk_model.specs.Image.{Image}
 use Rattle.guarded_cell.specs.declared.looking.Seen.{Seen}
 use Rattle.guarded_cell.specs.Seens.{IsSeenOn}
@@ -17,6 +17,7 @@ use Rattle.element_state.specs.Chosen.{IsFit, IsReadBy, opened_of}
 use Rattle.element_state.specs.Read.{IsView}
 use Rattle.element_state.specs.Reports.{reports}
 use Rattle.element_store.specs.declared.opening.OpeningPlan.{OpeningPlan}
+use Rattle.element_store.specs.Hashing.{AreOfElement}
 use Rattle.element_store.specs.Stores.{AreTaken}
 
 -- whether or not the disk is modelled: a text that fits, its view, and what follows from these
@@ -26,6 +27,7 @@ pub record IsOpeningPlan (shape : Shape) (r : OpeningPlan) : Type 0 where
   pub read : AllZip (IsReadBy shape.place.copies) r.index.entries r.before.entries
   pub view : IsView shape r.before
   pub entries : r.entries.items ≡ map mended_entry r.before.entries
+  pub kept : All (AreOfElement r.entries.items) r.kept.items
   pub reports : r.reports.items ≡ reports (λ bytes. true) shape r.before
   pub taken : AreTaken (area_blocks shape.allowed) r.index.entries r.used
 

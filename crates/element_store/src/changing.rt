@@ -21,11 +21,10 @@ ghost use Rattle.element_store.specs.Changing.{AreStandingEntries};
 ghost use Rattle.element_store.specs.Changing.{IsEarlierContent, IsPlanned, KeepsOthers, IsGrownBy, IsTraced};
 ghost use Rattle.element_store.specs.Changing.{touched_entry};
 
-use crate::hashing::Hashed;
 use crate::jobs::Job;
 use crate::named::{place_of, put_in, take_out};
 use crate::planning::{Plan, entry_of};
-use block_files::{BlockSet, reserve_hashed};
+use block_files::{BlockSet, Hashed, reserve_hashed};
 use index_text::IndexEntry;
 use per_base::{Change, Content, Entry, FileInfo, Fresh, Name, StoreKind};
 use std::alloc::{AllocError, Global};
@@ -50,6 +49,7 @@ struct Earlier<'a> {
 pub(crate) fn plan_changes<'a>(
     alloc: Global,
     standing: Standing<'a>,
+    spare: Vec<IndexEntry>,
     changes: &'a [Change],
     hashed: &[Hashed],
     used: &mut BlockSet,
@@ -68,7 +68,7 @@ pub(crate) fn plan_changes<'a>(
     ensures cost { IfOk result (λ plan.
         jobs_cost plan.jobs.items ≤ sum_by (change_cost standing.entry.kind standing.entry.entries.now) changes.now) }
 {
-    let entries = with_room(alloc, standing.index, changes.len())?;
+    let entries = with_room(alloc, standing.index, spare, changes.len())?;
     let jobs = Vec::new(alloc);
     let mut plan = Plan { entries, jobs };
     for (i, change) in changes.iter().enumerate() {
@@ -77,10 +77,12 @@ pub(crate) fn plan_changes<'a>(
     Ok(plan)
 }
 
-// Copies of the entries, with room for that many more.
+// Copies of the entries, with room for that many more. Spare entries are taken in place of copies where they are the
+// same.
 fn with_room(
     alloc: Global,
     entries: &[IndexEntry],
+    spare: Vec<IndexEntry>,
     more: usize,
 ) -> Result<Vec<IndexEntry>, AllocError>
     requires { length entries.now + more < 2 ^ 64 }
@@ -88,10 +90,30 @@ fn with_room(
     ensures room { IfOk result (λ copies. vec_len copies + more ≤ vec_capacity copies) }
 {
     let mut copies = Vec::with_capacity(alloc, entries.len() + more)?;
+    let mut spare = spare.into_iter();
     for entry in entries {
-        copies.push(entry.copy()?)?;
+        copies.push(copy_over(entry, spare.next())?)?;
     }
     Ok(copies)
+}
+
+// A copy of the entry, which takes the name and the blocks of a spare one where they are the same.
+fn copy_over(entry: &IndexEntry, spare: Option<IndexEntry>) -> Result<IndexEntry, AllocError>
+    ensures { IfOk result (λ copy. copy ≡ entry.now) }
+{
+    if let Some(spare) = spare {
+        if spare.name == entry.name && spare.blocks.as_slice() == entry.blocks.as_slice() {
+            return Ok(IndexEntry {
+                name: spare.name,
+                info: entry.info,
+                changed: entry.changed,
+                len: entry.len,
+                hash: entry.hash,
+                blocks: spare.blocks,
+            });
+        }
+    }
+    entry.copy()
 }
 
 // Plans one change after others.

@@ -20,14 +20,14 @@ ghost use Rattle.element_store.specs.Stores.{IsStore, IsUsed, store_shape, view_
 
 use crate::changing::{Standing, plan_changes};
 use crate::creating::fresh_entry;
-use crate::hashing::{Hashed, kept_after};
+use crate::hashing::kept_after;
 use crate::jobs::{Job, write_durably};
 use crate::named::{place_of, put_in, take_out};
 use crate::planning::Plan;
 use crate::spelling::{Spelled, spell};
 use crate::store::Store;
 use crate::taking::release_replaced;
-use block_files::BlockSet;
+use block_files::{BlockSet, Hashed};
 use disk_model::Disk;
 use element_laws::{contents_keep, index_keeps, untouched_is_kept, use_is_adopted};
 use element_state::StoreError;
@@ -157,14 +157,12 @@ impl Store {
         let Ok(cell) = cell.write_in(disk, text.as_slice(), &mut room) else {
             return Err(Fault::Device);
         };
-        release_replaced(
-            &mut used,
-            standing.entries.as_slice(),
-            index.entries.as_slice(),
-        );
+        release_replaced(&mut used, standing.entries(), index.entries.as_slice());
         let kept = kept_after(kept, &changes, hashed);
         let entries = changed(alloc, cell.generation(), moved(entries, roomy), changes);
-        Ok(Store::new(alloc, shape, cell, index, entries, used, kept))
+        let store = Store::new(alloc, shape, cell, index, entries, used, kept);
+        store.index.keep_spare(standing);
+        Ok(store)
     }
 
     // Allocates all that the commit needs, and then makes the contents durable in blocks outside those of the index.
@@ -228,12 +226,15 @@ impl Store {
         let standing = Standing {
             kind: self.shape.kind,
             generation: self.cell.generation() + 1,
-            index: self.index.entries.as_slice(),
+            index: self.index.entries(),
             entries: self.entries.as_slice(),
         };
         let mut used = self.used.copy()?;
         let hashed = self.hash_changes(changes)?;
-        let Plan { entries, jobs } = plan_changes(alloc, standing, changes, &hashed, &mut used)?;
+        let spare = self.index.take_spare(alloc);
+        let Plan { entries, jobs } = plan_changes(
+            alloc, standing, spare, changes, &hashed, &mut used,
+        )?;
         let Spelled { index, text } = spell(alloc, standing.kind, entries)?;
         let room = Cell::room(alloc, text.len())?;
         let entries = Vec::with_capacity(alloc, standing.entries.len() + changes.len())?;
@@ -256,10 +257,9 @@ fn moved(entries: Vec<Entry>, roomy: Vec<Entry>) -> Vec<Entry>
     ensures items { result.items ≡ entries.items }
     ensures capacity { vec_capacity roomy ≤ vec_capacity result }
 {
+    let mut entries = entries;
     let mut roomy = roomy;
-    for entry in entries {
-        let _ = roomy.push(entry);
-    }
+    let _ = roomy.append(&mut entries);
     roomy
 }
 

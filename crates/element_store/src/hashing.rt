@@ -1,43 +1,28 @@
-//! Hashes of contents, taken from where a content begins to differ from the one that stands.
+//! The hashes of what changes put, and the states of the hasher that are kept of contents.
 
-ghost use Rattle.std.specs.Prelude.{◌≡◌, ◌<◌, ◌≤◌, ◌*◌, ◌+◌, ◌++◌, ℕ, List, IfOk, length, take, filter, not};
+ghost use Rattle.std.specs.Prelude.{◌≡◌, ℕ, List, IfOk, filter, not};
 ghost use Rattle.std.specs.List.{All, AllZip};
 ghost use Rattle.std.specs.Str.{bytes_eq};
-ghost use Rattle.sha2.specs.Sha256.{sha256};
-ghost use Rattle.sha2.specs.Hashers.{Holds256};
 ghost use Rattle.per_base.specs.declared.elements.Entry.{Entry};
-ghost use Rattle.element_state.specs.Changes.{after_change, after_changes};
+ghost use Rattle.per_base.specs.Names.{NamesAscend};
+ghost use Rattle.block_files.specs.States.{AreStatesOf};
+ghost use Rattle.element_state.specs.Changes.{after_change, after_changes, entry_name};
+ghost use Rattle.element_state.specs.Surveys.{AreOfEntry};
 ghost use Rattle.element_store.specs.declared.hashing.KeptStates.{KeptStates};
-ghost use Rattle.element_store.specs.Hashing.{AreStatesOf, IsHashedAs, AreOfElement};
+ghost use Rattle.element_store.specs.Hashing.{IsHashedAs, AreOfElement};
 ghost use Rattle.element_store.specs.Stores.{IsStore};
 
 use crate::store::Store;
-use per_base::{Change, Content, Name};
-use sha2::{Digest, Sha256};
+use block_files::{Hashed, HashedParts, hash_beside, nothing_known};
+use per_base::{Change, Content, Entry, Name};
+use sha2::Sha256;
 use std::alloc::{AllocError, Global};
-
-/// How many bytes there are from one state to the next.
-const STEP: usize = 32_768;
 
 /// States of the hasher after each 32 KiB of the content of an element.
 #[derive(Debug, Drop)]
 pub(crate) struct KeptStates {
     pub(crate) name: Name,
     pub(crate) states: Vec<Sha256>,
-}
-
-/// The hash of a content, and the states of the hasher on the way to it.
-#[derive(Drop)]
-pub(crate) struct Hashed {
-    pub(crate) hash: [u8; 32],
-    pub(crate) states: Vec<Sha256>,
-}
-
-/// A content that stands, and states of the hasher after parts of it.
-#[derive(Clone, Copy)]
-struct Known<'a> {
-    bytes: &'a [u8],
-    states: &'a [Sha256],
 }
 
 impl Store {
@@ -69,7 +54,7 @@ impl Store {
     }
 
     // What is known of the content of an element; of no bytes where nothing is.
-    fn known(&self, name: &Name) -> Known<'_>
+    fn known(&self, name: &Name) -> HashedParts<'_>
         requires { IsStore self.now }
         ensures { AreStatesOf result.bytes.now result.states.now }
     {
@@ -78,34 +63,25 @@ impl Store {
                 return self.known_of(kept);
             }
         }
-        nothing()
+        nothing_known()
     }
 
     // The content of the element for which states are kept.
-    fn known_of<'a>(&'a self, kept: &'a KeptStates) -> Known<'a>
+    fn known_of<'a>(&'a self, kept: &'a KeptStates) -> HashedParts<'a>
         requires store { IsStore self.now }
         requires kept { AreOfElement self.now.entries.items kept.now }
         ensures { AreStatesOf result.bytes.now result.states.now }
     {
         let Some(entry) = self.entry(&kept.name) else {
-            return nothing();
+            return nothing_known();
         };
         let Content::Good(bytes) = &entry.content else {
-            return nothing();
+            return nothing_known();
         };
-        Known {
+        HashedParts {
             bytes: bytes.as_slice(),
             states: kept.states.as_slice(),
         }
-    }
-}
-
-fn nothing<'a>() -> Known<'a>
-    ensures { AreStatesOf result.bytes.now result.states.now }
-{
-    Known {
-        bytes: &[],
-        states: &[],
     }
 }
 
@@ -117,100 +93,19 @@ fn no_hash(alloc: Global) -> Hashed {
     }
 }
 
-// The hash of bytes, from the last state on that is one of theirs too.
-fn hash_beside(alloc: Global, bytes: &[u8], known: Known<'_>) -> Hashed
-    requires { AreStatesOf known.bytes.now known.states.now }
-    ensures hash { result.hash ≡ sha256 bytes.now }
-    ensures states { AreStatesOf bytes.now result.states.items }
+// What is kept of elements that were read, each with its states.
+pub(crate) fn kept_of(alloc: Global, entries: &[Entry], states: Vec<Vec<Sha256>>) -> Vec<KeptStates>
+    requires ascend { NamesAscend entry_name entries.now }
+    requires states { AllZip AreOfEntry entries.now states.items }
+    ensures { All (AreOfElement entries.now) result.items }
 {
-    let shared = count_shared(bytes, known.bytes, known.states.len());
-    let shared_states = &known.states[..shared];
-    hash_from(alloc, bytes, shared_states)
-}
-
-// How many steps of the bytes are those of others; it looks at no more than that many.
-fn count_shared(bytes: &[u8], others: &[u8], most: usize) -> usize
-    ensures most { result ≤ most }
-    ensures inside { 32768 * result ≤ length bytes.now }
-    ensures shared { take (32768 * result) bytes.now ≡ take (32768 * result) others.now }
-{
-    let whole = most.min(bytes.len() / STEP).min(others.len() / STEP);
-    for i in 0..whole {
-        if step_of(bytes, i) != step_of(others, i) {
-            return i;
-        }
+    let mut kept = Vec::new(alloc);
+    let mut at: usize = 0;
+    for one in states {
+        remember(&mut kept, &entries[at].name, one);
+        at += 1;
     }
-    whole
-}
-
-// The bytes from one state to the next.
-fn step_of(bytes: &[u8], i: usize) -> &[u8]
-    requires { 32768 * (i + 1) ≤ length bytes.now }
-    ensures { take (32768 * i) bytes.now ++ result.now ≡ take (32768 * (i + 1)) bytes.now }
-{
-    &bytes[STEP * i..STEP * (i + 1)]
-}
-
-// The hash of bytes of which these are states.
-fn hash_from(alloc: Global, bytes: &[u8], states: &[Sha256]) -> Hashed
-    requires states { AreStatesOf bytes.now states.now }
-    requires inside { 32768 * length states.now ≤ length bytes.now }
-    ensures hash { result.hash ≡ sha256 bytes.now }
-    ensures states { AreStatesOf bytes.now result.states.items }
-{
-    let whole = bytes.len() / STEP;
-    let mut kept = copied(alloc, states, whole);
-    let mut hasher = hasher_after(bytes, states);
-    for i in states.len()..whole {
-        hasher.update(step_of(bytes, i));
-        keep_state(&mut kept, i, &hasher);
-    }
-    hasher.update(&bytes[STEP * whole..]);
-    Hashed {
-        hash: hasher.finalize(),
-        states: kept,
-    }
-}
-
-// The hasher after the last of these states.
-fn hasher_after(bytes: &[u8], states: &[Sha256]) -> Sha256
-    requires states { AreStatesOf bytes.now states.now }
-    requires inside { 32768 * length states.now ≤ length bytes.now }
-    ensures { Holds256 result (take (32768 * length states.now) bytes.now) }
-{
-    if !states.is_empty() {
-        if let Ok(state) = states[states.len() - 1].clone() {
-            return state;
-        }
-    }
-    Sha256::new_with_prefix(&bytes[..STEP * states.len()])
-}
-
-// Copies of states, in a list with room for that many; where memory is short, of none or of fewer.
-fn copied(alloc: Global, states: &[Sha256], room: usize) -> Vec<Sha256>
-    ensures { (bytes : List ℕ) → AreStatesOf bytes states.now → AreStatesOf bytes result.items }
-{
-    let mut copies = match Vec::with_capacity(alloc, room) {
-        Ok(copies) => copies,
-        Err(_) => Vec::new(alloc),
-    };
-    for (i, state) in states.iter().enumerate() {
-        keep_state(&mut copies, i, state);
-    }
-    copies
-}
-
-// Keeps the state after a step where those before it are kept, and memory lasts.
-fn keep_state(states: &mut Vec<Sha256>, at: usize, state: &Sha256)
-    ensures { (bytes : List ℕ) → AreStatesOf bytes states.old.items
-        → Holds256 state.now (take (32768 * (at + 1)) bytes) → AreStatesOf bytes states.new.items }
-{
-    if states.len() != at {
-        return;
-    }
-    if let Ok(state) = state.clone() {
-        let _ = states.push(state);
-    }
+    kept
 }
 
 // What is kept after the changes.

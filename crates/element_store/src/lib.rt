@@ -11,10 +11,10 @@
 //! nothing; [`reports_of`] gives what an opening reports of a view, and [`failed_report`] what it reports of a corrupt
 //! storage.
 //!
-//! A storage in use keeps the states of the hasher after each 32 KiB of the contents that it wrote, 104 bytes each, so
-//! that the next content of such an element is hashed from the last of them before the first byte that differs. Of a
-//! content that an opening read it keeps none: the first commit that changes it hashes it whole. Where memory is short
-//! it keeps fewer, and hashes more.
+//! A storage in use keeps the states of the hasher after each 32 KiB of the contents that an opening read or a commit
+//! wrote, 104 bytes each, so that the next content of such an element is hashed from the last of them before the first
+//! byte that differs. Where memory is short it keeps fewer, and hashes more. It keeps the names of the index that its
+//! last commit replaced, which the next index takes in place of copies.
 //!
 //! The promise, on every image: the exact view, a quiet disk, a place that is clean where it was so or is rebuilt,
 //! and no file elsewhere changed at any moment. A stop at any moment of an opening, a commit or a rebuild leaves the
@@ -32,6 +32,7 @@ mod creating;
 mod hashing;
 mod jobs;
 mod laws;
+mod listed;
 mod mending;
 mod named;
 mod opening;

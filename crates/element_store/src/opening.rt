@@ -17,6 +17,7 @@ ghost use Rattle.element_store.specs.Committing.{index_in};
 ghost use Rattle.element_store.specs.Mends.{IsAsBefore};
 ghost use Rattle.element_store.specs.Stores.{IsUsed, store_shape, view_in};
 
+use crate::hashing::{KeptStates, kept_of};
 use crate::mending::{mend_durably, mended_entries};
 use crate::reporting::reports_of;
 use crate::store::Store;
@@ -116,13 +117,14 @@ pub fn open_store<D: Disk>(
         index,
         before,
         entries,
+        kept,
         reports,
         used,
     } = prepare(alloc, disk, &shape)?;
     let cell = adopt_seen(alloc, disk, shape.place, &seen, slots)?;
     mend_durably(disk, &shape, &index, before.entries.as_slice())?;
     Ok(OpenedStore {
-        store: Store::new(alloc, shape, cell, index, entries, used, Vec::new(alloc)),
+        store: Store::new(alloc, shape, cell, index, entries, used, kept),
         reports,
         before,
     })
@@ -137,6 +139,8 @@ struct OpeningPlan {
     before: View,
     /// The elements once they are mended.
     entries: Vec<Entry>,
+    /// States of the hasher after parts of contents.
+    kept: Vec<KeptStates>,
     reports: Vec<Report>,
     /// The blocks of the index.
     used: BlockSet,
@@ -167,6 +171,7 @@ fn prepare<D: Disk>(alloc: Global, disk: &mut D, shape: &Shape) -> Result<Openin
             seen,
             index,
             view,
+            states,
             slots,
         },
     ) = survey(alloc, disk, shape)?
@@ -174,6 +179,7 @@ fn prepare<D: Disk>(alloc: Global, disk: &mut D, shape: &Shape) -> Result<Openin
         return Err(StoreError::Corrupt);
     };
     let entries = mended_entries(alloc, view.entries.as_slice())?;
+    let kept = kept_of(alloc, &entries, states);
     let reports = reports_of(alloc, shape, &view)?;
     let used = blocks_taken_by(alloc, blocks_in_area(shape), index.entries.as_slice())?;
     Ok(OpeningPlan {
@@ -182,6 +188,7 @@ fn prepare<D: Disk>(alloc: Global, disk: &mut D, shape: &Shape) -> Result<Openin
         index,
         before: view,
         entries,
+        kept,
         reports,
         used,
     })

@@ -3,6 +3,7 @@
 ghost use Rattle.std.specs.Prelude.{◌≡◌};
 
 use crate::hashing::KeptStates;
+use crate::listed::Listed;
 use crate::named::place_of;
 use block_files::BlockSet;
 use element_state::Shape;
@@ -17,7 +18,7 @@ pub struct Store {
     pub(crate) alloc: Global,
     pub(crate) shape: Shape,
     pub(crate) cell: Cell,
-    pub(crate) index: Index,
+    pub(crate) index: Listed,
     pub(crate) entries: Vec<Entry>,
     /// The blocks of the index.
     pub(crate) used: BlockSet,
@@ -57,7 +58,7 @@ impl Store {
             alloc,
             shape,
             cell,
-            index,
+            index: Listed::new(alloc, index),
             entries,
             used,
             kept,

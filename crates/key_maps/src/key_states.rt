@@ -55,6 +55,17 @@ impl KeyState {
         ensures synced { self.new ≡ record { synced = visible_of self.old; pending = Same } }
         ensures there { result ≡ is_some (visible_of self.old) }
     {
+        if let Pending::Same = &self.pending {
+            return self.synced.is_some();
+        }
+        self.conclude()
+    }
+
+    /// The same where something is pending.
+    fn conclude(&mut self) -> bool
+        ensures synced { self.new ≡ record { synced = visible_of self.old; pending = Same } }
+        ensures there { result ≡ is_some (visible_of self.old) }
+    {
         match mem::replace(&mut self.pending, Pending::Same) {
             Pending::Same => {}
             Pending::Removed => drop(self.synced.take()),

@@ -1,10 +1,11 @@
-use Rattle.std.proofs.Common.{◌*◌, ◌∙◌, ℕ, List, min, length, sym, subst}
+use Rattle.std.proofs.Common.{◌*◌, ◌∙◌, ℕ, List, min, length, sym, ap, subst}
 use Rattle.std.specs.Option.{option_map}
 use Rattle.std.proofs.lemmas.List.{length-map}
 use Rattle.m_of_n.specs.Vote.{texts_of}
 use Rattle.block_files.specs.BlockSets.{Ascend}
-use Rattle.block_files.specs.Contents.{AreCopies}
-use Rattle.block_files.proofs.Counting.{lacking_is, lacking_copies, lacking_ascend, voted_size, first_size}
+use Rattle.block_files.specs.Contents.{first_content, unvoted, AreCopies}
+use Rattle.block_files.proofs.Counting.{lacking_is, lacking_copies, lacking_ascend, voted_size}
+use Rattle.block_files.proofs.First.{unvoted_size}
 use Rattle.block_files.proofs.getting.get_blob.Goals as goal
 
 pub returns-clause-lacking : goal.returns-clause-lacking
@@ -16,6 +17,11 @@ returns-clause-lacking g c = λ tells.
     c.in_ok-looked.looked.inside.items
     (c.in_ok-looked.ensures.texts tells) (c.in_ok-looked.ensures.inside tells)
 
+pub returns-clause-salvage : goal.returns-clause-salvage
+returns-clause-salvage g c = λ tells.
+    c.in_ok-blob.ensures.salvage
+    ∙ ap (λ given. unvoted c.in_ok-blob.blob.value (first_content given)) (c.in_ok-looked.ensures.texts tells)
+
 pub returns-clause-size : goal.returns-clause-size
 returns-clause-size g c =
     voted_size (min c.args.len (256 * length c.args.blocks.now)) c.args.m (texts_of c.in_ok-looked.looked.texts.items)
@@ -24,8 +30,8 @@ returns-clause-size g c =
 
 pub returns-clause-salvage_size : goal.returns-clause-salvage_size
 returns-clause-salvage_size g c =
-    first_size (min c.args.len (256 * length c.args.blocks.now)) (texts_of c.in_ok-looked.looked.texts.items)
-    c.in_ok-blob.blob.salvage
+    unvoted_size (min c.args.len (256 * length c.args.blocks.now)) (texts_of c.in_ok-looked.looked.texts.items)
+    c.in_ok-blob.blob.value c.in_ok-blob.blob.salvage
     c.in_ok-blob.ensures.salvage c.in_ok-looked.ensures.size
 
 pub returns-clause-copies : goal.returns-clause-copies

@@ -4,6 +4,7 @@ use Rattle.disk_model.specs.Place.{area}
 use Rattle.m_of_n.specs.Vote.{texts_of}
 use Rattle.block_files.specs.Areas.{has_all_bytes}
 use Rattle.block_files.specs.Contents.{HaveSize}
+use Rattle.block_files.specs.States.{AreOfFirst}
 use Rattle.block_files.proofs.Counting.{contents_of}
 use Rattle.block_files.proofs.BlockReads.{IsRead}
 use Rattle.block_files.proofs.reading.look.Given as goal
@@ -18,4 +19,5 @@ invariant-loop-copy g l = record {
       (range_with_len 0 l.copy);
   copies : (length l.texts.items ≡ l.copy) × (length l.inside.items ≡ l.copy);
   size : HaveSize (min l.len (256 * length l.blocks)) (texts_of l.texts.items);
+  states : AreOfFirst (texts_of l.texts.items) l.states.items;
 }

@@ -9,12 +9,14 @@ use Rattle.disk_model.specs.Image.{Image}
 use Rattle.per_base.specs.declared.elements.Entry.{Entry}
 use Rattle.index_text.specs.declared.entries.IndexEntry.{IndexEntry}
 use Rattle.index_text.specs.Rules.{IsEntry}
+use Rattle.element_state.specs.declared.reading.ReadEntries.{ReadEntries}
 use Rattle.element_state.specs.Fit.{FitText}
 use Rattle.element_state.specs.Views.{entry_view, entries_seen}
 use Rattle.element_state.specs.Chosen.{HasBlocks, IsFit, IsReadBy}
-use Rattle.element_state.specs.Surveys.{IsFirstQualified, IsReadText}
+use Rattle.element_state.specs.Surveys.{AreOfEntry, IsFirstQualified, IsReadText}
 use Rattle.element_state.specs.lemmas.Entrywise.{all_at, all_less}
-use Rattle.element_state.proofs.Finding.{chosen_by, chosen_first, chosen_none, found_chosen, found_read, found_viewed}
+use Rattle.element_state.proofs.Finding.{chosen_by, chosen_first, chosen_none}
+use Rattle.element_state.proofs.Finding.{found_chosen, found_read, found_states, found_viewed}
 use Rattle.element_state.proofs.choosing.choose.Goals as goal
 
 pub returns-in-Some-clause-chosen : goal.returns-in-Some-clause-chosen
@@ -24,9 +26,9 @@ returns-in-Some-clause-chosen g c = λ tells.
     let texts = c.args.texts.items in
     let f = c.in_ok-found.found in
     let d : FitText = (f.seen, f.index) in
-    let given = subst (λ (o : Option (ℕ × List Entry)). IsFirstQualified old shape c.deref.result.now o) c.in-Some.is
+    let given = subst (λ (o : Option (ℕ × ReadEntries)). IsFirstQualified old shape c.deref.result.now o) c.in-Some.is
     (c.in_ok-at.ensures.first tells) in
-    let first = subst (λ (ts : List FitText). IsFirstQualified old shape ts (Some (c.in-Some.at, c.in-Some.entries)))
+    let first = subst (λ (ts : List FitText). IsFirstQualified old shape ts (Some (c.in-Some.at, c.in-Some.read)))
     c.deref.ensures.value given in
     found_chosen f true (get_or texts c.in-Some.at d) c.in_ok-found.ensures.opens c.in_ok-found.ensures.text
     ∙ sym (chosen_by old shape texts (c.requires.texts tells) (Some (get_or texts c.in-Some.at d)) (first d).0)
@@ -39,19 +41,19 @@ returns-in-Some-clause-viewed g c = λ tells.
     let f = c.in_ok-found.found in
     let d : FitText = (f.seen, f.index) in
     let at = c.in-Some.at in
-    let given = subst (λ (o : Option (ℕ × List Entry)). IsFirstQualified old shape c.deref.result.now o) c.in-Some.is
+    let given = subst (λ (o : Option (ℕ × ReadEntries)). IsFirstQualified old shape c.deref.result.now o) c.in-Some.is
     (c.in_ok-at.ensures.first tells) in
-    let first = subst (λ (ts : List FitText). IsFirstQualified old shape ts (Some (at, c.in-Some.entries)))
+    let first = subst (λ (ts : List FitText). IsFirstQualified old shape ts (Some (at, c.in-Some.read)))
     c.deref.ensures.value
     given in
-    let inside = subst (λ (o : Option (ℕ × List Entry)). IfSome o (IsReadText shape.place.copies c.deref.result.now))
+    let inside = subst (λ (o : Option (ℕ × ReadEntries)). IfSome o (IsReadText shape.place.copies c.deref.result.now))
     c.in-Some.is c.in_ok-at.ensures.among in
-    let among = subst (λ (ts : List FitText). IsReadText shape.place.copies ts (at, c.in-Some.entries))
+    let among = subst (λ (ts : List FitText). IsReadText shape.place.copies ts (at, c.in-Some.read))
     c.deref.ensures.value inside in
     let long : c.len-sole.result ≡ length texts = omega (arith, c.len-sole.ensures, c.args.texts.ok) in
     let chose = found_chosen f true (get_or texts at d) c.in_ok-found.ensures.opens c.in_ok-found.ensures.text
     ∙ sym (chosen_by old shape texts (c.requires.texts tells) (Some (get_or texts at d)) (first d).0) in
-    found_viewed shape texts f at (nat_le c.len-sole.result 1) c.in-Some.entries among.0 c.in_ok-found.ensures.text
+    found_viewed shape texts f at (nat_le c.len-sole.result 1) c.in-Some.read.entries among.0 c.in_ok-found.ensures.text
     c.in_ok-found.ensures.view old
     (c.requires.texts tells) (c.requires.held tells) (ap (λ (n : ℕ). nat_le n 1) long)
     ((first d).1 ∙ ap (λ (t : FitText). entries_seen old shape t) (sym c.in_ok-found.ensures.text)) chose
@@ -62,20 +64,27 @@ returns-in-Some-clause-found g c =
     let texts = c.args.texts.items in
     let f = c.in_ok-found.found in
     let at = c.in-Some.at in
-    let inside = subst (λ (o : Option (ℕ × List Entry)). IfSome o (IsReadText shape.place.copies c.deref.result.now))
+    let inside = subst (λ (o : Option (ℕ × ReadEntries)). IfSome o (IsReadText shape.place.copies c.deref.result.now))
     c.in-Some.is c.in_ok-at.ensures.among in
-    let among = subst (λ (ts : List FitText). IsReadText shape.place.copies ts (at, c.in-Some.entries))
+    let among = subst (λ (ts : List FitText). IsReadText shape.place.copies ts (at, c.in-Some.read))
     c.deref.ensures.value inside in
-    found_read shape texts f at (nat_le c.len-sole.result 1) c.in-Some.entries among.0 c.in_ok-found.ensures.text
+    found_read shape texts f at (nat_le c.len-sole.result 1) c.in-Some.read.entries among.0 c.in_ok-found.ensures.text
     c.in_ok-found.ensures.view
     c.requires.fit (among.1 (f.seen, f.index))
+
+pub returns-in-Some-clause-states : goal.returns-in-Some-clause-states
+returns-in-Some-clause-states g c =
+    let all = subst (λ (o : Option (ℕ × ReadEntries)). IfSome o (λ f. AllZip AreOfEntry f.1.entries f.1.states.items))
+    c.in-Some.is c.in_ok-at.ensures.states in
+    found_states c.args.shape.now c.in_ok-found.found c.in-Some.read (nat_le c.len-sole.result 1)
+    c.in_ok-found.ensures.view c.in_ok-found.ensures.states all
 
 pub returns-then-is_empty-clause-chosen : goal.returns-then-is_empty-clause-chosen
 returns-then-is_empty-clause-chosen g c = λ tells.
     let old = (g.D.Disk.medium c.args.disk.now).image in
     let shape = c.args.shape.now in
     let texts = c.args.texts.items in
-    let given = subst (λ (o : Option (ℕ × List Entry)). IsFirstQualified old shape c.deref.result.now o) c.in_default.is
+    let given = subst (λ (o : Option (ℕ × ReadEntries)). IsFirstQualified old shape c.deref.result.now o) c.in_default.is
     (c.in_ok-at.ensures.first tells) in
     let first = subst (λ (ts : List FitText). IsFirstQualified old shape ts None) c.deref.ensures.value given in
     let zero : c.args.texts.len ≡ 0 = eqb-true c.args.texts.len 0 (sym c.if-is_empty.ensures) in
@@ -101,7 +110,7 @@ returns-clause-chosen g c = λ tells.
     let texts = c.args.texts.items in
     let f = c.in_ok-found-2.found in
     let d : FitText = (f.seen, f.index) in
-    let given = subst (λ (o : Option (ℕ × List Entry)). IsFirstQualified old shape c.deref.result.now o) c.in_default.is
+    let given = subst (λ (o : Option (ℕ × ReadEntries)). IsFirstQualified old shape c.deref.result.now o) c.in_default.is
     (c.in_ok-at.ensures.first tells) in
     let first = subst (λ (ts : List FitText). IsFirstQualified old shape ts None) c.deref.ensures.value given in
     let some : c.args.texts.len ≢ 0 = (λ e. never_both (c.args.texts.len == 0) (eq-eqb c.args.texts.len 0 e)
@@ -118,7 +127,7 @@ returns-clause-viewed g c = λ tells.
     let f = c.in_ok-found-2.found in
     let d : FitText = (f.seen, f.index) in
     let x = c.index.result.now in
-    let given = subst (λ (o : Option (ℕ × List Entry)). IsFirstQualified old shape c.deref.result.now o) c.in_default.is
+    let given = subst (λ (o : Option (ℕ × ReadEntries)). IsFirstQualified old shape c.deref.result.now o) c.in_default.is
     (c.in_ok-at.ensures.first tells) in
     let first = subst (λ (ts : List FitText). IsFirstQualified old shape ts None) c.deref.ensures.value given in
     let some : c.args.texts.len ≢ 0 = (λ e. never_both (c.args.texts.len == 0) (eq-eqb c.args.texts.len 0 e)
@@ -128,12 +137,12 @@ returns-clause-viewed g c = λ tells.
     ∙ sym (chosen_first old shape texts (c.requires.texts tells) d first lt) in
     let long : c.len-sole.result ≡ length texts = omega (arith, c.len-sole.ensures, c.args.texts.ok) in
     let same : x ≡ d = c.index.ensures ∙ get_or_default texts 0 x d lt ∙ sym c.in_ok-found-2.ensures.text in
-    let reads = c.new.ensures ∙ c.in_ok-entries.ensures.views tells
+    let reads = c.in_ok-read.ensures.views tells
     ∙ ap (λ (image : Image). map (entry_view image shape.place shape.m) c.as_slice.result.now)
     c.first_qualifying.ensures.reads.image
     ∙ ap (λ (es : List IndexEntry). map (entry_view old shape.place shape.m) es) c.as_slice.ensures
     ∙ ap (λ (t : FitText). entries_seen old shape t) same in
-    found_viewed shape texts f 0 (nat_le c.len-sole.result 1) c.new.result lt c.in_ok-found-2.ensures.text
+    found_viewed shape texts f 0 (nat_le c.len-sole.result 1) c.in_ok-read.read.entries lt c.in_ok-found-2.ensures.text
     c.in_ok-found-2.ensures.view old
     (c.requires.texts tells) (c.requires.held tells) (ap (λ (n : ℕ). nat_le n 1) long) reads chose
 
@@ -149,9 +158,12 @@ returns-clause-found g c =
     let lt : 0 < length texts = omega (arith, some, c.args.texts.ok) in
     let same : x ≡ get_or texts 0 d = c.index.ensures ∙ get_or_default texts 0 x d lt in
     let R = λ (es : List IndexEntry) (fs : List Entry). AllZip (IsReadBy shape.place.copies) es fs in
-    let read = subst (λ (fs : List Entry). R x.1.entries fs) (sym c.new.ensures)
-    (subst (λ (es : List IndexEntry). R es c.in_ok-entries.entries.items) c.as_slice.ensures
-    c.in_ok-entries.ensures.read) in
-    found_read shape texts f 0 (nat_le c.len-sole.result 1) c.new.result lt c.in_ok-found-2.ensures.text
+    let read = subst (λ (es : List IndexEntry). R es c.in_ok-read.read.entries) c.as_slice.ensures
+    c.in_ok-read.ensures.read in
+    found_read shape texts f 0 (nat_le c.len-sole.result 1) c.in_ok-read.read.entries lt c.in_ok-found-2.ensures.text
     c.in_ok-found-2.ensures.view
-    c.requires.fit (subst (λ (t : FitText). R t.1.entries c.new.result) same read)
+    c.requires.fit (subst (λ (t : FitText). R t.1.entries c.in_ok-read.read.entries) same read)
+
+pub returns-clause-states : goal.returns-clause-states
+returns-clause-states g c = found_states c.args.shape.now c.in_ok-found-2.found c.in_ok-read.read
+    (nat_le c.len-sole.result 1) c.in_ok-found-2.ensures.view c.in_ok-found-2.ensures.states c.in_ok-read.ensures.states

@@ -20,7 +20,7 @@ read_entries-requires-clause-blocks g c =
 
 pub is_supported-requires-clause-length : goal.is_supported-requires-clause-length
 is_supported-requires-clause-length g c =
-    ap length c.deref.ensures.value
-    ∙ length_zip (IsReadBy c.args.shape.now.place.copies) c.as_slice-2.result.now c.in_ok-entries.entries.items
-    c.in_ok-entries.ensures.read
+    ap length c.as_slice-3.ensures
+    ∙ length_zip (IsReadBy c.args.shape.now.place.copies) c.as_slice-2.result.now c.in_ok-read.read.entries
+    c.in_ok-read.ensures.read
     ∙ ap length c.as_slice-2.ensures

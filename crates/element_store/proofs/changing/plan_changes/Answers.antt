@@ -10,7 +10,7 @@ use Rattle.element_state.specs.Written.{change_cost}
 use Rattle.element_store.specs.declared.jobs.Job.{Job}
 use Rattle.element_store.specs.Jobs.{jobs_cost}
 use Rattle.element_store.specs.Changing.{change_blocks, IsPlanned, IsTraced}
-use Rattle.element_store.specs.declared.hashing.Hashed.{Hashed}
+use Rattle.block_files.specs.declared.hashing.Hashed.{Hashed}
 use Rattle.element_store.specs.Hashing.{IsHashedAs}
 use Rattle.element_store.proofs.Places.{sum_push, sum_take, fold_push, zip_at, zip_length}
 use Rattle.element_store.proofs.Changed.{planned_start}

@@ -5,7 +5,8 @@ use Rattle.per_base.specs.declared.elements.Change.{Change}
 use Rattle.per_base.specs.declared.elements.Change.TheVariants.{Put}
 use Rattle.element_state.specs.Changes.{without_item, entry_name, after_change}
 use Rattle.element_store.specs.declared.hashing.KeptStates.{KeptStates}
-use Rattle.element_store.specs.Hashing.{AreStatesOf, IsHashedAs, AreOfElement}
+use Rattle.block_files.specs.States.{AreStatesOf}
+use Rattle.element_store.specs.Hashing.{IsHashedAs, AreOfElement}
 use Rattle.element_store.proofs.Keeping.{kept_put, forgotten_put, forgotten_remove, touched_kept}
 use Rattle.element_store.proofs.hashing.keep.Goals as goal
 

@@ -4,7 +4,7 @@ use Rattle.std.proofs.lemmas.List.{nil_from_length}
 use Rattle.per_base.specs.declared.elements.Change.{Change}
 use Rattle.per_base.specs.declared.elements.Entry.{Entry}
 use Rattle.element_state.specs.Changes.{after_changes}
-use Rattle.element_store.specs.declared.hashing.Hashed.{Hashed}
+use Rattle.block_files.specs.declared.hashing.Hashed.{Hashed}
 use Rattle.element_store.specs.declared.hashing.KeptStates.{KeptStates}
 use Rattle.element_store.specs.Hashing.{IsHashedAs, AreOfElement}
 use Rattle.element_store.proofs.Keeping.{zip_from, zip_done, kept_more}

@@ -3,7 +3,7 @@ use Rattle.std.specs.List.{All, AllZip}
 use Rattle.per_base.specs.declared.elements.Change.{Change}
 use Rattle.per_base.specs.declared.elements.Entry.{Entry}
 use Rattle.element_state.specs.Changes.{after_changes}
-use Rattle.element_store.specs.declared.hashing.Hashed.{Hashed}
+use Rattle.block_files.specs.declared.hashing.Hashed.{Hashed}
 use Rattle.element_store.specs.declared.hashing.KeptStates.{KeptStates}
 use Rattle.element_store.specs.Hashing.{IsHashedAs, AreOfElement}
 use Rattle.element_store.proofs.hashing.kept_after.Given as goal

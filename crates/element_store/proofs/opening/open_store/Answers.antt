@@ -140,7 +140,7 @@ returns-clause-view g c = opening_view g.D.Disk.told (g.D.Disk.medium c.args.dis
     c.in_ok-mend_durably.ensures.spared)
     (opening_whole g.D.Disk.told c.args.shape c.in_ok-seen.field-0 c.as_slice.result.now
     (g.D.Disk.medium c.mend_durably.new.disk).image c.as_slice.ensures c.in_ok-mend_durably.ensures.whole)
-    c.args.alloc c.new.result c.new-2.result c.new-2.ensures
+    c.args.alloc c.in_ok-seen.field-0.kept c.new.result c.new.ensures
 
 pub returns-clause-used : goal.returns-clause-used
 returns-clause-used g c = opening_used g.D.Disk.told (g.D.Disk.medium c.args.disk.now).image
@@ -155,18 +155,18 @@ returns-clause-used g c = opening_used g.D.Disk.told (g.D.Disk.medium c.args.dis
     c.in_ok-mend_durably.ensures.spared)
     (opening_whole g.D.Disk.told c.args.shape c.in_ok-seen.field-0 c.as_slice.result.now
     (g.D.Disk.medium c.mend_durably.new.disk).image c.as_slice.ensures c.in_ok-mend_durably.ensures.whole)
-    c.args.alloc c.new.result c.new.ensures.items c.new-2.result c.new-2.ensures
+    c.args.alloc c.new.result c.new.ensures
 
 pub returns-clause-read : goal.returns-clause-read
 returns-clause-read g c = c.in_ok-seen.ensures.ready.view
 
 pub returns-clause-shown : goal.returns-clause-shown
-returns-clause-shown g c = store_view_as c.new-2.result c.args.shape (ap (λ (s : Store). s.shape) c.new-2.ensures)
+returns-clause-shown g c = store_view_as c.new.result c.args.shape (ap (λ (s : Store). s.shape) c.new.ensures)
     (returns-clause-used g c).memory
 
 pub returns-clause-adopted : goal.returns-clause-adopted
 returns-clause-adopted g c = λ tells. opening_by (g.D.Disk.medium c.args.disk.now).image c.args.shape
-    c.in_ok-seen.field-0 (index_in c.new-2.result) (ap index_in c.new-2.ensures) (c.in_ok-seen.ensures.found tells)
+    c.in_ok-seen.field-0 (index_in c.new.result) (ap index_in c.new.ensures) (c.in_ok-seen.ensures.found tells)
 
 pub returns-clause-clean : goal.returns-clause-clean
 returns-clause-clean g c = λ tells clean. opening_clean g.D.Disk.told (g.D.Disk.medium c.args.disk.now).image

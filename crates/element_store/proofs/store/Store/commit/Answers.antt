@@ -220,23 +220,26 @@ changed-entries-requires-clause-room g c = (let cap = c.in-Ok.ensures.capacity i
 pub same-used : goal.same-used
 same-used g c = refl
 
+pub same-standing : goal.same-standing
+same-standing g c = refl
+
 pub returns-clause-used : goal.returns-clause-used
 returns-clause-used g c = (
     let ready = subst (λ (cs : List Change). IsReadyToPut g.D.Disk.told c.args.self cs (g.D.Disk.medium c.args.disk.now)
     (g.D.Disk.medium c.write_contents.new.disk) c.in-Ok.ready.index c.in-Ok.ready.text c.in-Ok.ready.used)
     c.deref.ensures.value c.in-Ok.ensures.ready in
     let prep = ready.prepared in
-    finished_used g.D.Disk.told c.args.self c.new.result c.args.changes.items _ c.in-Ok-write_in.cell
+    finished_used g.D.Disk.told c.args.self c.new-store.result c.args.changes.items _ c.in-Ok-write_in.cell
     c.in-Ok.ready.index c.changed-entries.result c.release_replaced.new.taken c.kept_after-kept.result
-    c.new.ensures c.requires.used.memory
+    c.new-store.ensures c.requires.used.memory
     c.in-Ok-write_in.ensures.next (c.changed-entries.ensures
     ∙ ap (λ (n : ℕ). after_changes n c.moved.result.items c.args.changes.items) c.generation.ensures
     ∙ ap (λ (es : List Entry). after_changes c.in-Ok-write_in.cell.generation es c.args.changes.items)
     c.moved.ensures.items) (g.D.Disk.medium c.write_in.new.disk).image prep.plan.text
     (commit_read g.D.Disk.told c.args.self c.args.changes.items c.in-Ok.ready.used c.in-Ok.ready.index ready.jobs
     (g.D.Disk.medium c.args.disk.now) c.requires.used prep.plan)
-    (taken_area c.args.self.shape c.in-Ok.ready.index c.as_slice-3.result.now (length c.in-Ok.ready.used)
-    c.release_replaced.new.taken c.as_slice-3.ensures prep.capacity c.release_replaced.ensures)
+    (taken_area c.args.self.shape c.in-Ok.ready.index c.as_slice-2.result.now (length c.in-Ok.ready.used)
+    c.release_replaced.new.taken c.as_slice-2.ensures prep.capacity c.release_replaced.ensures)
     (subst (λ (cs : List Change). All (AreOfElement (after_changes (store_generation c.args.self + 1)
     c.args.self.entries.items cs)) c.kept_after-kept.result.items) c.deref-2.ensures.value
     (c.kept_after-kept.ensures (store_generation c.args.self + 1) c.args.self.entries.items
@@ -249,12 +252,12 @@ returns-clause-used g c = (
     (c.in-Ok-write_in.ensures.puts.elsewhere tells)))
 
 pub returns-clause-shape : goal.returns-clause-shape
-returns-clause-shape g c = ap (λ (st : Store). st.shape) c.new.ensures
+returns-clause-shape g c = ap (λ (st : Store). st.shape) c.new-store.ensures
 
 pub returns-clause-view : goal.returns-clause-view
-returns-clause-view g c = finished_view g.D.Disk.told c.args.self c.new.result c.args.changes.items _
+returns-clause-view g c = finished_view g.D.Disk.told c.args.self c.new-store.result c.args.changes.items _
     c.in-Ok-write_in.cell c.in-Ok.ready.index c.changed-entries.result c.release_replaced.new.taken
-    c.kept_after-kept.result c.new.ensures
+    c.kept_after-kept.result c.new-store.ensures
     c.requires.used.memory c.in-Ok-write_in.ensures.next
     (c.changed-entries.ensures ∙ ap (λ (n : ℕ). after_changes n c.moved.result.items c.args.changes.items)
     c.generation.ensures ∙ ap (λ (es : List Entry). after_changes c.in-Ok-write_in.cell.generation es
@@ -287,7 +290,7 @@ returns-clause-written g c = (
     subst (λ (i : Index). IsWithin c.args.self.shape.place.copies
     (commit_cost c.args.self.shape.kind c.args.self.entries.items c.args.changes.items) (length (index_text i))
     (g.D.Disk.medium c.args.disk.now).written (g.D.Disk.medium c.write_in.new.disk).written)
-    (sym (ap (λ (st : Store). st.index) c.new.ensures))
+    (sym (ap (λ (st : Store). st.index) c.new-store.ensures))
     (commit_written g.D.Disk.told c.args.self c.args.changes.items c.in-Ok.ready.used c.in-Ok.ready.index ready.jobs
     (g.D.Disk.medium c.args.disk.now) c.requires.used prep.plan (g.D.Disk.medium c.write_contents.new.disk)
     ready.cost (g.D.Disk.medium c.write_in.new.disk) c.as_slice.result.now (c.as_slice.ensures ∙ prep.spelled)
@@ -305,7 +308,7 @@ returns-clause-differing g c = λ tells. (
     + texts_cost c.args.self.shape.place (own (store_generation c.args.self + 1))
     (sealed (store_generation c.args.self + 1) (index_text i)) (g.D.Disk.medium c.args.disk.now).image
     c.args.self.shape.place.copies)
-    (sym (ap (λ (st : Store). st.index) c.new.ensures))
+    (sym (ap (λ (st : Store). st.index) c.new-store.ensures))
     (commit_differs g.D.Disk.told c.args.self c.args.changes.items c.in-Ok.ready.used c.in-Ok.ready.index ready.jobs
     (g.D.Disk.medium c.args.disk.now) c.requires.used prep.plan (g.D.Disk.medium c.write_contents.new.disk)
     ready.cost (ready.elsewhere tells) (g.D.Disk.medium c.write_in.new.disk) c.as_slice.result.now
@@ -357,8 +360,8 @@ release_replaced-requires-clause-earlier g c = (
     (g.D.Disk.medium c.write_contents.new.disk) c.in-Ok.ready.index c.in-Ok.ready.text c.in-Ok.ready.used)
     c.deref.ensures.value c.in-Ok.ensures.ready in
     let prep = ready.prepared in
-    taken_below c.args.self.shape (index_text c.args.self.index) c.args.self.index c.as_slice-2.result.now
-    (length c.in-Ok.ready.used) c.requires.used.memory.index c.as_slice-2.ensures prep.capacity)
+    taken_below c.args.self.shape (index_text c.args.self.index) c.args.self.index c.entries.result.now
+    (length c.in-Ok.ready.used) c.requires.used.memory.index c.entries.ensures prep.capacity)
 
 pub release_replaced-requires-clause-later : goal.release_replaced-requires-clause-later
 release_replaced-requires-clause-later g c = (
@@ -366,8 +369,8 @@ release_replaced-requires-clause-later g c = (
     (g.D.Disk.medium c.write_contents.new.disk) c.in-Ok.ready.index c.in-Ok.ready.text c.in-Ok.ready.used)
     c.deref.ensures.value c.in-Ok.ensures.ready in
     let prep = ready.prepared in
-    taken_below c.args.self.shape (index_text c.in-Ok.ready.index) c.in-Ok.ready.index c.as_slice-3.result.now
-    (length c.in-Ok.ready.used) prep.plan.text c.as_slice-3.ensures prep.capacity)
+    taken_below c.args.self.shape (index_text c.in-Ok.ready.index) c.in-Ok.ready.index c.as_slice-2.result.now
+    (length c.in-Ok.ready.used) prep.plan.text c.as_slice-2.ensures prep.capacity)
 
 pub release_replaced-requires-clause-either : goal.release_replaced-requires-clause-either
 release_replaced-requires-clause-either g c = (
@@ -375,8 +378,8 @@ release_replaced-requires-clause-either g c = (
     (g.D.Disk.medium c.write_contents.new.disk) c.in-Ok.ready.index c.in-Ok.ready.text c.in-Ok.ready.used)
     c.deref.ensures.value c.in-Ok.ensures.ready in
     let prep = ready.prepared in
-    of_either c.args.self c.requires.used.memory c.in-Ok.ready.index c.in-Ok.ready.used c.as_slice-2.result.now
-    c.as_slice-3.result.now c.as_slice-2.ensures c.as_slice-3.ensures prep.traced.grown)
+    of_either c.args.self c.requires.used.memory c.in-Ok.ready.index c.in-Ok.ready.used c.entries.result.now
+    c.as_slice-2.result.now c.entries.ensures c.as_slice-2.ensures prep.traced.grown)
 
 pub returns-clause-carried : goal.returns-clause-carried
 returns-clause-carried g c = (
@@ -385,7 +388,7 @@ returns-clause-carried g c = (
     c.deref.ensures.value c.in-Ok.ensures.ready in
     let prep = ready.prepared in
     subst (λ (i : Index). KeepsOthers c.args.changes.items c.args.self.index.entries i.entries)
-    (sym (ap (λ (st : Store). st.index) c.new.ensures)) prep.traced.others)
+    (sym (ap (λ (st : Store). st.index) c.new-store.ensures)) prep.traced.others)
 
 pub returns-clause-format : goal.returns-clause-format
 returns-clause-format g c = (
@@ -393,7 +396,7 @@ returns-clause-format g c = (
     (g.D.Disk.medium c.write_contents.new.disk) c.in-Ok.ready.index c.in-Ok.ready.text c.in-Ok.ready.used)
     c.deref.ensures.value c.in-Ok.ensures.ready in
     let prep = ready.prepared in
-    ap (λ (st : Store). st.index.format) c.new.ensures ∙ prep.format)
+    ap (λ (st : Store). st.index.format) c.new-store.ensures ∙ prep.format)
 
 pub returns-clause-text : goal.returns-clause-text
 returns-clause-text g c = (
@@ -401,15 +404,15 @@ returns-clause-text g c = (
     (g.D.Disk.medium c.write_contents.new.disk) c.in-Ok.ready.index c.in-Ok.ready.text c.in-Ok.ready.used)
     c.deref.ensures.value c.in-Ok.ensures.ready in
     let prep = ready.prepared in
-    let view : view_in c.new.result ≡ committed_by c.args.self.shape (view_in c.args.self) c.args.changes.items =
-    finished_view g.D.Disk.told c.args.self c.new.result c.args.changes.items _ c.in-Ok-write_in.cell
+    let view : view_in c.new-store.result ≡ committed_by c.args.self.shape (view_in c.args.self) c.args.changes.items =
+    finished_view g.D.Disk.told c.args.self c.new-store.result c.args.changes.items _ c.in-Ok-write_in.cell
     c.in-Ok.ready.index c.changed-entries.result c.release_replaced.new.taken c.kept_after-kept.result
-    c.new.ensures c.requires.used.memory
+    c.new-store.ensures c.requires.used.memory
     c.in-Ok-write_in.ensures.next (c.changed-entries.ensures
     ∙ ap (λ (n : ℕ). after_changes n c.moved.result.items c.args.changes.items) c.generation.ensures
     ∙ ap (λ (es : List Entry). after_changes c.in-Ok-write_in.cell.generation es c.args.changes.items)
     c.moved.ensures.items) in
-    ap (λ (st : Store). length (index_text st.index)) c.new.ensures
+    ap (λ (st : Store). length (index_text st.index)) c.new-store.ensures
     ∙ commit_length g.D.Disk.told c.args.self c.args.changes.items c.in-Ok.ready.used c.in-Ok.ready.index ready.jobs
     (g.D.Disk.medium c.args.disk.now) c.requires.used prep.plan prep.format
     ∙ sym (ap (λ (w : View). index_length c.args.self.shape.kind w.entries) view))

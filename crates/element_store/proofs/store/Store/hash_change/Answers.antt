@@ -1,7 +1,8 @@
 use Rattle.std.proofs.Common.{ℕ, List, sym, ap, subst, ◌∙◌}
 use Rattle.sha2.specs.Sha256.{sha256}
 use Rattle.per_base.specs.declared.elements.Change.{Change}
-use Rattle.element_store.specs.Hashing.{AreStatesOf, IsHashedAs}
+use Rattle.block_files.specs.States.{AreStatesOf}
+use Rattle.element_store.specs.Hashing.{IsHashedAs}
 use Rattle.element_store.proofs.store.Store.hash_change.Goals as goal
 
 pub returns-in-Put : goal.returns-in-Put

@@ -2,7 +2,7 @@ use Rattle.std.proofs.Common.{◌≡◌, ◌+◌, ◌++◌, ◌∷◌, [], List,
 use Rattle.std.specs.List.{AllZip}
 use Rattle.std.proofs.lemmas.List.{take_more}
 use Rattle.per_base.specs.declared.elements.Change.{Change}
-use Rattle.element_store.specs.declared.hashing.Hashed.{Hashed}
+use Rattle.block_files.specs.declared.hashing.Hashed.{Hashed}
 use Rattle.element_store.specs.Hashing.{IsHashedAs}
 use Rattle.element_store.proofs.PlanSteps.{zip_push}
 use Rattle.element_store.proofs.store.Store.hash_changes.Goals as goal

@@ -1,0 +1,14 @@
+-- The states of the hasher on the way through a content.
+use Rattle.std.specs.Prelude.{◌≡◌, ◌*◌, ◌+◌, ◌<◌, ℕ, List, length, take, slice_index_or, Option, Some}
+use Rattle.sha2.specs.Hashers.{Holds256}
+use Rattle.sha2.specs.declared.Sha256.{Sha256}
+use Rattle.block_files.specs.Contents.{first_content}
+
+-- each state is that of the hasher after that many times 32 KiB of the bytes
+abbrev pub AreStatesOf : (bytes : List ℕ) → List Sha256 → Type 0
+AreStatesOf bytes states = (i : ℕ) (d : Sha256) → i < length states
+    → Holds256 (slice_index_or states i d) (take (32768 * (i + 1)) bytes)
+
+-- states of the first content that some copy gives
+abbrev pub AreOfFirst : List (Option (List ℕ)) → List Sha256 → Type 0
+AreOfFirst given states = (text : List ℕ) → first_content given ≡ Some text → AreStatesOf text states
