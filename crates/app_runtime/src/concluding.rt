@@ -79,6 +79,8 @@ impl Running {
     }
 
     // The call is refused.
+    #[cold]
+    #[inline(never)]
     pub(crate) fn refuse(&self, error: PerError) -> Reply
         ensures { result ≡ reply_with (Answer.Error error) }
     {

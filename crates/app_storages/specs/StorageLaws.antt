@@ -1,4 +1,4 @@
--- The laws of the crates below on which a call on a storage of an application stands, in one.
+-- The laws of the crates below that a call on a storage of an application relies on, in one.
 use Rattle.std.specs.Prelude.{Bool, IsTrue}
 use Rattle.disk_model.specs.Frame.{Spares}
 use Rattle.disk_model.specs.Image.{Image}

@@ -1,4 +1,4 @@
-//! The laws on which every call on a storage stands, in one: the function does nothing when it runs.
+//! The laws that every call on a storage relies on, in one: the function does nothing when it runs.
 
 ghost use Rattle.app_storages.specs.StorageLaws.{StorageLaws};
 

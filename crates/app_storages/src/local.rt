@@ -68,6 +68,8 @@ fn concluded(alloc: Global, answer: Result<Answer, PerError>) -> Result<Reply, S
     }
 }
 
+#[cold]
+#[inline(never)]
 fn refused(alloc: Global, error: PerError) -> Result<Reply, Stop>
     ensures { TellsRefusal error result }
 {

@@ -18,6 +18,8 @@ pub(crate) fn answered(alloc: Global, answer: Answer) -> Reply
 }
 
 /// The call is refused. Does not allocate.
+#[cold]
+#[inline(never)]
 pub(crate) fn refusal(alloc: Global, error: PerError) -> Reply
     ensures { result ≡ record { reports = []; answer = Answer.Error error } }
 {

@@ -16,6 +16,9 @@ use value_text::{push_hex, push_value};
 /// How many bytes the texts of most replies fit into.
 const REPLY_BYTES: usize = 64;
 
+/// How many bytes the word before the digits of bytes, its space and the line feed after them take.
+const WORD_BYTES: usize = 7;
+
 /// The text of a reply: a line for each report and the answer's line, each with its line feed.
 pub fn print_reply(alloc: Global, reply: &Reply) -> Result<Vec<u8>, AllocError>
     requires { HasText reply.now.answer }
@@ -154,13 +157,15 @@ fn push_answer(out: &mut String, answer: &Answer) -> Result<(), AllocError>
     }
 }
 
-/// Appends bytes, with a space only before some.
+/// Appends bytes, with a space only before some. The room of the whole line is taken at once.
 fn push_octets(out: &mut String, bytes: &[u8]) -> Result<(), AllocError>
     ensures { OnOk result (string_bytes out.new ≡ string_bytes out.old ++ octets_text bytes.now) }
 {
     if bytes.is_empty() {
         return out.push_str("bytes");
     }
+    let digits = bytes.len().saturating_mul(2);
+    out.reserve(digits.saturating_add(WORD_BYTES))?;
     out.push_str("bytes ")?;
     push_hex(out, bytes)
 }

@@ -38,7 +38,7 @@ impl Open {
     ///
     /// # Errors
     ///
-    /// `Device` where the disk fails, and `OutOfMemory` before any call of it. Both let the storage go.
+    /// `Device` where the disk fails, and `OutOfMemory` before any call of it. Both drop the storage.
     pub fn close<D: Disk>(self, disk: &mut D) -> Result<Closing, Stop>
         requires used { IsUsed D.told (D.medium disk.old).image (store_in self) }
 

@@ -39,12 +39,12 @@ impl Open {
     ///
     /// # Errors
     ///
-    /// `Device` where the disk fails, and `OutOfMemory` before any call of it. Both let the storage go.
+    /// `Device` where the disk fails, and `OutOfMemory` before any call of it. Both drop the storage.
     pub fn sync<D: Disk>(self, disk: &mut D) -> Result<Durable, Stop>
         requires used { IsUsed D.told (D.medium disk.old).image (store_in self) }
         requires keys { (config_in self).kind ≡ kinds.Keys }
 
-        // What is due is given: a refusal hands the storage back as it was, and where nothing differs nothing happens.
+        // The refusal that is due, which hands the storage back as it was; and where nothing differs nothing happens.
         ensures done { IfOk result (IsDurableOrRefused D.told (D.medium disk.new).image self (sync_refused self)) }
         ensures due { (error : PerError) → sync_refused self ≡ Some error
             → (result ≡ Ok (Durable.Refused self error)) × (disk.new ≡ disk.old) }
@@ -90,7 +90,7 @@ impl Open {
     ///
     /// # Errors
     ///
-    /// `Device` where the disk fails, and `OutOfMemory` before any call of it. Both let the storage go.
+    /// `Device` where the disk fails, and `OutOfMemory` before any call of it. Both drop the storage.
     pub fn flush<D: Disk>(self, disk: &mut D, handle: u32) -> Result<Durable, Stop>
         requires used { IsUsed D.told (D.medium disk.old).image (store_in self) }
 

@@ -1,4 +1,4 @@
--- A call of one application: as its row says where its root is in use, and after the opening of a root that is marked.
+-- A call of one application: as its row says where its root is in use, and after the opening of one that is to be opened.
 use Rattle.std.specs.Prelude.{◌≡◌, ◌≢◌, ◌⊎◌, ℕ, List, Bool, true, false, cond, ◌||◌, IsTrue, Some, None, Result, Ok}
 use Rattle.std.specs.Prelude.{Err, IfOk, IsErrOf, OnOk, slice_get}
 use Rattle.std.proofs.Common.{refl, sym, ap, ◌∙◌, subst, inl, inr, ⊎_elim, true≢false}
@@ -149,7 +149,7 @@ only_reads {D} medium disk disk' told lawful same = subst (λ (d : D). OnlyReads
 
 -- ---- a root that is opened first
 
--- a mark stands beside no open storage
+-- no storage is open while a root is to be opened
 marked_is : (image : Image) (a : Running) → stage_in a.stage ≡ to_open → IsApplication (application image a)
     → running_in a ≡ record { stage = to_open; sessions = none_open }
 marked_is image a marked is =

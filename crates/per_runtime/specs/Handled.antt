@@ -1,4 +1,4 @@
--- A call of one application, whose root is opened first where it is marked: what it promises, by how it ends.
+-- A call of one application, whose root is opened first where it is to be opened: what it promises, by how it ends.
 use Rattle.std.specs.Prelude.{◌≡◌, ◌≢◌, ◌⊎◌, ℕ, List, Bool, true, false, IsTrue, Some, Result, Ok, Err}
 use Rattle.per_base.specs.Causes.{Rose}
 use Rattle.per_base.specs.declared.errors.PerError.TheVariants as error

@@ -1,4 +1,4 @@
--- The runtime: what it keeps in memory, and what is so of it between two commands.
+-- The runtime: what it keeps in memory, and what holds of it between two commands.
 use Rattle.std.specs.Prelude.{◌≡◌, ℕ, List, length, map, Bool, false, Some, slice_get}
 use Rattle.disk_model.specs.Image.{Image}
 use Rattle.disk_model.specs.Medium.{Medium, Quiet}

@@ -1,4 +1,4 @@
-//! One application's call, after the opening of its root where it is marked.
+//! One application's call, after the opening of its root where that is to be opened.
 
 ghost use Rattle.std.specs.Prelude.{◌≡◌, false};
 ghost use Rattle.migrate_fns.specs.Stored.{answers_of, rules_of};
@@ -34,6 +34,8 @@ pub(crate) fn answer<D: Disk>(
 }
 
 // Opens the root, and then answers.
+#[cold]
+#[inline(never)]
 fn open_and_answer<D: Disk>(
     running: &mut Running,
     disk: &mut D,

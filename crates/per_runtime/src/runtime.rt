@@ -139,6 +139,8 @@ impl Runtime {
     }
 
     // Ends the doubt by a sync, and then answers the call. Where the sync fails nothing changes.
+    #[cold]
+    #[inline(never)]
     fn end_doubt<D: Disk>(
         &mut self,
         disk: &mut D,
@@ -204,6 +206,8 @@ fn reply_of(alloc: Global, answer: Answer) -> Reply
 }
 
 // The answer where the device failed.
+#[cold]
+#[inline(never)]
 fn failed_reply(alloc: Global) -> Reply
     ensures { result ≡ failure }
 {

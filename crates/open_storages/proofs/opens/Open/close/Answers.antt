@@ -66,3 +66,10 @@ returns-in-Err-OutOfMemory-clause-unchanged g c = λ still.
     c.in-Err-OutOfMemory.is)
     (λ error due. not_both c.close_storage.result _ _ (c.close_storage.ensures.due error due).0
     c.in-Err-OutOfMemory.is))
+
+pub returns-in-Err-Device-clause-unchanged : goal.returns-in-Err-Device-clause-unchanged
+returns-in-Err-Device-clause-unchanged g c = λ still.
+    let synced = subst (λ (x : Open). has_nothing_pending x ≡ true) c.in-Files.is still in
+    absurd (some_or (below.close_refused c.in-Files.files)
+    (λ none. not_both c.close_storage.result _ _ (c.close_storage.ensures.unchanged synced none).0 c.in-Err-Device.is)
+    (λ error due. not_both c.close_storage.result _ _ (c.close_storage.ensures.due error due).0 c.in-Err-Device.is))

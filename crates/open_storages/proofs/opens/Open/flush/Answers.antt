@@ -13,7 +13,7 @@ use Rattle.open_storages.specs.declared.syncing.Durable.TheVariants as made
 use Rattle.open_storages.specs.Durables.{IsDurableOrRefused}
 use Rattle.open_storages.specs.Opens.{store_in}
 use Rattle.open_storages.specs.Refusals.{durable_view, flush_refused}
-use Rattle.open_storages.proofs.Flushed.{flush_due, flush_made, made_or, same_files}
+use Rattle.open_storages.proofs.Flushed.{flush_due, flush_made, made_or, not_both, same_files}
 use Rattle.open_storages.proofs.Idle.{none_storing}
 use Rattle.open_storages.proofs.Refused.{flush_refused_is}
 use Rattle.open_storages.proofs.opens.Open.flush.Goals as goal
@@ -68,3 +68,11 @@ returns-in-Ok-clause-clean g c = subst (λ (x : Open). IsTrue g.D.Disk.told
     (λ none. (c.in-Ok.ensures.durable none).clean tells clean)
     (λ some. rw (c.sync_to_file.ensures.due (subst (λ (r : Option PerError). IsSome r) c.in-Ok.ensures.refused some)).1
     clean))
+
+pub returns-in-Err-OutOfMemory-clause-due : goal.returns-in-Err-OutOfMemory-clause-due
+returns-in-Err-OutOfMemory-clause-due g c = λ error due.
+    let f = c.in-Files.files in
+    let here = subst (λ (x : Open). flush_refused x c.args.handle ≡ Some error) c.in-Files.is due in
+    let some : IsSome (sync_refused f c.args.handle) = subst (λ (r : Option PerError). IsSome r)
+    (sym (sym (flush_refused_is f c.args.handle) ∙ here)) refl in
+    absurd (not_both c.sync_to_file.result _ _ (c.sync_to_file.ensures.due some).0 c.in-Err-OutOfMemory.is)
