@@ -1,2 +1,4 @@
 pub mod Containers
+pub mod Members
+pub mod Parts
 pub mod Read

@@ -1,6 +1,6 @@
 -- What is written of an element is read back.
 use Rattle.std.proofs.Common.{◌≡◌, ℕ, List, codes, Bool, Option, Some, None, refl, sym, ap, ◌∙◌, subst}
-use Rattle.std.proofs.Common.{true≢false}
+use Rattle.std.proofs.Common.{◌≤◌, lit≤, true≢false}
 use Rattle.std.specs.Prelude.{IsTrue}
 use Rattle.per_base.specs.declared.elements.Cause.{Cause}
 use Rattle.per_base.specs.declared.elements.Cause.TheVariants.{Installation, Update, Reset, Recovery, Application}
@@ -16,7 +16,7 @@ use Rattle.value_model.specs.Trees.{Tree}
 use Rattle.value_text.specs.Parsing.{value_in}
 use Rattle.value_text.specs.Texts.{hex_text, value_text}
 use Rattle.value_text.specs.Whole.{bytes_in}
-use Rattle.serde_json.specs.Data.{Data, string}
+use Rattle.serde_json.specs.Data.{Data, depth, string}
 use Rattle.dump_text.specs.Elements.{cause_said, cause_word, dumped_element_in, file_data, file_in, has_members}
 use Rattle.dump_text.specs.Elements.{info_in, key_in}
 use Rattle.dump_text.specs.Elements.{member_bytes, member_cause, member_number}
@@ -81,6 +81,9 @@ file_read i content d is again =
     ∙ ap (λ (o : Option FileInfo). o >>= λ info. member_bytes (codes "content") (file_data i content) >>= λ bytes.
     only_if (has_members 6 (file_data i content)) (info, bytes)) (info_read i content)
     ∙ ap (λ (o : Option (List ℕ)). o >>= λ bytes. only_if (has_members 6 (file_data i content)) (i, bytes)) again
+
+pub file_nests : (i : FileInfo) (content : List ℕ) (d : Data) → d ≡ file_data i content → depth d ≤ 1
+file_nests i content d is = subst (λ (x : Data). depth x ≤ 1) (sym is) (lit≤ tt)
 
 -- ---- an element
 

@@ -1,6 +1,6 @@
 -- An element of a dump as JSON: of a key the text of its value, and of a file an object with its content in hexadecimal
 -- and its info.
-use Rattle.std.specs.Prelude.{ℕ, List, [], ◌∷◌, codes, Bool, false, nat_eq, Option, Some, None, option_and_then}
+use Rattle.std.specs.Prelude.{◌≡◌, ℕ, List, [], ◌∷◌, codes, Bool, false, nat_eq, Option, Some, None, option_and_then, ⊤}
 use Rattle.per_base.specs.declared.elements.Cause.{Cause}
 use Rattle.per_base.specs.declared.elements.Cause.TheVariants.{Installation, Update, Reset, Recovery, Application}
 use Rattle.per_base.specs.declared.elements.FileInfo.{FileInfo}
@@ -36,6 +36,10 @@ are_so_many count (Some members) = nat_eq (members_len members) count
 -- it is an object of this many members
 abbrev pub has_members : ℕ → Data → Bool
 has_members count d = are_so_many count (as_object d)
+
+-- nothing, where it has no members beside this many
+abbrev pub only_members : ℕ → Data → Option ⊤
+only_members count d = only_if (has_members count d) tt
 
 -- ---- a file
 
@@ -112,13 +116,21 @@ dumped_element_in Files name d = do
   file ← file_in d
   Some (record { name = known; info = Some file.0; bytes = file.1 })
 
--- the elements of a storage, by their names
-unfoldable pub dumped_elements_in : StoreKind → Members → Option (List Fresh)
-dumped_elements_in kind no_members = Some []
-dumped_elements_in kind (member name d members) = do
-  first ← dumped_element_in kind name d
-  others ← dumped_elements_in kind members
+-- what each member of an object is read as, where each is read
+unfoldable pub read_members : {A : Type 0} → (List ℕ → Data → Option A) → Members → Option (List A)
+read_members read no_members = Some []
+read_members read (member name d members) = do
+  first ← read name d
+  others ← read_members read members
   Some (first ∷ others)
+
+-- the elements of a storage, by their names
+abbrev pub dumped_elements_in : StoreKind → Members → Option (List Fresh)
+dumped_elements_in kind members = read_members (dumped_element_in kind) members
+
+-- an object of which the members are read as these, in their order
+abbrev pub IsObjectOf : {A : Type 0} → (List ℕ → Data → Option A) → List A → Data → Type 0
+IsObjectOf read xs d = (members : Members) × (d ≡ object members) × (read_members read members ≡ Some xs)
 
 abbrev pub dumped_word : StoreKind → List ℕ
 dumped_word Keys = codes "keys"

@@ -12,6 +12,11 @@ abbrev pub FailsToRead : {Y : Type 0} → DumpError → Option Y → Type 0
 FailsToRead (NotADump why) read = read ≡ None
 FailsToRead OutOfMemory read = ⊤
 
+-- what an error says of a writing of what can be written: it is not; memory that ran out says nothing
+abbrev pub RefusesToWrite : DumpError → (can : Type 0) → Type 0
+RefusesToWrite (NotADump why) can = ¬ can
+RefusesToWrite OutOfMemory can = ⊤
+
 -- what a function returned, seen by view, is what reading gives, unless memory ran out
 abbrev pub Gives : {X Y : Type 0} → (X → Y) → Result X DumpError → Option Y → Type 0
 Gives view (Ok x) read = read ≡ Some (view x)

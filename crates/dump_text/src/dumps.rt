@@ -1,8 +1,9 @@
 //! What a dump has.
 
-ghost use Rattle.std.specs.Prelude.{◌≡◌, ◌<◌, IfSome};
+ghost use Rattle.std.specs.Prelude.{◌≡◌, ◌<◌};
+ghost use Rattle.dump_text.specs.Elements.{dumped_word};
 
-use per_base::{Bytes, Name};
+use per_base::{Bytes, Name, StoreKind};
 use std::marker::Model;
 
 /// With this every dump is marked.
@@ -58,4 +59,14 @@ pub struct DumpedApplication {
     pub manifest: Bytes,
     /// The storages of that version, in the order of their names.
     pub storages: Vec<DumpedStorage>,
+}
+
+/// The word for the elements of a storage of this kind.
+pub(crate) fn elements_word(kind: StoreKind) -> &'static str
+    ensures { result.now ≡ dumped_word kind }
+{
+    match kind {
+        StoreKind::Keys => "keys",
+        StoreKind::Files => "files",
+    }
 }

@@ -2,8 +2,7 @@
 
 ghost use Rattle.std.specs.Prelude.{◌≡◌, option_map};
 ghost use Rattle.serde_json.specs.View.{members_view, view};
-ghost use Rattle.per_base.specs.Fields.{only_if};
-ghost use Rattle.dump_text.specs.Elements.{has_members, member_number, member_object, member_text};
+ghost use Rattle.dump_text.specs.Elements.{has_members, member_number, member_object, member_text, only_members};
 ghost use Rattle.dump_text.specs.Views.{Gives};
 
 use crate::errors::DumpError;
@@ -52,9 +51,9 @@ pub(crate) fn number_in(alloc: Global, value: &Value, member: &str) -> Result<u6
     }
 }
 
-/// Refuses an object that has other members beside those that stand in it, of which there are this many.
+/// Refuses an object that has more members than those that were read from it, of which there are this many.
 pub(crate) fn no_others(alloc: Global, value: &Value, count: usize) -> Result<(), DumpError>
-    ensures { Gives (λ nothing. nothing) result (only_if (has_members count (view value.now)) tt) }
+    ensures { Gives (λ nothing. nothing) result (only_members count (view value.now)) }
 {
     if has_members(value, count) {
         return Ok(());

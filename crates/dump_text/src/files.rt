@@ -1,6 +1,7 @@
 //! A file of a dump: its content in hexadecimal, and its info.
 
-ghost use Rattle.std.specs.Prelude.{◌≡◌, IfOk, Some};
+ghost use Rattle.std.specs.Prelude.{◌≡◌, ◌≤◌, IfOk, Some};
+ghost use Rattle.serde_json.specs.Data.{depth};
 ghost use Rattle.serde_json.specs.View.{view};
 ghost use Rattle.dump_text.specs.Elements.{cause_said, cause_word, file_data, file_in, info_in};
 ghost use Rattle.dump_text.specs.Elements.{member_bytes, member_cause};
@@ -20,7 +21,8 @@ pub(crate) fn file_value(
     info: &FileInfo,
     content: &[u8],
 ) -> Result<Value, AllocError>
-    ensures { IfOk result (λ file. file_in (view file) ≡ Some (info.now, content.now)) }
+    ensures read { IfOk result (λ file. file_in (view file) ≡ Some (info.now, content.now)) }
+    ensures nests { IfOk result (λ file. depth (view file) ≤ 1) }
 {
     file_members(alloc, info, content)
 }

@@ -1,9 +1,11 @@
 //! A key of a dump: its value by the value's text.
 
-ghost use Rattle.std.specs.Prelude.{◌≡◌, IfOk, Some};
+ghost use Rattle.std.specs.Prelude.{◌≡◌, ◌≤◌, IfErr, IfOk, IsTrue, Some, is_some};
+ghost use Rattle.value_code.specs.Reading.{decoded};
+ghost use Rattle.serde_json.specs.Data.{depth};
 ghost use Rattle.serde_json.specs.View.{view};
 ghost use Rattle.dump_text.specs.Elements.{key_in};
-ghost use Rattle.dump_text.specs.Views.{Gives};
+ghost use Rattle.dump_text.specs.Views.{Gives, RefusesToWrite};
 
 use crate::errors::DumpError;
 use per_base::Bytes;
@@ -15,7 +17,9 @@ use value_text::{parse_value, print_value, read_value_is_exact};
 
 /// A key with the value that these bytes encode. What is written of it is read back as the same bytes.
 pub(crate) fn key_value(alloc: Global, bytes: &[u8]) -> Result<Value, DumpError>
-    ensures { IfOk result (λ key. key_in (view key) ≡ Some bytes.now) }
+    ensures read { IfOk result (λ key. key_in (view key) ≡ Some bytes.now) }
+    ensures nests { IfOk result (λ key. depth (view key) ≤ 1) }
+    ensures refused { IfErr result (λ e. RefusesToWrite e (IsTrue (is_some (decoded bytes.now)))) }
 {
     read_value_is_exact();
     match decode(alloc, bytes) {

@@ -4,9 +4,10 @@
 //! keys its values by their texts, of each storage of files the contents in hexadecimal with their infos.
 //! [`read_dump`] takes such a text apart, and says of any other why it is no dump.
 //!
-//! An element is read from what is written of it as it was, name, info and bytes: `dumped_element_in` says what is
-//! read, and the clause of `element_value` that this is the same. The text is kept in memory, with its parts as JSON
-//! values.
+//! `dump_in` says which applications a text has. What is written has those that were given, every storage and every
+//! element as it was, where they are in order; what is read are those that the text has, and a text that has none is
+//! refused. So what was written is read back, unless memory runs out; and by [`manifests_are_in_order`] applications
+//! with the storages of their manifests are in order. The text is kept in memory, with its parts as JSON values.
 #![tactic(auto)]
 
 mod dumps;
@@ -14,10 +15,12 @@ mod errors;
 mod fields;
 mod files;
 mod keys;
+mod laws;
 mod reading;
 mod writing;
 
 pub use dumps::{AppNumber, DumpedApplication, DumpedStorage};
 pub use errors::DumpError;
+pub use laws::manifests_are_in_order;
 pub use reading::read_dump;
 pub use writing::write_dump;

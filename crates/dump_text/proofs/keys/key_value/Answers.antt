@@ -6,8 +6,8 @@ use Rattle.serde_json.specs.declared.value.Value.{String, the_lemmas}
 use Rattle.dump_text.proofs.Read.{key_read}
 use Rattle.dump_text.proofs.keys.key_value.Goals as goal
 
-pub returns-in_ok-print_value-in-Ok : goal.returns-in_ok-print_value-in-Ok
-returns-in_ok-print_value-in-Ok c =
+pub returns-in_ok-print_value-in-Ok-clause-read : goal.returns-in_ok-print_value-in-Ok-clause-read
+returns-in_ok-print_value-in-Ok-clause-read c =
     let text = c.in_ok-print_value-in-Ok.field-0 in
     let seen : view (String text) ≡ string (string_bytes text) = search (rules, the_lemmas) in
     let value = c.in-Ok.ensures.found in
