@@ -1,5 +1,5 @@
 -- The spare block is made blank, and nothing that counts changes.
-use Rattle.std.proofs.Common.{◌≡◌, ◌≢◌, ◌⊎◌, ℕ, ◌+◌, ◌/◌, ◌%◌, ◌<◌, ◌≤◌, Bool, true, false, List, [], length, refl, sym}
+use Rattle.std.proofs.Common.{◌≡◌, ◌≢◌, ◌⊎◌, ℕ, ◌+◌, ◌/◌, ◌%◌, ◌<◌, ◌≤◌, false, List, [], length, refl, sym}
 use Rattle.std.proofs.Common.{ap, subst, ◌∙◌, Result, OnOk, OnErr, arith, true≢false}
 use Rattle.std.specs.Prelude.{Option, Some, None, IsTrue, IsFalse, vec_capacity}
 use Rattle.std.proofs.lemmas.Option.{none-some}
@@ -98,7 +98,7 @@ module _ (m : FlashMedium) (s : LayerState) (sound : IsSoundLayer m s) (agreed :
     apart = λ j other. ap record_in (empties.elsewhere (j / 64) (j % 64) other);
   }
 
-  empties_keeps : (left : Pages) → Empties s.spare pages left → KeepsRecords pages left n
+  pub empties_keeps : (left : Pages) → Empties s.spare pages left → KeepsRecords pages left n
   empties_keeps left empties = erase_keeps pages left n s.spare (lies_elsewhere pages m.blocks s sound agreed)
       (loses left empties)
 
@@ -120,7 +120,7 @@ module _ (m : FlashMedium) (s : LayerState) (sound : IsSoundLayer m s) (agreed :
       ap record_in (empties.elsewhere (number e.place / 64) (number e.place % 64) (λ same. sound.apart agreed key e is
       (let b : e.place.block ≡ s.spare = omega (arith, same, small) in b)))))
 
-  empties_stands : (left : Pages) → Empties s.spare pages left → DenotesFiles m left
+  pub empties_stands : (left : Pages) → Empties s.spare pages left → DenotesFiles m left
   empties_stands left empties = kept_stands m left idle idle_sound agreed (empties_keeps left empties)
       (idle_stays left empties)
 

@@ -42,5 +42,8 @@ pub mod Times
 pub mod Unchanged
 pub mod Failing
 mod Fresh
+pub mod Hiding
+pub mod Emptying
+pub mod Giving
 pub mod NewestLaws
 pub mod FlashFilesLaws

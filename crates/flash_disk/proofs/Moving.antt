@@ -1,14 +1,14 @@
 -- Records are copied to the start of the spare block one by one, and nothing that counts changes.
-use Rattle.std.proofs.Common.{◌≡◌, ◌≢◌, ◌⊎◌, ℕ, ◌+◌, ◌*◌, ◌/◌, ◌<◌, ◌≤◌, Bool, true, false, cond, slice_index_or}
+use Rattle.std.proofs.Common.{◌≡◌, ◌≢◌, ◌⊎◌, ℕ, ◌+◌, ◌*◌, ◌/◌, ◌<◌, ◌≤◌, Bool, true, false, slice_index_or}
 use Rattle.std.proofs.Common.{List, [], ◌∷◌, ◌++◌, length, Result, Ok, Err, OnOk, OnErr, refl, sym, ap, subst, ◌∙◌}
 use Rattle.std.proofs.Common.{inl, inr, ⊎_elim, arith, eq-eqb, length-append}
 use Rattle.std.specs.Prelude.{Option, Some, None, IsTrue, IsFalse, All, nat_eq, ◌&&◌, not, vec_capacity}
 use Rattle.std.proofs.lemmas.Bool.{cases_lt, cases_Bool, eqb-true, and_parts, and_from, true≢false}
-use Rattle.std.proofs.lemmas.Option.{same_Some, none-some}
+use Rattle.std.proofs.lemmas.Option.{same_Some}
 use Rattle.std.proofs.lemmas.List.Elements.{All-push}
-use Rattle.flash_model.specs.Pages.{Pages, TornPage, IsPlain, program_page, erase_block, blank_page}
-use Rattle.flash_model.specs.State.{FlashState, IsStill, ProgramCase, EraseCase, FailsToProgram, FailsToErase}
-use Rattle.flash_model.specs.State.{programmed, erased}
+use Rattle.flash_model.specs.Pages.{Pages, TornPage, IsPlain, program_page, blank_page}
+use Rattle.flash_model.specs.State.{FlashState, IsStill, ProgramCase, FailsToProgram}
+use Rattle.flash_model.specs.State.{programmed}
 use Rattle.flash_model.specs.FlashMedium.{FlashMedium, FlashElapses, EachFlashCase}
 use Rattle.flash_record.specs.PageRecord.{PageRecord, record_in}
 use Rattle.flash_disk.specs.declared.table.FilePage.{FilePage}
@@ -25,19 +25,18 @@ use Rattle.flash_disk.specs.Standing.{DenotesFiles, KeepsRecords}
 use Rattle.flash_disk.specs.Sound.{Sound, IsSoundLayer, HasFreshPage, FitsIn, MayBeAdded, ShowsSame}
 use Rattle.flash_disk.specs.Emptied.{IsEmptyBlock}
 use Rattle.flash_disk.specs.Moving.{IsMoved, HasKey, IsMoving, StandsMoved}
-use Rattle.flash_disk.specs.Apart.{copy_of, KeepsHeld, HoldsOneCopy}
+use Rattle.flash_disk.specs.Apart.{copy_of, KeepsHeld}
 use Rattle.flash_disk.specs.LedApart.{LeadsOnly}
 use Rattle.flash_disk.proofs.Learning.{record_at_place, same_page_refl}
 use Rattle.flash_disk.proofs.Standing.{is_newest_of, keeps_said, keeps_agreed, keeps_strayless, keeps_tops, keeps_known}
 use Rattle.flash_disk.proofs.Standing.{keeps_files, keeps_refl, keeps_then, keeps_byte, keeps_len, keeps_may_grow}
 use Rattle.flash_disk.proofs.Sparing.{led_elsewhere, spare_of}
-use Rattle.flash_disk.proofs.Tearing.{IsTorn, torn_program, nothing_left, torn_elsewhere, torn_copy, whole_copy}
-use Rattle.flash_disk.proofs.Tearing.{whole_torn, whole_here, LosesIn}
-use Rattle.flash_disk.proofs.Tearing.{torn_erase, whole_erase, erase_keeps}
-use Rattle.flash_disk.proofs.Stretches.{does_then, does_weaken, does_nothing, program_does, erase_does}
-use Rattle.flash_disk.proofs.Entering.{as_said, sound_usable, lies_elsewhere}
+use Rattle.flash_disk.proofs.Tearing.{IsTorn, torn_program, torn_elsewhere, torn_copy, whole_copy}
+use Rattle.flash_disk.proofs.Tearing.{whole_torn, whole_here}
+use Rattle.flash_disk.proofs.Stretches.{does_then, does_weaken, does_nothing, program_does}
+use Rattle.flash_disk.proofs.Entering.{as_said, sound_usable}
 use Rattle.flash_disk.proofs.PageCount.{count_keeps}
-use Rattle.flash_disk.proofs.Holding.{held_refl, held_then, held_lost, held_copied}
+use Rattle.flash_disk.proofs.Holding.{held_refl, held_then, held_copied}
 
 -- the newest record of a page to which an entry leads
 by_best : (pages : Pages) (n : ℕ) (key : FilePage) (e : Newest) (best : Option Placed)

@@ -1,6 +1,6 @@
 -- How many pages have a record, and what records that come or go make of it.
-use Rattle.std.proofs.Common.{◌≡◌, ℕ, zero, suc, ◌+◌, ◌≤◌, Bool, true, false, cond, List, [], ◌∷◌, length, refl, sym, ap}
-use Rattle.std.proofs.Common.{subst, ◌∙◌, arith}
+use Rattle.std.proofs.Common.{◌≡◌, ℕ, zero, suc, ◌+◌, ◌<◌, ◌≤◌, Bool, true, false, cond, List, [], ◌∷◌, length, refl}
+use Rattle.std.proofs.Common.{sym, ap, subst, ◌∙◌, arith}
 use Rattle.std.specs.Prelude.{Option, Some, None, is_some, is_none, nat_lt, ◌||◌}
 use Rattle.std.specs.Bool.{Decides}
 use Rattle.std.specs.Cmp.{IsEquivalence, decided}
@@ -216,6 +216,24 @@ module _ (old new : Pages) (n : ℕ)
       (λ key. newest old key.file key.page n) (opened_pages new n) (opened_pages old n) (opened_is new n)
       (opened_is old n)
       (λ key. page_was key.file key.page (newest old key.file key.page n) (newest new key.file key.page n)
+      (newest_is old key.file key.page n) (newest_is new key.file key.page n))
+
+module _ (old new : Pages) (n : ℕ) (came : (j : ℕ) (q : PageRecord) → j < n → record_at new j ≡ Some q
+    → (k : ℕ) × (k < n) × (record_at old k ≡ Some q)) where
+  page_came : (file page : ℕ) (was is : Option Placed) → IsNewestOf old file page n was → IsNewestOf new file page n is
+      → is_some is ≡ true → is_some was ≡ true
+  page_came file page None None before after some = some
+  page_came file page None (Some x) before after some =
+      let there = came x.place x.says after.within after.there in
+      absurd (before there.0 x.says there.1 there.2 after.of_page)
+  page_came file page (Some x) is before after some = refl
+
+  -- each record was there, if in another place
+  pub count_came : page_count new n ≤ page_count old n
+  count_came = fewer_pages (page_count new n) (page_count old n) (λ key. newest new key.file key.page n)
+      (λ key. newest old key.file key.page n) (opened_pages new n) (opened_pages old n) (opened_is new n)
+      (opened_is old n)
+      (λ key. page_came key.file key.page (newest old key.file key.page n) (newest new key.file key.page n)
       (newest_is old key.file key.page n) (newest_is new key.file key.page n))
 
 -- ---- the entries of a table

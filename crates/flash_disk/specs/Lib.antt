@@ -23,3 +23,5 @@ pub mod Looks
 pub mod Accounts
 pub mod Steps
 pub mod Fresh
+pub mod Kept
+pub mod Forgetting

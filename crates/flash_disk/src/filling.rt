@@ -205,7 +205,7 @@ impl<F: Flash> Layer<F> {
 
     // Makes the spare block blank, if it is not known to be, so that no record in it counts again where a newer one is
     // lost.
-    fn clear_spare(&mut self) -> Result<(), DiskFailed>
+    pub(crate) fn clear_spare(&mut self) -> Result<(), DiskFailed>
         requires ready { IsSure F.told F.medium self.old }
         ensures does { IsTrue F.told → Does (Empties self.old.state.spare (F.medium self.old.flash).state.pages)
             (F.medium self.old.flash) (F.medium self.new.flash) }
@@ -225,7 +225,7 @@ impl<F: Flash> Layer<F> {
     }
 
     // Makes a block blank, if it is not.
-    fn empty_block(&mut self, block: u32) -> Result<(), DiskFailed>
+    pub(crate) fn empty_block(&mut self, block: u32) -> Result<(), DiskFailed>
         requires { IsTrue F.told → block < (F.medium self.old.flash).blocks }
         ensures does { IsTrue F.told → Does (Empties block (F.medium self.old.flash).state.pages)
             (F.medium self.old.flash) (F.medium self.new.flash) }

@@ -22,7 +22,8 @@
 //! else wear would have no bound. Where they stand
 //! apart, the loss of pages of one block costs files of one copy ([`lost_pages_cost_one_copy`]); a disk says of its
 //! flash whether they are ([`FlashDisk::keeps_copies_apart`]). An opening goes on after the newest record of each copy,
-//! but for one page that a stop may have torn. [`erase_all`] makes a flash blank.
+//! but for one page that a stop may have torn. [`erase_all`] makes a flash blank. [`FlashDisk::forget`] takes from it
+//! the records of files that nobody names any more, so that what they took is room again.
 //!
 //! A flash that another program wrote may hold what this one never writes. Of two records of one page with one number
 //! the first place counts; while two that differ both have the greatest number of their page nothing is erased, and a
@@ -46,6 +47,7 @@ mod calls;
 mod disk;
 mod erasing;
 mod filling;
+mod forgetting;
 mod laws;
 mod layer;
 mod opening;
@@ -55,6 +57,7 @@ mod table;
 
 pub use disk::{FlashDisk, FlashOpenError, FlashRefused};
 pub use erasing::erase_all;
+pub use forgetting::{FileRange, Forgotten};
 pub use laws::{
     fresh_flashes_open, lost_pages_cost_one_copy, lost_pages_leave_it_usable,
     usable_flashes_are_taken,

@@ -8,7 +8,7 @@ use crate::step::Step;
 use crate::sweeps::{Sweep, swept};
 use crate::texts::runs;
 use disk_model::Disk;
-use flash_disk::{FlashDisk, FlashOpenError};
+use flash_disk::{FileRange, FlashDisk, FlashOpenError, Forgotten};
 use flash_model::{Flash, MemFlash, PAGE_BYTES};
 use std::alloc::{AllocError, Global};
 
@@ -84,6 +84,7 @@ impl Bench {
         match step.word {
             "open" => Some(self.open()),
             "close" => Some(self.close()),
+            "forget" => Some(self.forget(step)),
             "hash" => Some(said(has_its_hash(step))),
             "stops" => Some(self.sweep(Sweep::Stops, step)),
             "stops-of-moves" => Some(self.sweep(Sweep::StopsOfMoves, step)),
@@ -155,6 +156,28 @@ impl Bench {
         };
         self.flash = Some(disk.into_flash());
         "closed"
+    }
+
+    // Gives up all files but those of a range: its first file, and where it ends.
+    fn forget(&mut self, step: &Step<'_>) -> &'static str {
+        let Some(disk) = self.disk.take() else {
+            return "no disk";
+        };
+        let kept = [FileRange {
+            first: step.small(0),
+            end: step.small(1),
+        }];
+        match disk.forget(self.alloc, &kept) {
+            Ok(Forgotten { disk, whole }) => {
+                self.disk = Some(disk);
+                if whole { "whole" } else { "in part" }
+            }
+            Err(refused) => {
+                let error = refused.error;
+                self.flash = Some(refused.flash);
+                refusal(error)
+            }
+        }
     }
 
     fn sweep(&mut self, sweep: Sweep, step: &Step<'_>) -> &'static str {

@@ -1,10 +1,10 @@
-use Rattle.std.proofs.Common.{◌<◌, sym, ap, subst, ◌∙◌, arith}
+use Rattle.std.proofs.Common.{◌<◌, sym, subst, ◌∙◌, arith}
 use Rattle.std.proofs.lemmas.Result.{on_ok_weaker}
 use Rattle.flash_disk.specs.Does.{Does}
 use Rattle.flash_disk.specs.Emptied.{IsEmptyBlock, Empties}
 use Rattle.flash_disk.proofs.Stretches.{does_then}
 use Rattle.flash_disk.proofs.Clearing.{look_empties, erase_empties, erased_empty}
-use Rattle.flash_disk.proofs.Accounting.{accounts_fails, accounts_on}
+use Rattle.flash_disk.proofs.Accounting.{accounts_on}
 use Rattle.flash_disk.proofs.layer.Layer.empty_block.Goals as goal
 
 pub returns-in_err-empty-clause-does : goal.returns-in_err-empty-clause-does

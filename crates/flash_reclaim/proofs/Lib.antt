@@ -1,0 +1,4 @@
+mod Chain
+mod Looks
+mod Ranges
+mod Standing

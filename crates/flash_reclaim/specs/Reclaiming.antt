@@ -1,0 +1,63 @@
+-- What comes of a flash whose room is reclaimed: each application stands as it stood, at each moment.
+use Rattle.std.specs.Prelude.{◌≡◌, ◌⊎◌, ℕ, ◌<◌, ◌≤◌, [], Bool, IsFalse, IsTrue}
+use Rattle.per_base.specs.Causes.{Rose}
+use Rattle.disk_model.specs.Image.{Image}
+use Rattle.flash_model.specs.Pages.{IsPlain}
+use Rattle.flash_model.specs.State.{FlashCase}
+use Rattle.flash_model.specs.FlashMedium.{FlashMedium}
+use Rattle.flash_disk.specs.declared.disk.FlashOpenError.{FlashOpenError}
+use Rattle.flash_disk.specs.declared.disk.FlashOpenError.TheVariants.{WrongSize, Unusable, Device}
+use Rattle.flash_disk.specs.Apart.{StandApart}
+use Rattle.flash_disk.specs.FlashFiles.{flash_files}
+use Rattle.flash_disk.specs.KeepsApart.{StandsOrLacked}
+use Rattle.flash_disk.specs.Newest.{IsUnusable, places}
+use Rattle.flash_disk.specs.Sound.{files_on}
+use Rattle.flash_disk.specs.Standing.{IsAgreed}
+use Rattle.flash_disk.specs.Throughout.{UsableSince}
+use Rattle.deploy_laws.specs.Apps.{IsCleanApp, app_at}
+use Rattle.flash_reclaim.specs.Naming.{IsGivenUp}
+
+-- every application is what it was, and its places are clean where they were
+unfoldable pub AppsStand : (old new : Image) → Type 0
+AppsStand old new = (app : ℕ) → app < 8
+    → (app_at new app ≡ app_at old app) × (IsCleanApp app old → IsCleanApp app new)
+
+-- so it is now, and after a crash at any moment since the flash was handed in, if no page passes its hash by chance
+pub record AppsStandSince (old new : FlashMedium) : Type 0 where
+  pub now : AppsStand (files_on old) (files_on new)
+  pub during : (c : FlashCase) → new.since old.moment c → IsPlain c.before c.whole c.left
+      → AppsStand (files_on old) (flash_files c.left new.blocks)
+
+-- the files that are given up are empty, and every other is as it was
+pub record IsReclaimed (old new : Image) : Type 0 where
+  pub given_up : (file : ℕ) → IsGivenUp old file → new file ≡ []
+  pub kept : (file : ℕ) → file < 4294967295 → ¬ (IsGivenUp old file) → new file ≡ old file
+
+-- A flash whose room was reclaimed, in whole or not at all.
+pub record Reclaims (old new : FlashMedium) (whole : Bool) : Type 0 where
+  -- each application stands as before, also after a crash at any moment
+  pub stands : AppsStandSince old new
+  -- the files that no root names are empty, and all others are as they were; or all are
+  pub files : IsTrue whole → IsReclaimed (files_on old) (files_on new)
+  pub nothing : IsFalse whole → files_on new ≡ files_on old
+  -- it can be opened at every moment; no rivals came, and copies stand apart where they did and there was room
+  pub opens : UsableSince new old.moment
+  pub agreed : IsAgreed old.state.pages (places old.blocks) → IsAgreed new.state.pages (places new.blocks)
+  pub apart : 16 ≤ old.blocks → StandApart old.state.pages old.blocks
+      → StandsOrLacked new old.moment new.state.pages
+  -- no call of it failed
+  pub faults : IsTrue whole → new.faults ≡ old.faults
+
+-- A flash that is handed back: each application stands as before, and why it was refused.
+pub record IsHandedBack (old back : FlashMedium) (error : FlashOpenError) : Type 0 where
+  pub stands : AppsStandSince old back
+  pub wrong_size : error ≡ WrongSize → (old.blocks < 4) ⊎ (4096 < old.blocks)
+  pub unusable : error ≡ Unusable → IsUnusable old.state.pages old.blocks
+  pub device : error ≡ Device → Rose old.faults back.faults
+
+-- what is said of a flash that is modelled
+unfoldable pub ReclaimsTold : (told : Bool) → (old new : FlashMedium) → (whole : Bool) → Type 0
+ReclaimsTold told old new whole = IsTrue told → Reclaims old new whole
+
+unfoldable pub HandsBackTold : (told : Bool) → (old back : FlashMedium) → FlashOpenError → Type 0
+HandsBackTold told old back error = IsTrue told → IsHandedBack old back error

@@ -1,0 +1,16 @@
+//! Room on raw flash comes back that no application needs any more.
+//!
+//! A flash keeps the newest record of each page of each file, whoever needs it. What a wipe, a finish or a version that
+//! is made again gives up is named by no root, but stays there. [`reclaim`] reads the eight roots and takes from the
+//! flash the files of every bank in which no version is. It changes nothing else: at each moment every application
+//! stands as it stood, and the flash can be opened.
+//!
+//! It is called between two runs, since no root names the version that an update in progress makes. What is in no bank
+//! is kept, and so is all that an application has while a copy of its root lacks the text that stands or holds another:
+//! a repair may need it. Each call reads every page four times.
+#![tactic(auto)]
+
+mod naming;
+mod reclaiming;
+
+pub use reclaiming::{Reclaimed, reclaim};
