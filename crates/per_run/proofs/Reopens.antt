@@ -17,6 +17,7 @@ use Rattle.flash_disk.specs.Newest.{IsUnusable, IsUsable, places}
 use Rattle.flash_disk.specs.Standing.{IsAgreed}
 use Rattle.flash_disk.specs.Throughout.{AgreedSince, KeepsAgreed, KeepsUsable, UsableSince}
 use Rattle.flash_laws.specs.Outvotes.{OutlastsSince}
+use Rattle.loss_laws.specs.Since.{ReadOnSince}
 use Rattle.per_run.specs.Flashes.{IsWrongSize, LeavesFiles, OpensAgain}
 
 -- what stays usable in a stretch of calls is so since its beginning
@@ -119,8 +120,9 @@ module _ {F : Type 0} (told : Bool) (medium : F → FlashMedium) (flash : F) (op
       → KeepsUsable (medium flash) (medium opened.flash) → KeepsAgreed (medium flash) (medium opened.flash)
       → (medium opened.flash).state ≡ settle_pages (medium flash).state
       → ((f : F) (t : ℕ) → AgreedSince (medium f) t → ApartSince (medium f) t → OutlastsSince (medium f) t)
+      → ((f : F) (t : ℕ) → OutlastsSince (medium f) t → ReadOnSince (medium f) t)
       → OpensAgain told medium flash opened disk
-  opens_again many few usable agreed state outlast =
+  opens_again many few usable agreed state outlast read =
       let since : UsableSince (medium disk.flash) (medium flash).moment = time.opens (medium flash).moment earlier
       (λ _. usable_since (medium flash) (medium opened.flash) many few usable) tells in record {
         usable = since;
@@ -130,5 +132,7 @@ module _ {F : Type 0} (told : Bool) (medium : F → FlashMedium) (flash : F) (op
         apart = apart_on state;
         outlasts = λ agrees enough stand. outlast disk.flash (medium flash).moment (agreed_on agreed agrees)
             (apart_on state enough stand);
+        reads_on = λ agrees enough stand. read disk.flash (medium flash).moment
+            (outlast disk.flash (medium flash).moment (agreed_on agreed agrees) (apart_on state enough stand));
         files = files;
       }

@@ -17,6 +17,7 @@ use Rattle.flash_disk.specs.Newest.{IsUnusable, IsUsable, places}
 use Rattle.flash_disk.specs.Standing.{IsAgreed}
 use Rattle.flash_disk.specs.Throughout.{AgreedSince, UsableSince}
 use Rattle.flash_laws.specs.Outvotes.{OutlastsSince}
+use Rattle.loss_laws.specs.Since.{ReadOnSince}
 use Rattle.migrate_fns.specs.Rules.{Answers, Rule}
 use Rattle.run_model.specs.Endings.{FailureCounts}
 use Rattle.per_run.specs.declared.flash.FlashRun.{FlashRun}
@@ -79,7 +80,7 @@ LeavesFiles told medium flash opened disk c =
 -- promise speaks of, as far as no page passes its hash by chance: it is refused neither for its size nor for what its
 -- pages hold. If it had no rivals it goes on taking writes. If it has 16 blocks or more and the copies stood apart they
 -- do so, also at the end, unless at some moment there was no room for one. So where both are, the copies outvote each
--- loss of pages of one block.
+-- loss of pages of one block, and what was whole is read as before.
 pub record OpensAgain {F : Type 0} (told : Bool) (medium : F → FlashMedium) (flash : F)
     (opened disk : FlashView F) : Type 0 where
   pub usable : UsableSince (medium disk.flash) (medium flash).moment
@@ -93,6 +94,9 @@ pub record OpensAgain {F : Type 0} (told : Bool) (medium : F → FlashMedium) (f
   pub outlasts : IsAgreed (medium flash).state.pages (places (medium flash).blocks) → 16 ≤ (medium flash).blocks
       → StandApart (medium flash).state.pages (medium flash).blocks
       → OutlastsSince (medium disk.flash) (medium flash).moment
+  pub reads_on : IsAgreed (medium flash).state.pages (places (medium flash).blocks) → 16 ≤ (medium flash).blocks
+      → StandApart (medium flash).state.pages (medium flash).blocks
+      → ReadOnSince (medium disk.flash) (medium flash).moment
   pub files : (c : FlashCase) → (medium disk.flash).since (medium flash).moment c → IsPlain c.before c.whole c.left
       → LeavesFiles told medium flash opened disk c
 

@@ -15,7 +15,7 @@ use migrate_fns::Migrations;
 use per_runtime::Runtime;
 use std::alloc::Global;
 
-/// What came of a line.
+/// The outcome of a line.
 #[derive(Drop)]
 pub enum LineOutcome {
     /// It says nothing.
@@ -31,6 +31,7 @@ pub enum LineOutcome {
 }
 
 /// Reads a line and does what it says.
+#[inline(always)]
 pub fn answer_line<D: Disk>(
     alloc: Global,
     runtime: &mut Runtime,

@@ -16,11 +16,12 @@ use command_text::one_line;
 use flash_disk::{FlashDisk, FlashOpenError};
 use flash_laws::lost_pages_are_outvoted_since;
 use flash_model::Flash;
+use loss_laws::applications_read_on_since;
 use migrate_fns::Migrations;
 use per_base::{Sink, Source};
 use std::alloc::Global;
 
-/// What came of a run over a flash: its status, and the flash.
+/// The outcome of a run over a flash: its status, and the flash.
 #[derive(Drop)]
 pub enum FlashRun<F: Flash> {
     /// The job was begun on the flash as a disk, which is handed back.
@@ -106,6 +107,7 @@ fn run_over<F: Flash, S: Source, K: Sink>(
     ensures not_words { IfUnopened result (λ status back. status ≢ 1) }
 {
     lost_pages_are_outvoted_since::<F>();
+    applications_read_on_since::<F>();
     match FlashDisk::open(alloc, flash) {
         Ok(mut disk) => {
             let status = run_job(alloc, kind, migrations, source, sink, &mut disk);

@@ -23,7 +23,7 @@ use per_base::Sink;
 use per_runtime::{Runtime, start};
 use std::alloc::{AllocError, Global};
 
-/// Formats the disk, handles the lines that the number gives, and writes what came of them.
+/// Formats the disk, handles the lines that the number gives, and writes the summary of their replies.
 pub fn generate<D: Disk, K: Sink>(
     alloc: Global,
     number: u32,
@@ -89,7 +89,7 @@ fn generate_on<D: Disk, K: Sink>(
     }
 }
 
-/// Writes what came of the lines that the number gives.
+/// Writes the summary of the replies to the lines that the number gives.
 fn write_summary<K: Sink>(alloc: Global, number: u32, tally: &Tally, sink: &mut K) -> u8
     ensures output { (replies : List Reply) → Tallies replies tally.now
         → WritesOutput result (K.written sink.old) (K.written sink.new) (summary (number + 5) replies) }

@@ -107,7 +107,7 @@ pub(crate) fn first_line(bytes: &[u8]) -> Option<(&[u8], &[u8])>
     }
 }
 
-/// Handles the last line, where the input ends and no line feed stands after it.
+/// Handles the last line, where the input ends and no line feed follows it.
 pub fn finish<D: Disk, K: Sink>(
     reader: &mut Reader,
     migrations: &Migrations,
@@ -303,7 +303,7 @@ fn refuse<K: Sink>(alloc: Global, sink: &mut K, number: u64) -> Ending
     }
 }
 
-/// The text for a line outside the grammar, with its line feed.
+/// The answer to the line of this number, which is outside the grammar, with its line feed.
 pub fn print_bad_line(alloc: Global, number: u64) -> Result<Vec<u8>, AllocError>
     ensures { IfOk result (λ text. text.items ≡ bad_line_text number) }
 {

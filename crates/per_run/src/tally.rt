@@ -47,7 +47,7 @@ impl Tally {
         }
     }
 
-    /// The text of what that many lines came to.
+    /// The summary of the replies to that many lines, as a text.
     pub fn summary(&self, alloc: Global, lines: u64) -> Result<String, AllocError>
         ensures { IfOk result (λ text. string_bytes text ≡ summary_text lines self.now.done self.now.other
             self.now.errors self.now.size) }

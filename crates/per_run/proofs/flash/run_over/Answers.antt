@@ -30,5 +30,5 @@ returns-in-Ok-clause-ran g c =
       time = ran.time;
       stops = λ tells. opens_again told medium c.args.flash c.in-Ok.disk c.run_job-status.new.disk tells e.blocks
           e.opens ran.time e.size.0 e.size.1 (e.throughout tells) (e.agreed tells) (e.settled tells)
-          c.lost_pages_are_outvoted_since.ensures;
+          c.lost_pages_are_outvoted_since.ensures c.applications_read_on_since.ensures;
     }

@@ -1,0 +1,7 @@
+mod Apps
+mod Contents
+mod Lists
+mod Roots
+mod Silent
+mod Since
+mod Storages

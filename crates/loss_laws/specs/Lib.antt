@@ -1,0 +1,4 @@
+pub mod Laws
+pub mod ReadsOn
+pub mod Since
+pub mod Whole
