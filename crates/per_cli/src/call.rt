@@ -6,7 +6,8 @@
 
 ghost use Rattle.std.specs.Prelude.{◌≤◌, length};
 
-use crate::{NO_DISK, NO_INPUT, NO_MEMORY, REFUSED_CALL, REFUSED_WORDS, program};
+use crate::saying::{Screen, say};
+use crate::{NO_DISK, NO_INPUT, REFUSED_CALL, REFUSED_WORDS, program};
 use command_text::LineError;
 use memchr::memchr;
 use per_reasons::why_no_call;
@@ -24,11 +25,16 @@ use std::rt::Files;
 /// One byte more than a file may have: of a longer input no more is read.
 const CONTENT_BYTES: u64 = 1_048_577;
 
+/// How many digits of the bytes of a file are turned into bytes at once, an even number.
+const DIGITS: usize = 65_536;
+
 /// Why no call was made.
 #[derive(Clone, Copy)]
 enum Unmade {
     /// The arguments are not those of a call.
     Refused,
+    /// An option is none that may stand beside a call.
+    Beside,
     /// A file, or the input, cannot be read.
     Unread(io::Error),
     OutOfMemory,
@@ -59,7 +65,7 @@ impl From<io::Error> for Unmade {
 }
 
 /// Makes the call that is named among the arguments, and gives the status.
-pub(crate) fn run<R: Files<File = File> + AllocGlobal + Input + Print + Eprint>(
+pub(crate) fn run<R: Files<File = File> + AllocGlobal + Input + Print + Screen>(
     rt: &R,
     words: &[String],
     named: &[&[u8]],
@@ -70,33 +76,56 @@ pub(crate) fn run<R: Files<File = File> + AllocGlobal + Input + Print + Eprint>(
             let _ = say_refused(rt, rt.alloc(), named);
             REFUSED_WORDS
         }
+        Err(Unmade::Beside) => {
+            let _ = rt.eprintln(
+                "per: invalid arguments: a call takes --dir DIR and --flash N alone (per --help)",
+            );
+            REFUSED_WORDS
+        }
         Err(Unmade::Unread(error)) => {
-            let _ = eprintln!(rt; "per: what the call takes cannot be read: {error}");
+            let line = format!(in rt.alloc(); "per: what the call takes cannot be read: {error}");
+            let _ = say(rt, rt.alloc(), line);
             NO_INPUT
         }
-        Err(Unmade::OutOfMemory) => {
-            let _ = rt.eprintln("per: memory ran out");
-            NO_MEMORY
-        }
+        Err(Unmade::OutOfMemory) => program::no_memory(rt),
     }
 }
 
 /// Says why the arguments are invalid.
-fn say_refused<R: Eprint>(rt: &R, alloc: Global, named: &[&[u8]]) -> io::Result<()> {
+fn say_refused<R: Screen>(rt: &R, alloc: Global, named: &[&[u8]]) -> io::Result<()> {
     match why_refused(alloc, named) {
-        Ok(Some(why)) => eprintln!(rt; "per: the call is refused: {why} (per --help)"),
-        Ok(None) | Err(_) => rt.eprintln(
-            "per: the call is refused: its storage is named A:S, its arguments are as in a line, and --dir and --flash alone stand beside it (per --help)",
+        Ok(Some(why)) => say(
+            rt,
+            alloc,
+            format!(in alloc; "per: invalid arguments: {why} (per --help)"),
         ),
+        Ok(None) | Err(_) => rt.eprintln(refusal_of(named)),
     }
+}
+
+/// What is said of arguments whose line does not show what is wrong.
+fn refusal_of(named: &[&[u8]]) -> &'static str {
+    match named {
+        [call, ..] if takes_manifest(call) => {
+            "per: invalid arguments: install and update take an application and one file"
+        }
+        _ if has_white_space(named) => {
+            "per: invalid arguments: a name has no space, and nothing has a line feed"
+        }
+        _ => "per: invalid arguments: an application is 0 to 7, a storage named as 0:k",
+    }
+}
+
+/// Whether a space or a line feed stands within an argument.
+fn has_white_space(named: &[&[u8]]) -> bool {
+    named
+        .iter()
+        .any(|word| word.contains(&b' ') || word.contains(&b'\n'))
 }
 
 /// Which argument is wrong, where that shows in the line of the call.
 fn why_refused(alloc: Global, named: &[&[u8]]) -> Result<Option<String>, AllocError> {
-    if named
-        .iter()
-        .any(|word| word.contains(&b' ') || word.contains(&b'\n'))
-    {
+    if has_white_space(named) {
         return Ok(None);
     }
     let [call, target, arguments @ ..] = named else {
@@ -105,6 +134,9 @@ fn why_refused(alloc: Global, named: &[&[u8]]) -> Result<Option<String>, AllocEr
     let [digit, storage @ ..] = *target else {
         return Ok(None);
     };
+    if *digit < b'0' || *digit > b'7' {
+        return Ok(None);
+    }
     let mut line = Vec::new(alloc);
     line.push(*digit)?;
     line.push(b' ')?;
@@ -122,7 +154,7 @@ fn why_refused(alloc: Global, named: &[&[u8]]) -> Result<Option<String>, AllocEr
     why_no_call(alloc, line.as_slice())
 }
 
-fn made<R: Files<File = File> + AllocGlobal + Input + Print + Eprint>(
+fn made<R: Files<File = File> + AllocGlobal + Input + Print + Screen>(
     rt: &R,
     words: &[String],
     named: &[&[u8]],
@@ -138,7 +170,7 @@ fn made<R: Files<File = File> + AllocGlobal + Input + Print + Eprint>(
 fn options_of(alloc: Global, words: &[String], named: &[&[u8]]) -> Result<Vec<String>, Unmade> {
     let mut options = options_in(alloc, words)?;
     if asks_for_another(alloc, options.as_slice())? {
-        return Err(Unmade::Refused);
+        return Err(Unmade::Beside);
     }
     if is_first(named, b"install") {
         let serve = String::from_str(alloc, "--serve")?;
@@ -165,7 +197,7 @@ fn is_first(named: &[&[u8]], word: &[u8]) -> bool {
 }
 
 /// Gives the lines to a run with these options, shows its replies, and gives the status.
-fn status_of_lines<R: Files<File = File> + AllocGlobal + Print + Eprint>(
+fn status_of_lines<R: Files<File = File> + AllocGlobal + Print + Screen>(
     rt: &R,
     alloc: Global,
     options: &[String],
@@ -305,13 +337,13 @@ fn line_length(lines: &[u8]) -> usize
 
 /// Replies as an output: each write is one, which is shown to a person.
 #[derive(Drop)]
-struct Answers<'a, R: Print + Eprint> {
+struct Answers<'a, R: Print + Screen> {
     rt: &'a R,
     alloc: Global,
     refusal: &'a Refusal,
 }
 
-impl<'a, R: Print + Eprint> Answers<'a, R> {
+impl<'a, R: Print + Screen> Answers<'a, R> {
     fn show(&self, line: &[u8]) -> io::Result<()> {
         let (shown, text) = shown_in(line);
         match shown {
@@ -324,8 +356,22 @@ impl<'a, R: Print + Eprint> Answers<'a, R> {
                 self.refusal.note(NO_DISK);
                 self.tell(text);
             }
-            Shown::Nothing | Shown::Text | Shown::Names | Shown::Octets => {}
+            Shown::Octets => return self.show_octets(text),
+            Shown::Nothing | Shown::Text | Shown::Names => {}
         }
+        self.write_shown(shown, text)
+    }
+
+    /// Writes bytes in pieces, so that there is no second copy of all of them.
+    fn show_octets(&self, digits: &[u8]) -> io::Result<()> {
+        for piece in digits.chunks(DIGITS) {
+            self.write_shown(Shown::Octets, piece)?;
+        }
+        Ok(())
+    }
+
+    /// Writes a text that is shown so.
+    fn write_shown(&self, shown: Shown, text: &[u8]) -> io::Result<()> {
         match shown_bytes(self.alloc, shown, text) {
             Ok(out) => io::writer(self.rt).write_all(out.as_slice()),
             Err(_) => Err(io::Error::from(io::ErrorKind::OutOfMemory)),
@@ -335,12 +381,12 @@ impl<'a, R: Print + Eprint> Answers<'a, R> {
     /// Says a line on standard error.
     fn tell(&self, text: &[u8]) {
         if let Ok(text) = str::from_utf8(text) {
-            let _ = eprintln!(self.rt; "per: {text}");
+            let _ = say(self.rt, self.alloc, format!(in self.alloc; "per: {text}"));
         }
     }
 }
 
-impl<'a, R: Print + Eprint> Write for Answers<'a, R> {
+impl<'a, R: Print + Screen> Write for Answers<'a, R> {
     fn write(&mut self, bytes: &[u8]) -> io::Result<usize> {
         let lines = bytes.strip_suffix(b"\n").unwrap_or(bytes);
         for line in lines.split(|byte| *byte == b'\n') {

@@ -1,5 +1,7 @@
 //! Why a run ended, in one line on standard error.
 
+use crate::saying::{Screen, say as say_line};
+use std::alloc::Global;
 use std::rt::Files;
 use std::{fmt, fs, io};
 use system_model::{Asked, Failure};
@@ -7,7 +9,7 @@ use system_model::{Asked, Failure};
 /// What is said of invalid arguments.
 const USAGE: &str = "usage: per --dir DIR [--flash N] [--serve | --format | --generate N | --audit |
            --export A:S | --import A:S | --list FORM | --recover-root A]
-       per WORD .. --dir DIR [--flash N], where WORD is one of
+       per WORD .. --dir DIR [--flash N] [-- ..], where WORD is one of
            ls dump restore recover-root install update status finish rollback
            wipe get set get-as keys exists remove remove-all recover-key
            reset-key cat put files file-exists size-of info delete recover-file
@@ -59,9 +61,15 @@ pub(crate) struct Ended<'a> {
 }
 
 /// Says why a command was answered by error 4.
-pub(crate) fn say_answered<R: Eprint>(rt: &R, dir: &str, fault: Option<Fault>) -> io::Result<()> {
+pub(crate) fn say_answered<R: Screen>(
+    rt: &R,
+    alloc: Global,
+    dir: &str,
+    fault: Option<Fault>,
+) -> io::Result<()> {
     say_failure(
         rt,
+        alloc,
         "error 4 was answered, since the disk failed",
         dir,
         fault,
@@ -69,87 +77,114 @@ pub(crate) fn say_answered<R: Eprint>(rt: &R, dir: &str, fault: Option<Fault>) -
 }
 
 /// Says that a folder is not formatted, since files of others are in it.
-pub(crate) fn say_foreign<R: Eprint>(rt: &R, dir: &str, flash: Option<u32>) -> io::Result<()> {
-    match flash {
-        Some(blocks) => eprintln!(rt;
+pub(crate) fn say_foreign<R: Screen>(
+    rt: &R,
+    alloc: Global,
+    dir: &str,
+    flash: Option<u32>,
+) -> io::Result<()> {
+    let line = match flash {
+        Some(blocks) => format!(in alloc;
             "per: the folder {dir} holds other files and no flash: ./per --format --flash {blocks} --dir {dir}"
         ),
-        None => eprintln!(rt;
+        None => format!(in alloc;
             "per: the folder {dir} holds other files, and is not formatted: ./per --format --dir {dir}"
         ),
-    }
+    };
+    say_line(rt, alloc, line)
 }
 
 /// Says why a run ended where its status is not 0. At status 0 it says that a folder is not there or was not formatted,
 /// since every command but `now` and `wipe` is then refused, and why commands of a synthetic workload were answered by
 /// error 4.
-pub(crate) fn say<R: Files + Eprint>(rt: &R, ended: &Ended<'_>) -> io::Result<()> {
-    let dir = ended.dir;
+pub(crate) fn say<R: Files + Screen>(rt: &R, alloc: Global, ended: &Ended<'_>) -> io::Result<()> {
     match ended.status {
-        0 => say_of_answers(rt, ended),
-        1 => say_usage(rt, ended.unknown),
+        0 => say_of_answers(rt, alloc, ended),
+        1 => say_usage(rt, alloc, ended.unknown),
         2 => rt.eprintln(
-            "per: a line is outside the grammar; the last reply has its number (./per --help lists the lines)",
+            "per: a line is outside the grammar; the last reply has its number (per --help)",
         ),
-        3 if !has_folder(rt, dir) => eprintln!(rt; "per: there is no folder {dir}"),
-        3 if is_held(ended) => eprintln!(rt; "per: the folder {dir} is in use by another run"),
-        3 if is_sync(ended) => say_failure(
-            rt,
-            "the disk failed, and the system is to be restarted before the next run",
-            dir,
-            ended.disk,
-        ),
-        3 => say_failure(rt, "the disk failed", dir, ended.disk),
+        3 => say_of_device(rt, alloc, ended),
         4 => rt.eprintln("per: memory ran out"),
-        5 => say_stream(rt, "standard input", ended.source),
-        6 => say_stream(rt, "standard output", ended.sink),
+        5 => say_stream(rt, alloc, "standard input", ended.source),
+        6 => say_stream(rt, alloc, "standard output", ended.sink),
         7 => rt.eprintln("per: the first 67108864 bytes of the input have no line `end`"),
-        8 if !ended.has_files => say_of_folder(rt, ended),
+        8 | 9 if !ended.has_files => say_of_folder(rt, alloc, ended.dir, ended.flash),
         8 if ended.has_damage => rt.eprintln("per: the audit found something; its lines say what"),
         8 => rt.eprintln(
-            "per: the audit found nothing damaged or lost; what is unsettled, as by a stop, the next opening settles",
+            "per: the audit found nothing damaged or lost; an opening settles the rest",
         ),
-        9 if !ended.has_files => say_of_folder(rt, ended),
         9 => rt.eprintln(
-            "per: the export, the import or the recovery was refused; the line that was written says why",
+            "per: the export, import or recovery was refused; the line written says why",
         ),
-        10 => eprintln!(rt;
-            "per: the flash in {dir} cannot be opened: it holds more pages of files than its blocks may, or no block is spare"
-        ),
-        11 => say_of_size(rt, ended),
+        10 => {
+            let dir = ended.dir;
+            let line = format!(in alloc;
+                "per: the flash in {dir} cannot be opened: it holds more pages of files than its blocks may, or no block is spare"
+            );
+            say_line(rt, alloc, line)
+        }
+        11 => say_of_size(rt, alloc, ended),
         _ => Ok(()),
     }
 }
 
+/// Says why the device failed, or was not held.
+fn say_of_device<R: Files + Screen>(rt: &R, alloc: Global, ended: &Ended<'_>) -> io::Result<()> {
+    let dir = ended.dir;
+    if is_other(rt, dir) {
+        return say_line(rt, alloc, format!(in alloc; "per: {dir} is no folder"));
+    }
+    if !has_folder(rt, dir) {
+        return say_line(
+            rt,
+            alloc,
+            format!(in alloc; "per: there is no folder {dir}"),
+        );
+    }
+    if is_held(ended) {
+        let line = format!(in alloc; "per: the folder {dir} is in use by another run");
+        return say_line(rt, alloc, line);
+    }
+    let what = if is_sync(ended) {
+        "the disk failed, and the system is to be restarted before the next run"
+    } else {
+        "the disk failed"
+    };
+    say_failure(rt, alloc, what, dir, ended.disk)
+}
+
 /// Says which arguments there are, and which one is none of them.
-fn say_usage<R: Eprint>(rt: &R, unknown: Option<&[u8]>) -> io::Result<()> {
+fn say_usage<R: Screen>(rt: &R, alloc: Global, unknown: Option<&[u8]>) -> io::Result<()> {
+    rt.eprintln(USAGE)?;
     match str::from_utf8(unknown.unwrap_or(&[])) {
-        Ok("") | Err(_) => eprintln!(rt; "{USAGE}"),
-        Ok(word) => eprintln!(rt; "{USAGE}\nper: {word} is none of these"),
+        Ok("") | Err(_) => Ok(()),
+        Ok(word) => say_line(rt, alloc, format!(in alloc; "per: {word} is none of these")),
     }
 }
 
-fn say_of_answers<R: Files + Eprint>(rt: &R, ended: &Ended<'_>) -> io::Result<()> {
+fn say_of_answers<R: Files + Screen>(rt: &R, alloc: Global, ended: &Ended<'_>) -> io::Result<()> {
     if (ended.takes_lines || ended.lists) && !ended.has_files {
-        say_of_folder(rt, ended)
+        say_of_folder(rt, alloc, ended.dir, ended.flash)
     } else if ended.disk.is_some() && !ended.takes_lines {
-        say_answered(rt, ended.dir, ended.disk)
+        say_answered(rt, alloc, ended.dir, ended.disk)
     } else {
         Ok(())
     }
 }
 
 /// Says why a flash has the wrong size.
-fn say_of_size<R: Eprint>(rt: &R, ended: &Ended<'_>) -> io::Result<()> {
+fn say_of_size<R: Screen>(rt: &R, alloc: Global, ended: &Ended<'_>) -> io::Result<()> {
     let dir = ended.dir;
-    match (ended.disk, ended.flash) {
-        (Some(Fault::Longer), Some(blocks)) => eprintln!(rt;
+    let line = match (ended.disk, ended.flash) {
+        (Some(Fault::Longer), Some(blocks)) => format!(in alloc;
             "per: the flash in {dir} cannot be opened: its file has more than {blocks} blocks"
         ),
-        _ => eprintln!(rt;
+        _ => format!(in alloc;
             "per: the flash in {dir} cannot be opened: it has fewer than 4 blocks, or more than 4096"
         ),
-    }
+    };
+    say_line(rt, alloc, line)
 }
 
 /// Whether another run holds the folder.
@@ -171,30 +206,62 @@ fn is_sync(ended: &Ended<'_>) -> bool {
 }
 
 /// Explains that a folder with no file of the disk or of the flash is not formatted, or not there.
-fn say_of_folder<R: Files + Eprint>(rt: &R, ended: &Ended<'_>) -> io::Result<()> {
-    let dir = ended.dir;
+pub(crate) fn say_of_folder<R: Files + Screen>(
+    rt: &R,
+    alloc: Global,
+    dir: &str,
+    flash: Option<u32>,
+) -> io::Result<()> {
     if !has_folder(rt, dir) {
-        return eprintln!(rt; "per: there is no folder {dir}");
+        return say_line(
+            rt,
+            alloc,
+            format!(in alloc; "per: there is no folder {dir}"),
+        );
     }
-    match ended.flash {
-        Some(blocks) => eprintln!(rt;
+    let line = match flash {
+        Some(blocks) => format!(in alloc;
             "per: the flash in {dir} is not formatted: ./per --format --flash {blocks} --dir {dir}"
         ),
-        None => eprintln!(rt; "per: the folder {dir} is not formatted: ./per --format --dir {dir}"),
-    }
+        None => format!(in alloc;
+            "per: the folder {dir} is not formatted: ./per --format --dir {dir}"
+        ),
+    };
+    say_line(rt, alloc, line)
 }
 
-fn say_failure<R: Eprint>(rt: &R, what: &str, dir: &str, fault: Option<Fault>) -> io::Result<()> {
-    match fault {
-        Some(fault) => eprintln!(rt; "per: {what}: {fault} in {dir}"),
-        None => eprintln!(rt; "per: {what} in {dir}"),
-    }
+fn say_failure<R: Screen>(
+    rt: &R,
+    alloc: Global,
+    what: &str,
+    dir: &str,
+    fault: Option<Fault>,
+) -> io::Result<()> {
+    let line = match fault {
+        Some(fault) => format!(in alloc; "per: {what}: {fault} in {dir}"),
+        None => format!(in alloc; "per: {what} in {dir}"),
+    };
+    say_line(rt, alloc, line)
 }
 
-fn say_stream<R: Eprint>(rt: &R, name: &str, error: Option<io::Error>) -> io::Result<()> {
-    match error {
-        Some(error) => eprintln!(rt; "per: {name} failed: {error}"),
-        None => eprintln!(rt; "per: {name} failed"),
+fn say_stream<R: Screen>(
+    rt: &R,
+    alloc: Global,
+    name: &str,
+    error: Option<io::Error>,
+) -> io::Result<()> {
+    let line = match error {
+        Some(error) => format!(in alloc; "per: {name} failed: {error}"),
+        None => format!(in alloc; "per: {name} failed"),
+    };
+    say_line(rt, alloc, line)
+}
+
+/// Whether something else than a folder has the name, as far as the system says.
+fn is_other<R: Files>(rt: &R, dir: &str) -> bool {
+    match fs::metadata(rt, dir) {
+        Ok(found) => !found.is_dir(),
+        Err(_) => false,
     }
 }
 

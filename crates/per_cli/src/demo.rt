@@ -1,5 +1,6 @@
 //! A first session, shown whole.
 
+use crate::saying::{Screen, say};
 use crate::{NO_MEMORY, NO_OUTPUT, program};
 use std::alloc::{AllocError, Global};
 use std::env::{self, Env};
@@ -63,7 +64,7 @@ impl<'a, R: Print> Read for LinesShown<'a, R> {
 
 /// Runs the session in a folder of its own, which stays, and shows each line with its reply. Gives the status of the
 /// run that ended last.
-pub(crate) fn show<R: Files<File = File> + AllocGlobal + Env + Print + Eprint>(
+pub(crate) fn show<R: Files<File = File> + AllocGlobal + Env + Print + Screen>(
     rt: &R,
     number: u32,
 ) -> u8 {
@@ -76,14 +77,15 @@ pub(crate) fn show<R: Files<File = File> + AllocGlobal + Env + Print + Eprint>(
     }
 }
 
-fn shown<R: Files<File = File> + AllocGlobal + Env + Print + Eprint>(
+fn shown<R: Files<File = File> + AllocGlobal + Env + Print + Screen>(
     rt: &R,
     number: u32,
 ) -> io::Result<u8> {
     let dir = env::temp_dir(rt)?;
     let dir = format!(in rt.alloc(); "{}/per-demo-{number}", dir.display())?;
     if let Err(error) = fs::create_dir(rt, dir.as_str()) {
-        eprintln!(rt; "per: the folder {dir} cannot be made: {error}")?;
+        let line = format!(in rt.alloc(); "per: the folder {dir} cannot be made: {error}");
+        say(rt, rt.alloc(), line)?;
         return Ok(NO_FOLDER);
     }
     let mut status = run(rt, dir.as_str(), true, &[])?;
@@ -98,7 +100,7 @@ fn shown<R: Files<File = File> + AllocGlobal + Env + Print + Eprint>(
 }
 
 /// Shows the command of a run, and runs it.
-fn run<R: Files<File = File> + AllocGlobal + Print + Eprint>(
+fn run<R: Files<File = File> + AllocGlobal + Print + Screen>(
     rt: &R,
     dir: &str,
     is_format: bool,

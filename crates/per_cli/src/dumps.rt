@@ -4,6 +4,7 @@
 //! after another, each whole or not at all.
 
 use crate::causes::{Ended, Fault, say};
+use crate::saying::{Screen, say as say_line};
 use crate::{
     NO_DISK, NO_INPUT, NO_MEMORY, NO_OUTPUT, REFUSED_CALL, REFUSED_WORDS, WRONG_SIZE, program,
 };
@@ -16,6 +17,7 @@ use folder_disk::FolderDisk;
 use folder_flash::{FolderFlash, of_flash};
 use per_base::{PerError, Sequence};
 use per_dump::{Dumped, dump_application, restore_application};
+use per_reasons::why_refused;
 use per_run::{JobKind, WordsError, read_words};
 use per_system::{Access, DeviceKind, HostSystem, Noted, NotedFlash, Notes};
 use per_words::{options_in, unknown_in};
@@ -30,6 +32,13 @@ const APPLICATIONS: u32 = 8;
 
 /// The status where a flash cannot be opened.
 const UNUSABLE: u8 = 10;
+
+/// What is said of other arguments than these.
+const DUMP_TAKES: &str = "dump takes one application, 0 to 7, or none";
+
+const RESTORE_TAKES: &str = "restore takes one file, or none";
+
+const BESIDE: &str = "options are --dir DIR and --flash N alone";
 
 /// What is wanted.
 #[derive(Drop)]
@@ -50,7 +59,8 @@ struct Place {
 /// Why nothing was begun.
 #[derive(Drop)]
 enum Unbegun {
-    Refused,
+    /// The arguments are invalid, and why.
+    Refused(&'static str),
     /// The text cannot be read.
     Unread(io::Error),
     /// The text is no dump, and why.
@@ -58,7 +68,7 @@ enum Unbegun {
     OutOfMemory,
 }
 
-/// What came of it.
+/// The outcome.
 #[derive(Drop)]
 struct Outcome {
     status: u8,
@@ -98,7 +108,7 @@ pub(crate) fn is_word(word: &[u8]) -> bool {
 }
 
 /// Makes a dump, or restores one, as the words ask, and gives the status.
-pub(crate) fn run<R: Files<File = File> + AllocGlobal + Input + Print + Eprint>(
+pub(crate) fn run<R: Files<File = File> + AllocGlobal + Input + Print + Screen>(
     rt: &R,
     words: &[String],
     named: &[&[u8]],
@@ -106,18 +116,18 @@ pub(crate) fn run<R: Files<File = File> + AllocGlobal + Input + Print + Eprint>(
     let alloc = rt.alloc();
     match begun(rt, alloc, words, named) {
         Ok((wanted, place)) => done(rt, alloc, words, &wanted, place),
-        Err(Unbegun::Refused) => {
-            let _ = rt.eprintln(
-                "per: the words are refused: dump takes one application, 0 to 7, or none; restore a file, or none; --dir and --flash alone stand beside them (per --help)",
-            );
+        Err(Unbegun::Refused(why)) => {
+            let _ = eprintln!(rt; "per: invalid arguments: {why} (per --help)");
             REFUSED_WORDS
         }
         Err(Unbegun::Unread(error)) => {
-            let _ = eprintln!(rt; "per: the dump cannot be read: {error}");
+            let line = format!(in alloc; "per: the dump cannot be read: {error}");
+            let _ = say_line(rt, alloc, line);
             NO_INPUT
         }
         Err(Unbegun::NoDump(why)) => {
-            let _ = eprintln!(rt; "per: the text is no dump: {why}");
+            let line = format!(in alloc; "per: the text is no dump: {why}");
+            let _ = say_line(rt, alloc, line);
             REFUSED_CALL
         }
         Err(Unbegun::OutOfMemory) => program::no_memory(rt),
@@ -144,13 +154,14 @@ fn begun<R: Files<File = File> + Input>(
         }
         [word, file] if *word == b"restore".as_slice() => {
             let Ok(file) = str::from_utf8(file) else {
-                return Err(Unbegun::Refused);
+                return Err(Unbegun::Refused(RESTORE_TAKES));
             };
             let mut text = Vec::new(alloc);
             fs::open(rt, file)?.read_to_end(&mut text)?;
             Wanted::Restore(read_dump(alloc, text.as_slice())?)
         }
-        _ => return Err(Unbegun::Refused),
+        [word, ..] if *word == b"dump".as_slice() => return Err(Unbegun::Refused(DUMP_TAKES)),
+        _ => return Err(Unbegun::Refused(RESTORE_TAKES)),
     };
     Ok((wanted, place))
 }
@@ -163,7 +174,7 @@ fn place_of(alloc: Global, words: &[String]) -> Result<Place, Unbegun> {
             dir: job.dir.into_string(),
             flash: job.flash,
         }),
-        Ok(_) | Err(WordsError::Refused) => Err(Unbegun::Refused),
+        Ok(_) | Err(WordsError::Refused) => Err(Unbegun::Refused(BESIDE)),
         Err(WordsError::OutOfMemory) => Err(Unbegun::OutOfMemory),
     }
 }
@@ -172,12 +183,12 @@ fn place_of(alloc: Global, words: &[String]) -> Result<Place, Unbegun> {
 fn application_of(word: &[u8]) -> Result<u32, Unbegun> {
     match word {
         [digit] if *digit >= b'0' && *digit <= b'7' => Ok(u32::from(*digit - b'0')),
-        _ => Err(Unbegun::Refused),
+        _ => Err(Unbegun::Refused(DUMP_TAKES)),
     }
 }
 
 /// Does it, writes what is to be written, and says why it did not end well.
-fn done<R: Files<File = File> + AllocGlobal + Print + Eprint>(
+fn done<R: Files<File = File> + AllocGlobal + Print + Screen>(
     rt: &R,
     alloc: Global,
     words: &[String],
@@ -216,7 +227,7 @@ fn done<R: Files<File = File> + AllocGlobal + Print + Eprint>(
             source: None,
             sink,
         };
-        let _ = say(rt, &ended);
+        let _ = say(rt, alloc, &ended);
     }
     status
 }
@@ -233,7 +244,7 @@ fn written<R: Print>(rt: &R, outcome: &Outcome) -> (u8, Option<io::Error>) {
 }
 
 /// Does it over the folder: as a disk, or as a flash.
-fn over_folder<'a, R: Files<File = File> + Eprint>(
+fn over_folder<'a, R: Files<File = File> + Screen>(
     rt: &'a R,
     alloc: Global,
     wanted: &Wanted,
@@ -270,7 +281,7 @@ fn over_folder<'a, R: Files<File = File> + Eprint>(
     }
 }
 
-fn over_flash<'a, R: Eprint, Y: System + Drop>(
+fn over_flash<'a, R: Screen, Y: System + Drop>(
     rt: &R,
     alloc: Global,
     wanted: &Wanted,
@@ -333,7 +344,7 @@ fn not_held(alloc: Global, notes: &Notes, failure: Option<Failure>) -> Outcome {
 }
 
 /// The status, and what is to be written.
-fn over_disk<R: Eprint, D: Disk>(
+fn over_disk<R: Screen, D: Disk>(
     rt: &R,
     alloc: Global,
     wanted: &Wanted,
@@ -353,7 +364,7 @@ fn over_disk<R: Eprint, D: Disk>(
 }
 
 /// The text of the applications of a disk, or of one of them, or the status where there is none.
-fn dump<R: Eprint, D: Disk>(
+fn dump<R: Screen, D: Disk>(
     rt: &R,
     alloc: Global,
     application: Option<u32>,
@@ -372,10 +383,10 @@ fn dump<R: Eprint, D: Disk>(
             }
             Ok(Dumped::Absent) if application.is_none() => {}
             Ok(Dumped::Absent) => {
-                return Err(refused(rt, alloc, number, "dumped", PerError::NotInstalled));
+                return Err(refused(rt, alloc, number, "dumped", PerError::NotInstalled, &[]));
             }
             Ok(Dumped::Refused(error)) => {
-                return Err(refused(rt, alloc, number, "dumped", error));
+                return Err(refused(rt, alloc, number, "dumped", error, &[]));
             }
             Err(stop) => return Err(status_of(stop)),
         }
@@ -383,7 +394,8 @@ fn dump<R: Eprint, D: Disk>(
     match write_dump(alloc, dumped.as_slice()) {
         Ok(text) => Ok(text),
         Err(DumpError::NotADump(why)) => {
-            let _ = eprintln!(rt; "per: no dump can be written: {why}");
+            let line = format!(in alloc; "per: no dump can be written: {why}");
+            let _ = say_line(rt, alloc, line);
             Err(REFUSED_CALL)
         }
         Err(DumpError::OutOfMemory) => Err(NO_MEMORY),
@@ -391,7 +403,7 @@ fn dump<R: Eprint, D: Disk>(
 }
 
 /// Restores applications one after another, also after one that is refused, and gives the status.
-fn restore<R: Eprint, D: Disk>(
+fn restore<R: Screen, D: Disk>(
     rt: &R,
     alloc: Global,
     applications: &[DumpedApplication],
@@ -407,7 +419,10 @@ fn restore<R: Eprint, D: Disk>(
                     return NO_MEMORY;
                 }
             }
-            Ok(Some(error)) => status = refused(rt, alloc, number, "restored", error),
+            Ok(Some(error)) => {
+                let manifest = dumped.manifest.as_slice();
+                status = refused(rt, alloc, number, "restored", error, manifest);
+            }
             Err(stop) => return status_of(stop),
         }
     }
@@ -421,8 +436,15 @@ fn say_restored(alloc: Global, number: u32, output: &mut Vec<u8>) -> Result<(), 
     Ok(())
 }
 
-/// Says why an application is not dumped, or not restored, and gives the status.
-fn refused<R: Eprint>(rt: &R, alloc: Global, number: u32, what: &str, error: PerError) -> u8 {
+/// Says why an application is not dumped, or not restored with this manifest, and gives the status.
+fn refused<R: Screen>(
+    rt: &R,
+    alloc: Global,
+    number: u32,
+    what: &str,
+    error: PerError,
+    manifest: &[u8],
+) -> u8 {
     errors_have_texts();
     if matches!(&error, PerError::OutOfMemory) {
         return NO_MEMORY;
@@ -434,11 +456,24 @@ fn refused<R: Eprint>(rt: &R, alloc: Global, number: u32, what: &str, error: Per
     let Ok(line) = print_reply(alloc, &reply) else {
         return NO_MEMORY;
     };
-    let line = line.as_slice();
-    if let Ok(line) = str::from_utf8(line.strip_suffix(b"\n").unwrap_or(line)) {
-        let _ = eprintln!(rt; "per: application {number} is not {what}: {line}");
+    let answer = line.as_slice();
+    let answer = answer.strip_suffix(b"\n").unwrap_or(answer);
+    if let Ok(text) = str::from_utf8(answer) {
+        let line = format!(in alloc; "per: application {number} is not {what}: {text}");
+        let _ = say_line(rt, alloc, line);
     }
+    let _ = say_why(rt, alloc, answer, manifest);
     REFUSED_CALL
+}
+
+/// Says for which part of the manifest an installation is refused so, where there is more to say.
+fn say_why<R: Screen>(rt: &R, alloc: Global, answer: &[u8], manifest: &[u8]) -> io::Result<()> {
+    let mut line = Vec::from_slice(alloc, b"0 install ")?;
+    line.extend_from_slice(manifest)?;
+    match why_refused(alloc, answer, line.as_slice()) {
+        Ok(Some(why)) => say_line(rt, alloc, format!(in alloc; "per: {why}")),
+        Ok(None) | Err(_) => Ok(()),
+    }
 }
 
 fn status_of(stop: Stop) -> u8 {

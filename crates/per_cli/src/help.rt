@@ -1,12 +1,13 @@
 //! What a person gets who asks for help.
 
 use crate::NO_OUTPUT;
+use crate::saying::{Screen, say};
 use per_words::{column_after, is_line_word, row_word, rows_of};
 use std::alloc::{AllocError, Global};
 use std::io::{self, Write};
 
 /// The version of the sources.
-const VERSION: &str = "0.15.0";
+const VERSION: &str = "0.16.0";
 
 /// A column after which no word stands.
 const FULL: usize = 80;
@@ -53,6 +54,7 @@ power loss, lost copies and updates.
 Calls. One call by itself: its storage is opened before it, and what it changes
 is made durable after it. A value stands alone on standard output, an error on
 standard error, and then the status is 9. --flash N may stand beside --dir DIR.
+After -- no argument is an option, also where it begins with two dashes.
   ./per install 0 FILE --dir DIR     a manifest of any number of lines; makes
                                      an empty folder ready first
   ./per update 0 FILE --dir DIR      another version, likewise; - is standard
@@ -280,13 +282,13 @@ fn status_of(written: io::Result<()>) -> u8 {
 }
 
 /// Says what a call is, or where the text is the word of none, which calls there are.
-pub(crate) fn show_asked<R: Print + Eprint>(rt: &R, alloc: Global, word: &[u8]) -> io::Result<()> {
+pub(crate) fn show_asked<R: Print + Screen>(rt: &R, alloc: Global, word: &[u8]) -> io::Result<()> {
     if is_line_word(word) {
         return show_call(rt, alloc, word);
     }
     match str::from_utf8(word) {
         Ok("") | Err(_) => {}
-        Ok(word) => eprintln!(rt; "per: there is no call {word}")?,
+        Ok(word) => say(rt, alloc, format!(in alloc; "per: there is no call {word}"))?,
     }
     show_calls(rt)
 }

@@ -1,5 +1,6 @@
 //! A job of the program that is named as a call is: `per recover-root 0 --dir DIR`.
 
+use crate::saying::Screen;
 use crate::{REFUSED_WORDS, program};
 use per_words::options_in;
 use std::alloc::{AllocError, Global};
@@ -13,7 +14,7 @@ pub(crate) fn is_job(word: &[u8]) -> bool {
 }
 
 /// Does the job that is named among the arguments, and gives the status.
-pub(crate) fn run<R: Files<File = File> + AllocGlobal + Input + Print + Eprint>(
+pub(crate) fn run<R: Files<File = File> + AllocGlobal + Input + Print + Screen>(
     rt: &R,
     words: &[String],
     named: &[&[u8]],
@@ -22,7 +23,7 @@ pub(crate) fn run<R: Files<File = File> + AllocGlobal + Input + Print + Eprint>(
         Ok(Some(words)) => program::run(rt, words.as_slice(), rt.reader(), io::writer(rt)),
         Ok(None) => {
             let _ = rt.eprintln(
-                "per: the job is refused: recover-root takes one application, 0 to 7 (per --help)",
+                "per: invalid arguments: recover-root takes one application, 0 to 7 (per --help)",
             );
             REFUSED_WORDS
         }

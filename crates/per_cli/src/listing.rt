@@ -1,6 +1,7 @@
 //! What is in a folder, from a shell: `per ls --dir DIR`, and with `--json` for a program.
 
 use crate::program;
+use crate::saying::Screen;
 use per_words::options_in;
 use std::alloc::{AllocError, Global};
 use std::fs::File;
@@ -8,7 +9,7 @@ use std::io;
 use std::rt::Files;
 
 /// Runs the job that lists what is there, with these arguments but `ls`, and gives the status.
-pub(crate) fn run<R: Files<File = File> + AllocGlobal + Print + Eprint>(
+pub(crate) fn run<R: Files<File = File> + AllocGlobal + Print + Screen>(
     rt: &R,
     words: &[String],
 ) -> u8 {

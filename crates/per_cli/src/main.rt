@@ -14,7 +14,8 @@
 //! in it, with 5 where what it takes cannot be read, and with 9 where it was refused. The status is 3 or 11 too where
 //! the file of a flash cannot be looked at, or has more bytes than its blocks.
 //!
-//! At a terminal the lines of a run are asked for ([`asking`]).
+//! At a terminal the lines of a run are asked for ([`asking`]), and what is said on standard error fits 80 columns
+//! ([`saying`]).
 #![tactic(auto)]
 
 mod asking;
@@ -27,12 +28,13 @@ mod help;
 mod jobs;
 mod listing;
 mod program;
+mod saying;
 mod telling;
 
 use asking::Asking;
 use per_run::{JobKind, read_words};
 use per_system::fill_streams;
-use per_words::{is_call, named_words};
+use per_words::{asks_help, is_call, named_words};
 use std::io::IsTerminal;
 use std::process::{self, ExitCode};
 use std::{env, io};
@@ -90,7 +92,7 @@ fn main(rt: HostRuntime) -> ExitCode {
     let words = match words_of(&rt) {
         Ok(words) => words,
         Err(error) => {
-            let _ = eprintln!(rt; "per: the words cannot be read: {error}");
+            let _ = eprintln!(rt; "per: the arguments cannot be read: {error}");
             return ExitCode::from(status_of(&error));
         }
     };
@@ -106,7 +108,7 @@ fn main(rt: HostRuntime) -> ExitCode {
         Asked::Job => jobs::run(&rt, &words, named.as_slice()),
         Asked::Dump => dumps::run(&rt, &words, named.as_slice()),
         Asked::Run if is_asked(&rt, &words) => {
-            program::run(&rt, &words, Asking::new(&rt, rt.alloc()), rt.stdout())
+            program::run_asked(&rt, &words, Asking::new(&rt, rt.alloc()), rt.stdout())
         }
         Asked::Run => program::run(&rt, &words, rt.stdin(), rt.stdout()),
     };
@@ -131,7 +133,7 @@ fn status_of(error: &io::Error) -> u8 {
 }
 
 fn wish_of(words: &[String], named: &[&[u8]]) -> Asked {
-    if words.iter().any(|word| word.as_str() == "--help") {
+    if asks_help(words) {
         return Asked::Help;
     }
     match words {

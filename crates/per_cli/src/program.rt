@@ -1,11 +1,13 @@
 //! A run of the program over a folder, or a flash in it, and two streams.
 
-use crate::causes::{Ended, Fault, say, say_foreign};
+use crate::causes::{Ended, Fault, say, say_foreign, say_of_folder};
 use crate::hearing::{LastRead, NotedInput};
+use crate::saying::Screen;
 use crate::telling::Telling;
 use crate::{NO_DISK, NO_MEMORY, WRONG_SIZE};
-use flash_disk::erase_all;
+use flash_disk::{FlashOpenError, erase_all};
 use flash_model::Flash;
+use flash_reclaim::reclaim;
 use folder_disk::FolderDisk;
 use folder_flash::{FolderFlash, of_flash};
 use migrate_fns::Migrations;
@@ -24,8 +26,8 @@ use std::rt::Files;
 use system_model::{Failure, System};
 
 /// The folder that is named, for what it is held, whether it is formatted or audited, whether lines are to be handled
-/// in it or what is in it is to be said, whether it may be formatted for them, and how many blocks its flash has, where
-/// it has one.
+/// in it or what is in it is to be said, whether it may be formatted for them, whether a person is asked for them, and
+/// how many blocks its flash has, where it has one.
 #[derive(Drop)]
 struct Target {
     dir: String,
@@ -35,10 +37,11 @@ struct Target {
     takes_lines: bool,
     lists: bool,
     formats_blank: bool,
+    is_asked: bool,
     flash: Option<u32>,
 }
 
-/// What came of a run, as far as its device can tell.
+/// The outcome of a run, and what its device says of it.
 #[derive(Clone, Copy)]
 struct Outcome {
     status: u8,
@@ -50,15 +53,16 @@ struct Outcome {
 
 /// A run that waits for its converters.
 #[derive(Drop)]
-struct Waiting<'a, R: Files<File = File> + Eprint, I: Read + Drop, O: Write + Drop> {
+struct Waiting<'a, R: Files<File = File> + Screen, I: Read + Drop, O: Write + Drop> {
     rt: &'a R,
     alloc: Global,
     words: &'a [String],
+    is_asked: bool,
     input: I,
     output: O,
 }
 
-impl<'a, R: Files<File = File> + Eprint, I: Read + Drop, O: Write + Drop> WithConverters
+impl<'a, R: Files<File = File> + Screen, I: Read + Drop, O: Write + Drop> WithConverters
     for Waiting<'a, R, I, O> {
     /// The status.
     type Answer = u8;
@@ -68,18 +72,38 @@ impl<'a, R: Files<File = File> + Eprint, I: Read + Drop, O: Write + Drop> WithCo
             rt,
             alloc,
             words,
+            is_asked,
             input,
             output,
         } = self;
-        run_with(rt, alloc, migrations, words, input, output)
+        run_with(rt, alloc, migrations, words, is_asked, input, output)
     }
 }
 
 /// Runs the program with these arguments, says on standard error why it ended where it did not end well, and gives the
 /// status.
-pub(crate) fn run<R: Files<File = File> + AllocGlobal + Eprint, I: Read + Drop, O: Write + Drop>(
+pub(crate) fn run<R: Files<File = File> + AllocGlobal + Screen, I: Read + Drop, O: Write + Drop>(
     rt: &R,
     words: &[String],
+    input: I,
+    output: O,
+) -> u8 {
+    run_as(rt, words, false, input, output)
+}
+
+/// The same for a person who is asked for the lines: what is wrong with the folder is said before.
+pub(crate) fn run_asked<
+    R: Files<File = File> + AllocGlobal + Screen,
+    I: Read + Drop,
+    O: Write + Drop,
+>(rt: &R, words: &[String], input: I, output: O) -> u8 {
+    run_as(rt, words, true, input, output)
+}
+
+fn run_as<R: Files<File = File> + AllocGlobal + Screen, I: Read + Drop, O: Write + Drop>(
+    rt: &R,
+    words: &[String],
+    is_asked: bool,
     input: I,
     output: O,
 ) -> u8 {
@@ -88,6 +112,7 @@ pub(crate) fn run<R: Files<File = File> + AllocGlobal + Eprint, I: Read + Drop, 
         rt,
         alloc,
         words,
+        is_asked,
         input,
         output,
     };
@@ -98,15 +123,16 @@ pub(crate) fn run<R: Files<File = File> + AllocGlobal + Eprint, I: Read + Drop, 
 }
 
 /// The same with these converters.
-fn run_with<R: Files<File = File> + Eprint, I: Read + Drop, O: Write + Drop>(
+fn run_with<R: Files<File = File> + Screen, I: Read + Drop, O: Write + Drop>(
     rt: &R,
     alloc: Global,
     migrations: &Migrations,
     words: &[String],
+    is_asked: bool,
     input: I,
     output: O,
 ) -> u8 {
-    let (target, dir) = match target_of(alloc, words) {
+    let (target, dir) = match target_of(alloc, words, is_asked) {
         Ok(parts) => parts,
         Err(_) => return no_memory(rt),
     };
@@ -134,7 +160,7 @@ fn run_with<R: Files<File = File> + Eprint, I: Read + Drop, O: Write + Drop>(
 }
 
 /// The same for this target, with the failures of its device noted.
-fn run_noting<'a, R: Files<File = File> + Eprint, I: Read + Drop, O: Write + Drop>(
+fn run_noting<'a, R: Files<File = File> + Screen, I: Read + Drop, O: Write + Drop>(
     rt: &'a R,
     alloc: Global,
     migrations: &Migrations,
@@ -149,7 +175,7 @@ fn run_noting<'a, R: Files<File = File> + Eprint, I: Read + Drop, O: Write + Dro
 ) -> u8 {
     if is_foreign(rt, alloc, target) {
         let dir = target.dir.as_str();
-        let _ = say_foreign(rt, dir, target.flash);
+        let _ = say_foreign(rt, alloc, dir, target.flash);
         return NO_DISK;
     }
     let mut source = StdSource::new(input);
@@ -166,6 +192,7 @@ fn run_noting<'a, R: Files<File = File> + Eprint, I: Read + Drop, O: Write + Dro
     let kind = device_kind_of(target);
     let outcome = match HostSystem::hold(rt, alloc, dir, kind, target.access) {
         Ok(system) => run_over(
+            rt,
             alloc,
             words,
             migrations,
@@ -184,13 +211,13 @@ fn run_noting<'a, R: Files<File = File> + Eprint, I: Read + Drop, O: Write + Dro
         flash: target.flash,
         takes_lines: target.takes_lines,
         lists: target.lists,
-        has_files: outcome.has_files,
+        has_files: outcome.has_files || target.is_asked,
         has_damage: has_damage.get(),
         disk: notes.last().map(Fault::System).or(outcome.fault),
         source: source.failure(),
         sink: sink.failure(),
     };
-    let _ = say(rt, &ended);
+    let _ = say(rt, alloc, &ended);
     outcome.status
 }
 
@@ -213,7 +240,8 @@ fn is_foreign<R: Files<File = File>>(rt: &R, alloc: Global, target: &Target) -> 
 }
 
 /// Runs the program over the folder: as a disk, or as a flash.
-fn run_over<'a, R: Files<File = File>, S: Source, K: Sink>(
+fn run_over<'a, R: Files<File = File> + Screen, S: Source, K: Sink>(
+    rt: &R,
     alloc: Global,
     words: &[String],
     migrations: &Migrations,
@@ -234,18 +262,11 @@ fn run_over<'a, R: Files<File = File>, S: Source, K: Sink>(
     match target.flash {
         Some(blocks) => {
             let flash = NotedFlash::new(FolderFlash::new(alloc, disk, blocks), notes);
-            run_over_flash(
-                alloc,
-                words,
-                migrations,
-                source,
-                sink,
-                flash,
-                target.formats,
-            )
+            run_over_flash(rt, alloc, words, migrations, source, sink, flash, target)
         }
         None => {
             let mut disk = Noted::new(disk, notes);
+            say_before(rt, alloc, target, disk.device().has_files());
             let status = per_run(alloc, words, migrations, source, sink, &mut disk);
             Outcome {
                 status,
@@ -253,6 +274,13 @@ fn run_over<'a, R: Files<File = File>, S: Source, K: Sink>(
                 fault: None,
             }
         }
+    }
+}
+
+/// Says that the folder is not formatted, or not there, where a person is about to be asked for lines.
+fn say_before<R: Files + Screen>(rt: &R, alloc: Global, target: &Target, has_files: bool) {
+    if target.is_asked && !target.formats_blank && !has_files {
+        let _ = say_of_folder(rt, alloc, target.dir.as_str(), target.flash);
     }
 }
 
@@ -268,15 +296,16 @@ fn not_held(notes: &Notes, failure: Option<Failure>) -> Outcome {
 
 /// Runs the program over the flash in the folder. One whose file has more bytes than its blocks is left as it is: with
 /// too few of them it would open, at what was written earlier. Before it is formatted its blocks are erased, so that
-/// all of its room comes back.
-fn run_over_flash<'a, Y: System + Drop, S: Source, K: Sink>(
+/// all of its room comes back; before lines are handled on it, what no application needs any more is taken from it.
+fn run_over_flash<'a, R: Files + Screen, Y: System + Drop, S: Source, K: Sink>(
+    rt: &R,
     alloc: Global,
     words: &[String],
     migrations: &Migrations,
     source: &mut S,
     sink: &mut K,
     flash: NotedFlash<'a, FolderFlash<Y>>,
-    formats: bool,
+    target: &Target,
 ) -> Outcome {
     let mut flash = flash;
     match flash.device_mut().is_too_long() {
@@ -284,8 +313,24 @@ fn run_over_flash<'a, Y: System + Drop, S: Source, K: Sink>(
         Ok(true) => return outcome_of(WRONG_SIZE, Some(Fault::Longer), flash.device()),
         Err(_) => return outcome_of(NO_DISK, None, flash.device()),
     }
-    if formats && is_right_size(flash.blocks()) && erase_all(&mut flash).is_err() {
+    say_before(rt, alloc, target, flash.device().has_file());
+    if target.formats && is_right_size(flash.blocks()) && erase_all(&mut flash).is_err() {
         return outcome_of(NO_DISK, None, flash.device());
+    }
+    if target.takes_lines {
+        flash = match reclaim(alloc, flash) {
+            Ok(reclaimed) => reclaimed.flash,
+            Err(refused) => match refused.error {
+                FlashOpenError::Device => {
+                    return outcome_of(NO_DISK, None, refused.flash.device());
+                }
+                FlashOpenError::OutOfMemory => {
+                    return outcome_of(NO_MEMORY, None, refused.flash.device());
+                }
+                // The run says so.
+                FlashOpenError::WrongSize | FlashOpenError::Unusable => refused.flash,
+            },
+        };
     }
     match per_flash(alloc, words, migrations, source, sink, flash) {
         FlashRun::Ran(status, disk) => {
@@ -301,7 +346,7 @@ fn is_right_size(blocks: u32) -> bool {
     blocks >= 4 && blocks <= 4096
 }
 
-/// What came of a run over a flash.
+/// The outcome of a run over a flash.
 fn outcome_of<Y: System + Drop>(
     status: u8,
     fault: Option<Fault>,
@@ -334,7 +379,11 @@ pub(crate) fn no_memory<R: Eprint>(rt: &R) -> u8 {
 }
 
 /// What the arguments name, and the folder once more, for the disk; an empty name where the arguments are invalid.
-fn target_of(alloc: Global, words: &[String]) -> Result<(Target, String), AllocError> {
+fn target_of(
+    alloc: Global,
+    words: &[String],
+    is_asked: bool,
+) -> Result<(Target, String), AllocError> {
     match read_words(alloc, words) {
         Ok(job) => {
             let access = access_of(&job.kind);
@@ -354,6 +403,7 @@ fn target_of(alloc: Global, words: &[String]) -> Result<(Target, String), AllocE
                 takes_lines,
                 lists,
                 formats_blank,
+                is_asked,
                 flash,
             };
             Ok((target, copy))
@@ -368,6 +418,7 @@ fn target_of(alloc: Global, words: &[String]) -> Result<(Target, String), AllocE
                 takes_lines: false,
                 lists: false,
                 formats_blank: false,
+                is_asked,
                 flash: None,
             };
             Ok((target, dir))

@@ -2,6 +2,7 @@
 
 use crate::causes::{Fault, say_answered};
 use crate::hearing::LastRead;
+use crate::saying::{Screen, say};
 use per_reasons::why_refused;
 use per_system::Notes;
 use std::alloc::Global;
@@ -13,7 +14,7 @@ const FAILED: &[u8] = b"error 4 PhysicalStorageFailure\n";
 
 /// An output that says on standard error why the disk failed, or a line was refused, before it takes the reply.
 #[derive(Drop)]
-pub(crate) struct Telling<'a, R: Eprint, O: Write + Drop> {
+pub(crate) struct Telling<'a, R: Screen, O: Write + Drop> {
     pub(crate) rt: &'a R,
     pub(crate) alloc: Global,
     pub(crate) dir: &'a str,
@@ -27,11 +28,10 @@ pub(crate) struct Telling<'a, R: Eprint, O: Write + Drop> {
     pub(crate) output: O,
 }
 
-impl<'a, R: Eprint, O: Write + Drop> Write for Telling<'a, R, O> {
+impl<'a, R: Screen, O: Write + Drop> Write for Telling<'a, R, O> {
     fn write(&mut self, bytes: &[u8]) -> io::Result<usize> {
         if answers_failure(bytes) {
-            let news = self.notes.news().map(Fault::System);
-            let _ = say_answered(self.rt, self.dir, news.or(self.otherwise));
+            self.say_fault();
         }
         match self.has_damage {
             Some(has_damage) if says_damage(bytes) => has_damage.set(true),
@@ -52,7 +52,15 @@ impl<'a, R: Eprint, O: Write + Drop> Write for Telling<'a, R, O> {
     }
 }
 
-impl<'a, R: Eprint, O: Write + Drop> Telling<'a, R, O> {
+impl<'a, R: Screen, O: Write + Drop> Telling<'a, R, O> {
+    /// Says why the disk failed.
+    #[cold]
+    #[inline(never)]
+    fn say_fault(&self) {
+        let news = self.notes.news().map(Fault::System);
+        let _ = say_answered(self.rt, self.alloc, self.dir, news.or(self.otherwise));
+    }
+
     /// Says why the line was refused, where it is known and there is more to say.
     #[cold]
     #[inline(never)]
@@ -62,7 +70,7 @@ impl<'a, R: Eprint, O: Write + Drop> Telling<'a, R, O> {
         };
         let line = self.last.next_line(text.as_slice());
         match why_refused(self.alloc, answer, line) {
-            Ok(Some(why)) => eprintln!(self.rt; "per: {why}"),
+            Ok(Some(why)) => say(self.rt, self.alloc, format!(in self.alloc; "per: {why}")),
             Ok(None) | Err(_) => Ok(()),
         }
     }
@@ -82,8 +90,12 @@ fn says_damage(bytes: &[u8]) -> bool {
         || line.starts_with(b"lost "))
 }
 
-/// The answer, where a line was refused by it: the last line, where reports stand before it.
+/// The answer, where a line was refused by it: the last line, where reports stand before it. Most answers begin with
+/// another letter.
 fn refusal_in(bytes: &[u8]) -> Option<&[u8]> {
+    if !matches!(bytes, [b'b' | b'e' | b'r', ..]) {
+        return None;
+    }
     let lines = bytes.strip_suffix(b"\n")?;
     let answer = if lines.starts_with(b"report ") {
         lines.rsplit(|byte| *byte == b'\n').next()?

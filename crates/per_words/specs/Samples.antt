@@ -1,5 +1,5 @@
 -- Lines of calls and what is shown of answers, computed.
-use Rattle.std.specs.Prelude.{◌≡◌, ℕ, List, [], ◌∷◌, ◌++◌, map, codes, Some, None, true}
+use Rattle.std.specs.Prelude.{◌≡◌, ℕ, List, [], ◌∷◌, ◌++◌, map, codes, Some, None, true, false}
 use Rattle.std.specs.Fmt.{digits}
 use Rattle.std.specs.List.{flat_map}
 use Rattle.std.proofs.Common.{refl}
@@ -10,7 +10,10 @@ use Rattle.value_text.specs.Texts.{value_text, hex_text, hex_byte_text}
 use Rattle.command_text.specs.Replies.{answer_text, info_text, status_text}
 use Rattle.command_text.specs.declared.replies.Answer.TheVariants as answer
 use Rattle.command_text.specs.declared.replies.AppStatus.{AppStatus}
+use Rattle.per_words.specs.Apart.{asks_help, named_words, options_in, unknown_in}
+use Rattle.per_words.specs.Screens.{broken}
 use Rattle.per_words.specs.declared.showing.Shown.TheVariants as shown
+use Rattle.per_words.specs.declared.words.Reading.TheVariants as reading
 use Rattle.per_words.specs.Shown.{ended, shown_in}
 use Rattle.per_words.specs.Words.{call_lines, content_lines, fed_lines, file_lines, manifest_lines}
 
@@ -49,6 +52,34 @@ install_lines = refl
 
 two_fed : fed_lines (codes "0 open-kvs k" ∷ codes "0 keys k" ∷ []) ≡ codes "0 open-kvs k\n0 keys k\n"
 two_fed = refl
+
+-- ---- words of a shell
+
+-- after the end of the options a word is an operand
+operands : named_words reading.Word
+    (codes "get" ∷ codes "--dir" ∷ codes "d" ∷ codes "0:k" ∷ codes "--" ∷ codes "--x" ∷ codes "--" ∷ [])
+    ≡ codes "get" ∷ codes "0:k" ∷ codes "--x" ∷ codes "--" ∷ []
+operands = refl
+
+no_option : options_in reading.Word (codes "--dir" ∷ codes "--" ∷ codes "--" ∷ codes "--x" ∷ [])
+    ≡ codes "--dir" ∷ codes "--" ∷ []
+no_option = refl
+
+no_help : asks_help reading.Word (codes "get" ∷ codes "--" ∷ codes "--help" ∷ []) ≡ false
+no_help = refl
+
+no_run : unknown_in reading.Word (codes "--dir" ∷ codes "d" ∷ codes "--" ∷ codes "--audit" ∷ [])
+    ≡ Some (codes "--audit")
+no_run = refl
+
+-- ---- a screen
+
+-- a word ends in the last column, and one that would pass it begins a row
+two_rows : broken 73 (codes " as u8:1 more") ≡ codes " as\n     u8:1 more"
+two_rows = refl
+
+one_row : broken 72 (codes " as u8:1") ≡ codes " as u8:1"
+one_row = refl
 
 -- ---- of every answer
 

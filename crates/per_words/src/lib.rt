@@ -7,8 +7,8 @@
 //! what is written of it: a value stands without the word before it, and bytes as they are.
 //!
 //! The words of a shell are told apart by [`options_in`] and [`named_words`]; [`unknown_in`] finds one that is refused.
-//! At a terminal [`call_shown`] is what a prompt shows, and [`rows_of`] the rows of a help of which a line asks
-//! ([`help_asked`]).
+//! For a screen [`broken`] breaks a text between its words. At a terminal [`call_shown`] is what a prompt shows, and
+//! [`rows_of`] the rows of a help of which a line asks ([`help_asked`]).
 #![tactic(auto)]
 
 mod flaws;
@@ -20,6 +20,7 @@ mod places;
 mod prompting;
 mod pushing;
 mod putting;
+mod screens;
 mod showing;
 mod words;
 
@@ -29,5 +30,6 @@ pub use lines::{call_lines, manifest_lines};
 pub use needs::Needed;
 pub use prompting::{call_shown, column_after, help_asked, is_line_word, row_word, rows_of};
 pub use putting::content_lines;
+pub use screens::broken;
 pub use showing::{Shown, shown_bytes, shown_in};
-pub use words::{named_words, options_in, unknown_in};
+pub use words::{Reading, asks_help, named_words, options_in, unknown_in};

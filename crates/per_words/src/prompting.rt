@@ -12,11 +12,9 @@ use crate::flaws::{after_space, leading_length, leading_word};
 use crate::kinds::is_word;
 use crate::needs::needed_after;
 use crate::places::application_digit;
+use crate::screens::SCREEN;
 use crate::showing::{after, begins};
 use std::alloc::{AllocError, Global};
-
-/// The columns of a screen.
-const SCREEN: usize = 80;
 
 /// The application and the call of a line, as a prompt shows them.
 pub fn call_shown(line: &[u8]) -> Option<&[u8]>

@@ -250,11 +250,11 @@ fn push_written(
     Ok(())
 }
 
-/// The bytes in two digits each.
+/// The bytes in two digits each. The room of all is taken at once.
 fn digits_of(alloc: Global, bytes: &[u8]) -> Result<Vec<u8>, AllocError>
     ensures { IfOk result (λ digits. digits.items ≡ hex_text bytes.now) }
 {
-    let mut digits = String::new(alloc);
+    let mut digits = String::with_capacity(alloc, bytes.len().saturating_mul(2))?;
     push_hex(&mut digits, bytes)?;
     Ok(digits.into_bytes())
 }

@@ -1,59 +1,156 @@
 //! The words of a shell, told apart: options with their values, and what is named.
 
-ghost use Rattle.std.specs.Prelude.{◌≡◌, IfOk, false, map, string_bytes};
+ghost use Rattle.std.specs.Prelude.{◌≡◌, IfOk, codes, map, string_bytes};
+ghost use Rattle.std.specs.Str.{bytes_eq};
 ghost use Rattle.value_text.specs.Readers.{Finds};
-ghost use Rattle.per_words.specs.Apart.{has_value, is_flag, is_known, is_option, named_words, options_in};
-ghost use Rattle.per_words.specs.Apart.{takes_value, unknown_in};
+ghost use Rattle.per_words.specs.Apart.{asks_help, has_value, is_flag, is_help, is_known, is_named, is_of_options};
+ghost use Rattle.per_words.specs.Apart.{is_option, is_unknown, named_words, options_in, reading_after, takes_value};
+ghost use Rattle.per_words.specs.Apart.{unknown_in};
 
 use crate::kinds::is_word;
 use std::alloc::{AllocError, Global};
 
+/// How a word is read.
+#[derive(Clone, Copy)]
+pub enum Reading {
+    /// As an option, or as what is named.
+    Word,
+    /// As the value of an option.
+    Value,
+    /// As an operand, whatever it begins with: after the word `--`.
+    Operand,
+}
+
 /// The words that are options, and the values of those that take one, in their order.
 pub fn options_in(alloc: Global, words: &[String]) -> Result<Vec<String>, AllocError>
     ensures { IfOk result (λ options. map string_bytes options.items
-        ≡ options_in false (map string_bytes words.now)) }
+        ≡ options_in Reading.Word (map string_bytes words.now)) }
 {
     let mut options = Vec::new(alloc);
-    let mut is_value = false;
+    let mut reading = Reading::Word;
     for word in words {
-        if is_value || is_option(word.as_bytes()) {
-            is_value = !is_value && takes_value(word.as_bytes());
+        let is_taken = is_of_options(reading, word.as_bytes());
+        reading = reading_after(reading, word.as_bytes());
+        if is_taken {
             options.push(word.clone()?)?;
         }
     }
     Ok(options)
 }
 
-/// All other words, in their order.
+/// A call and its arguments: all words but options, their values and the `--` that ends the options, in their order.
 pub fn named_words<'a>(alloc: Global, words: &'a [String]) -> Result<Vec<&'a [u8]>, AllocError>
     ensures { IfOk result (λ named. map (λ word. word.now) named.items
-        ≡ named_words false (map string_bytes words.now)) }
+        ≡ named_words Reading.Word (map string_bytes words.now)) }
 {
     let mut named = Vec::new(alloc);
-    let mut is_value = false;
+    let mut reading = Reading::Word;
     for word in words {
-        if is_value || is_option(word.as_bytes()) {
-            is_value = !is_value && takes_value(word.as_bytes());
-        } else {
+        let is_taken = is_named(reading, word.as_bytes());
+        reading = reading_after(reading, word.as_bytes());
+        if is_taken {
             named.push(word.as_bytes())?;
         }
     }
     Ok(named)
 }
 
-/// The first word that is neither an option of a run nor the value of one.
-pub fn unknown_in(words: &[String]) -> Option<&[u8]>
-    ensures { Finds (λ word. word.now) result (unknown_in false (map string_bytes words.now)) }
+/// Whether help is asked for.
+pub fn asks_help(words: &[String]) -> bool
+    ensures { result ≡ asks_help Reading.Word (map string_bytes words.now) }
 {
-    let mut is_value = false;
+    let mut reading = Reading::Word;
+    for word in words {
+        if is_help(reading, word.as_bytes()) {
+            return true;
+        }
+        reading = reading_after(reading, word.as_bytes());
+    }
+    false
+}
+
+/// The first word that a run does not know.
+pub fn unknown_in(words: &[String]) -> Option<&[u8]>
+    ensures { Finds (λ word. word.now) result (unknown_in Reading.Word (map string_bytes words.now)) }
+{
+    let mut reading = Reading::Word;
     for word in words {
         let word = word.as_bytes();
-        if !is_value && !is_known(word) {
+        if is_unknown(reading, word) {
             return Some(word);
         }
-        is_value = !is_value && takes_value(word);
+        reading = reading_after(reading, word);
     }
     None
+}
+
+/// How the word after this one is read.
+fn reading_after(reading: Reading, word: &[u8]) -> Reading
+    ensures { result ≡ reading_after reading word.now }
+{
+    match reading {
+        Reading::Word => {
+            if ends_options(word) {
+                Reading::Operand
+            } else if takes_value(word) {
+                Reading::Value
+            } else {
+                Reading::Word
+            }
+        }
+        Reading::Value => Reading::Word,
+        Reading::Operand => Reading::Operand,
+    }
+}
+
+/// Whether the word is an option, or the value of one.
+fn is_of_options(reading: Reading, word: &[u8]) -> bool
+    ensures { result ≡ is_of_options reading word.now }
+{
+    match reading {
+        Reading::Word => is_option(word) && !ends_options(word),
+        Reading::Value => true,
+        Reading::Operand => false,
+    }
+}
+
+/// Whether the word is an operand, or no option.
+fn is_named(reading: Reading, word: &[u8]) -> bool
+    ensures { result ≡ is_named reading word.now }
+{
+    match reading {
+        Reading::Word => !is_option(word),
+        Reading::Value => false,
+        Reading::Operand => true,
+    }
+}
+
+/// Whether the word asks for help, which an operand does not.
+fn is_help(reading: Reading, word: &[u8]) -> bool
+    ensures { result ≡ is_help reading word.now }
+{
+    match reading {
+        Reading::Word | Reading::Value => is_word(word, b"--help"),
+        Reading::Operand => false,
+    }
+}
+
+/// Whether a run does not know the word: it is no option of one and no value, or an operand.
+fn is_unknown(reading: Reading, word: &[u8]) -> bool
+    ensures { result ≡ is_unknown reading word.now }
+{
+    match reading {
+        Reading::Word => !is_known(word) && !ends_options(word),
+        Reading::Value => false,
+        Reading::Operand => true,
+    }
+}
+
+/// Whether each word after this one is an operand.
+fn ends_options(word: &[u8]) -> bool
+    ensures { result ≡ bytes_eq word.now (codes "--") }
+{
+    is_word(word, b"--")
 }
 
 /// Whether the word is an option: it begins with two dashes.
