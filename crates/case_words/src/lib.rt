@@ -11,7 +11,7 @@ use std::alloc::{AllocError, AllocFailed, Global};
 use std::fmt::Write;
 use std::num::ParseIntError;
 
-/// Why nothing came of a line.
+/// Why a line has no answer.
 #[derive(Clone, Copy, Debug, PartialEq, Eq)]
 pub enum CaseError {
     /// It is not a test case.

@@ -1,4 +1,4 @@
--- Roots that leave a version after: one version stands alone, or none does.
+-- Roots after a version was left: one version is alone, or none is installed.
 use Rattle.std.specs.Prelude.{◌≡◌, ◌≤◌, ◌<◌, ◌+◌, ℕ, List, [], Bool, IsTrue, Option, Some, None, Result, Ok, Err}
 use Rattle.per_base.specs.declared.errors.PerError.{PerError}
 use Rattle.disk_model.specs.Image.{Image}

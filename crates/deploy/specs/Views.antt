@@ -35,7 +35,7 @@ seen_by (installed g active previous) lacking sole = versions active previous la
 abbrev pub seen_at : Image → ℕ → RootSeen
 seen_at image app = seen_by (app_at image app).says (app_at image app).lacking (root_sole image app)
 
--- the versions that are seen are in their banks and keep what every deployment keeps
+-- the versions that are seen are in their banks and obey the rules of deployments
 abbrev pub ShowsVersions : RootSeen → Type 0
 ShowsVersions bad = ⊤
 ShowsVersions (no_version lacking sole) = ⊤

@@ -1,4 +1,4 @@
-//! Leaving one of two versions after: the previous one is forgotten, or it is active again.
+//! Leaving one of two versions: the previous one is forgotten, or it is active again.
 
 ghost use Rattle.std.specs.Prelude.{◌≡◌, ◌≤◌, ◌<◌, ◌⊎◌, ℕ, List, [], ◌∷◌, Err, IfErr, IfNone, IfOk, IsErrOf, IsOk};
 ghost use Rattle.std.specs.Prelude.{IsTrue, None, Ok, OnOk, Result, drop, option_map, take, ◌≢◌};

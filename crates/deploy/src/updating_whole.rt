@@ -48,7 +48,7 @@ pub fn update<D: Disk>(
 
     ensures root { IfOk result (λ o. RootAt D.told (D.medium disk.new).image app o.root) }
 
-    // One row is answered: its refusal, or the application to which it leads, in memory and where the disk is modelled.
+    // One row is answered: its refusal, or the application to which it leads, in memory and on a disk that is modelled.
     ensures updates { IfOk result (IsUpdated D.told
         (BeginsUpdate (rules_of migrations.now) (answers_of migrations.now) now (option_map (λ n. n.now) busy.entry)
         manifest.now)

@@ -86,7 +86,7 @@ root_sole image app = nat_le (length (held image (root_place app))) 1
 
 -- ---- versions
 
--- the version is in a bank and keeps what every deployment keeps
+-- the version is in a bank and obeys the rules of deployments
 pub record IsInBank (v : Named) : Type 0 where
   pub in_bank : v.bank ≤ 1
   pub keeps : IsDeployment v.deployment

@@ -27,7 +27,8 @@ use Rattle.deploy_laws.specs.Stands.{Stands, StandsCase, IsLater, HasEnoughRoot}
 
 -- ---- what a root says
 
--- on every image, hostile ones included, what a root names is in its banks and keeps what deployments keep
+-- on every image, hostile ones included, each version that a root names is in its bank and obeys the rules of
+-- deployments
 abbrev pub VersionsLaw : Type 0
 VersionsLaw = (image : Image) (app : ℕ) → AreVersions (says_at image app)
 

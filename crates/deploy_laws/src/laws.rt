@@ -22,7 +22,7 @@ use guarded_cell::held_is_lawful;
 use manifest::said_is_kept;
 use root_text::one_root;
 
-/// What a root says, on every image: versions that are in their banks and keep what deployments keep, told by the
+/// What a root says, on every image: versions that are in their banks and obey the rules of deployments, decided by the
 /// root's own files alone. Where a root's text is held alone the application is what it says, and clean where its
 /// storages are.
 pub fn roots_say()
@@ -100,7 +100,7 @@ pub fn deploying_stands()
     untouched_is_kept();
 }
 
-/// A stop while one storage is on its way to another state leaves the application so.
+/// A stop while a storage of the active version is on its way to another state leaves the application on the same way.
 pub fn storing_stands()
     ensures { StoringLaw }
 {

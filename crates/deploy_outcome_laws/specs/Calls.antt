@@ -31,7 +31,7 @@ use Rattle.deploy.specs.Updates.{IsUpdated}
 abbrev pub Differs : ℕ → Image → Image → Type 0
 Differs file start image = ¬ (image file ≡ start file)
 
--- the refusal of an update beside a previous version gives way to OutOfMemory
+-- an update beside a previous version is answered by OutOfMemory instead of its refusal
 abbrev pub DueAllocates : Type 0
 DueAllocates = (busy : Option (List ℕ)) (manifest : List ℕ) (g : ℕ) (active previous : Named) (root : Root)
     (result : Result Begin Stop)
@@ -53,7 +53,7 @@ MadeTwice = (before next : InProgress) → next ≡ one_more before → before.b
 -- ---- what changes on a disk, from a call's start to its end
 
 module _ {D : Type 0} (medium : D → Medium) where
-  -- an opening stamps a root that every copy holds alone
+  -- an opening writes again a root that every copy holds alone
   abbrev pub RootStamped : Type 0
   RootStamped = (app generation : ℕ) (text : List ℕ) (old new : D)
       → ((g : ℕ) (t : List ℕ) → IsAlone (medium old).image (root_place app) g t
@@ -71,7 +71,7 @@ module _ {D : Type 0} (medium : D → Medium) where
       → (o.refused ≢ None → (new ≡ old) × (o.root ≡ root)) → o.refused ≡ Some e
       → ¬ (Differs file (medium old).image (medium new).image)
 
-  -- a commit makes again what is made: at some moment a file of such a storage is another one
+  -- a commit creates again a storage that is made already: at some moment one of its files has changed
   abbrev pub MadeAgain : Type 0
   MadeAgain = (told : Bool) (app bank built count file : ℕ) (old new : D) (c : Case)
       → Leaves told (IsBesideCommit app bank built count) (medium old) (medium new) → IsTrue told

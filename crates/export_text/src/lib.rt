@@ -3,7 +3,7 @@
 //! An export is the kind of a storage and its elements, each with its name, for a file its info, and its bytes. Its
 //! text is `PERB`, one byte 1, one byte for the kind (1 keys, 2 files), the number of elements in two bytes, and then
 //! element by element one byte for the length of the name and the name, for a file the 26 bytes of its info, the length
-//! of the bytes in four bytes and the bytes; the SHA-256 of all of this ends it. Numbers stand with their lowest byte
+//! of the bytes in four bytes and the bytes; the SHA-256 of all of this ends it. Numbers have their lowest byte
 //! first.
 //!
 //! [`write_export`] gives the one text of an export, [`are_exportable`] tells whether there is one, and [`read_export`]

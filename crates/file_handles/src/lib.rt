@@ -6,8 +6,8 @@
 //! alone with its file; readers share one.
 //!
 //! The files are the table's own, apart from those on the disk: cutting a file does not allocate, and neither do the
-//! other calls that only look, move or close. At most 1,024 files stand, and they never take more than the storage is
-//! allowed.
+//! other calls that only look, move or close. There are at most 1,024 files, and they never take more than the storage
+//! is allowed.
 #![tactic(auto)]
 
 mod by_name;

@@ -89,7 +89,7 @@ fn pass<'a>(
     Ok(rest)
 }
 
-/// The change at a name where a file is stored and a working file stands, where they differ.
+/// The change at a name that a stored file and a working file have, where they differ.
 fn meet(alloc: Global, list: &mut Vec<Change>, entry: &Entry, file: &File) -> Result<(), AllocError>
     ensures { OnOk result (list.new.items ≡ list.old.items
         ++ option_to_list (differences.arrival entry.now.name (Some (element_of entry.now).1) file.now)) }
@@ -101,7 +101,7 @@ fn meet(alloc: Global, list: &mut Vec<Change>, entry: &Entry, file: &File) -> Re
     Ok(())
 }
 
-/// The change of a file that stands and differs: its info alone where its bytes are the same.
+/// The change of a stored file that differs: its info alone where its bytes are the same.
 fn replacement(alloc: Global, entry: &Entry, file: &File) -> Result<Change, AllocError>
     ensures { IfOk result (λ change. change ≡ differences.replacement entry.now.name (element_of entry.now).1
         file.now) }

@@ -62,7 +62,7 @@ impl Files {
     ) -> Result<FilesOutcome, Fault<Files>>
         requires { IsUsed D.told (D.medium disk.old).image self.store }
 
-        // What is due is given: a refusal hands all back, and where nothing differs nothing happens.
+        // The refusal that is due, which hands all back; and where nothing differs nothing happens.
         ensures refused { IfOk result (λ o. o.refused ≡ sync_refused self handle) }
         ensures due { IsSome (sync_refused self handle)
             → (result ≡ Ok (record { files = self; refused = sync_refused self handle })) × (disk.new ≡ disk.old) }
@@ -129,7 +129,7 @@ impl Files {
     pub fn close_storage<D: Disk>(self, disk: &mut D) -> Result<Closed, Fault<Files>>
         requires { IsUsed D.told (D.medium disk.old).image self.store }
 
-        // What is due is given: a refusal hands all back, and where nothing differs the disk is not called.
+        // The refusal that is due, which hands all back; and where nothing differs the disk is not called.
         ensures refused { IfOk result (λ closed. MatchClosed closed (close_refused self ≡ None)
             (λ files error. close_refused self ≡ Some error)) }
         ensures due { (error : PerError) → close_refused self ≡ Some error
@@ -141,7 +141,7 @@ impl Files {
         ensures opens { IsTrue D.told → IfOk result (λ closed. OnDone closed
             (store_at (D.medium disk.new).image (store_shape self.store) ≡ Opens (synced_view self) [])) }
         ensures stored { IfOk result (λ closed. OnDone closed (map_of (synced_view self) ≡ self.session.files)) }
-        // What differed is durable: in each copy the contents that do, and the index that stands.
+        // What differed is durable: in each copy the contents that do, and the index.
         ensures durable { IfOk result (λ closed. OnDone closed ((text : List ℕ)
             × (IsTrue D.told → IsAlone (D.medium disk.new).image (store_shape self.store).place
             (synced_view self).generation text)

@@ -6,8 +6,8 @@
 //!
 //! Each call answers exactly by its definition: every refusal in its order with what it carries, and a refused call
 //! changes nothing; neither does `OutOfMemory`. Reading and writing a key take logarithmic time in the number of keys,
-//! and touch no other key. The calls that say so do not allocate. At most 1,024 keys stand, and they never take more
-//! than the storage is allowed.
+//! and touch no other key. The calls that say so do not allocate. There are at most 1,024 keys, and they never take
+//! more than the storage is allowed.
 #![tactic(auto)]
 
 mod reading;

@@ -6,15 +6,16 @@ use element_laws::untouched_is_kept;
 use element_maps::{syncs_are_decided, views_are_maps};
 use value_code::decoded_is_exact;
 
-/// A value that was set is what is got, asked for by its type.
+/// A value that was set is what `get` answers, asked for by its type.
 pub fn set_is_got()
     ensures { SetLaw }
 {
     decoded_is_exact();
 }
 
-/// On the disk an open storage reads as it shows. A stop at any moment of a sync leaves each value as before or as
-/// after, and so does one while the disk is not called.
+/// What an open storage shows as synchronised is what its disk denotes. A stop at any moment of a sync, and then damage
+/// that spares as many copies as must agree, leaves each value as before or as after; so does one while the disk is
+/// not called.
 pub fn values_stand()
     ensures reads { ReadsLaw }
     ensures sync { SyncLaw }

@@ -6,7 +6,7 @@ use Rattle.per_base.specs.Maps.{Map, element_at}
 use Rattle.element_state.specs.declared.shapes.View.{View}
 use Rattle.kvs_core.specs.Calls.{is_readable_key}
 
--- an entry, without its content where the map has no readable key of its name
+-- an entry; where the map has no readable key of its name, its content is unreadable, with no salvage
 abbrev pub shown_entry : Map → Entry → Entry
 shown_entry m e = record e { content = cond (is_readable_key (element_at m e.name)) e.content (Bad None) }
 

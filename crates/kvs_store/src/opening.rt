@@ -36,8 +36,8 @@ pub struct OpenedKvs {
     pub reports: Vec<Report>,
 }
 
-/// Opens a key-value storage: brings every copy to the text at which it opens, writes each key again, on which enough
-/// copies agree, in the copies that lack it, and reads all keys.
+/// Opens a key-value storage: brings every copy to the text at which it opens, writes each key on which enough copies
+/// agree into the copies that lack it, and reads all keys.
 ///
 /// # Errors
 ///

@@ -27,7 +27,7 @@ impl<'a> Marked<'a> {
         }
     }
 
-    /// Whether two types are the same. Types whose fingerprints differ do.
+    /// Whether two types are the same. They are not where their fingerprints differ.
     pub fn is_same(&self, other: &Marked<'_>) -> bool
         ensures { result ≡ same_kind (kind_of self.now.value_type.now) (kind_of other.now.value_type.now) }
     {

@@ -16,7 +16,7 @@ use value_model::{Value, ValueType};
 
 /// Something that is done with the converters.
 pub trait WithConverters {
-    /// What comes of it.
+    /// What it answers.
     type Answer;
 
     /// Does it.

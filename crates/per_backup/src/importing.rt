@@ -47,10 +47,14 @@ pub fn import<D: Disk>(
     bytes: &[u8],
 ) -> Result<Option<PerError>, Stop>
     requires { app < 8 }
+
+    // The refusal that its row has for the application that is seen; then nothing changed.
     ensures refused { IfOk result (λ refused. (it : App) × IsAppSeen D.told (D.medium disk.old).image app it
         × AnswersRow refused (importing_into it name.now bytes.now)) }
     ensures unchanged { IfOk result (λ refused. IsSome refused
         → LooksOnly (D.medium disk.old) (D.medium disk.new)) }
+
+    // The application that the row makes; at every moment the storage is as it was or as it is imported.
     ensures imported { IsTrue D.told → OnOk result (Imported app name.now bytes.now (D.medium disk.old)
         (D.medium disk.new)) }
     ensures keeps { IsTrue D.told → ImportKeeps app name.now bytes.now (D.medium disk.old) (D.medium disk.new) }

@@ -46,8 +46,12 @@ pub fn restore<D: Disk>(
     texts: &[Bytes],
 ) -> Result<Option<PerError>, Stop>
     requires { app < 8 }
+
+    // The refusal that its row has for the application that is seen.
     ensures refused { IfOk result (λ refused. (it : App) × IsAppSeen D.told (D.medium disk.old).image app it
         × AnswersRow refused (restoring manifest.now texts.now it)) }
+
+    // The application that the row makes, whose root has this manifest; at every moment it is as it was, or that.
     ensures restored { IsTrue D.told → OnOk result (Restored app manifest.now texts.now (D.medium disk.old)
         (D.medium disk.new)) }
     ensures held { IfOk result (IfHeld D.told (D.medium disk.new).image app manifest.now) }

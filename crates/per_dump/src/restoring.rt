@@ -31,9 +31,12 @@ pub fn restore_application<D: Disk>(
     disk: &mut D,
     dumped: &DumpedApplication,
 ) -> Result<Option<PerError>, Stop>
+    // The refusal that the row of a restore has for the application that is seen.
     ensures refused { IfOk result (λ refused. (it : App)
         × IsAppSeen D.told (D.medium disk.old).image dumped.now.application it
         × AnswersRow refused (restoring dumped.now.manifest (dumped_texts dumped.now) it)) }
+
+    // The application that the row makes, whose root has this manifest; at every moment it is as it was, or that.
     ensures restored { IsTrue D.told → OnOk result (Restored dumped.now.application dumped.now.manifest
         (dumped_texts dumped.now) (D.medium disk.old) (D.medium disk.new)) }
     ensures held { IfOk result (IfHeld D.told (D.medium disk.new).image dumped.now.application

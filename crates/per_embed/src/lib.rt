@@ -5,9 +5,9 @@
 //! Then [`KeyStorage::get`] and [`KeyStorage::set`] read and write what the calls see, and [`KeyStorage::sync`] makes
 //! it durable. [`open_folder`] gives a folder as a disk.
 //!
-//! The promises are those of the calls below, and a caller owes nothing: what is got is what was set; a sync that
-//! answers Ok has made what the calls see the content of the storage; a stop at any moment leaves each value as before
-//! or as after. A call that is refused has changed nothing. Once a call of the disk failed the storage is
+//! The promises are those of the calls below, and no caller has anything to show: what is got is what was set; a sync
+//! that answers Ok has made what the calls see the content of the storage; a stop at any moment leaves each value as
+//! before or as after. A call that is refused has changed nothing. Once a call of the disk failed the storage is
 //! closed, and each call answers `PhysicalStorageFailure`, until the storage is opened again.
 //!
 //! Limits: application 0 of the disk, one storage at a time, and the limits of `kvs_store` and `deploy`.

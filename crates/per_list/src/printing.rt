@@ -151,7 +151,7 @@ fn push_version_members(
     )
 }
 
-// What stands between the copies of the root and the storages.
+// What comes between the copies of the root and the storages.
 fn push_between(out: &mut String, form: Form) -> Result<(), AllocError>
     ensures { OnOk result (string_bytes out.new ≡ string_bytes out.old ++ between form) }
 {
@@ -161,7 +161,7 @@ fn push_between(out: &mut String, form: Form) -> Result<(), AllocError>
     }
 }
 
-/// What stands between the storages of the active version and those of the previous one.
+/// What comes between the storages of the active version and those of the previous one.
 pub(crate) fn push_next_list(out: &mut String, form: Form) -> Result<(), AllocError>
     ensures { OnOk result (string_bytes out.new ≡ string_bytes out.old ++ next_list form) }
 {
@@ -440,7 +440,7 @@ pub(crate) fn push_list_end(out: &mut String, form: Form) -> Result<(), AllocErr
     }
 }
 
-// What stands before an item of a list in JSON, by the item's number.
+// What comes before an item of a list in JSON, by the item's number.
 fn push_comma(out: &mut String, number: u32) -> Result<(), AllocError>
     ensures { OnOk result (string_bytes out.new ≡ string_bytes out.old ++ comma number) }
 {

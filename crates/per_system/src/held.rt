@@ -1,4 +1,4 @@
-//! A folder that is held: open and locked, until its owner goes.
+//! A folder that is held: open and locked, until its holder is dropped.
 
 use crate::listing::list_folder;
 use crate::names::DeviceKind;
@@ -70,7 +70,7 @@ fn unless_missing(opened: io::Result<File>) -> Result<Option<File>, Failure> {
     }
 }
 
-/// What came of a lock.
+/// The outcome of taking a lock.
 fn locked(done: Result<(), TryLockError>) -> Result<(), Failure> {
     match done {
         Ok(()) => Ok(()),

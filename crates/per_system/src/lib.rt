@@ -1,7 +1,7 @@
 //! OS backends: the files of a folder, a reader as a source, a writer as a sink.
 //!
 //! [`HostSystem`] has the calls of the operating system for the files of a folder, each as it is: what it says of bytes
-//! is believed, and all that stands above it is proved. [`Noted`] is a device over them that notes why a call failed,
+//! is believed, and all that is built on it is proved. [`Noted`] is a device over them that notes why a call failed,
 //! for error reporting. [`StdSource`] and [`StdSink`] fail only where their counts of failures rise; their
 //! bytes are not modelled.
 #![tactic(auto)]

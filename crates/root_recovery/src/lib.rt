@@ -1,6 +1,6 @@
 //! Recovers the root of an application of which too few copies are left.
 //!
-//! A root stands in three copies, and two of them must agree. Where no two do, the application cannot be read, though
+//! A root has three copies, and two of them must agree. Where no two do, the application cannot be read, though
 //! one copy may hold a whole root and both banks may be as they were. [`recover_root`] takes what is left: of the
 //! roots that single copies hold the one of the greatest generation, and at one generation the one whose first copy is
 //! lowest. It brings every copy to it, and says which it was. A root that reads is left alone, and so is one of which

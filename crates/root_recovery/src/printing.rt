@@ -1,4 +1,4 @@
-//! The text of what a recovery came to.
+//! The outcome of a recovery, as a text.
 
 ghost use Rattle.std.specs.Prelude.{◌≡◌, ◌++◌, IfOk, OnOk, string_bytes};
 ghost use Rattle.root_text.specs.Views.{root_said};

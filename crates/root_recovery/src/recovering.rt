@@ -38,7 +38,7 @@ pub struct Recovered {
     pub copies: Numbers,
 }
 
-/// What a recovery came to.
+/// The outcome of a recovery.
 #[derive(Debug, Drop)]
 pub enum Recovery {
     /// The root reads, and nothing was changed.

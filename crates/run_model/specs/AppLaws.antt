@@ -11,7 +11,7 @@ use Rattle.deploy_laws.specs.Laws.{RootMendLaw}
 use Rattle.deploy_rows.specs.Rows.{reopened}
 use Rattle.run_model.specs.Worlds.{Disks, disk_at}
 
--- the laws of applications on which a run stands
+-- the laws of applications that a run relies on
 pub record AppLaws : Type 0 where
   pub untouched : UntouchedAppLaw
   pub still : StillAppLaw

@@ -29,8 +29,8 @@ AreSessionsOn (s ∷ ss) [] states = (s ≡ None) × AreSessionsOn ss [] states
 AreSessionsOn (s ∷ ss) (c ∷ cs) [] = (s ≡ None) × AreSessionsOn ss cs []
 AreSessionsOn (s ∷ ss) (c ∷ cs) (state ∷ states) = IsSessionOn s c.kind state × AreSessionsOn ss cs states
 
--- An update is in progress only where one version is installed, with contents for each storage of the next one; and
--- neither it nor a root that is to be opened stands beside an open storage.
+-- An update is in progress only where one version is installed, with contents for each storage of the next one; and no
+-- storage is open meanwhile, nor while a root is to be opened.
 abbrev pub IsStageOn : Stage → Says → Sessions → Type 0
 IsStageOn at_rest says ss = ⊤
 IsStageOn to_open says ss = ss ≡ none_open

@@ -1,4 +1,4 @@
--- A command keeps what is so of every world: what each kind of call makes of its application.
+-- A command keeps what holds of every world: what each kind of call makes of its application.
 use Rattle.std.specs.Prelude.{◌≡◌, ℕ, zero, suc, List, [], ◌∷◌, Bool, true, false, cond, Option, Some, None, option_map}
 use Rattle.std.specs.Prelude.{is_some, Result, Ok, Err, IfOk, slice_get, slice_set, map, ⊤}
 use Rattle.std.specs.List.{AllByRecursion}

@@ -1,4 +1,4 @@
--- A command keeps what is so of every world: what the calls of a deployment make of their application.
+-- A command keeps what holds of every world: what the calls of a deployment make of their application.
 use Rattle.std.specs.Prelude.{◌≡◌, ◌≤◌, ◌<◌, ◌+◌, ℕ, suc, List, [], ◌∷◌, length, take, replicate, Bool, true, false}
 use Rattle.std.specs.Prelude.{cond, nat_lt, nat_le, Option, Some, None, Result, Ok, Err, IfOk}
 use Rattle.std.specs.List.{AllByRecursion}

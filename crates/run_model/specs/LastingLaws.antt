@@ -1,4 +1,4 @@
--- A command keeps what is so of every world: each command that is answered, and one whose device failed.
+-- A command keeps what holds of every world: each command that is answered, and one whose device failed.
 use Rattle.std.specs.Prelude.{◌≡◌, ℕ, zero, suc, List, [], ◌∷◌, Bool, true, false, cond, not, ◌&&◌, Option, Some, None}
 use Rattle.std.specs.Prelude.{option_map, Result, Ok, Err, IfOk, slice_get, slice_set, replicate, ⊤}
 use Rattle.std.proofs.Common.{refl, sym, ap, ◌∙◌, subst, inl, inr, true≢false}

@@ -71,32 +71,32 @@ SessionEndsLaw rules answers = (w w' : World) (app : ℕ) (c : Call) (reply : Re
 abbrev pub StorageLaterLaw : Type 0
 StorageLaterLaw = (a : App) (f : FoundStorage) (state : State) → IsLater a (with_storage_state a f state)
 
--- ---- what is so of every world
+-- ---- what holds of every world
 
--- Setting the moment keeps what is so of every world.
+-- Setting the moment keeps what holds of every world.
 abbrev pub NowLastsLaw : List Rule → Answers → Type 0
 NowLastsLaw rules answers = (w w' : World) (t : ℕ) (reply : Reply) → IsWorld w
     → StepsTo rules answers w (event.Now t) reply w' → IsWorld w'
 
--- A command that was answered keeps what is so of every world. Where it makes a session durable, this needs that the
+-- A command that was answered keeps what holds of every world. Where it makes a session durable, this needs that the
 -- session shows, once it is on the disk, what it shows now.
 abbrev pub AnswersLastLaw : List Rule → Answers → Type 0
 AnswersLastLaw rules answers = (w w' : World) (app : ℕ) (c : Call) (reply : Reply)
     → (synchronises c ≡ true → AreSeenAgain app (root_opened (app_of w app))) → IsWorld w
     → Step rules answers w (event.App app c) reply w' → IsWorld w'
 
--- A failed sync that was to end a doubt keeps what is so of every world.
+-- A failed sync that was to end a doubt keeps what holds of every world.
 abbrev pub FailedSyncLastsLaw : Type 0
 FailedSyncLastsLaw = (w w' : World) (app : ℕ) (c : Call) (reply : Reply) → IsWorld w
     → SyncFails w (event.App app c) reply w' → IsWorld w'
 
--- A command that names no storage and whose device failed keeps what is so of every world, whatever was read then.
+-- A command that names no storage and whose device failed keeps what holds of every world, whatever was read then.
 abbrev pub FailureLastsLaw : List Rule → Answers → Type 0
 FailureLastsLaw rules answers = (w w' : World) (app : ℕ) (c : Call) (reply : Reply) → device_storage c ≡ None
     → IsWorld w
     → FailsElsewhere rules answers w (event.App app c) reply w' → IsWorld w'
 
--- A command on a storage whose device failed keeps what is so of every world, where what was read is what was there but
+-- A command on a storage whose device failed keeps what holds of every world, where what was read is what was there but
 -- for that storage.
 abbrev pub StorageFailureLastsLaw : List Rule → Answers → Type 0
 StorageFailureLastsLaw rules answers = (w w' : World) (app : ℕ) (c : Call) (reply : Reply) (name : List ℕ)

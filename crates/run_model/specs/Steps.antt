@@ -22,7 +22,7 @@ use Rattle.run_model.specs.Worlds.{world_at, after_run, disks, app_of, with_app,
 
 -- ---- the step of an application whose device does not fail
 
--- a marked application's root is opened first
+-- a root that is to be opened again is opened first
 abbrev pub root_opened : Application → Application
 root_opened r = cond (is_to_open r.stage) (record r { disk = reopened r.disk; stage = at_rest }) r
 

@@ -23,7 +23,7 @@ use deploy_laws::{others_stand, roots_stay, untouched_stands};
 use disk_model::Disk;
 use migrate_fns::Migrations;
 
-/// The laws of applications on which a run stands.
+/// The laws of applications that a run relies on.
 pub fn applications_stand()
     ensures { AppLaws }
 {
@@ -45,14 +45,15 @@ pub fn failures_end_sessions(migrations: &Migrations)
     ensures session { SessionEndsLaw (rules_of migrations.now) (answers_of migrations.now) }
 {}
 
-/// A command that is answered keeps what is so of every world: sessions hold states with no other text beside them, and
-/// stand beside no mark and no update.
+/// A command that is answered keeps what holds of every world: what an open session has as synchronised is what its
+/// storage holds, with no other text beside it, and no session is open while a root is to be opened again or an update
+/// is in progress.
 pub fn answers_keep_worlds(migrations: &Migrations)
     ensures now { NowLastsLaw (rules_of migrations.now) (answers_of migrations.now) }
     ensures answered { AnswersLastLaw (rules_of migrations.now) (answers_of migrations.now) }
 {}
 
-/// A command whose device failed keeps what is so of every world, too: in the sync that ends a doubt, in a call that
+/// A command whose device failed keeps what holds of every world, too: in the sync that ends a doubt, in a call that
 /// names no storage, and in one on a storage, whose state alone may be another than what was there before.
 pub fn failures_keep_worlds(migrations: &Migrations)
     ensures sync { FailedSyncLastsLaw }
@@ -123,8 +124,8 @@ pub fn a_run_goes_on<D: Disk>(migrations: &Migrations, old: &D, now: &D, new: &D
         (D.medium now.now) (D.medium new.now) }
 {}
 
-/// Whatever ends came before, each run of a life begins with clean places, and each application stands where it should;
-/// and so it does across each power loss.
+/// Whatever ends came before, each run of a life begins with clean places, and each application stands between the two
+/// states of one of the pairs that its life keeps; and so it does across each power loss.
 pub fn a_life_goes_on<D: Disk>(migrations: &Migrations)
     ensures goes_on { LifeLaw D.medium (rules_of migrations.now) (answers_of migrations.now) }
     ensures stops { LifeStopsLaw D.medium (rules_of migrations.now) (answers_of migrations.now) }
@@ -132,14 +133,14 @@ pub fn a_life_goes_on<D: Disk>(migrations: &Migrations)
     applications_stand();
 }
 
-/// Where every command has ended, a run promises of the disk all that it has to.
+/// Where every command of a run has ended, all holds that a run promises of the disk (`DiskSide`).
 pub fn a_run_ends<D: Disk>(migrations: &Migrations, old: &D, now: &D)
     ensures { RunEndsLaw (rules_of migrations.now) (answers_of migrations.now) (D.medium old.now) (D.medium now.now) }
 {
     applications_stand();
 }
 
-/// And so it does where a command is in progress.
+/// All that a run promises of the disk holds also where the command of the next line is in progress.
 pub fn a_run_stops<D: Disk>(migrations: &Migrations, old: &D, now: &D, new: &D)
     ensures { RunStopsLaw (rules_of migrations.now) (answers_of migrations.now) (D.medium old.now) (D.medium now.now)
         (D.medium new.now) }

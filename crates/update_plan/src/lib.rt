@@ -10,8 +10,8 @@
 //! that gets its initial content is made now; what is kept keeps its info.
 //!
 //! [`initial_of`] is this over empty contents, for an installation and for every storage that is rebuilt. What both
-//! give can be made a storage as it stands: names ascend, there are at most 1,024, they fit the maximum, and infos
-//! stand exactly at files.
+//! give can be made a storage as it is: names ascend, there are at most 1,024, they fit the maximum, and exactly files
+//! have an info.
 #![tactic(auto)]
 
 mod contents;
