@@ -1,6 +1,0 @@
-use Rattle.std.proofs.Common.{ℕ, List}
-use Rattle.element_store.specs.Hashing.{AreStatesOf}
-use Rattle.element_store.proofs.hashing.copied.Given as goal
-
-abbrev pub invariant-loop-i : goal.invariant-loop-i
-invariant-loop-i l = (bytes : List ℕ) → AreStatesOf bytes l.states → AreStatesOf bytes l.copies.items

@@ -1,5 +1,0 @@
-use Rattle.std.proofs.Common.{◌≡◌, ◌*◌, take}
-use Rattle.element_store.proofs.hashing.count_shared.Given as goal
-
-abbrev pub invariant-loop-i : goal.invariant-loop-i
-invariant-loop-i l = take (32768 * l.i) l.bytes ≡ take (32768 * l.i) l.others
