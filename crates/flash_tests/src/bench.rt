@@ -170,7 +170,7 @@ impl Bench {
         match disk.forget(self.alloc, &kept) {
             Ok(Forgotten { disk, whole }) => {
                 self.disk = Some(disk);
-                if whole { "whole" } else { "in part" }
+                if whole { "given up" } else { "kept" }
             }
             Err(refused) => {
                 let error = refused.error;
