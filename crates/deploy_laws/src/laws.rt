@@ -67,9 +67,9 @@ pub fn others_stand()
     places_stand_apart();
 }
 
-/// The assumptions on hash collisions and damage cover every storage that a root names afterwards. A root that is read
-/// stands while nothing is damaged, and then what stands has clean places; copies that lack the root do not matter
-/// beside two that hold it.
+/// The assumptions on hash collisions and damage cover every storage that a root names afterwards. Where nothing is
+/// damaged, enough copies of a root that is read are left, and what stands has clean places; copies that lack the root
+/// do not matter beside two that hold it.
 pub fn roots_stay()
     ensures covered { CoveredLaw }
     ensures root { RootStandsLaw }

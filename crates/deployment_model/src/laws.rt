@@ -11,7 +11,7 @@ pub fn names_are_apart()
         → (storage_named d s.name ≡ Some s) × (storage_number d s.name ≡ Some i) }
 {}
 
-/// What is found by a name keeps what all of its kind keep, and a number leads to the storage that the name leads to.
+/// What is found by a name obeys the rules of its kind, and a number leads to the storage that the name leads to.
 pub fn found_is_kept()
     ensures storage { (d : DeploymentData) (name : List ℕ) (s : StorageData) → IsDeployment d
         → storage_named d name ≡ Some s → IsStorage s }

@@ -61,8 +61,8 @@ pub fn rebuilding_keeps()
     contents_stand_aside();
 }
 
-/// Places that hold one text alone are clean, and so is what was adopted; a case on a clean image with nothing pending
-/// is sound, so that what a phase leaves is kept at its end.
+/// A place that holds one text alone, which fits and on whose contents copies agree, is clean, and so is one that was
+/// adopted; a case on a clean image with nothing pending is sound, so that what a phase leaves is kept at its end.
 pub fn places_are_clean()
     ensures alone { CleanLaw }
     ensures adopted { AdoptedLaw }

@@ -19,8 +19,8 @@ pub fn changes_make_maps()
     ensures others { UnchangedNamesLaw }
 {}
 
-/// What a view denotes is a map as a session owes it; with no test of contents it is the view's own. Elements that
-/// are the same by test are equal.
+/// What a view denotes is a map that a session may hand down; with no test of contents it is the view's own. Elements
+/// that are the same by test are equal.
 pub fn views_are_maps()
     ensures untested { UntestedLaw }
     ensures synchronised { SynchronisedLaw }

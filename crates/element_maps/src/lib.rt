@@ -1,7 +1,7 @@
 //! Maps of elements over a storage: sessions hold maps, a storage holds entries.
 //!
-//! The definitions in `specs/` say which changes make one map into another, and what a session owes of the map that it
-//! hands down. The laws are contracts of functions with nothing to do, which a caller calls to cite them.
+//! The definitions in `specs/` say which changes make one map into another, and which maps a session may hand down to
+//! be committed. The laws are contracts of functions with nothing to do, which a caller calls to cite them.
 //! [`changes_make_maps`] says that these changes may be committed, that the storage then holds the new map and is the
 //! one that its two maps say, and that only what differs is paid for; [`views_are_maps`] that the map of a view is one
 //! that may be handed down; [`syncs_are_decided`] which view a sync leaves.

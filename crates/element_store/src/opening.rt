@@ -45,8 +45,8 @@ pub struct OpenedStore {
     pub before: View,
 }
 
-/// Opens a storage: brings every copy to the text at which it opens, and writes each element again, on which enough
-/// copies agree, in the copies that lack it.
+/// Opens a storage: brings every copy to the text at which it opens, and writes each element on which enough copies
+/// agree into the copies that lack it.
 ///
 /// # Errors
 ///

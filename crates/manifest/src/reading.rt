@@ -34,7 +34,7 @@ pub fn read_manifest(alloc: Global, bytes: &[u8]) -> Result<Deployment, Manifest
     ensures read { IfOk result (λ d. deployment_in bytes.now ≡ Some (deployment_data d)) }
     ensures unsaid { IfErr result (λ e. e ≢ ManifestError.OutOfMemory → deployment_in bytes.now ≡ None) }
 
-    // what is read keeps what every deployment keeps
+    // what is read obeys the rules of deployments
     ensures keeps { IfOk result (λ d. IsDeployment (deployment_data d)) }
 {
     read_text(alloc, bytes)
