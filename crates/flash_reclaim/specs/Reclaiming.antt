@@ -9,13 +9,15 @@ use Rattle.flash_disk.specs.declared.disk.FlashOpenError.{FlashOpenError}
 use Rattle.flash_disk.specs.declared.disk.FlashOpenError.TheVariants.{WrongSize, Unusable, Device}
 use Rattle.flash_disk.specs.Apart.{StandApart}
 use Rattle.flash_disk.specs.FlashFiles.{flash_files}
+use Rattle.flash_disk.specs.Forgetting.{MayGiveNothing}
+use Rattle.flash_disk.specs.Kept.{in_ranges}
 use Rattle.flash_disk.specs.KeepsApart.{StandsOrLacked}
 use Rattle.flash_disk.specs.Newest.{IsUnusable, places}
 use Rattle.flash_disk.specs.Sound.{files_on}
 use Rattle.flash_disk.specs.Standing.{IsAgreed}
 use Rattle.flash_disk.specs.Throughout.{UsableSince}
 use Rattle.deploy_laws.specs.Apps.{IsCleanApp, app_at}
-use Rattle.flash_reclaim.specs.Naming.{IsGivenUp}
+use Rattle.flash_reclaim.specs.Naming.{IsGivenUp, all_kept}
 
 -- every application is what it was, and its places are clean where they were
 unfoldable pub AppsStand : (old new : Image) → Type 0
@@ -33,13 +35,15 @@ pub record IsReclaimed (old new : Image) : Type 0 where
   pub given_up : (file : ℕ) → IsGivenUp old file → new file ≡ []
   pub kept : (file : ℕ) → file < 4294967295 → ¬ (IsGivenUp old file) → new file ≡ old file
 
--- A flash whose room was reclaimed, in whole or not at all.
-pub record Reclaims (old new : FlashMedium) (whole : Bool) : Type 0 where
+-- A flash whose room was reclaimed, in whole or not at all, and what the disk counted of its own while roots were read.
+pub record Reclaims (old new : FlashMedium) (whole : Bool) (own : ℕ) : Type 0 where
   -- each application stands as before, also after a crash at any moment
   pub stands : AppsStandSince old new
   -- the files that no root names are empty, and all others are as they were; or all are
   pub files : IsTrue whole → IsReclaimed (files_on old) (files_on new)
   pub nothing : IsFalse whole → files_on new ≡ files_on old
+  -- not at all only where there are rivals or each block but one is needed for what is kept, or that count is not 0
+  pub due : IsFalse whole → MayGiveNothing (in_ranges (all_kept (files_on old))) new ⊎ (0 < own)
   -- it can be opened at every moment; no rivals came, and copies stand apart where they did and there was room
   pub opens : UsableSince new old.moment
   pub agreed : IsAgreed old.state.pages (places old.blocks) → IsAgreed new.state.pages (places new.blocks)
@@ -56,8 +60,8 @@ pub record IsHandedBack (old back : FlashMedium) (error : FlashOpenError) : Type
   pub device : error ≡ Device → Rose old.faults back.faults
 
 -- what is said of a flash that is modelled
-unfoldable pub ReclaimsTold : (told : Bool) → (old new : FlashMedium) → (whole : Bool) → Type 0
-ReclaimsTold told old new whole = IsTrue told → Reclaims old new whole
+unfoldable pub ReclaimsTold : (told : Bool) → (old new : FlashMedium) → (whole : Bool) → (own : ℕ) → Type 0
+ReclaimsTold told old new whole own = IsTrue told → Reclaims old new whole own
 
 unfoldable pub HandsBackTold : (told : Bool) → (old back : FlashMedium) → FlashOpenError → Type 0
 HandsBackTold told old back error = IsTrue told → IsHandedBack old back error

@@ -17,6 +17,9 @@ pub struct Reclaimed<F: Flash> {
     pub flash: F,
     /// Whether every file of a bank without a version is empty now; else none was taken.
     pub whole: bool,
+    /// How many faults of its own the disk counted while the roots were read. Only a write counts one, so there is none;
+    /// where there is one, no file was taken.
+    pub own_faults: u64,
 }
 
 /// Takes from a flash the files of every bank in which no version is, so that what they took is room for new records.
@@ -32,7 +35,7 @@ pub struct Reclaimed<F: Flash> {
 pub fn reclaim<F: Flash>(alloc: Global, flash: F) -> Result<Reclaimed<F>, FlashRefused<F>>
     // Each application stands as before, also after a stop at any moment; what no root names is empty.
     ensures reclaims { IfOk result (λ reclaimed. ReclaimsTold F.told (F.medium flash) (F.medium reclaimed.flash)
-        reclaimed.whole) }
+        reclaimed.whole reclaimed.own_faults) }
     ensures refused { IfErr result (λ refused. HandsBackTold F.told (F.medium flash) (F.medium refused.flash)
         refused.error) }
 {
@@ -40,11 +43,13 @@ pub fn reclaim<F: Flash>(alloc: Global, flash: F) -> Result<Reclaimed<F>, FlashR
     roots_say();
     let mut disk = FlashDisk::open(alloc, flash)?;
     let found = kept_files(alloc, &mut disk);
-    if disk.own_faults() > 0 {
+    let own_faults = disk.own_faults();
+    if own_faults > 0 {
         // No read counts one, so that each failure below is one of the flash.
         return Ok(Reclaimed {
             flash: disk.into_flash(),
             whole: false,
+            own_faults,
         });
     }
     let kept = match found {
@@ -60,6 +65,7 @@ pub fn reclaim<F: Flash>(alloc: Global, flash: F) -> Result<Reclaimed<F>, FlashR
     Ok(Reclaimed {
         flash: disk.into_flash(),
         whole,
+        own_faults,
     })
 }
 

@@ -1,6 +1,7 @@
 use Rattle.std.proofs.Common.{◌≡◌, ◌∙◌, List, false, Err, sym, ap, subst, arith}
 use Rattle.deploy.specs.declared.errors.Stop.{Stop}
 use Rattle.flash_disk.specs.declared.forgetting.FileRange.{FileRange}
+use Rattle.flash_disk.specs.Forgetting.{MayGiveNothing}
 use Rattle.flash_disk.specs.Kept.{in_ranges}
 use Rattle.flash_disk.specs.Sound.{files_on}
 use Rattle.flash_reclaim.specs.Naming.{all_kept}
@@ -36,11 +37,12 @@ returns-then-own_faults-gt0-clause-reclaims g c =
     let seen = c.kept_files-found.new.disk in
     let e = c.in_ok-disk.ensures in
     let k = c.kept_files-found.ensures in
-    subst (λ f. ReclaimsTold told start (medium f) false) (sym c.into_flash.ensures)
-    (reclaims_told told start (medium seen.flash) false
+    let some = c.if-own_faults-gt0.true in
+    subst (λ f. ReclaimsTold told start (medium f) false c.own_faults.result) (sym c.into_flash.ensures)
+    (reclaims_told told start (medium seen.flash) false c.own_faults.result
     (λ tells. seen_reclaims told tells medium c.args.flash c.in_ok-disk.disk seen e.blocks (e.pages tells) e.opens
     k.time (k.idle e.quiet) c.others_stand.ensures.frame c.others_stand.ensures.free_bank
-    c.roots_say.ensures.versions e.size.0 e.size.1 (e.throughout tells) (e.agreed tells)))
+    c.roots_say.ensures.versions c.own_faults.result some e.size.0 e.size.1 (e.throughout tells) (e.agreed tells)))
 
 -- ---- a root was not read
 
@@ -122,8 +124,8 @@ returns-clause-reclaims g c =
     let first_faults = e.faults in
     let same : (medium seen.flash).faults ≡ start.faults = omega (arith, passes, own, first_own, first_faults) in
     let flash : now.flash ≡ c.into_flash-2.result = cc (c.into_flash-2.ensures) in
-    subst (λ z. ReclaimsTold told start (medium z) whole) flash
-    (reclaims_told told start (medium now.flash) whole
+    subst (λ z. ReclaimsTold told start (medium z) whole c.own_faults.result) flash
+    (reclaims_told told start (medium now.flash) whole c.own_faults.result
     (λ tells.
     let ranges : c.as_slice.result.now ≡ all_kept (files_on start) = c.as_slice.ensures.value ∙ (k.kept tells
     ∙ ap all_kept (image_first told tells medium c.args.flash opened seen e.blocks (e.pages tells) e.opens k.time
@@ -136,5 +138,7 @@ returns-clause-reclaims g c =
     (medium now.flash) (f.gives_up tells) whole
     (λ file up. ap (λ (rs : List FileRange). in_ranges rs file) ranges
     ∙ given_false (files_on start) (versions (files_on start)) file up)
-    (f.image tells) (f.pages tells) (f.agreed tells) (f.apart tells) e.size.0 e.size.1 (e.throughout tells)
-    (e.agreed tells) (f.faults tells ∙ same)))
+    (f.image tells) (f.pages tells)
+    (λ is. subst (λ (rs : List FileRange). MayGiveNothing (in_ranges rs) (medium seen.flash)) ranges (f.due tells is))
+    (f.agreed tells) (f.apart tells) e.size.0 e.size.1 (e.throughout tells) (e.agreed tells) (f.faults tells ∙ same)
+    c.own_faults.result))

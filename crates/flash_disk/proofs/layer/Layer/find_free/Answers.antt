@@ -20,12 +20,12 @@ loop-block-preserved g c =
           (λ before. i.needed b before apart)
           (λ past. (let last : b ≡ block = omega (arith, past, below) in
           elim c.else-not-needed.branch [
-            else-not-needed-via-then-not-needed+else-block-self w ↦ absurd (apart (last
-              ∙ (w.if-block-self.false ∙ ap (λ (q : LayerState). q.spare)
-              (c.in_ok-needed.ensures.reads.state ∙ i.reads.state))))
-          | else-not-needed-via-else-not-needed w ↦ subst (NeedsBlock kept s.table) (sym last)
-              (subst (λ (q : LayerState). NeedsBlock kept q.table block) i.reads.state
-              (c.in_ok-needed.ensures.some w.if-not-needed.false))
+            | else-not-needed-via-then-not-needed+else-block-self w ↦ absurd (apart (last
+                ∙ (w.if-block-self.false ∙ ap (λ (q : LayerState). q.spare)
+                (c.in_ok-needed.ensures.reads.state ∙ i.reads.state))))
+            | else-not-needed-via-else-not-needed w ↦ subst (NeedsBlock kept s.table) (sym last)
+                (subst (λ (q : LayerState). NeedsBlock kept q.table block) i.reads.state
+                (c.in_ok-needed.ensures.some w.if-not-needed.false))
           ]))
           (cases_lt b block);
     }
