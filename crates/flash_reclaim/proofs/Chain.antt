@@ -20,12 +20,12 @@ use Rattle.flash_disk.specs.Looks.{LeavesFlashAlone, OpensFlash}
 use Rattle.flash_disk.specs.Newest.{IsUnusable, IsUsable, places}
 use Rattle.flash_disk.specs.Sound.{files_on}
 use Rattle.flash_disk.specs.Standing.{HasRivals, IsAgreed, StaysAgreed}
-use Rattle.flash_disk.specs.Kept.{in_ranges, kept_image}
+use Rattle.flash_disk.specs.Kept.{kept_image}
 use Rattle.flash_disk.specs.declared.disk.FlashOpenError.{FlashOpenError}
 use Rattle.flash_disk.specs.declared.disk.FlashOpenError.TheVariants.{WrongSize, Unusable, Device, OutOfMemory}
 use Rattle.flash_disk.specs.Throughout.{AgreedSince, KeepsAgreed, KeepsUsable, UsableSince}
 use Rattle.deploy_laws.specs.Laws.{AppFrameLaw, VersionsLaw}
-use Rattle.flash_reclaim.specs.Naming.{IsGivenUp, all_kept}
+use Rattle.flash_reclaim.specs.Naming.{IsGivenUp}
 use Rattle.flash_reclaim.specs.Reclaiming.{AppsStand, AppsStandSince, HandsBackTold, IsHandedBack, Reclaims}
 use Rattle.flash_reclaim.specs.Reclaiming.{ReclaimsTold}
 use Rattle.flash_reclaim.proofs.Standing.{FreeBankLaw, apps_stand}
@@ -245,12 +245,11 @@ module _ {F : Type 0} (told : Bool) (tells : IsTrue told) (medium : F → FlashM
           ))
 
       -- what kept it from giving up anything still does
-      stuck_still : (all : ℕ → Bool) → now.state.pages ≡ mid.state.pages → MayGiveNothing all mid
-          → MayGiveNothing all now
-      stuck_still all same stuck =
-          subst (λ b. HasRivals now.state.pages (places b) ⊎ IsFullOfKept all now.state.pages b)
+      stuck_still : now.state.pages ≡ mid.state.pages → MayGiveNothing kept mid → MayGiveNothing kept now
+      stuck_still same stuck =
+          subst (λ b. HasRivals now.state.pages (places b) ⊎ IsFullOfKept kept now.state.pages b)
           (sym gives.time.blocks)
-          (subst (λ p. HasRivals p (places mid.blocks) ⊎ IsFullOfKept all p mid.blocks) (sym same) stuck)
+          (subst (λ p. HasRivals p (places mid.blocks) ⊎ IsFullOfKept kept p mid.blocks) (sym same) stuck)
 
       pub given_refused : (error : FlashOpenError) → (error ≡ Device) ⊎ (error ≡ OutOfMemory)
           → (error ≡ Device → Rose start.faults now.faults) → IsHandedBack start now error
@@ -264,7 +263,7 @@ module _ {F : Type 0} (told : Bool) (tells : IsTrue told) (medium : F → FlashM
       pub given_reclaims : (whole : Bool) → ((file : ℕ) → IsGivenUp (files_on start) file → kept file ≡ false)
           → (IsTrue whole → files_on now ≡ kept_image kept (files_on mid))
           → (IsFalse whole → now.state.pages ≡ mid.state.pages)
-          → (IsFalse whole → MayGiveNothing (in_ranges (all_kept (files_on start))) mid) → StaysAgreed mid now.state.pages
+          → (IsFalse whole → MayGiveNothing kept mid) → StaysAgreed mid now.state.pages
           → (StandApart mid.state.pages mid.blocks → StandApart now.state.pages now.blocks)
           → 4 ≤ start.blocks → start.blocks ≤ 4096 → KeepsUsable start first → KeepsAgreed start first
           → now.faults ≡ start.faults → (own : ℕ) → Reclaims start now whole own
@@ -279,7 +278,7 @@ module _ {F : Type 0} (told : Bool) (tells : IsTrue told) (medium : F → FlashM
         };
         nothing = λ is. ap (λ p. flash_files p now.blocks) (same is)
             ∙ (ap (λ b. flash_files mid.state.pages b) gives.time.blocks ∙ files_seen);
-        due = λ is. inl (stuck_still (in_ranges (all_kept (files_on start))) (same is) (stuck is));
+        due = λ is. inl (kept, λ file own up. true≢false (sym own ∙ unnamed file up), stuck_still (same is) (stuck is));
         opens = given_usable (usable_seen many few usable);
         agreed = λ was. subst (λ b. IsAgreed now.state.pages (places b)) (sym gives.time.blocks)
             (agreed_on (agreed_seen agreed was));

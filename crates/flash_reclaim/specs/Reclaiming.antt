@@ -1,5 +1,5 @@
 -- What comes of a flash whose room is reclaimed: each application stands as it stood, at each moment.
-use Rattle.std.specs.Prelude.{◌≡◌, ◌⊎◌, ℕ, ◌<◌, ◌≤◌, [], Bool, IsFalse, IsTrue}
+use Rattle.std.specs.Prelude.{◌≡◌, ◌⊎◌, ℕ, ◌<◌, ◌≤◌, [], Bool, true, IsFalse, IsTrue}
 use Rattle.per_base.specs.Causes.{Rose}
 use Rattle.disk_model.specs.Image.{Image}
 use Rattle.flash_model.specs.Pages.{IsPlain}
@@ -10,14 +10,13 @@ use Rattle.flash_disk.specs.declared.disk.FlashOpenError.TheVariants.{WrongSize,
 use Rattle.flash_disk.specs.Apart.{StandApart}
 use Rattle.flash_disk.specs.FlashFiles.{flash_files}
 use Rattle.flash_disk.specs.Forgetting.{MayGiveNothing}
-use Rattle.flash_disk.specs.Kept.{in_ranges}
 use Rattle.flash_disk.specs.KeepsApart.{StandsOrLacked}
 use Rattle.flash_disk.specs.Newest.{IsUnusable, places}
 use Rattle.flash_disk.specs.Sound.{files_on}
 use Rattle.flash_disk.specs.Standing.{IsAgreed}
 use Rattle.flash_disk.specs.Throughout.{UsableSince}
 use Rattle.deploy_laws.specs.Apps.{IsCleanApp, app_at}
-use Rattle.flash_reclaim.specs.Naming.{IsGivenUp, all_kept}
+use Rattle.flash_reclaim.specs.Naming.{IsGivenUp}
 
 -- every application is what it was, and its places are clean where they were
 unfoldable pub AppsStand : (old new : Image) → Type 0
@@ -35,6 +34,11 @@ pub record IsReclaimed (old new : Image) : Type 0 where
   pub given_up : (file : ℕ) → IsGivenUp old file → new file ≡ []
   pub kept : (file : ℕ) → file < 4294967295 → ¬ (IsGivenUp old file) → new file ≡ old file
 
+-- there are rivals, or each block but one is needed for files that are not given up
+abbrev pub MayTakeNothing : (old : Image) → (new : FlashMedium) → Type 0
+MayTakeNothing old new = (kept : ℕ → Bool) × ((file : ℕ) → kept file ≡ true → ¬ (IsGivenUp old file))
+    × MayGiveNothing kept new
+
 -- A flash whose room was reclaimed, in whole or not at all, and what the disk counted of its own while roots were read.
 pub record Reclaims (old new : FlashMedium) (whole : Bool) (own : ℕ) : Type 0 where
   -- each application stands as before, also after a crash at any moment
@@ -42,8 +46,8 @@ pub record Reclaims (old new : FlashMedium) (whole : Bool) (own : ℕ) : Type 0 
   -- the files that no root names are empty, and all others are as they were; or all are
   pub files : IsTrue whole → IsReclaimed (files_on old) (files_on new)
   pub nothing : IsFalse whole → files_on new ≡ files_on old
-  -- not at all only where there are rivals or each block but one is needed for what is kept, or that count is not 0
-  pub due : IsFalse whole → MayGiveNothing (in_ranges (all_kept (files_on old))) new ⊎ (0 < own)
+  -- not at all only where nothing may be, or that count is not 0
+  pub due : IsFalse whole → MayTakeNothing (files_on old) new ⊎ (0 < own)
   -- it can be opened at every moment; no rivals came, and copies stand apart where they did and there was room
   pub opens : UsableSince new old.moment
   pub agreed : IsAgreed old.state.pages (places old.blocks) → IsAgreed new.state.pages (places new.blocks)

@@ -1,7 +1,6 @@
 use Rattle.std.proofs.Common.{◌≡◌, ◌∙◌, List, false, Err, sym, ap, subst, arith}
 use Rattle.deploy.specs.declared.errors.Stop.{Stop}
 use Rattle.flash_disk.specs.declared.forgetting.FileRange.{FileRange}
-use Rattle.flash_disk.specs.Forgetting.{MayGiveNothing}
 use Rattle.flash_disk.specs.Kept.{in_ranges}
 use Rattle.flash_disk.specs.Sound.{files_on}
 use Rattle.flash_reclaim.specs.Naming.{all_kept}
@@ -138,7 +137,5 @@ returns-clause-reclaims g c =
     (medium now.flash) (f.gives_up tells) whole
     (λ file up. ap (λ (rs : List FileRange). in_ranges rs file) ranges
     ∙ given_false (files_on start) (versions (files_on start)) file up)
-    (f.image tells) (f.pages tells)
-    (λ is. subst (λ (rs : List FileRange). MayGiveNothing (in_ranges rs) (medium seen.flash)) ranges (f.due tells is))
-    (f.agreed tells) (f.apart tells) e.size.0 e.size.1 (e.throughout tells) (e.agreed tells) (f.faults tells ∙ same)
+    (f.image tells) (f.pages tells) (f.due tells) (f.agreed tells) (f.apart tells) e.size.0 e.size.1 (e.throughout tells) (e.agreed tells) (f.faults tells ∙ same)
     c.own_faults.result))
