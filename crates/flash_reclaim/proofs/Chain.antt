@@ -185,6 +185,7 @@ module _ {F : Type 0} (told : Bool) (tells : IsTrue told) (medium : F → FlashM
       files = λ is. absurd (true≢false (sym is));
       nothing = λ is. files_seen;
       due = λ is. inr some;
+      own_faults = λ more. refl;
       opens = usable_seen many few usable;
       agreed = agreed_seen agreed;
       apart = apart_seen;
@@ -266,8 +267,8 @@ module _ {F : Type 0} (told : Bool) (tells : IsTrue told) (medium : F → FlashM
           → (IsFalse whole → MayGiveNothing kept mid) → StaysAgreed mid now.state.pages
           → (StandApart mid.state.pages mid.blocks → StandApart now.state.pages now.blocks)
           → 4 ≤ start.blocks → start.blocks ≤ 4096 → KeepsUsable start first → KeepsAgreed start first
-          → now.faults ≡ start.faults → (own : ℕ) → Reclaims start now whole own
-      given_reclaims whole unnamed image same stuck agreed_on apart_on many few usable agreed faults own = record {
+          → now.faults ≡ start.faults → (own : ℕ) → own ≡ 0 → Reclaims start now whole own
+      given_reclaims whole unnamed image same stuck agreed_on apart_on many few usable agreed faults own none = record {
         stands = given_stand;
         files = λ is. record {
           given_up = λ file up. ap (λ (i : Image). i file) (image is)
@@ -279,6 +280,7 @@ module _ {F : Type 0} (told : Bool) (tells : IsTrue told) (medium : F → FlashM
         nothing = λ is. ap (λ p. flash_files p now.blocks) (same is)
             ∙ (ap (λ b. flash_files mid.state.pages b) gives.time.blocks ∙ files_seen);
         due = λ is. inl (kept, λ file own up. true≢false (sym own ∙ unnamed file up), stuck_still (same is) (stuck is));
+        own_faults = λ more. absurd (omega (arith, none, more));
         opens = given_usable (usable_seen many few usable);
         agreed = λ was. subst (λ b. IsAgreed now.state.pages (places b)) (sym gives.time.blocks)
             (agreed_on (agreed_seen agreed was));

@@ -17,8 +17,8 @@ pub struct Reclaimed<F: Flash> {
     pub flash: F,
     /// Whether every file of a bank without a version is empty now; else none was taken.
     pub whole: bool,
-    /// How many faults of its own the disk counted while the roots were read. Only a write counts one, so there is none;
-    /// where there is one, no file was taken.
+    /// How many faults of its own the disk counted while the roots were read. A read counts none; where there is one,
+    /// no file was taken.
     pub own_faults: u64,
 }
 
