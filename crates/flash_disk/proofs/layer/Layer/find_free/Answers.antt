@@ -53,13 +53,15 @@ returns-then-block-self-clause-free g c told led =
     let below = c.loop-block-test.true in
     let end = c.blocks-block-end.ensures in
     let same = i.only.blocks in
+    let differs = c.if-block-self.true in
+    let spare = ap (λ (q : LayerState). q.spare) (n.reads.state ∙ i.state) in
     let led_seen : LeadsKept kept seen.state.pages (places seen.blocks) c.loop-block.self.state.table =
     subst (λ p. LeadsKept kept p (places seen.blocks) c.loop-block.self.state.table) (sym (i.only.pages told))
     (subst (λ k. LeadsKept kept m.state.pages (places k) c.loop-block.self.state.table) (sym same)
     (subst (λ (q : LayerState). LeadsKept kept m.state.pages (places m.blocks) q.table) (sym i.state) led)) in
     record {
       within = omega (arith, below, end, same);
-      apart = λ here. c.if-block-self.true (here ∙ ap (λ (q : LayerState). q.spare) (sym i.state ∙ sym n.reads.state));
+      apart = λ here. omega (arith, differs, spare, here);
       out = subst (λ (q : LayerState). LeavesKept kept q.table block 64) i.state
           (n.none told (omega (arith, below, end, same)) led_seen c.if-not-needed.true);
     }
