@@ -37,7 +37,7 @@ pub record GivesUp (kept : ℕ → Bool) (old new : FlashMedium) : Type 0 where
   pub now : Forgets kept old.blocks old.state.pages new.state.pages
   pub during : EachFlashCase (LeavesForgetting kept old new) old new
 
--- in a block is the record that counts of a page of a file that is kept: the newest one of it, or an equal one
+-- a block has the record that is counted for a page of a file that is kept: the newest one of the page, or an equal one
 pub record CountsInBlock (kept : ℕ → Bool) (pages : Pages) (blocks : ℕ) (counting : (file page : ℕ) → ℕ) (block : ℕ)
     : Type 0 where
   pub file : ℕ
@@ -48,13 +48,13 @@ pub record CountsInBlock (kept : ℕ → Bool) (pages : Pages) (blocks : ℕ) (c
   pub there : record_at pages (counting file page) ≡ Some best.says
   pub here : counting file page / 64 ≡ block
 
--- so it is in each block but one, if of each page one record counts
+-- each block but one has such a record, where one is counted for each page
 pub record IsFullOfKept (kept : ℕ → Bool) (pages : Pages) (blocks : ℕ) : Type 0 where
   pub counting : (file page : ℕ) → ℕ
   pub spare : ℕ
   pub full : (block : ℕ) → block < blocks → block ≢ spare → CountsInBlock kept pages blocks counting block
 
--- no file may be given up: there are rivals, or no block but one can do without what is in it
+-- no file may be given up: there are rivals, or each block but one has a record that is counted for a file that is kept
 abbrev pub MayGiveNothing : (kept : ℕ → Bool) → FlashMedium → Type 0
 MayGiveNothing kept m = HasRivals m.state.pages (places m.blocks) ⊎ IsFullOfKept kept m.state.pages m.blocks
 

@@ -68,7 +68,8 @@ impl<F: Flash> FlashDisk<F> {
             (λ forgotten. GivesUp (in_ranges kept.now) (F.medium self.flash) (F.medium forgotten.disk.flash))
             (λ refused. GivesUp (in_ranges kept.now) (F.medium self.flash) (F.medium refused.flash)) }
 
-        // Afterwards all others are empty, or no page changed; no rivals came, and copies stand apart where they did.
+        // Afterwards all others are empty; or no page changed, only where there are rivals or each block but one has a
+        // record that is needed. No rivals came, and copies stand apart where they did.
         ensures image { IsTrue F.told → IfOk result (λ forgotten. IsTrue forgotten.whole
             → files_on (F.medium forgotten.disk.flash)
             ≡ kept_image (in_ranges kept.now) (files_on (F.medium self.flash))) }
