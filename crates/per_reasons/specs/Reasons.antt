@@ -1,10 +1,11 @@
 -- Why a line was refused, in words.
-use Rattle.std.specs.Prelude.{◌≡◌, ◌-◌, ⊤, ℕ, List, [], ◌∷◌, ◌++◌, codes, drop, Bool, ◌&&◌, nat_eq, if◌then◌else◌}
+use Rattle.std.specs.Prelude.{◌≡◌, ◌-◌, ⊤, ℕ, List, [], ◌∷◌, ◌++◌, codes, drop, take, Bool, ◌&&◌, nat_eq}
+use Rattle.std.specs.Prelude.{nat_lt, if◌then◌else◌}
 use Rattle.std.specs.Prelude.{Option, Some, None, option_map}
 use Rattle.std.specs.List.{ends_with}
 use Rattle.std.specs.Fmt.{decimal}
 use Rattle.std.specs.Str.{IsUtf8}
-use Rattle.per_words.specs.Flaws.{after_space, flaw_in, has_space, leading_word, takes_text}
+use Rattle.per_words.specs.Flaws.{after_space, flaw_in, has_space, leading_length, leading_word, takes_text}
 use Rattle.per_words.specs.declared.flaws.Flaw.{Flaw}
 use Rattle.per_words.specs.declared.needs.Needed.{Needed}
 use Rattle.per_words.specs.declared.needs.Needed.TheVariants as needed
@@ -15,7 +16,7 @@ use Rattle.per_words.specs.declared.needs.Needed.TheVariants as needed
 abbrev pub needed_text : Needed → Option (List ℕ)
 needed_text needed.Application = Some (codes "an application, 0 to 7, or now or end")
 needed_text needed.CallWord = Some (codes "the word of a call")
-needed_text needed.Name = Some (codes "a name")
+needed_text needed.Name = Some (codes "a name of 1 to 255 ASCII letters, digits, _, -, . or /")
 needed_text needed.Handle = Some (codes "the number of a handle")
 needed_text needed.Number = Some (codes "a number")
 needed_text needed.TypeText = Some (codes "a type, as u8")
@@ -48,13 +49,28 @@ no_line_text line = option_map
 
 -- ---- words that are no call
 
+-- how much of the first word is shown
+abbrev pub shown_length : List ℕ → ℕ
+shown_length text = if nat_lt 60 (leading_length text) then 60 else leading_length text
+
+abbrev pub word_shown : List ℕ → List ℕ
+word_shown text = take (shown_length text) text
+
+-- what follows where not all of it is
+abbrev pub dots_after : List ℕ → List ℕ
+dots_after text = if nat_lt 60 (leading_length text) then codes ".." else []
+
+-- what is needed in place of this word, of which no more is shown
+abbrev pub IsNeededText : (word dots needed text : List ℕ) → Type 0
+IsNeededText [] dots needed text = text ≡ codes "what is missing is " ++ needed
+IsNeededText (byte ∷ word) dots needed text =
+    (IsUtf8 (byte ∷ word) → text ≡ (byte ∷ word) ++ (dots ++ (codes " is to be " ++ needed)))
+    × (¬ (IsUtf8 (byte ∷ word)) → text ≡ codes "what is wrong is to be " ++ needed)
+
 -- what is needed in place of these bytes, with which the first wrong word begins
 abbrev pub IsWordText : Option (List ℕ) → (rest text : List ℕ) → Type 0
 IsWordText None rest text = text ≡ codes "it takes fewer words"
-IsWordText (Some needed) [] text = text ≡ codes "what is missing is " ++ needed
-IsWordText (Some needed) (byte ∷ rest) text =
-    (IsUtf8 (byte ∷ rest) → text ≡ (byte ∷ rest) ++ (codes " is to be " ++ needed))
-    × (¬ (IsUtf8 (byte ∷ rest)) → text ≡ codes "what is wrong is to be " ++ needed)
+IsWordText (Some needed) rest text = IsNeededText (word_shown rest) (dots_after rest) needed text
 
 -- which word is none of the call with this line
 abbrev pub SaysNoCall : List ℕ → Option Flaw → Option (List ℕ) → Type 0

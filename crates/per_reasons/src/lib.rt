@@ -3,7 +3,7 @@
 //! A reply names the rule that a manifest breaks, or the types that differ, and no more. [`why_refused`] adds in which
 //! storage and element a manifest breaks it, for which keys or storages an update may have been refused, or where a
 //! line stops being one. [`why_no_line`] says this of a line before it is handled, and [`why_no_call`] of the words of
-//! a call from a shell.
+//! a call from a shell. [`word_shown`] is as much of a word as a refusal shows.
 #![tactic(auto)]
 
 mod blame;
@@ -14,3 +14,4 @@ mod words;
 
 pub use lines::{why_no_call, why_no_line};
 pub use refusals::why_refused;
+pub use words::{dots_after, word_shown};
