@@ -9,6 +9,7 @@ use Rattle.per_words.specs.Flaws.{after_space, flaw_in, has_space, leading_lengt
 use Rattle.per_words.specs.declared.flaws.Flaw.{Flaw}
 use Rattle.per_words.specs.declared.needs.Needed.{Needed}
 use Rattle.per_words.specs.declared.needs.Needed.TheVariants as needed
+use Rattle.per_reasons.specs.Rules.{rule_text}
 
 -- ---- a text that is no line
 
@@ -90,7 +91,23 @@ manifest_of_line line =
 abbrev pub explained_text : (answer line : List ℕ) → Option (List ℕ)
 explained_text answer line = option_map (λ why. answer ++ (codes ": " ++ why)) (no_line_text line)
 
--- the rule that a manifest breaks is named
+-- the part of a manifest in which it breaks a rule, where it is known
+abbrev pub place_text : Option (List ℕ) → List ℕ
+place_text None = []
+place_text (Some part) = codes " in " ++ part
+
+-- which byte shows that it is no JSON, where the rule is this
+abbrev pub end_text : (rule byte : ℕ) → List ℕ
+end_text rule byte =
+    if nat_eq rule 2 then codes ", which its byte " ++ (decimal byte ++ codes " shows") else []
+
+-- the text names the rule that a manifest breaks, perhaps a part of it, and what the rule says
+pub record IsRuleText (rule : ℕ) (text : List ℕ) : Type 0 where
+  pub part : Option (List ℕ)
+  pub byte : ℕ
+  pub spelled : text ≡ codes "the manifest breaks rule "
+      ++ (decimal rule ++ (place_text part ++ (rule_text rule ++ end_text rule byte)))
+
 abbrev pub NamesRule : ℕ → Option (List ℕ) → Type 0
 NamesRule rule None = ⊥
-NamesRule rule (Some text) = (more : List ℕ) × (text ≡ codes "the manifest breaks rule " ++ (decimal rule ++ more))
+NamesRule rule (Some text) = IsRuleText rule text

@@ -85,12 +85,7 @@ fn word_text(alloc: Global, needed: Option<&str>, rest: &[u8]) -> Result<String,
 }
 
 /// What is needed in place of this word.
-fn text_of_word(
-    alloc: Global,
-    needed: &str,
-    word: &[u8],
-    dots: &str,
-) -> Result<String, AllocError>
+fn text_of_word(alloc: Global, needed: &str, word: &[u8], dots: &str) -> Result<String, AllocError>
     ensures { IfOk result (λ text. IsNeededText word.now dots.now needed.now (string_bytes text)) }
 {
     if word.is_empty() {

@@ -47,7 +47,11 @@ pub fn word_shown(text: &[u8]) -> &[u8]
 pub fn dots_after(text: &[u8]) -> &'static str
     ensures { result.now ≡ dots_after text.now }
 {
-    if leading_length(text) > SHOWN_BYTES { ".." } else { "" }
+    if leading_length(text) > SHOWN_BYTES {
+        ".."
+    } else {
+        ""
+    }
 }
 
 /// How much of the first word is shown.
@@ -56,5 +60,9 @@ fn shown_length(text: &[u8]) -> usize
     ensures bound { result ≤ length text.now }
 {
     let length = leading_length(text);
-    if length > SHOWN_BYTES { SHOWN_BYTES } else { length }
+    if length > SHOWN_BYTES {
+        SHOWN_BYTES
+    } else {
+        length
+    }
 }
