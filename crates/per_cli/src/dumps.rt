@@ -20,7 +20,7 @@ use per_dump::{Dumped, dump_application, restore_application};
 use per_reasons::why_refused;
 use per_run::{JobKind, WordsError, read_words};
 use per_system::{Access, DeviceKind, HostSystem, Noted, NotedFlash, Notes};
-use per_words::{options_in, unknown_in};
+use per_words::options_in;
 use std::alloc::{AllocError, Global};
 use std::fs::{self, File};
 use std::io::{self, Input, Read, Write};
@@ -121,7 +121,8 @@ pub(crate) fn run<R: Files<File = File> + AllocGlobal + Input + Print + Screen>(
             REFUSED_WORDS
         }
         Err(Unbegun::Unread(error)) => {
-            let line = format!(in alloc; "per: the dump cannot be read: {error}");
+            let input = input_name(named);
+            let line = format!(in alloc; "per: the dump cannot be read: {input}: {error}");
             let _ = say_line(rt, alloc, line);
             NO_INPUT
         }
@@ -131,6 +132,14 @@ pub(crate) fn run<R: Files<File = File> + AllocGlobal + Input + Print + Screen>(
             REFUSED_CALL
         }
         Err(Unbegun::OutOfMemory) => program::no_memory(rt),
+    }
+}
+
+/// Of what a restore reads the text: a file by its name, or standard input.
+fn input_name<'a>(named: &[&'a [u8]]) -> &'a str {
+    match named {
+        [_, file] => str::from_utf8(*file).unwrap_or("the file"),
+        _ => "standard input",
     }
 }
 
@@ -217,7 +226,7 @@ fn done<R: Files<File = File> + AllocGlobal + Print + Screen>(
         let ended = Ended {
             status,
             dir: dir.as_str(),
-            unknown: unknown_in(words),
+            words,
             flash,
             takes_lines: false,
             lists: false,

@@ -17,7 +17,6 @@ use per_run::{FlashRun, JobKind, WordsError, per_flash, per_run, read_words};
 use per_system::{
     Access, DeviceKind, HostSystem, Noted, NotedFlash, Notes, StdSink, StdSource, holds_only_others,
 };
-use per_words::unknown_in;
 use std::alloc::{AllocError, Global};
 use std::cell::Cell;
 use std::fs::File;
@@ -207,7 +206,7 @@ fn run_noting<'a, R: Files<File = File> + Screen, I: Read + Drop, O: Write + Dro
     let ended = Ended {
         status: outcome.status,
         dir: target.dir.as_str(),
-        unknown: unknown_in(words),
+        words,
         flash: target.flash,
         takes_lines: target.takes_lines,
         lists: target.lists,
