@@ -16,6 +16,8 @@ abbrev pub HasRow : List Rule → Answers → (app now : ℕ) → Call → (befo
 HasRow rules answers app now c before outcome = StepBeside rules answers app now before c
     (beside_update (update_in before.stage) c) outcome
 
+-- A call was answered by its row, which leads to a later application; each moment stands between before and after, and
+-- clean places stay so.
 pub record IsAnswered (rules : List Rule) (answers : Answers) (app now : ℕ) (c : Call) (before after : Application)
     (reply : Reply) (old new : Medium) : Type 0 where
   pub row : HasRow rules answers app now c before (reply, after)
@@ -28,6 +30,8 @@ abbrev pub MayLead : List Rule → Answers → (app now : ℕ) → Call → (bef
 MayLead rules answers app now c before next = (next ≡ before.disk)
     ⊎ ((outcome : Outcome) × HasRow rules answers app now c before outcome × (next ≡ outcome.1.disk))
 
+-- A call failed at the device, which it reaches: it was to lead to `next`, each moment stands between that and what
+-- was, and what is kept is as after a failure.
 pub record HasFailed (rules : List Rule) (answers : Answers) (app now : ℕ) (c : Call) (before after : Application)
     (old new : Medium) : Type 0 where
   pub reaches : IsTrue (reaches_device app before now c)
@@ -37,6 +41,7 @@ pub record HasFailed (rules : List Rule) (answers : Answers) (app now : ℕ) (c 
   pub is_after : after ≡ after_failure (app_at new.image app) before (found_named before c)
   pub calls : CallsTo app next old new
 
+-- Memory ran out in a call: it was to lead to `next`, and each moment stands between that and what was.
 pub record HasStopped (rules : List Rule) (answers : Answers) (app now : ℕ) (c : Call) (before : Application)
     (old new : Medium) : Type 0 where
   pub next : App

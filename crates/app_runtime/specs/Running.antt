@@ -14,11 +14,13 @@ use Rattle.app_runtime.specs.declared.running.Running.{Running}
 use Rattle.app_runtime.specs.declared.running.Stage.{Stage}
 use Rattle.app_runtime.specs.declared.running.Stage.TheVariants.{ToOpen, AtRest, Updating}
 
+-- the stage of an application in memory, as the world has it
 abbrev pub stage_in : Stage → worlds.Stage
 stage_in ToOpen = worlds.to_open
 stage_in (AtRest root) = worlds.at_rest
 stage_in (Updating staged) = worlds.updating (staged_progress staged)
 
+-- what is kept in memory, as the world has it
 abbrev pub running_in : Running → memory.Running
 running_in r = record { stage = stage_in r.stage; sessions = sessions_in r.slots }
 
@@ -26,6 +28,7 @@ running_in r = record { stage = stage_in r.stage; sessions = sessions_in r.slots
 abbrev pub application : Image → Running → Application
 application image r = as_app (app_at image r.app) (running_in r)
 
+-- no storage is open in any of the sixteen slots
 abbrev pub NoneOpen : OpenSlots → Type 0
 NoneOpen slots = slots.open.items ≡ replicate {A = Option Open} 16 None
 
@@ -34,7 +37,7 @@ IsStageAt told image app slots ToOpen = NoneOpen slots
 IsStageAt told image app slots (AtRest root) = IsResting told image app root slots
 IsStageAt told image app slots (Updating staged) = StagedAt told image app staged × NoneOpen slots
 
--- what is kept is in use on a disk
+-- what is kept of an application is in use on a disk: its root, its update in progress, its open storages
 pub record IsRunning (told : Bool) (image : Image) (r : Running) : Type 0 where
   pub below : r.app < 8
   pub stage_at : IsStageAt told image r.app r.slots r.stage

@@ -47,7 +47,7 @@ installed_parts (Installed i) = Some i
 abbrev pub reply_with : Answer → Reply
 reply_with a = record { reports = []; answer = a }
 
--- it is done, or refused
+-- the reply that a call is done, or why it was refused
 abbrev pub reply_of : Option PerError → Reply
 reply_of None = reply_with answer.Done
 reply_of (Some e) = reply_with (answer.Error e)

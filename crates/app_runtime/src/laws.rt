@@ -21,7 +21,8 @@ use element_laws::places_stand_apart;
 use migrate_fns::Migrations;
 use run_model::storages_lead_on;
 
-/// What is kept of an application in use makes one of a world.
+/// What is kept in memory of an application, with what the disk has of it, is an application as every world has it: the
+/// open sessions are those of its storages, and its stage fits what the root says.
 pub fn running_is_application()
     ensures { (told : Bool) (image : Image) (r : Running) → IsTrue told → IsRunning told image r
         → IsApplication (application image r) }
@@ -40,7 +41,8 @@ pub fn running_stays()
     places_stand_apart();
 }
 
-/// What a call leads to comes later than what was.
+/// What a call leads to comes later than what was: its root has a greater generation, or it says the same and names as
+/// many storages.
 pub fn calls_lead_on(migrations: &Migrations)
     ensures { (app now : ℕ) (c : Call) (before : Application) (outcome : Outcome)
         → HasRow (rules_of migrations.now) (answers_of migrations.now) app now c before outcome

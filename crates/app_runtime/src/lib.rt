@@ -7,6 +7,10 @@
 //!
 //! The promises: a stop at any moment leaves the application as before the call or as the call leads to, and no file of
 //! another application changes; a refused call writes nothing, and a call that needs no device calls none.
+//!
+//! A *row* is the definition that says of a call what it answers and makes of the application, or why it is refused. By
+//! `cause` and `passes` the count of faults rose where the device failed, and stayed where the call succeeded; `told`
+//! is that the disk's bytes are modelled.
 #![tactic(auto)]
 
 mod asking;

@@ -103,6 +103,7 @@ impl Running {
     pub fn open_root<D: Disk>(&mut self, disk: &mut D) -> Result<(), Stop>
         requires memory { IsRunning D.told (D.medium disk.old).image self.old }
         requires marked { stage_in self.old.stage ≡ to_open }
+        // The root is then open, the application at rest and nothing open in it; after a failure all is kept as it was.
         ensures app { self.new.app ≡ self.old.app }
         ensures memory { IsRunning D.told (D.medium disk.new).image self.new }
         ensures opened { OnOk result (running_in self.new ≡ record { stage = at_rest; sessions = none_open }) }
@@ -112,8 +113,8 @@ impl Running {
         ensures already { IsTrue D.told → (generation : ℕ) (text : List ℕ)
             → IsAlone (D.medium disk.old).image (root_place self.old.app) generation text
             → IsUnwritten (D.medium disk.old) (D.medium disk.new) }
-        // However it ends: at every moment the application is on its way to whatever may come of it, no file of another
-        // changes, and of its own none but slots of the root.
+        // However it ends: at every moment the application stands between what it was and any later state, no file of
+        // another changes, and of its own none but slots of the root.
         ensures on_the_way { IsTrue D.told → (next : App) → IsLater (app_at (D.medium disk.old).image self.old.app) next
             → CallsTo self.old.app next (D.medium disk.old) (D.medium disk.new) }
         ensures slots { IsTrue D.told
@@ -146,6 +147,8 @@ impl Running {
         requires opened { is_to_open (stage_in self.old.stage) ≡ false }
         ensures app { self.new.app ≡ self.old.app }
         ensures memory { ¬ (IsErrOf result Stop.OutOfMemory) → IsRunning D.told (D.medium disk.new).image self.new }
+        // The reply and the application after it are those of a row of the call. Where the device failed, or memory ran
+        // out, the disk has what a row leads to or what was there, and each moment stands between the two.
         ensures answered { IsTrue D.told → IfOk result (λ reply.
             IsAnswered (rules_of migrations.now) (answers_of migrations.now) self.old.app now call.now
             (application (D.medium disk.old).image self.old) (application (D.medium disk.new).image self.new) reply
@@ -158,6 +161,8 @@ impl Running {
             → HasStopped (rules_of migrations.now) (answers_of migrations.now) self.old.app now call.now
             (application (D.medium disk.old).image self.old) (D.medium disk.old) (D.medium disk.new) }
         ensures quiet { Quiet (D.medium disk.old) → OnOk result (Quiet (D.medium disk.new)) }
+        // A call that needs no device leaves the disk alone; a refused one writes nothing, nor does one that only plans
+        // an update; and one that makes a storage durable writes at most what differs.
         ensures idle { IsTrue D.told → uses_device (app_at (D.medium disk.old).image self.old.app) call.now ≡ false
             → disk.new ≡ disk.old }
         ensures unwritten { IfOk result (λ reply. is_refusal reply.answer ≡ true

@@ -41,8 +41,8 @@ impl OpenSlots {
         requires memory { IsResting D.told (D.medium disk.old).image app root.now self.old }
         requires on_storage { IsTrue (is_on_storage call.now) }
 
-        // The reply and the application after it are those of the row; where the device failed, or memory ran out, the
-        // call is in progress.
+        // The reply and the application after it are those of the call's row; where the device failed, or memory ran
+        // out, the disk stands at any moment between what was and what the row leads to.
         ensures answered { IsTrue D.told → IfOk result (λ reply. IsStorageCallAnswered app now call.now
             (resting_with (D.medium disk.old).image app self.old) (resting_with (D.medium disk.new).image app self.new)
             reply

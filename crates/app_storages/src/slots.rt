@@ -32,7 +32,7 @@ impl OpenSlots {
         Ok(OpenSlots { open })
     }
 
-    /// Drops all of them, with what is pending in them. Does not allocate.
+    /// Drops all open storages, with what is pending in them: the sixteen slots are empty. Does not allocate.
     pub fn clear(&mut self)
         requires room { length self.old.open.items ≡ 16 }
         ensures { self.new.open.items ≡ replicate {A = Option Open} 16 None }

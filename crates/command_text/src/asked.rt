@@ -30,7 +30,7 @@ impl Model for AskedType {
 }
 
 impl AskedType {
-    /// The type, as one that is asked for.
+    /// Asks for this type. No group of fields in it may be empty or over 32, and nothing may nest deeper than 8.
     pub fn new(value_type: ValueType) -> AskedType
         requires { IsType (kind_of value_type) }
         ensures { result ≡ kind_of value_type }
@@ -38,7 +38,7 @@ impl AskedType {
         AskedType { value_type }
     }
 
-    /// The type itself, borrowed.
+    /// The type that is asked for, borrowed; it keeps the bounds of [`AskedType::new`].
     pub fn value_type(&self) -> &ValueType
         ensures value_type { kind_of result.now ≡ self.now }
         ensures shape { IsType self.now }

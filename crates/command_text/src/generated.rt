@@ -22,7 +22,7 @@ pub fn last_lines() -> [&'static str; 3]
     ["0 sync g", "0 size g", "0 close g"]
 }
 
-/// The number after this one.
+/// The number after this one, in the sequence from which the lines are made: each is below 2^31.
 pub fn next_number(x: u64) -> u64
     requires { x < 2 ^ 31 }
     ensures next { result ≡ next_number x }
@@ -31,7 +31,7 @@ pub fn next_number(x: u64) -> u64
     (x * 1_103_515_245 + 12_345) % 2_147_483_648
 }
 
-/// The text of line `i` of `n`, counted from 1, with the number of its place; without the line feed.
+/// The text of line `i` of `n`, counted from 1, as the number `x` of the sequence makes it; without the line feed.
 pub fn generated_line(alloc: Global, n: u32, x: u64, i: u32) -> Result<Vec<u8>, AllocError>
     requires first { 1 ≤ i }
     requires last { i ≤ n }

@@ -26,17 +26,17 @@ pub enum Line {
 /// The greatest number of bytes of a line.
 pub const LINE_BYTES: usize = 262_144;
 
-/// What the line says; it comes without its line feed.
+/// What a line says, which is given without its line feed: nothing, the end, or an event.
 ///
 /// # Errors
 ///
-/// `NotALine` exactly where the bytes are outside the grammar; `OutOfMemory`.
+/// `NotALine` exactly where the bytes are outside the grammar or more than [`LINE_BYTES`]; `OutOfMemory`.
 pub fn parse_line(alloc: Global, line: &[u8]) -> Result<Line, LineError>
-    // what is read is spelled so, and what is spelled so is read
+    // the text spells the line that is answered; `NotALine` comes only where it spells none
     ensures line { IfOk result (IsLine line.now) }
     ensures none { IsErrOf result LineError.NotALine → (said : Line) → ¬ IsLine line.now said }
 
-    // any other line is read, or refused, however little memory there is
+    // memory runs out only at a line of at most `LINE_BYTES` that has an application, a word and arguments
     ensures memory { IsErrOf result LineError.OutOfMemory → Allocates line.now }
 {
     if line.len() > LINE_BYTES {

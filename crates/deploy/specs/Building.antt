@@ -39,7 +39,8 @@ staged_root s = Installed s.root
 abbrev pub offered_in : Staged → Named
 offered_in s = named_in_bank (1 - s.root.bank) (version_said s.version)
 
--- what it keeps in memory
+-- an update in progress is one of this application, over a root with one version and a generation left; its manifest
+-- says its deployment, whose storages may have the contents; at most all of them are made
 pub record IsStaged (app : ℕ) (s : Staged) : Type 0 where
   pub of_app : s.app ≡ app
   pub below : app < 8
@@ -59,6 +60,7 @@ pub record StagedAt (told : Bool) (image : Image) (app : ℕ) (s : Staged) : Typ
 
 -- ---- how a beginning ended
 
+-- the update that is ready, as it is in progress, or the refusal
 abbrev pub begun_as : Begin → Result InProgress PerError
 begun_as (begin.Ready s) = Ok (staged_progress s)
 begun_as (begin.Refused root e) = Err e

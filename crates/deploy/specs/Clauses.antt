@@ -20,7 +20,8 @@ IsNoRootSlot app file = IsNoSlot (root_place app) file
 abbrev pub IsBesideNext : (app bank : ℕ) → ℕ → Type 0
 IsBesideNext app bank file = IsNoRootSlot app file × IsOutsideBank app bank file
 
--- at every moment the application stands between what it was and whatever may come of it
+-- at every moment of calls that start with nothing pending and clean places the application stands between what it was
+-- and any later state
 abbrev pub StandsOnTheWay : ℕ → (old new : Medium) → Type 0
 StandsOnTheWay app old new = Quiet old → IsCleanApp app old.image → (next : App) → IsLater (app_at old.image app) next
     → EachCase (StandsCase app (app_at old.image app) next) old new

@@ -23,15 +23,16 @@ root_says (Absent cell) = absent (generation_of cell)
 root_says (Installed i) = installed (generation_of i.cell) (named_in_bank i.bank (version_said i.active))
     (option_map (λ v. named_in_bank (1 - i.bank) (version_said v)) i.previous)
 
--- a root as an application whose storages have these states
+-- an application with this root, whose storages have these states
 abbrev pub root_app : Root → List State → App
 root_app root states = record { says = root_says root; lacking = []; states = states }
 
--- the manifests of its versions, the active one's first
+-- the manifest of a previous version, where there is one
 abbrev pub previous_texts : Option VersionText → List (List ℕ)
 previous_texts None = []
 previous_texts (Some v) = v.text ∷ []
 
+-- the manifests of a root's versions, the active one's first
 abbrev pub root_texts : Root → List (List ℕ)
 root_texts Bad = []
 root_texts (Absent cell) = []
@@ -50,15 +51,17 @@ pub record SaysDeployment (v : VersionText) : Type 0 where
   pub said : IsVersion (version_said v)
   pub keeps : IsDeployment (deployment_data v.deployment)
 
+-- where there is a version, its manifest says its deployment
 abbrev pub IfKept : Option VersionText → Type 0
 IfKept None = ⊤
 IfKept (Some v) = SaysDeployment v
 
--- the register of this application's root
+-- the register is that of this application's root, under a generation from 1 on
 pub record IsRootCell (app : ℕ) (cell : Cell) : Type 0 where
   pub place : place_of cell ≡ root_place app
   pub positive : 1 ≤ generation_of cell
 
+-- an installed root is in bank 0 or 1, and the manifests of its versions say their deployments
 pub record AreParts (i : parts.Installed) : Type 0 where
   pub in_bank : i.bank ≤ 1
   pub active : SaysDeployment i.active

@@ -13,13 +13,14 @@ use Rattle.deploy_laws.specs.Places.{Named, agreeing_of_root, root_place}
 use Rattle.deploy_laws.specs.Apps.{AreInTwoBanks, IsInBank, Says, nothing, absent, installed, app_at, root_sole}
 use Rattle.deploy_laws.specs.Apps.{says_by}
 
--- nothing counts; or nothing is installed; or these versions; and which copies lack the root, and whether no other text
--- is held
+-- what is seen of a root: that it is bad; that nothing is installed; or its versions; and with these which copies lack
+-- it, counted from 1, and whether no other text is held in its place
 pub data RootSeen : Type 0 where
   bad : RootSeen
   no_version : (lacking : List ℕ) (sole : Bool) → RootSeen
   versions : (active : Named) (previous : Option Named) (lacking : List ℕ) (sole : Bool) → RootSeen
 
+-- what a view of a root shows
 abbrev pub root_seen : RootView → RootSeen
 root_seen Bad = bad
 root_seen (Absent lacking sole) = no_version lacking sole
@@ -44,7 +45,7 @@ ShowsVersions (versions active (Some previous) lacking sole) = AreInTwoBanks act
 
 -- ---- the versions, with the texts of their manifests
 
--- a bad root has none
+-- what the root says of which these versions were read: nothing where none was, since it is bad
 abbrev pub versions_say : Option Versions → Says
 versions_say None = nothing
 versions_say (Some v) = says_by v.generation (Some (root_said v.says))

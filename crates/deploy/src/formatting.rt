@@ -29,12 +29,14 @@ const APPS: u32 = 8;
 ///
 /// `Device` where the disk fails, and `OutOfMemory`: some of the applications may be formatted.
 pub fn format_all<D: Disk>(alloc: Global, disk: &mut D) -> Result<(), Stop>
+    // Of each application nothing is installed, no other text is held in its root's place, and its places are clean.
     ensures apps { IsTrue D.told → OnOk result ((app : ℕ) → app < 8
         → app_at (D.medium disk.new).image app ≡ empty_app 1) }
     ensures settled { IsTrue D.told → OnOk result ((app : ℕ) → app < 8
         → IsTrue (root_sole (D.medium disk.new).image app)) }
     ensures clean { IsTrue D.told → OnOk result ((app : ℕ) → app < 8 → IsCleanApp app (D.medium disk.new).image) }
     ensures quiet { OnOk result (Quiet (D.medium disk.new)) }
+    // The count of faults rose where the device failed, and stayed where the call succeeded or memory ran out.
     ensures cause { IsErrOf result Stop.Device → Rose (D.medium disk.old).faults (D.medium disk.new).faults }
     ensures passes { OnOk result ((D.medium disk.new).faults ≡ (D.medium disk.old).faults) }
     ensures fed { IsErrOf result Stop.OutOfMemory → (D.medium disk.new).faults ≡ (D.medium disk.old).faults }

@@ -57,6 +57,8 @@ pub fn install<D: Disk>(
     requires app { app < 8 }
     requires root { RootAt D.told (D.medium disk.old).image app root }
 
+    // What the row `installing` says of the application comes: its refusal, or what the root in memory and the disk
+    // then say. The root has the text of the manifest.
     ensures root { IfOk result (λ o. RootAt D.told (D.medium disk.new).image app o.root) }
     ensures refused { IfOk result (λ o. AnswersRow o.refused (installing now manifest.now (root_app root []))) }
     ensures says { IfOk result (λ o. root_says o.root ≡ (after (root_app root [])
@@ -65,13 +67,17 @@ pub fn install<D: Disk>(
     ensures app { IsTrue D.told → OnOk result (app_at (D.medium disk.new).image app
         ≡ after (app_at (D.medium disk.old).image app) (installing now manifest.now
         (app_at (D.medium disk.old).image app))) }
+    // The places are clean afterwards, of a refused call if they were so before.
     ensures clean { IsTrue D.told → IfOk result (λ o. (o.refused ≡ None) ⊎ IsCleanApp app (D.medium disk.old).image
         → IsCleanApp app (D.medium disk.new).image) }
     ensures quiet { Quiet (D.medium disk.old) → OnOk result (Quiet (D.medium disk.new)) }
+    // A refused call changes nothing, one that the row refuses does not call the disk, and one that allocates nothing
+    // is refused also where memory ran out. So the device fails only where the row has no refusal.
     ensures unchanged { IfOk result (λ o. o.refused ≢ None → (disk.new ≡ disk.old) × (o.root ≡ root)) }
     ensures early { (e : PerError) → installing now manifest.now (root_app root []) ≡ Err e → disk.new ≡ disk.old }
     ensures due { (e : PerError) → installing now manifest.now (root_app root []) ≡ Err e → AllocatesNothing e
         → IsOk result }
+    // The count of faults rose where the device failed, and stayed where the call succeeded or memory ran out.
     ensures cause { IsErrOf result Stop.Device → Rose (D.medium disk.old).faults (D.medium disk.new).faults }
     ensures device_only { IsErrOf result Stop.Device → IsOk (installing now manifest.now (root_app root [])) }
     ensures passes { OnOk result ((D.medium disk.new).faults ≡ (D.medium disk.old).faults) }
@@ -218,6 +224,7 @@ pub fn install_filled<D: Disk>(
     requires version { SaysDeployment version }
     requires fit { AllFit (map storage_data version.deployment.storages) contents.now }
 
+    // The root that comes, and the disk, say the version in bank 0, its storages with these contents.
     ensures root { IfOk result (RootAt D.told (D.medium disk.new).image app) }
     ensures says { IfOk result (λ root. root_says root ≡ (filled_app (generation_of cell)
         (deployment_data version.deployment) contents.now).says) }
@@ -227,6 +234,7 @@ pub fn install_filled<D: Disk>(
         (deployment_data version.deployment) contents.now) }
     ensures clean { IsTrue D.told → OnOk result (IsCleanApp app (D.medium disk.new).image) }
     ensures quiet { OnOk result (Quiet (D.medium disk.new)) }
+    // The count of faults rose where the device failed, and stayed where the call succeeded or memory ran out.
     ensures cause { IsErrOf result Stop.Device → Rose (D.medium disk.old).faults (D.medium disk.new).faults }
     ensures passes { OnOk result ((D.medium disk.new).faults ≡ (D.medium disk.old).faults) }
     ensures fed { IsErrOf result Stop.OutOfMemory → (D.medium disk.new).faults ≡ (D.medium disk.old).faults }

@@ -39,6 +39,8 @@ use std::alloc::Global;
 pub fn finish<D: Disk>(alloc: Global, disk: &mut D, root: Root) -> Result<Outcome, Stop>
     requires root { (app : ℕ) × (app < 8) × RootAt D.told (D.medium disk.old).image app root }
 
+    // What the row `finishing` says of the application comes: its refusal, which needs no memory, or what the root in
+    // memory and the disk then say. Of the two manifests the root keeps the first, that of the active version.
     ensures root { (app : ℕ) → app < 8 → RootAt D.told (D.medium disk.old).image app root
         → IfOk result (λ o. RootAt D.told (D.medium disk.new).image app o.root) }
     ensures refused { IfOk result (λ o. AnswersRow o.refused (finishing (root_app root []))) }
@@ -49,11 +51,14 @@ pub fn finish<D: Disk>(alloc: Global, disk: &mut D, root: Root) -> Result<Outcom
     ensures app { IsTrue D.told → (app : ℕ) → app < 8 → RootAt D.told (D.medium disk.old).image app root
         → OnOk result (app_at (D.medium disk.new).image app
         ≡ after (app_at (D.medium disk.old).image app) (finishing (app_at (D.medium disk.old).image app))) }
+    // Clean places stay so, and a disk with nothing pending ends with nothing pending.
     ensures clean { IsTrue D.told → (app : ℕ) → app < 8 → RootAt D.told (D.medium disk.old).image app root
         → IsCleanApp app (D.medium disk.old).image → OnOk result (IsCleanApp app (D.medium disk.new).image) }
     ensures quiet { Quiet (D.medium disk.old) → OnOk result (Quiet (D.medium disk.new)) }
+    // A refused call changes nothing, and one that the row refuses does not call the disk, so no device fails there.
     ensures unchanged { IfOk result (λ o. o.refused ≢ None → (disk.new ≡ disk.old) × (o.root ≡ root)) }
     ensures early { (e : PerError) → finishing (root_app root []) ≡ Err e → disk.new ≡ disk.old }
+    // The count of faults rose where the device failed, and stayed where the call succeeded.
     ensures cause { IsErrOf result Stop.Device → Rose (D.medium disk.old).faults (D.medium disk.new).faults }
     ensures device_only { IsErrOf result Stop.Device → IsOk (finishing (root_app root [])) }
     ensures memory { IsErrOf result Stop.OutOfMemory → disk.new ≡ disk.old }
@@ -97,6 +102,8 @@ pub fn rollback<D: Disk>(
 ) -> Result<Outcome, Stop>
     requires root { (app : ℕ) × (app < 8) × RootAt D.told (D.medium disk.old).image app root }
 
+    // What the row `rolling_back` says of the application comes: its refusal, or what the root in memory and the disk
+    // then say. Of the two manifests the root keeps the second, that of the previous version.
     ensures root { (app : ℕ) → app < 8 → RootAt D.told (D.medium disk.old).image app root
         → IfOk result (λ o. RootAt D.told (D.medium disk.new).image app o.root) }
     ensures refused { IfOk result (λ o. AnswersRow o.refused
@@ -107,16 +114,19 @@ pub fn rollback<D: Disk>(
     ensures app { IsTrue D.told → (app : ℕ) → app < 8 → RootAt D.told (D.medium disk.old).image app root
         → OnOk result (app_at (D.medium disk.new).image app ≡ after (app_at (D.medium disk.old).image app)
         (rolling_back (option_map (λ n. n.now) busy.entry) (app_at (D.medium disk.old).image app))) }
+    // Clean places stay so, and a disk with nothing pending ends with nothing pending.
     ensures clean { IsTrue D.told → (app : ℕ) → app < 8 → RootAt D.told (D.medium disk.old).image app root
         → IsCleanApp app (D.medium disk.old).image → OnOk result (IsCleanApp app (D.medium disk.new).image) }
     ensures quiet { Quiet (D.medium disk.old) → OnOk result (Quiet (D.medium disk.new)) }
+    // A refused call changes nothing, and one that the row refuses does not call the disk, so no device fails there.
     ensures unchanged { IfOk result (λ o. o.refused ≢ None → (disk.new ≡ disk.old) × (o.root ≡ root)) }
     ensures early { (e : PerError) → rolling_back (option_map (λ n. n.now) busy.entry) (root_app root []) ≡ Err e
         → disk.new ≡ disk.old }
 
-    // Where no storage is open, no refusal allocates.
+    // A refusal of the row is given however little memory there is, but where an open storage's name is copied.
     ensures due { (e : PerError) → rolling_back (option_map (λ n. n.now) busy.entry) (root_app root []) ≡ Err e
         → AllocatesNothing e ⊎ (busy.entry ≡ None) → IsOk result }
+    // The count of faults rose where the device failed, and stayed where the call succeeded.
     ensures cause { IsErrOf result Stop.Device → Rose (D.medium disk.old).faults (D.medium disk.new).faults }
     ensures device_only { IsErrOf result Stop.Device → IsOk
         (rolling_back (option_map (λ n. n.now) busy.entry) (root_app root [])) }

@@ -4,6 +4,11 @@
 //! two banks of storages; the next one is made in the other bank, and only then is the root written, once. So a stop at
 //! any moment leaves the application as it was or as the call leads to.
 //!
+//! Words of the contracts: a *row* (`deploy_rows`) makes of an application the next one, or says why a call is refused;
+//! what is said of bytes holds where a disk is *told*, its bytes modelled; a disk is *quiet* where nothing is pending;
+//! a place is *clean* where each text held in it is one of its kind and no two have one generation; `time` says that
+//! the disk's moments go on.
+//!
 //! Limits: eight applications; of each a manifest of at most 65,536 bytes with at most sixteen storages, and one update
 //! at a time; one caller at a time.
 #![tactic(auto)]

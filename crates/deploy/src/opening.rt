@@ -32,8 +32,8 @@ use manifest::said_is_kept;
 use root_text::{RootSays, one_root};
 use std::alloc::Global;
 
-/// Opens the root of an application: brings every copy to the text that two of them hold, without a report. A root that
-/// is bad is left as it is.
+/// Opens the root of an application: brings every copy to the text that two of them hold, without a report of what they
+/// lacked. A root that is bad, of which no two copies hold one text that is a root's, is left as it is.
 ///
 /// # Errors
 ///
@@ -41,10 +41,12 @@ use std::alloc::Global;
 pub fn open_root<D: Disk>(alloc: Global, disk: &mut D, app: u32) -> Result<Root, Stop>
     requires { app < 8 }
 
+    // The root that comes says what two copies held, and then no copy lacks it.
     ensures root { IfOk result (RootAt D.told (D.medium disk.new).image app) }
     ensures says { IsTrue D.told → IfOk result (λ root. root_says root ≡ says_at (D.medium disk.old).image app) }
     ensures app { IsTrue D.told → OnOk result (app_at (D.medium disk.new).image app
         ≡ reopened (app_at (D.medium disk.old).image app)) }
+    // Clean places stay so. Where the root is bad, or memory ran out, nothing is written.
     ensures clean { IsTrue D.told → IsCleanApp app (D.medium disk.old).image
         → OnOk result (IsCleanApp app (D.medium disk.new).image) }
     ensures untouched { result ≡ Ok Root.Bad
@@ -54,6 +56,7 @@ pub fn open_root<D: Disk>(alloc: Global, disk: &mut D, app: u32) -> Result<Root,
     ensures memory { IsErrOf result Stop.OutOfMemory
         → ((D.medium disk.new).image ≡ (D.medium disk.old).image)
         × ((D.medium disk.new).written ≡ (D.medium disk.old).written) }
+    // The count of faults rose where the device failed, and stayed where the call succeeded or memory ran out.
     ensures cause { IsErrOf result Stop.Device → Rose (D.medium disk.old).faults (D.medium disk.new).faults }
     ensures passes { OnOk result ((D.medium disk.new).faults ≡ (D.medium disk.old).faults) }
     ensures fed { IsErrOf result Stop.OutOfMemory → (D.medium disk.new).faults ≡ (D.medium disk.old).faults }
@@ -64,8 +67,8 @@ pub fn open_root<D: Disk>(alloc: Global, disk: &mut D, app: u32) -> Result<Root,
         → ((D.medium disk.new).image ≡ (D.medium disk.old).image)
         × ((D.medium disk.new).written ≡ (D.medium disk.old).written) }
 
-    // Only slots of the root change, and at any moment the application stands as it was, also on its way to whatever
-    // may come of it.
+    // Only slots of the root change, and at any moment the application stands as it was, whatever later state it is to
+    // come to next.
     ensures outside { Leaves D.told (IsNoRootSlot app) (D.medium disk.old) (D.medium disk.new) }
     ensures any_moment { IsTrue D.told → StandsOnTheWay app (D.medium disk.old) (D.medium disk.new) }
     ensures time { Elapses (D.medium disk.old) (D.medium disk.new) }

@@ -38,7 +38,8 @@ use update_plan::initial_of;
 use value_code::encodes;
 
 /// Rebuilds a closed storage from its readable contents, at a moment in seconds: of each element its content, or else
-/// its salvage, or else what it starts with; of a storage of which nothing is seen, what it is installed with.
+/// its salvage (the bytes of the first copy whose content counts), or else what it starts with, or else nothing; of a
+/// storage of which nothing is seen, what it is installed with.
 ///
 /// Refusals, the first that holds: `OutOfStorageSpace` where that is more than the storage may have; `LimitReached`
 /// with `Generations` where no generation is left. Then nothing was written.
@@ -56,20 +57,23 @@ pub fn recover_storage<D: Disk>(
     requires shape { IsShape shape.now }
     requires config { IsStorage (storage_data config.now) }
     requires configured { IsConfigured config.now.kind (storage_data config.now) shape.now }
-
+    // Of the state before (of some where no bytes are modelled) `recovering` gives the refusal or the next state.
     ensures refused { IfOk result (λ refused. (state : State)
         × (IsTrue D.told → store_at (D.medium disk.old).image shape.now ≡ state)
         × AnswersRow refused (recovering (storage_data config.now) now state)) }
     ensures state { IsTrue D.told → OnOk result (store_at (D.medium disk.new).image shape.now
         ≡ after_state (store_at (D.medium disk.old).image shape.now)
         (recovering (storage_data config.now) now (store_at (D.medium disk.old).image shape.now))) }
+    // A refused call changes nothing.
     ensures unchanged { IfOk result (λ refused. refused ≢ None
         → ((D.medium disk.new).image ≡ (D.medium disk.old).image)
         × ((D.medium disk.new).written ≡ (D.medium disk.old).written)) }
+    // The storage's place is clean once it is rebuilt, and where a refused call found it clean.
     ensures clean { IsTrue D.told → IfOk result (λ refused. (refused ≡ None)
         ⊎ IsClean shape.now (D.medium disk.old).image
         → IsClean shape.now (D.medium disk.new).image) }
     ensures quiet { OnOk result (Quiet (D.medium disk.new)) }
+    // The count of faults rose where the device failed, and stayed where the call succeeded or memory ran out.
     ensures cause { IsErrOf result Stop.Device → Rose (D.medium disk.old).faults (D.medium disk.new).faults }
     ensures passes { OnOk result ((D.medium disk.new).faults ≡ (D.medium disk.old).faults) }
     ensures fed { IsErrOf result Stop.OutOfMemory → (D.medium disk.new).faults ≡ (D.medium disk.old).faults }
@@ -96,7 +100,7 @@ pub fn recover_storage<D: Disk>(
     rebuild_over(alloc, disk, shape, &view, contents)
 }
 
-/// Rebuilds a closed storage with its initial contents, at a moment in seconds.
+/// Rebuilds a closed storage with its initial contents. The infos of its files then have `now`, a moment in seconds.
 ///
 /// It is refused with `LimitReached` and `Generations` where no generation is left: then nothing was written.
 ///
@@ -113,20 +117,23 @@ pub fn reset_storage<D: Disk>(
     requires shape { IsShape shape.now }
     requires config { IsStorage (storage_data config.now) }
     requires configured { IsConfigured config.now.kind (storage_data config.now) shape.now }
-
+    // Of the state before (of some where no bytes are modelled) `resetting` gives the refusal or the next state.
     ensures refused { IfOk result (λ refused. (state : State)
         × (IsTrue D.told → store_at (D.medium disk.old).image shape.now ≡ state)
         × AnswersRow refused (resetting (storage_data config.now) now state)) }
     ensures state { IsTrue D.told → OnOk result (store_at (D.medium disk.new).image shape.now
         ≡ after_state (store_at (D.medium disk.old).image shape.now)
         (resetting (storage_data config.now) now (store_at (D.medium disk.old).image shape.now))) }
+    // A refused call changes nothing.
     ensures unchanged { IfOk result (λ refused. refused ≢ None
         → ((D.medium disk.new).image ≡ (D.medium disk.old).image)
         × ((D.medium disk.new).written ≡ (D.medium disk.old).written)) }
+    // The storage's place is clean once it is rebuilt, and where a refused call found it clean.
     ensures clean { IsTrue D.told → IfOk result (λ refused. (refused ≡ None)
         ⊎ IsClean shape.now (D.medium disk.old).image
         → IsClean shape.now (D.medium disk.new).image) }
     ensures quiet { OnOk result (Quiet (D.medium disk.new)) }
+    // The count of faults rose where the device failed, and stayed where the call succeeded or memory ran out.
     ensures cause { IsErrOf result Stop.Device → Rose (D.medium disk.old).faults (D.medium disk.new).faults }
     ensures passes { OnOk result ((D.medium disk.new).faults ≡ (D.medium disk.old).faults) }
     ensures fed { IsErrOf result Stop.OutOfMemory → (D.medium disk.new).faults ≡ (D.medium disk.old).faults }
@@ -164,23 +171,26 @@ pub fn replace_contents<D: Disk>(
     requires shape { IsShape shape.now }
     requires configured { IsConfigured config.now.kind (storage_data config.now) shape.now }
     requires contents { AreElements config.now.kind contents.items }
-
+    // Of the state before (of some where no bytes are modelled) `if_contents_fit` gives the refusal or the next state.
     ensures refused { IfOk result (λ refused. (state : State)
         × (IsTrue D.told → store_at (D.medium disk.old).image shape.now ≡ state)
         × AnswersRow refused (if_contents_fit (storage_data config.now) state contents.items)) }
     ensures state { IsTrue D.told → OnOk result (store_at (D.medium disk.new).image shape.now
         ≡ after_state (store_at (D.medium disk.old).image shape.now)
         (if_contents_fit (storage_data config.now) (store_at (D.medium disk.old).image shape.now) contents.items)) }
+    // A refused call changes nothing.
     ensures unchanged { IfOk result (λ refused. IsSome refused
         → ChangesNothing (D.medium disk.old) (D.medium disk.new)) }
-    // What the row refuses changes nothing, however the call ends.
+    // Where `if_contents_fit` refuses, nothing changes, however the call ends.
     ensures stays { IsTrue D.told → IsErr (if_contents_fit (storage_data config.now)
         (store_at (D.medium disk.old).image shape.now) contents.items)
         → ChangesNothing (D.medium disk.old) (D.medium disk.new) }
+    // The storage's place is clean once it is rebuilt, and where a refused call found it clean.
     ensures clean { IsTrue D.told → IfOk result (λ refused. (refused ≡ None)
         ⊎ IsClean shape.now (D.medium disk.old).image
         → IsClean shape.now (D.medium disk.new).image) }
     ensures quiet { OnOk result (Quiet (D.medium disk.new)) }
+    // The count of faults rose where the device failed, and stayed where the call succeeded or memory ran out.
     ensures cause { IsErrOf result Stop.Device → Rose (D.medium disk.old).faults (D.medium disk.new).faults }
     ensures passes { OnOk result ((D.medium disk.new).faults ≡ (D.medium disk.old).faults) }
     ensures fed { IsErrOf result Stop.OutOfMemory → (D.medium disk.new).faults ≡ (D.medium disk.old).faults }

@@ -12,7 +12,8 @@ use disk_model::Place;
 use element_state::Shape;
 use std::alloc::AllocError;
 
-/// Where the storage with this number is in a bank of an application, as it is configured.
+/// The shape of the storage with this number in a bank of an application: its place on the disk, and what its
+/// configuration says of its name, its kind, its copies and its size.
 pub fn shape_of(
     app: u32,
     bank: u32,

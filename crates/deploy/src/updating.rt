@@ -87,7 +87,8 @@ pub fn begin_update<D: Disk>(
     requires app { app < 8 }
     requires root { RootAt D.told (D.medium disk.old).image app root }
 
-    // The refusals of an update, in their order, or the contents of one plan.
+    // Over storages in some states, which are the disk's where it is modelled, an update begins so: with the refusal,
+    // or with the contents of one plan. One that is ready is over the same root; a refused one hands that back.
     ensures begins { IfOk result (λ b. (states : List State)
         × (IsTrue D.told → (app_at (D.medium disk.old).image app).states ≡ states)
         × BeginsUpdate (rules_of migrations.now) (answers_of migrations.now) now (option_map (λ n. n.now) busy.entry)
@@ -97,19 +98,24 @@ pub fn begin_update<D: Disk>(
 
     // The next version has the manifest that was given.
     ensures text { (s : Staged) → result ≡ Ok (Begin.Ready s) → staged_text s ≡ manifest.now }
+    // Nothing is written.
     ensures image { (D.medium disk.new).image ≡ (D.medium disk.old).image }
     ensures idle { Quiet (D.medium disk.old) → IsIdle (D.medium disk.old) (D.medium disk.new) }
     ensures written { (D.medium disk.new).written ≡ (D.medium disk.old).written }
+    // A refusal that comes before what the storages hold (`offered`) does not call the disk, so no device fails there,
+    // and one that allocates nothing comes also where memory ran out.
     ensures early { (e : PerError) → offered (option_map (λ n. n.now) busy.entry) manifest.now (root_app root [])
         ≡ Err e → disk.new ≡ disk.old }
     ensures due { (e : PerError) → offered (option_map (λ n. n.now) busy.entry) manifest.now (root_app root []) ≡ Err e
         → AllocatesNothing e
         → IsOk result }
+    // The count of faults rose where the device failed, and stayed where the call succeeded or memory ran out.
     ensures cause { IsErrOf result Stop.Device → Rose (D.medium disk.old).faults (D.medium disk.new).faults }
     ensures device_only { IsErrOf result Stop.Device
         → IsOk (offered (option_map (λ n. n.now) busy.entry) manifest.now (root_app root [])) }
     ensures passes { OnOk result ((D.medium disk.new).faults ≡ (D.medium disk.old).faults) }
     ensures fed { IsErrOf result Stop.OutOfMemory → (D.medium disk.new).faults ≡ (D.medium disk.old).faults }
+    // At any moment the application stands as it was.
     ensures any_moment { IsTrue D.told
         → StandsThroughout app (app_at (D.medium disk.old).image app) (D.medium disk.old) (D.medium disk.new) }
     ensures time { Elapses (D.medium disk.old) (D.medium disk.new) }
@@ -393,10 +399,12 @@ impl Staged {
     pub fn next_storage<D: Disk>(self, disk: &mut D) -> Result<Staged, Stop>
         requires staged { StagedAt D.told (D.medium disk.old).image self.app self }
 
+        // The update goes on over the same root to the same manifest, with one storage more if one remained.
         ensures staged { IfOk result (λ s. StagedAt D.told (D.medium disk.new).image self.app s) }
         ensures root { IfOk result (λ s. staged_root s ≡ staged_root self) }
         ensures progress { IfOk result (λ s. staged_progress s ≡ one_more (staged_progress self)) }
         ensures text { IfOk result (λ s. staged_text s ≡ staged_text self) }
+        // However it ends, the disk says the same of the application. Where no storage remained, nothing is done.
         ensures app { IsTrue D.told → app_at (D.medium disk.new).image self.app
             ≡ app_at (D.medium disk.old).image self.app }
         ensures clean { IsTrue D.told → IsCleanApp self.app (D.medium disk.old).image
@@ -404,6 +412,7 @@ impl Staged {
         ensures quiet { Quiet (D.medium disk.old) → OnOk result (Quiet (D.medium disk.new)) }
         ensures done { length (staged_progress self).contents ≤ (staged_progress self).built
             → (result ≡ Ok self) × (disk.new ≡ disk.old) }
+        // The count of faults rose where the device failed, and stayed where the call succeeded or memory ran out.
         ensures cause { IsErrOf result Stop.Device → Rose (D.medium disk.old).faults (D.medium disk.new).faults }
         ensures passes { OnOk result ((D.medium disk.new).faults ≡ (D.medium disk.old).faults) }
         ensures fed { IsErrOf result Stop.OutOfMemory → (D.medium disk.new).faults ≡ (D.medium disk.old).faults }
@@ -449,6 +458,7 @@ impl Staged {
     pub fn commit_update<D: Disk>(self, disk: &mut D) -> Result<Root, Stop>
         requires staged { StagedAt D.told (D.medium disk.old).image self.app self }
 
+        // The root that comes, and the disk, say the next version with its contents, and the old one as it was.
         ensures root { IfOk result (RootAt D.told (D.medium disk.new).image self.app) }
         ensures says { IfOk result (λ root. root_says root
             ≡ (updated_app (staged_progress self) (root_app (staged_root self) [])).says) }
@@ -458,6 +468,7 @@ impl Staged {
         ensures clean { IsTrue D.told → IsCleanApp self.app (D.medium disk.old).image
             → OnOk result (IsCleanApp self.app (D.medium disk.new).image) }
         ensures quiet { OnOk result (Quiet (D.medium disk.new)) }
+        // The count of faults rose where the device failed, and stayed where the call succeeded or memory ran out.
         ensures cause { IsErrOf result Stop.Device → Rose (D.medium disk.old).faults (D.medium disk.new).faults }
         ensures passes { OnOk result ((D.medium disk.new).faults ≡ (D.medium disk.old).faults) }
         ensures fed { IsErrOf result Stop.OutOfMemory → (D.medium disk.new).faults ≡ (D.medium disk.old).faults }

@@ -48,7 +48,8 @@ pub fn update<D: Disk>(
 
     ensures root { IfOk result (λ o. RootAt D.told (D.medium disk.new).image app o.root) }
 
-    // One row is answered: its refusal, or the application to which it leads, in memory and on a disk that is modelled.
+    // Of the ways in which this update may begin one is answered: with its refusal, or with the application to which it
+    // leads, in memory and on a disk that is modelled. The root then has this manifest before those that it had.
     ensures updates { IfOk result (IsUpdated D.told
         (BeginsUpdate (rules_of migrations.now) (answers_of migrations.now) now (option_map (λ n. n.now) busy.entry)
         manifest.now)
@@ -57,6 +58,8 @@ pub fn update<D: Disk>(
     ensures clean { IsTrue D.told → IsCleanApp app (D.medium disk.old).image
         → OnOk result (IsCleanApp app (D.medium disk.new).image) }
     ensures quiet { Quiet (D.medium disk.old) → OnOk result (Quiet (D.medium disk.new)) }
+    // A refused call writes nothing. A refusal that comes before what the storages hold (`offered`) does not call the
+    // disk, so no device fails there, and one that allocates nothing comes also where memory ran out.
     ensures unchanged { IfOk result (λ o. o.refused ≢ None
         → ((D.medium disk.new).image ≡ (D.medium disk.old).image)
         × ((D.medium disk.new).written ≡ (D.medium disk.old).written) × (o.root ≡ root)) }
@@ -65,6 +68,7 @@ pub fn update<D: Disk>(
     ensures due { (e : PerError) → offered (option_map (λ n. n.now) busy.entry) manifest.now (root_app root []) ≡ Err e
         → AllocatesNothing e
         → IsOk result }
+    // The count of faults rose where the device failed, and stayed where the call succeeded or memory ran out.
     ensures cause { IsErrOf result Stop.Device → Rose (D.medium disk.old).faults (D.medium disk.new).faults }
     ensures device_only { IsErrOf result Stop.Device
         → IsOk (offered (option_map (λ n. n.now) busy.entry) manifest.now (root_app root [])) }

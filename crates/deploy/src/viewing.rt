@@ -56,13 +56,16 @@ pub enum RootView {
 /// `Device` where the disk fails, and `OutOfMemory`.
 pub fn view_root<D: Disk>(alloc: Global, disk: &mut D, app: u32) -> Result<RootView, Stop>
     requires { app < 8 }
+    // What is seen is what the image says.
     ensures view { IsTrue D.told → IfOk result (λ view. root_seen view ≡ seen_at (D.medium disk.old).image app) }
-    // Whether the disk's bytes are modelled or not.
+    // On every disk, modelled or not, the versions are in their banks and obey the rules of deployments.
     ensures versions { IfOk result (λ view. ShowsVersions (root_seen view)) }
+    // Nothing is written, and where it succeeds nothing is pending.
     ensures quiet { OnOk result (Quiet (D.medium disk.new)) }
     ensures image { (D.medium disk.new).image ≡ (D.medium disk.old).image }
     ensures idle { Quiet (D.medium disk.old) → IsIdle (D.medium disk.old) (D.medium disk.new) }
     ensures written { (D.medium disk.new).written ≡ (D.medium disk.old).written }
+    // The count of faults rose where the device failed, and stayed where the call succeeded or memory ran out.
     ensures cause { IsErrOf result Stop.Device → Rose (D.medium disk.old).faults (D.medium disk.new).faults }
     ensures passes { OnOk result ((D.medium disk.new).faults ≡ (D.medium disk.old).faults) }
     ensures fed { IsErrOf result Stop.OutOfMemory → (D.medium disk.new).faults ≡ (D.medium disk.old).faults }
@@ -104,14 +107,17 @@ pub fn view_versions<D: Disk>(
     app: u32,
 ) -> Result<Option<Versions>, Stop>
     requires { app < 8 }
+    // The versions are those that the root says, and their manifests are byte for byte those that two copies hold.
     ensures says { IsTrue D.told → IfOk result (λ found. versions_say found ≡ says_at (D.medium disk.old).image app) }
     ensures held { IsTrue D.told → IfOk result (λ found. IfSome found (AreHeldByRoot (D.medium disk.old).image app)) }
-    // Whether the disk's bytes are modelled or not.
+    // On every disk, modelled or not, each manifest says its deployment.
     ensures versions { IfOk result AreRead }
+    // Nothing is written, and where it succeeds nothing is pending.
     ensures quiet { OnOk result (Quiet (D.medium disk.new)) }
     ensures image { (D.medium disk.new).image ≡ (D.medium disk.old).image }
     ensures idle { Quiet (D.medium disk.old) → IsIdle (D.medium disk.old) (D.medium disk.new) }
     ensures written { (D.medium disk.new).written ≡ (D.medium disk.old).written }
+    // The count of faults rose where the device failed, and stayed where the call succeeded or memory ran out.
     ensures cause { IsErrOf result Stop.Device → Rose (D.medium disk.old).faults (D.medium disk.new).faults }
     ensures passes { OnOk result ((D.medium disk.new).faults ≡ (D.medium disk.old).faults) }
     ensures fed { IsErrOf result Stop.OutOfMemory → (D.medium disk.new).faults ≡ (D.medium disk.old).faults }

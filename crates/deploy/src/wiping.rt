@@ -49,6 +49,7 @@ pub fn wipe<D: Disk>(
     requires app { app < 8 }
     requires root { RootAt D.told (D.medium disk.old).image app root }
 
+    // What the row `wiping` says of the application comes: its refusal, or what the root in memory and the disk say.
     ensures root { IfOk result (λ o. RootAt D.told (D.medium disk.new).image app o.root) }
     ensures refused { IfOk result (λ o. AnswersRow o.refused
         (wiping (option_map (λ n. n.now) busy.entry) (root_app root []))) }
@@ -57,16 +58,19 @@ pub fn wipe<D: Disk>(
     ensures app { IsTrue D.told → OnOk result (app_at (D.medium disk.new).image app
         ≡ after (app_at (D.medium disk.old).image app)
         (wiping (option_map (λ n. n.now) busy.entry) (app_at (D.medium disk.old).image app))) }
+    // The places are clean after a wipe that is done, and stay clean where it is refused.
     ensures clean { IsTrue D.told → IfOk result (λ o. (o.refused ≡ None) ⊎ IsCleanApp app (D.medium disk.old).image
         → IsCleanApp app (D.medium disk.new).image) }
     ensures quiet { Quiet (D.medium disk.old) → OnOk result (Quiet (D.medium disk.new)) }
+    // A refused call changes nothing, and one that the row refuses does not call the disk, so no device fails there.
     ensures unchanged { IfOk result (λ o. o.refused ≢ None → (disk.new ≡ disk.old) × (o.root ≡ root)) }
     ensures early { (e : PerError) → wiping (option_map (λ n. n.now) busy.entry) (root_app root []) ≡ Err e
         → disk.new ≡ disk.old }
 
-    // Where no storage is open, no refusal allocates.
+    // Where no storage is open, a refusal of the row is given however little memory there is.
     ensures due { (e : PerError) → wiping (option_map (λ n. n.now) busy.entry) (root_app root []) ≡ Err e
         → busy.entry ≡ None → IsOk result }
+    // The count of faults rose where the device failed, and stayed where the call succeeded.
     ensures cause { IsErrOf result Stop.Device → Rose (D.medium disk.old).faults (D.medium disk.new).faults }
     ensures device_only { IsErrOf result Stop.Device → IsOk
         (wiping (option_map (λ n. n.now) busy.entry) (root_app root [])) }

@@ -30,6 +30,7 @@ use std::alloc::Global;
 ///
 /// `OutOfMemory`.
 pub fn read_version(alloc: Global, manifest: &[u8]) -> Result<Result<VersionText, PerError>, Stop>
+    // The deployment that the manifest says, with its text, or the refusal. No device is called.
     ensures told { IfOk result (TellsRow (deployment_of manifest.now)) }
     ensures text { IfOk result (λ version. IfOk version (λ v. v.text ≡ manifest.now)) }
     ensures kept { IfOk result (λ version. IfOk version SaysDeployment) }

@@ -22,9 +22,9 @@ use guarded_cell::held_is_lawful;
 use manifest::said_is_kept;
 use root_text::one_root;
 
-/// What a root says, on every image: versions that are in their banks and obey the rules of deployments, decided by the
-/// root's own files alone. Where a root's text is held alone the application is what it says, and clean where its
-/// storages are.
+/// What a root says, on every image: versions, each in bank 0 or 1 and by the rules of deployments, decided by files
+/// of the root alone. Where each copy holds one text and no other, the application is what that says, and its places
+/// are clean where those of its storages are.
 pub fn roots_say()
     ensures versions { VersionsLaw }
     ensures says { SaysFrameLaw }
@@ -68,8 +68,8 @@ pub fn others_stand()
 }
 
 /// The assumptions on hash collisions and damage cover every storage that a root names afterwards. Where nothing is
-/// damaged, enough copies of a root that is read are left, and what stands has clean places; copies that lack the root
-/// do not matter beside two that hold it.
+/// damaged, a root that says something has its two copies, and a stop leaves clean places; what stands of a root that
+/// no copy lacks stands where copies lack it, too.
 pub fn roots_stay()
     ensures covered { CoveredLaw }
     ensures root { RootStandsLaw }
@@ -77,7 +77,7 @@ pub fn roots_stay()
     ensures mended { RootMendLaw }
 {}
 
-/// An application that nobody touches stands as it was, also on its way to whatever may come of it.
+/// A stop leaves an application of which no file is touched as it was, whatever later state it was to come to.
 pub fn untouched_stands()
     ensures untouched { UntouchedAppLaw }
     ensures still { StillAppLaw }
@@ -100,7 +100,7 @@ pub fn deploying_stands()
     untouched_is_kept();
 }
 
-/// A stop while a storage of the active version is on its way to another state leaves the application on the same way.
+/// A stop while one storage of the active version changes its state leaves the application as before or as after that.
 pub fn storing_stands()
     ensures { StoringLaw }
 {
@@ -109,9 +109,9 @@ pub fn storing_stands()
     untouched_is_kept();
 }
 
-/// What a stop may not leave: a root that two spared copies held and that is gone, or is another one; a bad root that
-/// says what no call gave it; an old version whose bank was touched; a next version that is not built; a storage that
-/// went another way.
+/// What a stop and damage may not leave: no root, or another one, where damage spares two copies that held it; what no
+/// call gave, said by a root that was bad; an old version whose bank was touched; a root that says a version before its
+/// storages are made; a storage in a state that is neither before nor after.
 pub fn outcomes_are_refused()
     ensures root_gone { (app : ℕ) (image : Image) (damaged : List ℕ) (before after : App)
         → ¬ (before.says ≡ nothing) → ¬ (after.says ≡ nothing)

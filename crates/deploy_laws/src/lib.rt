@@ -1,4 +1,4 @@
-//! What a disk says of an application, and what a stop at any moment of a call, and then damage, leave of it.
+//! What a disk says of an application, of its root and its two banks of storages, and what a stop and damage leave.
 #![tactic(auto)]
 
 mod laws;

@@ -37,9 +37,10 @@ RejectedLaw = (text : List ℕ) (e : PerError) → deployment_of text ≡ Err e
 
 -- ---- a row refuses by what the root says alone: what is in memory of a root decides it
 
+-- where two roots say the same, what the row refuses of one application it refuses alike of the other
 abbrev pub RefusesAlike : {A : Type 0} → (App → Result A PerError) → Type 0
 RefusesAlike row = (a b : App) (e : PerError) → a.says ≡ b.says → row a ≡ Err e → row b ≡ Err e
 
--- what the root says decides alone what the next root says
+-- where two roots say the same, the roots after the call do so too
 abbrev pub SaysAlike : (App → Result App PerError) → Type 0
 SaysAlike row = (a b : App) → a.says ≡ b.says → (after a (row a)).says ≡ (after b (row b)).says

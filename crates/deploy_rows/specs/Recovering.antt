@@ -19,6 +19,7 @@ use Rattle.element_state.specs.Views.{judged_content}
 use Rattle.index_text.specs.Contents.{fresh_size}
 use Rattle.update_plan.specs.Rows.{initial_contents}
 
+-- an element of these bytes, in whose info a recovery at the moment now is the last change
 abbrev pub rescued_as : StorageData → ℕ → Entry → List ℕ → Fresh
 rescued_as s now e bytes = record {
   name = e.name;
@@ -39,26 +40,30 @@ recovered_contents s now None = initial_contents s cause.Recovery now
 recovered_contents s now (Some v) = filter_map (λ (e : Entry).
     rescued s now e (judged_content (is_content s.kind) e.content)) v.entries
 
--- a generation is left after the text that was chosen
+-- no generation is left after that of this view
 abbrev pub is_worn_out : Option View → Bool
 is_worn_out None = false
 is_worn_out (Some v) = is_worn v
 
+-- these contents under the next generation, and a refusal where none is left
 abbrev pub rebuilding : State → List Fresh → Result State PerError
 rebuilding state contents = cond (is_worn_out (salvage_of state)) (Err (error.LimitReached limit.Generations))
     (Ok (fresh_state (next_generation (salvage_of state)) (fresh_map contents)))
 
+-- these contents, and a refusal where they are larger than the storage may be
 abbrev pub if_contents_fit : StorageData → State → List Fresh → Result State PerError
 if_contents_fit s state contents = cond (nat_lt s.maximum (sum_by fresh_size contents))
     (Err (error.OutOfStorageSpace (sum_by fresh_size contents) s.maximum)) (rebuilding state contents)
 
+-- a recovery at the moment now: all of the elements, or the initial contents where nothing is left
 unfoldable pub recovering : StorageData → ℕ → State → Result State PerError
 recovering s now state = if_contents_fit s state (recovered_contents s now (salvage_of state))
 
+-- a reset at the moment now: the initial contents, and in the infos of files its cause and the moment
 unfoldable pub resetting : StorageData → ℕ → State → Result State PerError
 resetting s now state = rebuilding state (initial_contents s cause.Reset now)
 
--- the state after a call
+-- the state after a call: that of the row, or the same where it is refused
 abbrev pub after_state : State → Result State PerError → State
 after_state state (Ok next) = next
 after_state state (Err e) = state

@@ -43,7 +43,7 @@ said_or_broken (Some d) rule = Ok d
 said_or_broken None None = Err (error.ManifestRejected 0)
 said_or_broken None (Some rule) = Err (error.ManifestRejected rule)
 
--- the deployment that a manifest says, or the first rule that it violates
+-- the deployment that a manifest says, or `ManifestRejected` with the first rule that it violates
 unfoldable pub deployment_of : List ℕ → Result DeploymentData PerError
 deployment_of text = said_or_broken (deployment_in text) (broken_rule text)
 
@@ -52,6 +52,7 @@ deployment_of text = said_or_broken (deployment_in text) (broken_rule text)
 abbrev pub made_states : List (List Fresh) → List State
 made_states contents = map (λ fs. fresh_state 1 (fresh_map fs)) contents
 
+-- what each storage of a deployment is installed with at the moment now, in the order of the storages
 abbrev pub initial_all : ℕ → DeploymentData → List (List Fresh)
 initial_all now d = map (λ (s : StorageData). initial_contents s cause.Installation now) d.storages
 
@@ -112,6 +113,7 @@ rolling_back busy a = elim a.says [
   | installed g active previous ↦ rollback_with busy a g active previous
 ]
 
+-- the application in which nothing is installed, under this generation
 abbrev pub empty_app : ℕ → App
 empty_app g = record { says = absent g; lacking = []; states = [] }
 
@@ -137,22 +139,24 @@ contents_stored (s ∷ ss) [] = []
 contents_stored (s ∷ ss) (state ∷ states) = record { name = s.name; contents = contents_of state } ∷ contents_stored ss
     states
 
--- what an update starts from
+-- what an update starts from: the root's generation, the active version, and the deployment of the next one
 pub record Offer : Type 0 where
   pub generation : ℕ
   pub active : Named
   pub deployment : DeploymentData
 
+-- an update to this deployment, or the refusal of one whose version is not greater
 abbrev pub newer_version : Named → ℕ → DeploymentData → Result Offer PerError
 newer_version active g d = cond (nat_le d.version active.deployment.version)
     (Err (error.VersionNotNewer active.deployment.version d.version))
     (Ok (record { generation = g; active = active; deployment = d }))
 
+-- an update over an installed version, or its refusal beside a previous version or while a storage is open
 abbrev pub offer_over : (busy : Option (List ℕ)) → List ℕ → ℕ → Named → Option Named → Result Offer PerError
 offer_over busy text g active (Some previous) = Err (error.UpdateNotFinished previous.deployment.version)
 offer_over busy text g active None = not_busy busy (deployment_of text >>= newer_version active g)
 
--- the refusals before the plan
+-- what an update to this manifest starts from, or its refusal for a reason that comes before what storages hold
 unfoldable pub offered : (busy : Option (List ℕ)) → List ℕ → App → Result Offer PerError
 offered busy text a = elim a.says [
   | nothing ↦ Err (error.IntegrityCorrupted unit.Root)
@@ -170,10 +174,12 @@ pub record InProgress : Type 0 where
 abbrev pub one_more : InProgress → InProgress
 one_more p = record p { built = cond (nat_lt p.built (length p.contents)) (suc p.built) p.built }
 
+-- how an update begins with a plan, which is what each storage of the next version is to start with, or a refusal
 abbrev pub begun : Offer → Result (List (List Fresh)) PerError → Result InProgress PerError
 begun o plan = plan >>= (λ contents. not_worn o.generation
     (Ok (record { deployment = o.deployment; contents = contents; built = 0 })))
 
+-- an update from this offer over storages in these states begins so: the offer's refusal, or one plan's contents
 abbrev pub BeginsWith : List Rule → fns.Answers → (now : ℕ) → List State → Result Offer PerError
     → Result InProgress PerError → Type 0
 BeginsWith rules answers now states (Err e) result = IsErrOf result e
@@ -182,7 +188,8 @@ BeginsWith rules answers now states (Ok o) result = (plan : Result (List (List F
     o.deployment.storages plan
     × (result ≡ begun o plan)
 
--- an update begins: a refusal, or the contents of one plan
+-- an update of this application to this manifest may begin so: the refusal, or the contents of one plan, of which there
+-- are several where the converters may answer several values
 abbrev pub BeginsUpdate : List Rule → fns.Answers → (now : ℕ) → (busy : Option (List ℕ)) → List ℕ → App
     → Result InProgress PerError → Type 0
 BeginsUpdate rules answers now busy text a result = BeginsWith rules answers now a.states (offered busy text a) result
@@ -200,14 +207,15 @@ updated_app p a = elim a.says [
   }
 ]
 
--- the row of an update in one call
+-- an update in one call: the application once it is committed, or the refusal
 abbrev pub updated_row : App → Result InProgress PerError → Result App PerError
 updated_row a (Ok p) = Ok (updated_app p a)
 updated_row a (Err e) = Err e
 
 -- ---- answers
 
--- a call answered a refusal exactly where the row has one
+-- a call answered a refusal exactly where its row has one, and that one: the row is what the call makes of an
+-- application or a storage, or why it is refused
 abbrev pub AnswersRow : {A : Type 0} → Option PerError → Result A PerError → Type 0
 AnswersRow None (Ok x) = ⊤
 AnswersRow None (Err e) = ⊥
@@ -225,7 +233,7 @@ after a (Err e) = a
 abbrev pub reopened : App → App
 reopened a = record a { lacking = [] }
 
--- an application to which an update may lead, or the same
+-- the next application is the same as before, or one to which a row of the update leads
 abbrev pub UpdateMayLead : List Rule → fns.Answers → (now : ℕ) → (busy : Option (List ℕ)) → List ℕ
     → (before after : App)
     → Type 0

@@ -5,8 +5,8 @@ ghost use Rattle.deploy_rows.specs.Laws.{FinishLaterLaw, InstallLaterLaw, Refuse
 ghost use Rattle.deploy_rows.specs.Laws.{RollbackLaterLaw, SaysAlike, UpdateLaterLaw, WipeLaterLaw};
 ghost use Rattle.deploy_rows.specs.Rows.{finishing, installing, offered, rolling_back, wiping};
 
-/// What a call leads to comes later than what was: under the next generation, or with the same root and as many
-/// storages.
+/// What a call leads to comes later than what was: its root has a greater generation, or it says the same and names as
+/// many storages.
 pub fn rows_lead_on()
     ensures install { InstallLaterLaw }
     ensures finish { FinishLaterLaw }
@@ -21,8 +21,8 @@ pub fn manifests_are_judged()
     ensures { RejectedLaw }
 {}
 
-/// Whether a call is refused, and what the next root says, depends on what the root says alone: it is known in memory.
-/// `busy` is the name of an open storage, if one is open.
+/// Whether a call is refused, and what the next root says, depends on what the root says alone, which is known in
+/// memory. `busy` is the name of an open storage, if one is open, `text` a manifest, and `now` a moment in seconds.
 pub fn rows_read_the_root()
     ensures install { (now : ℕ) (text : List ℕ) → RefusesAlike (installing now text) }
     ensures finish { RefusesAlike finishing }

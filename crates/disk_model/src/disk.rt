@@ -11,9 +11,9 @@ ghost use Rattle.disk_model.specs.Medium.{Medium, Quiet, IsLawful, Elapses, Only
 pub struct DiskFailed;
 
 /// A disk of files that are named by numbers. A file that was never written is empty.
-///
-/// What is said of bytes holds where the disk models them, and so does what is said of crashes: a disk that models
-/// nothing names no case. Whether a disk is modelled is a constant of its type, so it never changes from call to call.
+/// Each call says too that time goes on (`Elapses`): what a crash might have left before counts still, no count falls.
+/// What is said of bytes holds where the disk models them, and so what is said of crashes: a disk that models nothing
+/// names no case, which is one outcome of a crash. Whether a disk is modelled is a constant of its type.
 pub trait Disk {
     /// Whether the bytes of a disk of this type are modelled.
     ghost told: { Bool };
@@ -28,7 +28,7 @@ pub trait Disk {
         ensures bytes { IsTrue told → IfOk result (λ n.
             (n ≡ min (length out.old) (length ((medium self.old).image file) - at))
             × (take n out.new ≡ take n (drop at ((medium self.old).image file)))) }
-
+        // No byte changes, and a crash leaves nothing new. The count of faults rises just where the call fails.
         ensures reads { OnlyReads (medium self.old) (medium self.new) }
         ensures time { Elapses (medium self.old) (medium self.new) }
         ensures cause { OnErr result (Rose (medium self.old).faults (medium self.new).faults) }
@@ -46,7 +46,7 @@ pub trait Disk {
         ensures now { OnOk result (Follows (WriteCase file at bytes.now) (medium self.old).now (medium self.new).now) }
         ensures during { Follows (WriteOrNot file at bytes.now) (medium self.old).now
             ((medium self.new).since (medium self.old).moment) }
-
+        // How many bytes were written: all on success. The count of faults rises just where the call fails.
         ensures written { IsTrue told → OnOk result ((medium self.new).written
             ≡ (medium self.old).written + length bytes.now) }
         ensures at_most { (medium self.new).written ≤ (medium self.old).written + length bytes.now }
@@ -57,7 +57,7 @@ pub trait Disk {
     /// How many bytes the file has.
     fn size(&mut self, file: u32) -> Result<u64, DiskFailed>
         ensures size { IsTrue told → IfOk result (λ n. n ≡ length ((medium self.old).image file)) }
-
+        // No byte changes, and a crash leaves nothing new. The count of faults rises just where the call fails.
         ensures reads { OnlyReads (medium self.old) (medium self.new) }
         ensures time { Elapses (medium self.old) (medium self.new) }
         ensures cause { OnErr result (Rose (medium self.old).faults (medium self.new).faults) }
@@ -67,7 +67,7 @@ pub trait Disk {
     fn sync(&mut self) -> Result<(), DiskFailed>
         ensures quiet { OnOk result (Quiet (medium self.new)) }
         ensures failed { OnErr result (OnlyReads (medium self.old) (medium self.new)) }
-
+        // No byte changes. A crash meanwhile leaves what one before or one after does. Faults rise just on a failure.
         ensures writes_nothing { WritesNothing (medium self.old) (medium self.new) }
         ensures time { Elapses (medium self.old) (medium self.new) }
         ensures cause { OnErr result (Rose (medium self.old).faults (medium self.new).faults) }

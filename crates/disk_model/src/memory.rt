@@ -51,7 +51,7 @@ impl MemDisk {
         MemDisk::holding(alloc, BTreeMap::new(alloc))
     }
 
-    /// Makes the calls with these numbers fail, counted from 0 from now on. Replaces an earlier plan.
+    /// Makes the calls with these numbers fail, counted from 0 from now on. It replaces an earlier plan; a stop stays.
     pub fn fail_calls(&mut self, calls: Vec<u64>)
         ensures planned { (k : ℕ) → is_planned self.new k ≡ named_in calls.items k }
         ensures stopped { (k : ℕ) → is_stopped self.new k ≡ is_stopped self.old k }
@@ -61,7 +61,7 @@ impl MemDisk {
         self.orders.plan(calls);
     }
 
-    /// Lets `k` more calls pass, and makes every call after them fail. Replaces an earlier stop.
+    /// Lets `k` more calls pass, and makes every call after them fail. It replaces an earlier stop; a plan stays.
     pub fn stop_after(&mut self, k: u64)
         ensures planned { (n : ℕ) → is_planned self.new n ≡ is_planned self.old n }
         ensures stopped { (n : ℕ) → is_stopped self.new n ≡ nat_le k n }
@@ -71,8 +71,8 @@ impl MemDisk {
         self.orders.stop(k);
     }
 
-    /// Sets one byte of a quiet disk, as damage that is there in every case from then on. Gives `false`, and changes
-    /// nothing, where the file is not that long. The record starts over.
+    /// Sets one byte, where nothing waits for a sync, as damage that is in every case from then on. Gives `false`, and
+    /// changes nothing, where the file is not that long. The record of calls starts over.
     pub fn spoil(&mut self, file: u32, at: u64, byte: u8) -> bool
         requires { Quiet (mem_medium self.old) }
         ensures within { IsTrue result ↔ (at < length ((mem_medium self.old).image file)) }
@@ -96,7 +96,7 @@ impl MemDisk {
         set
     }
 
-    /// The disk after a crash: with every completed write, or with none since the last sync.
+    /// The disk after a crash: with every completed write where `keep` is true, else with none since the last sync.
     pub fn crash(self, keep: bool) -> Result<MemDisk, AllocError>
         ensures bytes { IfOk result (λ disk. (mem_medium disk).image
             ≡ (if keep then (mem_medium self).image else synced_image self)) }

@@ -60,7 +60,7 @@ impl Orders {
         self.passing = Some(passing);
     }
 
-    /// Counts a call, and says whether it is to fail.
+    /// Counts a call, and says whether it is to fail. The call after it is number 0 from then on.
     pub fn take(&mut self) -> bool
         ensures due { result ≡ (names self.old 0 || stops self.old 0) }
         ensures planned { (k : ℕ) → names self.new k ≡ names self.old (suc k) }

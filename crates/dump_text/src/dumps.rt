@@ -26,7 +26,7 @@ impl Model for AppNumber {
 }
 
 impl AppNumber {
-    /// The application of this number, which there is.
+    /// The application of this number, one of the eight from 0 to 7.
     pub fn new(number: u32) -> AppNumber
         requires { number < 8 }
         ensures { result ≡ number }
@@ -34,7 +34,7 @@ impl AppNumber {
         AppNumber { number }
     }
 
-    /// Its number.
+    /// The number of the application, from 0 to 7.
     pub fn number(&self) -> u32
         ensures value { result ≡ self.now }
         ensures range { result < 8 }

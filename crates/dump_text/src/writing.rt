@@ -21,14 +21,14 @@ use per_base::{Fresh, StoreKind};
 use serde_json::{Map, Value, put};
 use std::alloc::Global;
 
-/// The text of a dump of these applications, with a line feed at its end. [`read_dump`](crate::read_dump) reads the
-/// same applications from it where they are in order.
+/// The text of a dump of these applications, with a line feed at its end. [`read_dump`](crate::read_dump) reads them
+/// back from it where they are in order: by their numbers, each once, and each with the storages of its manifest.
 ///
 /// # Errors
 ///
 /// `NotADump` where a text of a storage is no export or a manifest is not UTF-8, and nowhere else; `OutOfMemory`.
 pub fn write_dump(alloc: Global, applications: &[DumpedApplication]) -> Result<Vec<u8>, DumpError>
-    // The text has every application, every storage and every element, as it is, and nothing else.
+    // Of applications in order the text has each, with every storage and every element as it is, and nothing else.
     ensures written { IfOk result (λ text. AreInOrder applications.now
         → dump_in text.items ≡ Some (map application_data applications.now)) }
     ensures refused { IfErr result (λ e. RefusesToWrite e (AllByRecursion IsWritable applications.now)) }

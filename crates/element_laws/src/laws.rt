@@ -11,15 +11,15 @@ ghost use Rattle.element_laws.specs.Refused.{CopyEaten, OtherRaised, SalvageRais
 
 use block_files::contents_stand_aside;
 
-/// Damage alone keeps a storage that nobody touched, and its place clean, also while others call.
+/// A storage that nobody touches is kept by damage (`damage`), and by a stop and damage while others call.
 pub fn untouched_is_kept()
     ensures damage { DamageLaw }
     ensures untouched { UntouchedLaw }
 {}
 
-/// What a storage is depends on the files of its place alone, and those of one place are outside another that is
-/// apart. So what leaves all files outside one place alone, at its end and at every moment, leaves a storage at the
-/// other as it was.
+/// What a storage is depends on the files of its place alone (`frame`), and those of one place are outside another that
+/// it does not overlap (`outside`). So what leaves all files outside one place alone, at its end (`unchanged`) and at
+/// every moment (`case`), leaves a storage at the other as it was.
 pub fn places_stand_apart()
     ensures frame { FrameLaw }
     ensures outside { OutsideLaw }
@@ -27,14 +27,14 @@ pub fn places_stand_apart()
     ensures case { ElsewhereCaseLaw }
 {}
 
-/// A stop while every copy is brought to the text at which a storage opens keeps it; so does one while all texts but
-/// one are taken from a corrupt storage.
+/// A stop while every copy is brought to the text at which a storage opens keeps it (`adopt`); so does one while all
+/// texts but that of the salvage are taken from a corrupt storage (`keep`).
 pub fn adopting_keeps()
     ensures adopt { AdoptLaw }
     ensures keep { KeepLaw }
 {}
 
-/// A stop while contents are written keeps a storage, where their blocks are none of those that its text names.
+/// A stop while contents are written, or once they are durable, keeps a storage whose text names none of their blocks.
 pub fn contents_keep()
     ensures during { ContentsLaw }
     ensures done { ContentsDoneLaw }
@@ -50,7 +50,7 @@ pub fn index_keeps()
     contents_stand_aside();
 }
 
-/// A stop while a corrupt storage is rebuilt, after `adopting_keeps`, leaves it corrupt or with what it is given.
+/// A stop while a corrupt storage is rebuilt beside the text of its salvage leaves it corrupt or with what it is given.
 pub fn rebuilding_keeps()
     ensures given_up { GivenUpLaw }
     ensures taken { TakenBlocksLaw }
@@ -61,8 +61,8 @@ pub fn rebuilding_keeps()
     contents_stand_aside();
 }
 
-/// A place that holds one text alone, which fits and on whose contents copies agree, is clean, and so is one that was
-/// adopted; a case on a clean image with nothing pending is sound, so that what a phase leaves is kept at its end.
+/// A place that holds one text alone, which fits and on whose contents copies agree, is clean; so is one whose text was
+/// adopted. Where nothing is pending on a clean image nothing passes its hash by chance: what a phase leaves is kept.
 pub fn places_are_clean()
     ensures alone { CleanLaw }
     ensures adopted { AdoptedLaw }
@@ -70,8 +70,8 @@ pub fn places_are_clean()
     ensures settled { SettledLaw }
 {}
 
-/// A stop while contents are mended in the copies that lack them, which comes after `adopting_keeps`, keeps a storage.
-/// It may leave a copy half mended: since no two contents have the same hash, that copy gives the value or nothing.
+/// A stop while contents are mended in copies that lack them, when each copy holds the text alone, keeps a storage. It
+/// may leave a copy half mended: where no two contents have the same hash, that copy gives the value or nothing.
 pub fn mending_keeps()
     ensures start { MendStartLaw }
     ensures step { MendStepLaw }
@@ -81,9 +81,9 @@ pub fn mending_keeps()
     contents_stand_aside();
 }
 
-/// A storage opens at the first of its texts that qualifies. One in use stands as one that was just adopted, the
-/// elements that a commit does not touch are carried as they were, and one that is good and lacks nothing is whole in
-/// every copy.
+/// A storage opens at the first of its texts that qualifies, and is corrupt where none does. One in use on a clean
+/// image stands as one whose copies were just brought to its text; elements that a commit does not touch are carried as
+/// they were; and an element that is readable and that no copy lacks is whole in every copy.
 pub fn use_is_adopted()
     ensures opened { OpenedLaw }
     ensures corrupt { CorruptLaw }

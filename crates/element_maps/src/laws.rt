@@ -5,8 +5,8 @@ ghost use Rattle.element_maps.specs.Laws.{NothingLaw, ReadLaw, SameLaw, SizeLaw,
 ghost use Rattle.element_maps.specs.Laws.{UnchangedNamesLaw};
 ghost use Rattle.element_maps.specs.Laws.{CommittableLaw, UntestedLaw};
 
-/// The changes that make the map that a storage holds into another may be committed; the storage then holds the other,
-/// and only what differs is written, nothing where both are equal, and no element that both have alike is named.
+/// Changes that make the map a storage holds into another may be committed; it then holds the other, and only what
+/// differs is written: nothing where both are equal, and no change names an element that both have alike.
 pub fn changes_make_maps()
     ensures taken { CommittableLaw }
     ensures committed { CommittedLaw }
@@ -19,16 +19,16 @@ pub fn changes_make_maps()
     ensures others { UnchangedNamesLaw }
 {}
 
-/// What a view denotes is a map that a session may hand down; with no test of contents it is the view's own. Elements
-/// that are the same by test are equal.
+/// With no test of contents the map of a view is the view's own (`untested`); with any it may be handed down to be
+/// committed (`synchronised`). Elements that the test of two elements finds the same are equal (`same`).
 pub fn views_are_maps()
     ensures untested { UntestedLaw }
     ensures synchronised { SynchronisedLaw }
     ensures same { SameLaw }
 {}
 
-/// Whether two maps are equal is decided by a test, and by it the view after a sync: the old one where nothing
-/// differs, and else the next.
+/// A test decides whether two maps are equal (`decides`), and by it the view after a sync: the old one where nothing
+/// differs (`stays`), and else the next (`next`).
 pub fn syncs_are_decided()
     ensures decides { DecidesLaw }
     ensures stays { StaysLaw }

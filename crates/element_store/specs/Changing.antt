@@ -23,6 +23,7 @@ use Rattle.element_store.specs.declared.jobs.Job.{Job}
 use Rattle.element_store.specs.Plans.{HasAll, KeepsTaken, AreDisjoint, AreLaidApart, ArePlacedJobs}
 use Rattle.element_store.specs.Commits.{AreBeside, IsCarriedFrom, IsWrittenBy, SharesWith}
 
+-- the name of an entry
 abbrev pub named_by : IndexEntry → List ℕ
 named_by e = e.name
 
@@ -32,6 +33,7 @@ change_blocks (Put f) = blocks_for (length f.bytes)
 change_blocks (Remove name) = 0
 change_blocks (Touch name info) = 0
 
+-- the blocks that changes take together at most
 abbrev pub blocks_of_changes : List Change → ℕ
 blocks_of_changes changes = sum_by change_blocks changes
 

@@ -65,6 +65,7 @@ pub record IsBesideOne (standing : List IndexEntry) (views : List Entry) (job : 
   pub shared : (i : ℕ) → i < length job.blocks → is_changed job.bytes.now job.was.now i ≡ false
       → (i < length was.blocks) × (slice_index job.blocks i ≡ slice_index was.blocks i)
 
+-- the earlier content of a job is that of a good element of this index and view
 abbrev pub IsBesideOld : Index → View → Job → Type 0
 IsBesideOld index v job = IsBesideOne index.entries v.entries job
 
@@ -72,6 +73,7 @@ IsBesideOld index v job = IsBesideOne index.entries v.entries job
 abbrev pub SharesWith : List IndexEntry → List Entry → Job → Type 0
 SharesWith standing views job = (job.was.now ≡ []) ⊎ IsBesideOne standing views job
 
+-- a job writes its content whole, or beside an earlier one of this index and view
 abbrev pub SharesOld : Index → View → Job → Type 0
 SharesOld index v job = SharesWith index.entries v.entries job
 

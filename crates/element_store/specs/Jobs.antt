@@ -45,6 +45,7 @@ IsJobWritten image place job = AllFull place job.blocks job.bytes.now image
 abbrev pub job_cost : Job → ℕ
 job_cost job = 256 * changed_blocks job.bytes.now job.was.now
 
+-- what some jobs write in each copy together, in bytes
 abbrev pub jobs_cost : List Job → ℕ
 jobs_cost jobs = sum_by job_cost jobs
 

@@ -24,6 +24,7 @@ HasAll set blocks = (i : ℕ) → i < length blocks → contains set (slice_inde
 abbrev pub KeepsTaken : (old new : List Bool) → Type 0
 KeepsTaken old new = (b : ℕ) → contains old b ≡ true → contains new b ≡ true
 
+-- no number is in both lists
 abbrev pub AreDisjoint : List ℕ → List ℕ → Type 0
 AreDisjoint xs ys = (i j : ℕ) → i < length xs → j < length ys → slice_index xs i ≢ slice_index ys j
 
@@ -42,6 +43,7 @@ pub record IsPlacedJob (start now : List Bool) (job : Job) : Type 0 where
   pub shared : (i : ℕ) → i < length job.blocks → is_changed job.bytes.now job.was.now i ≡ false
       → contains start (slice_index job.blocks i) ≡ true
 
+-- jobs whose blocks take their bytes and are placed by these sets, none of which writes a block of another
 pub record ArePlacedJobs (start now : List Bool) (jobs : List Job) : Type 0 where
   pub roomy : All IsRoomy jobs
   pub placed : All (IsPlacedJob start now) jobs

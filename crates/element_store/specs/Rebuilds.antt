@@ -53,7 +53,7 @@ pub record IsRebuilt (shape : Shape) (image : Image) (v : View) : Type 0 where
   pub format : index.format ≡ 2
   pub in_use : IsInUse shape image index v
 
--- a generation is left after this view
+-- a generation is left after this view, where there is one
 abbrev pub HasNext : Option View → Type 0
 HasNext None = ⊤
 HasNext (Some v) = v.generation < greatest_generation

@@ -1,6 +1,7 @@
 //! A commit: all of its changes, or none.
 
-ghost use Rattle.std.specs.Prelude.{◌≡◌, [], ◌<◌, ◌≤◌, ◌+◌, ◌*◌, List, IsTrue, IfOk, IfErr, OnOk, IsErrOf, length, map};
+ghost use Rattle.std.specs.Prelude.{◌≡◌, [], ◌<◌, ◌≤◌, ◌+◌, ◌*◌, ◌^◌, List, length, map, IsTrue, IfSome, unwrap_or};
+ghost use Rattle.std.specs.Prelude.{IfOk, IfErr, OnOk, IsErrOf};
 ghost use Rattle.std.specs.List.{AllByRecursion, AllZip};
 ghost use Rattle.std.specs.Vec.{vec_len, vec_capacity};
 ghost use Rattle.hash_guard.specs.SealedText.{header};
@@ -44,7 +45,8 @@ struct Ready {
     room: Vec<u8>,
     /// The blocks of the index that stands and of the next one.
     used: BlockSet,
-    entries: Vec<Entry>,
+    /// Where the elements are moved to, if the list that has them has no room for the changes.
+    roomy: Option<Vec<Entry>>,
     hashed: Vec<Hashed>,
 }
 
@@ -142,7 +144,7 @@ impl Store {
             text,
             mut room,
             mut used,
-            entries: roomy,
+            roomy,
             hashed,
         } = ready;
         let Store {
@@ -174,9 +176,9 @@ impl Store {
             (D.medium disk.new)
             ready.index ready.text ready.used) }
         ensures room { IfOk result (λ ready. length ready.room.items ≡ header + length ready.text) }
-        ensures empty { IfOk result (λ ready. ready.entries.items ≡ []) }
-        ensures capacity { IfOk result (λ ready.
-            length (entries_of self.now) + length changes.now ≤ vec_capacity ready.entries) }
+        ensures empty { IfOk result (λ ready. IfSome ready.roomy (λ roomy. roomy.items ≡ [])) }
+        ensures capacity { IfOk result (λ ready. length (entries_of self.now) + length changes.now
+            ≤ vec_capacity (unwrap_or ready.roomy self.now.entries)) }
         ensures hashed { IfOk result (λ ready. AllZip IsHashedAs changes.now ready.hashed.items) }
 
         ensures cost { (D.medium disk.new).written ≤ (D.medium disk.old).written
@@ -217,9 +219,9 @@ impl Store {
         ensures plan { IfOk result (λ p. IsPrepared self.now changes.now p.ready.index p.ready.text p.ready.used
             p.jobs.items) }
         ensures room { IfOk result (λ p. length p.ready.room.items ≡ header + length p.ready.text) }
-        ensures empty { IfOk result (λ p. p.ready.entries.items ≡ []) }
-        ensures capacity { IfOk result (λ p.
-            length (entries_of self.now) + length changes.now ≤ vec_capacity p.ready.entries) }
+        ensures empty { IfOk result (λ p. IfSome p.ready.roomy (λ roomy. roomy.items ≡ [])) }
+        ensures capacity { IfOk result (λ p. length (entries_of self.now) + length changes.now
+            ≤ vec_capacity (unwrap_or p.ready.roomy self.now.entries)) }
         ensures hashed { IfOk result (λ p. AllZip IsHashedAs changes.now p.ready.hashed.items) }
     {
         let alloc = self.alloc;
@@ -237,28 +239,49 @@ impl Store {
         )?;
         let Spelled { index, text } = spell(alloc, standing.kind, entries)?;
         let room = Cell::room(alloc, text.len())?;
-        let entries = Vec::with_capacity(alloc, standing.entries.len() + changes.len())?;
+        let roomy = room_for(alloc, &self.entries, changes.len())?;
         let ready = Ready {
             index,
             text,
             room,
             used,
-            entries,
+            roomy,
             hashed,
         };
         Ok(Prepared { ready, jobs })
     }
 }
 
-// The elements, moved to where there is room for more.
-fn moved(entries: Vec<Entry>, roomy: Vec<Entry>) -> Vec<Entry>
-    requires empty { roomy.items ≡ [] }
-    requires room { vec_len entries ≤ vec_capacity roomy }
-    ensures items { result.items ≡ entries.items }
-    ensures capacity { vec_capacity roomy ≤ vec_capacity result }
+// An empty list with room for the elements and that many more, where the list that has them has no such room.
+fn room_for(
+    alloc: Global,
+    entries: &Vec<Entry>,
+    more: usize,
+) -> Result<Option<Vec<Entry>>, AllocError>
+    requires { length entries.now.items + more < 2 ^ 64 }
+    ensures empty { IfOk result (λ room. IfSome room (λ roomy. roomy.items ≡ [])) }
+    ensures capacity { IfOk result (λ room. length entries.now.items + more
+        ≤ vec_capacity (unwrap_or room entries.now)) }
 {
+    let needed = entries.len() + more;
+    if needed <= entries.capacity() {
+        return Ok(None);
+    }
+    let roomy = Vec::with_capacity(alloc, needed)?;
+    Ok(Some(roomy))
+}
+
+// The elements, moved to the list that has room for more, if there is one.
+fn moved(entries: Vec<Entry>, room: Option<Vec<Entry>>) -> Vec<Entry>
+    requires empty { IfSome room (λ roomy. roomy.items ≡ []) }
+    requires room { vec_len entries ≤ vec_capacity (unwrap_or room entries) }
+    ensures items { result.items ≡ entries.items }
+    ensures capacity { vec_capacity (unwrap_or room entries) ≤ vec_capacity result }
+{
+    let Some(mut roomy) = room else {
+        return entries;
+    };
     let mut entries = entries;
-    let mut roomy = roomy;
     let _ = roomy.append(&mut entries);
     roomy
 }

@@ -44,21 +44,25 @@ pub fn create<D: Disk>(
     requires shape { IsShape shape }
     requires contents { AreContents shape.kind shape.allowed contents.items }
 
+    // Just these contents stand there, under generation 1, with no other text; and the storage is in use.
     ensures opens { IsTrue D.told → OnOk result (store_at (D.medium disk.new).image shape
         ≡ fresh_state 1 (fresh_map contents.items)) }
     ensures used { IfOk result (IsUsed D.told (D.medium disk.new).image) }
     ensures shape { IfOk result (λ store. store_shape store ≡ shape) }
     ensures view { IfOk result (λ store. view_in store ≡ fresh_view 1 (fresh_map contents.items)) }
     ensures format { IfOk result (λ store. (index_in store).format ≡ 2) }
+    // The place is clean, whatever it held, and nothing is pending.
     ensures clean { IsTrue D.told → OnOk result (IsClean shape (D.medium disk.new).image) }
     ensures quiet { OnOk result (Quiet (D.medium disk.new)) }
 
+    // The disk's count of faults rose where the answer is `Device`, and stayed with any other answer.
     ensures never_corrupt { ¬ (IsErrOf result StoreError.Corrupt) }
     ensures cause { IsErrOf result StoreError.Device → Rose (D.medium disk.old).faults (D.medium disk.new).faults }
     ensures passes { OnOk result ((D.medium disk.new).faults ≡ (D.medium disk.old).faults) }
     ensures fed { IsErrOf result StoreError.OutOfMemory → (D.medium disk.new).faults ≡ (D.medium disk.old).faults }
 
-    // At no moment does an index name torn blocks: where a crash makes no index by chance, it makes no content so.
+    // At no moment does an index name blocks that are being written. So where a crash makes by chance no text in a
+    // slot, that is a torn one that passes its hash, it makes no content by chance either.
     ensures untorn { IsTrue D.told → Quiet (D.medium disk.old)
         → EachCase (IsUntorn shape.place) (D.medium disk.old) (D.medium disk.new) }
     ensures sound { IsTrue D.told → Quiet (D.medium disk.old)
@@ -73,13 +77,15 @@ pub fn create<D: Disk>(
         → EachCase (IsSettledOn (IsOutside shape.place) (D.medium disk.old).image)
         (D.medium disk.old) (D.medium disk.new) }
 
-    // In each copy the contents in whole blocks, the index, and four blanks; at most as much where it failed.
+    // In each copy the contents in whole blocks of 256 bytes, the index with its head, and four blanks as long as that
+    // head; where it failed no more than that, with the longest index there is.
     ensures written { IfOk result (λ store. (D.medium disk.new).written ≤ (D.medium disk.old).written
         + shape.place.copies * (256 * blocks_of_all contents.items + length (index_text (index_in store))
         + 5 * header)) }
     ensures at_most { (D.medium disk.new).written
         ≤ (D.medium disk.old).written + shape.place.copies
         * (256 * blocks_of_all contents.items + max_body + 5 * header) }
+    // The clock and the counts of the disk only go on.
     ensures time { Elapses (D.medium disk.old) (D.medium disk.new) }
 {
     let mut used = BlockSet::new(alloc, blocks_in_area(&shape))?;

@@ -12,12 +12,14 @@ ghost use Rattle.element_store.specs.Stores.{IsUsed, store_shape};
 
 use element_laws::places_stand_apart;
 
-/// A storage in use stays in use where the files of its place are as they were, as they are where only files of a place
-/// that is apart from its own changed.
+/// A storage in use stays in use where the files of its place are as they were: so it does where only files of another
+/// place changed, and neither place overlaps the other.
 pub fn use_stays()
+    // Where the files of its place are as they were.
     ensures frame { (told : Bool) (store : Store) (old new : Image)
         → (IsTrue told → Spares (IsOfPlace (store_shape store).place) old new)
         → IsUsed told old store → IsUsed told new store }
+    // Where all files outside another place are as they were.
     ensures elsewhere { (told : Bool) (store : Store) (one : Place) (old new : Image)
         → LieApart one (store_shape store).place
         → (IsTrue told → Spares (IsOutside one) old new) → IsUsed told old store

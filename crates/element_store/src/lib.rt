@@ -21,6 +21,18 @@
 //! storage as before or as after. A failure of the disk comes only where its count of faults rose. What is read is
 //! a view on every disk, modelled or not: names ascend, and lengths are right.
 //!
+//! Words of the contracts: a *text* is an index as copies hold it, in their slot files; contents are in their area
+//! files, in blocks of 256 bytes. A text *fits* that spells an index within the limits, and *qualifies* where enough
+//! copies support it; a storage opens at the first that does, and the *salvage* of a corrupt one is the view of the
+//! first text that fits. A *shape* is a storage as it is configured, its *place* the files of its copies. `told` says
+//! that the bytes of a disk of this type are modelled. A disk is *quiet* where nothing is pending, and a place *clean*
+//! where nothing on it contradicts anything. A storage is *kept* where a stop, and damage after it, leaves it as before
+//! or as after, with each element of which enough copies are left, if no torn piece passes its hash by chance and,
+//! where an opening mends, no two contents have one hash. Clauses named alike say the same of each call: `cause`, that
+//! the disk's count of faults rose; `passes` and `fed`, that it stayed, on success and where memory ran out;
+//! `elsewhere` and `outside`, that no file outside the place changed, at the end and at any moment; `time`, that the
+//! disk's clock and counts only go on.
+//!
 //! Limits: at most 1,024 elements, 8 copies (a manifest allows 7), and 4,194,304 bytes of names and contents; one
 //! caller at a time. A creation gives up what its place held before it writes anything else, and a stop in it may
 //! leave a corrupt storage.

@@ -59,6 +59,8 @@ pub fn open_store<D: Disk>(
 ) -> Result<OpenedStore, StoreError>
     requires { IsShape shape }
 
+    // `before` is the view at which the storage opens, and the storage then shows it mended: no readable element lacks
+    // a copy. Both are views within the limits, on any disk.
     ensures before { IsTrue D.told → IfOk result (λ o. opened_of (store_at (D.medium disk.old).image shape)
         ≡ Some o.before) }
     ensures view { IfOk result (λ o. view_in o.store ≡ mended_view shape o.before) }
@@ -67,14 +69,16 @@ pub fn open_store<D: Disk>(
     ensures read { IfOk result (λ o. IsView shape o.before) }
     ensures shown { IfOk result (λ o. IsView shape (view_in o.store)) }
 
-    // It adopts the very text at which the storage opens.
+    // Its index is that of the first text that qualifies, at which the storage opens.
     ensures adopted { IsTrue D.told → IfOk result (λ o. OpensBy (D.medium disk.old).image shape (index_in o.store)) }
+    // What is reported is what `before` lacks or cannot read; any bytes pass as a content, so none is decoded.
     ensures reports { IfOk result (λ o. o.reports.items ≡ reports (λ bytes. true) shape o.before) }
+    // A clean place stays clean, and nothing is pending.
     ensures clean { IsTrue D.told → IsClean shape (D.medium disk.old).image
         → OnOk result (IsClean shape (D.medium disk.new).image) }
     ensures quiet { OnOk result (Quiet (D.medium disk.new)) }
 
-    // A corrupt storage is left as it is.
+    // `Corrupt` is answered only where no text qualifies; then no file changes, nothing is written, nothing is pending.
     ensures corrupt { IsTrue D.told → IsErrOf result StoreError.Corrupt
         → opened_of (store_at (D.medium disk.old).image shape) ≡ None }
     ensures untouched { IsErrOf result StoreError.Corrupt → (D.medium disk.new).image ≡ (D.medium disk.old).image }
@@ -85,12 +89,13 @@ pub fn open_store<D: Disk>(
     ensures memory { IsErrOf result StoreError.OutOfMemory
         → ((D.medium disk.new).image ≡ (D.medium disk.old).image)
         × ((D.medium disk.new).written ≡ (D.medium disk.old).written) }
+    // The disk's count of faults rose where the answer is `Device`, and stayed with any other answer.
     ensures cause { IsErrOf result StoreError.Device → Rose (D.medium disk.old).faults (D.medium disk.new).faults }
     ensures passes { OnOk result ((D.medium disk.new).faults ≡ (D.medium disk.old).faults) }
     ensures fed { IsErrOf result StoreError.OutOfMemory → (D.medium disk.new).faults ≡ (D.medium disk.old).faults }
     ensures unfailed { IsErrOf result StoreError.Corrupt → (D.medium disk.new).faults ≡ (D.medium disk.old).faults }
 
-    // Where nothing lacks, nothing is written.
+    // Where every copy holds the index, no other text and each readable element, nothing is written.
     ensures idle { IsTrue D.told → LacksNothing shape (D.medium disk.old).image
         → IsAsBefore (D.medium disk.old) (D.medium disk.new) }
 
@@ -101,9 +106,11 @@ pub fn open_store<D: Disk>(
         → EachCase (IsSettledOn (IsOutside shape.place) (D.medium disk.old).image)
         (D.medium disk.old) (D.medium disk.new) }
 
-    // A stop at any moment keeps the storage, whatever its next state is to be.
+    // A stop at any moment, on a clean place where nothing was pending, keeps the storage as it was, and so on its way
+    // to whatever state comes next.
     ensures any_moment { IsTrue D.told → (after : State)
         → KeptWhileMending shape after (D.medium disk.old) (D.medium disk.new) }
+    // The clock and the counts of the disk only go on.
     ensures time { Elapses (D.medium disk.old) (D.medium disk.new) }
 {
     use_is_adopted();

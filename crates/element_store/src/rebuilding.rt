@@ -40,23 +40,28 @@ pub fn rebuild<D: Disk>(
 ) -> Result<(), StoreError>
     requires shape { IsShape shape.now }
     requires contents { AreContents shape.now.kind shape.now.allowed contents.items }
+    // The generation of what the place holds, if it holds anything, is not the greatest.
     requires not_worn { IsTrue D.told → HasNext (salvage_of (store_at (D.medium disk.old).image shape.now)) }
 
+    // Just these contents stand there, under the next generation, with no other text; and the storage could be used.
     ensures opens { IsTrue D.told → OnOk result (store_at (D.medium disk.new).image shape.now
         ≡ fresh_state (next_generation (salvage_of (store_at (D.medium disk.old).image shape.now)))
         (fresh_map contents.items)) }
     ensures in_use { IsTrue D.told → OnOk result (IsRebuilt shape.now (D.medium disk.new).image
         (fresh_view (next_generation (salvage_of (store_at (D.medium disk.old).image shape.now)))
         (fresh_map contents.items))) }
+    // The place is clean, whatever it held, and nothing is pending.
     ensures clean { IsTrue D.told → OnOk result (IsClean shape.now (D.medium disk.new).image) }
     ensures quiet { OnOk result (Quiet (D.medium disk.new)) }
 
+    // The disk's count of faults rose where the answer is `Device`, and stayed with any other answer.
     ensures never_corrupt { ¬ (IsErrOf result StoreError.Corrupt) }
     ensures cause { IsErrOf result StoreError.Device → Rose (D.medium disk.old).faults (D.medium disk.new).faults }
     ensures passes { OnOk result ((D.medium disk.new).faults ≡ (D.medium disk.old).faults) }
     ensures fed { IsErrOf result StoreError.OutOfMemory → (D.medium disk.new).faults ≡ (D.medium disk.old).faults }
 
-    // At any moment the storage is as it was or has the new contents, and no file outside the place changes.
+    // A stop at any moment, on a clean place where nothing was pending, keeps the storage as it was or with the new
+    // contents; and no file outside the place changes.
     ensures any_moment { IsTrue D.told → KeptThroughout shape.now
         (fresh_state (next_generation (salvage_of (store_at (D.medium disk.old).image shape.now)))
         (fresh_map contents.items))
@@ -67,6 +72,7 @@ pub fn rebuild<D: Disk>(
     ensures outside { IsTrue D.told → Quiet (D.medium disk.old)
         → EachCase (IsSettledOn (IsOutside shape.now.place) (D.medium disk.old).image)
         (D.medium disk.old) (D.medium disk.new) }
+    // The clock and the counts of the disk only go on.
     ensures time { Elapses (D.medium disk.old) (D.medium disk.new) }
 {
     let Ground {

@@ -17,6 +17,7 @@ use std::alloc::{AllocError, Global};
 ///
 /// Only `OutOfMemory`.
 pub fn reports_of(alloc: Global, shape: &Shape, view: &View) -> Result<Vec<Report>, AllocError>
+    // Any bytes pass as a content: none is decoded.
     ensures { IfOk result (λ found. found.items ≡ reports (λ bytes. true) shape.now view.now) }
 {
     let mut found = Vec::new(alloc);

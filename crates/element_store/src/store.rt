@@ -65,8 +65,8 @@ impl Store {
         }
     }
 
-    /// What a storage in use shows is a view of it, so that names ascend. For the proofs of callers: it does nothing
-    /// when it runs.
+    /// What a storage in use shows is a view within its limits: names ascend, and lengths are right. For the proofs of
+    /// callers: it does nothing when it runs.
     pub fn invariants(&self)
         requires { IsStore self.now }
         ensures { IsView (store_shape self.now) (view_in self.now) }

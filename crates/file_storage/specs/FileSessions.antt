@@ -34,6 +34,7 @@ abbrev pub AreAsStored : (stored files : Map) → Type 0
 AreAsStored stored files = (name : List ℕ) (file : Element) → element_at files name ≡ Some file
     → is_readable file.content ≡ false → element_at stored name ≡ Some file
 
+-- the working files of a storage that is as it is configured; those that cannot be read are as they are stored
 pub record IsOpen (config : StorageData) (store : Store) (storage : Storage) (files : Map) : Type 0 where
   pub valid : IsStorage config
   pub configured : IsConfigured Files config (store_shape store)

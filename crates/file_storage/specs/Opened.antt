@@ -4,6 +4,7 @@ use Rattle.element_maps.specs.Storages.{Opened}
 use Rattle.file_storage.specs.declared.opening.OpenedFiles.{OpenedFiles}
 use Rattle.file_storage.specs.FileSessions.{stored_in}
 
+-- where the storage is, what it shows, its synchronised files, and what is reported
 abbrev pub opened_as : OpenedFiles → Opened
 opened_as o = record {
   shape = store_shape o.files.store;

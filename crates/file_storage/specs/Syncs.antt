@@ -24,11 +24,11 @@ use Rattle.file_storage.specs.FileSessions.{FilesInUse, stored_in}
 abbrev pub is_synced : FilesInUse → Bool
 is_synced s = maps.same_map (stored_in s.store) s.session.files
 
--- no generation is left for files that differ
+-- the refusal where files differ and no generation is left for them
 abbrev pub worn : FilesInUse → Option PerError
 worn s = when (not (is_synced s) && is_worn (view_in s.store)) (LimitReached limit.Generations)
 
--- a handle that only reads makes nothing durable
+-- what refuses a sync through this handle: there is none, or it only reads
 abbrev pub no_writer : Option (Handle × Element) → Option PerError
 no_writer None = Some NotOpen
 no_writer (Some o) = when (not (writes o.0.cursor.kind)) IllegalWriteAccess
@@ -45,7 +45,7 @@ close_refused s = or_next (busy (lowest s.session.handles)) (worn s)
 abbrev pub synced_view : FilesInUse → View
 synced_view s = maps.view_once_synced (store_shape s.store) (view_in s.store) (stored_in s.store) s.session.files
 
--- in each copy at most the contents that differ, and the next index
+-- at most this is written: in each copy the contents that differ, and the next index
 abbrev pub WritesAtMost : FilesInUse → (old new : Medium) → Type 0
 WritesAtMost s old new = IsWithin (store_shape s.store).place.copies
     (map_cost (store_shape s.store).kind (stored_in s.store) s.session.files)

@@ -9,6 +9,7 @@ use Rattle.per_base.specs.declared.elements.Change.{Change}
 use Rattle.per_base.specs.declared.elements.Change.TheVariants.{Remove}
 use Rattle.element_maps.specs.Differences.{arrival, put}
 
+-- the change that removes a stored file
 abbrev pub removed : List ℕ × Element → Change
 removed e = Remove e.0
 
@@ -20,6 +21,7 @@ passing file rest (e ∷ stored) = match_ordering (name_cmp e.0 file.0)
     (cons_option (arrival file.0 (Some e.1) file.1) (rest stored))
     (put file.0 file.1 ∷ rest (e ∷ stored))
 
+-- the changes that make the stored files into these, in the order of the names: one where the two differ, and none else
 abbrev pub walked : (files stored : Map) → List Change
 walked [] stored = map removed stored
 walked (file ∷ files) stored = passing file (walked files) stored

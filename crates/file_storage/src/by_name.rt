@@ -91,7 +91,8 @@ impl Files {
         self.table.delete_file(name)
     }
 
-    /// A readable file stays; an unreadable one becomes its salvage, else its initial content, else it goes.
+    /// Recovers a file: a readable one stays as it is; an unreadable one gets its salvage as its content, else its
+    /// initial content, else it is deleted.
     ///
     /// # Errors
     ///
@@ -103,7 +104,7 @@ impl Files {
         ensures refused { IfErr result (λ error. IsRefusal
             (calls.recover_file (storage_of self.old.config) self.old.session name.now now
             (initial_content self.old.config name.now)) error) }
-        // `OutOfMemory` never replaces a refusal; it comes only where the initial content is taken.
+        // `OutOfMemory` never comes in the place of a refusal, and only where the initial content is copied.
         ensures memory { IfErr result (λ error. error ≡ PerError.OutOfMemory
             → IsDue (calls.recover_file (storage_of self.old.config) self.old.session name.now now
             (initial_content self.old.config name.now))) }
@@ -123,13 +124,15 @@ impl Files {
     /// # Errors
     ///
     /// `IllegalWriteAccess` where the storage is read-only; `InitValueNotAvailable` where there is no initial content;
-    /// `ResourceBusy` where the file has a handle; `LimitReached` with `Elements`; `OutOfStorageSpace`; `OutOfMemory`.
+    /// `ResourceBusy` where the file has a handle; `LimitReached` with `Elements` where it is missing and there are
+    /// 1,024; `OutOfStorageSpace` where the initial content does not fit; `OutOfMemory`.
     pub fn reset_file(&mut self, name: &Name, now: u64) -> Result<(), PerError>
         ensures ok { OnOk result (calls.reset_file (storage_of self.old.config) self.old.session name.now now
             (initial_content self.old.config name.now) ≡ Ok self.new.session) }
         ensures refused { IfErr result (λ error. IsRefusal
             (calls.reset_file (storage_of self.old.config) self.old.session name.now now
             (initial_content self.old.config name.now)) error) }
+        // `OutOfMemory` never comes in the place of a refusal.
         ensures memory { IfErr result (λ error. error ≡ PerError.OutOfMemory
             → IsDue (calls.reset_file (storage_of self.old.config) self.old.session name.now now
             (initial_content self.old.config name.now))) }

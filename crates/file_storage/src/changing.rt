@@ -10,19 +10,20 @@ use crate::files::Files;
 use per_base::PerError;
 
 impl Files {
-    /// Writes the piece: it overwrites and extends from the position, or with Append from the size, and the position is
-    /// then past it. An empty piece changes nothing.
+    /// Writes the piece: it overwrites and extends the file from the handle's position on, or with Append from its end
+    /// on, and the position is then past it. An empty piece changes nothing.
     ///
     /// # Errors
     ///
-    /// `NotOpen`; `IllegalWriteAccess` for kind Read; `LimitReached` with `FileBytes`; `OutOfStorageSpace`;
-    /// `OutOfMemory`, and this only where the piece reaches past the end of the file.
+    /// `NotOpen` for a number that no handle has; `IllegalWriteAccess` for kind Read; `LimitReached` with `FileBytes`
+    /// where the file would have more than 1,048,576 bytes; `OutOfStorageSpace` where the storage would exceed its
+    /// maximum; `OutOfMemory`, and this only where the piece reaches past the end of the file.
     pub fn write(&mut self, handle: u32, bytes: &[u8]) -> Result<(), PerError>
         ensures ok { OnOk result (calls.write (storage_of self.old.config) self.old.session self.old.moment handle
             bytes.now ≡ Ok self.new.session) }
         ensures refused { IfErr result (λ error. IsRefusal
             (calls.write (storage_of self.old.config) self.old.session self.old.moment handle bytes.now) error) }
-        // `OutOfMemory` never replaces a refusal; it comes only where the file grows.
+        // `OutOfMemory` never comes in the place of a refusal, and only where the piece reaches past the file's end.
         ensures due { IfErr result (λ error. error ≡ PerError.OutOfMemory
             → IsDue (calls.write (storage_of self.old.config) self.old.session self.old.moment handle bytes.now)) }
         ensures memory { IfErr result (λ error. error ≡ PerError.OutOfMemory
@@ -33,11 +34,12 @@ impl Files {
         self.table.write(handle, bytes)
     }
 
-    /// Cuts the file to this size; a position beyond becomes the new size. Does not allocate.
+    /// Cuts the handle's file to this size; a position beyond it becomes the new size. Does not allocate.
     ///
     /// # Errors
     ///
-    /// `NotOpen`; `IllegalWriteAccess` for kind Read; `InvalidSize` where it is above the file's size.
+    /// `NotOpen` for a number that no handle has; `IllegalWriteAccess` for kind Read; `InvalidSize` where the size is
+    /// above that of the file.
     pub fn set_size(&mut self, handle: u32, size: u64) -> Result<(), PerError>
         ensures ok { OnOk result (calls.set_size self.old.session self.old.moment handle size ≡ Ok self.new.session) }
         ensures refused { IfErr result (λ error. calls.set_size self.old.session self.old.moment handle size

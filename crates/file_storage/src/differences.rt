@@ -20,6 +20,7 @@ use std::collections::BTreeMap;
 
 /// Whether the working files are the stored ones. Does not allocate.
 pub fn are_same(entries: &[Entry], files: &BTreeMap<Name, File>) -> bool
+    // The same names, and the same info, length and content under each.
     ensures { result ≡ same_map (map element_of entries.now) files.now.entries }
 {
     let mut rest = entries;

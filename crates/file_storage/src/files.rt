@@ -50,8 +50,11 @@ impl Model for Files {
 impl Files {
     /// What always holds of an open storage, for the proofs of callers: it does nothing when it runs.
     pub fn invariants(&self)
+        // Files and handles are in order and within their limits, and each handle has its file, which is readable.
         ensures table { IsTable (storage_of self.now.config) self.now.session.files self.now.session.handles }
+        // The storage below is the configured one.
         ensures configured { IsConfigured kinds.Files self.now.config (store_shape self.now.store) }
+        // A working file that cannot be read is the very one that is synchronised.
         ensures unreadable { AreAsStored (stored_in self.now.store) self.now.session.files }
     {
         self.table.invariants();

@@ -22,7 +22,7 @@ impl Files {
         self.table.peek_byte(handle)
     }
 
-    /// The next byte, which the position passes. Does not allocate.
+    /// The next byte of the handle's file, which the position passes. Does not allocate.
     ///
     /// # Errors
     ///
@@ -37,7 +37,7 @@ impl Files {
         self.table.get_byte(handle)
     }
 
-    /// That many bytes, or the rest where fewer are left; the position passes them.
+    /// That many bytes of the handle's file, or the rest where fewer are left; the position passes them.
     ///
     /// # Errors
     ///
@@ -47,6 +47,7 @@ impl Files {
         ensures ok { IfOk result (λ piece. calls.read self.old.session handle count
             ≡ Ok (piece.items, self.new.session)) }
         ensures refused { IfErr result (λ error. IsRefusal (calls.read self.old.session handle count) error) }
+        // `OutOfMemory` never comes in the place of a refusal.
         ensures memory { IfErr result (λ error. error ≡ PerError.OutOfMemory
             → IsDue (calls.read self.old.session handle count)) }
         ensures beside { self.new ≡ record self.old { session = self.new.session } }
@@ -55,7 +56,7 @@ impl Files {
         self.table.read(handle, count)
     }
 
-    /// The rest, which the position passes.
+    /// What is left of the handle's file from the position on; the position is then at its end.
     ///
     /// # Errors
     ///
@@ -65,6 +66,7 @@ impl Files {
         ensures ok { IfOk result (λ piece. calls.read_all self.old.session handle
             ≡ Ok (piece.items, self.new.session)) }
         ensures refused { IfErr result (λ error. IsRefusal (calls.read_all self.old.session handle) error) }
+        // `OutOfMemory` never comes in the place of a refusal.
         ensures memory { IfErr result (λ error. error ≡ PerError.OutOfMemory
             → IsDue (calls.read_all self.old.session handle)) }
         ensures beside { self.new ≡ record self.old { session = self.new.session } }
@@ -73,7 +75,7 @@ impl Files {
         self.table.read_all(handle)
     }
 
-    /// The bytes before the next delimiter, which is passed and not returned, or the rest.
+    /// The bytes before the next delimiter, which is passed and not returned; or all that is left, where there is none.
     ///
     /// # Errors
     ///
@@ -83,6 +85,7 @@ impl Files {
         ensures ok { IfOk result (λ piece. calls.read_line self.old.session handle delimiter
             ≡ Ok (piece.items, self.new.session)) }
         ensures refused { IfErr result (λ error. IsRefusal (calls.read_line self.old.session handle delimiter) error) }
+        // `OutOfMemory` never comes in the place of a refusal.
         ensures memory { IfErr result (λ error. error ≡ PerError.OutOfMemory
             → IsDue (calls.read_line self.old.session handle delimiter)) }
         ensures beside { self.new ≡ record self.old { session = self.new.session } }
@@ -115,7 +118,7 @@ impl Files {
         self.table.position(handle)
     }
 
-    /// Whether the position is the size. Does not allocate.
+    /// Whether the position of the handle is at the end of its file. Does not allocate.
     ///
     /// # Errors
     ///
@@ -131,7 +134,7 @@ impl Files {
     ///
     /// # Errors
     ///
-    /// `NotOpen`; `InvalidPosition` where it is above the size.
+    /// `NotOpen` for a number that no handle has; `InvalidPosition` where the position is above the size of the file.
     pub fn set_position(&mut self, handle: u32, position: u64) -> Result<(), PerError>
         ensures ok { OnOk result (calls.set_position self.old.session handle position ≡ Ok self.new.session) }
         ensures refused { IfErr result (λ error. calls.set_position self.old.session handle position ≡ Err error) }
@@ -141,11 +144,13 @@ impl Files {
         self.table.set_position(handle, position)
     }
 
-    /// Moves the handle by an offset from the origin, and gives the new position. Does not allocate.
+    /// Moves the handle by an offset from the origin, which is the beginning, the position or the end of its file, and
+    /// gives the new position. Does not allocate.
     ///
     /// # Errors
     ///
-    /// `NotOpen`; `InvalidPosition` where it is not from 0 to the size.
+    /// `NotOpen` for a number that no handle has; `InvalidPosition` where the new position is not from 0 to the size of
+    /// the file.
     pub fn move_position(
         &mut self,
         handle: u32,

@@ -9,6 +9,15 @@
 //! changes nothing; neither does `OutOfMemory`. At every moment of a call, and after damage, a storage that opens
 //! stands as before or after it, with every content that enough copies are left of. The working files are the table's
 //! own, apart from those in the storage, so the calls that only cut, look, move or close do not allocate.
+//!
+//! Words of the contracts: a *session* is the working files and the handles on them; what a call answers is the
+//! function of its name in `file_handles/specs`, of the storage's configuration, the session and the arguments, and it
+//! gives the next session. `refused` says that an error is the one that is due, or `OutOfMemory` where the call may run
+//! out of memory; `memory` and `due` say when it can be that; `beside` that all else of the open storage stays. A
+//! *shape* is a storage as it is configured, its *place* the files of its copies, a *text* an index as copies hold it;
+//! the *salvage* of a file is the bytes that are left where too few copies agree. `told` says that the bytes of a disk
+//! of this type are modelled. A disk is *quiet* where nothing is pending, a place *clean* where nothing on it
+//! contradicts anything.
 #![tactic(auto)]
 
 mod by_name;

@@ -49,8 +49,8 @@ pub struct OpenedFiles {
 ///
 /// # Errors
 ///
-/// `Corrupt` exactly where no text qualifies: then nothing is written. `Device` where the disk fails, and
-/// `OutOfMemory`.
+/// `Corrupt` exactly where no text qualifies, as one does that enough copies support: then nothing is written. `Device`
+/// where the disk fails, and `OutOfMemory`.
 pub fn open_files<D: Disk>(
     alloc: Global,
     disk: &mut D,
@@ -58,9 +58,11 @@ pub fn open_files<D: Disk>(
     config: &StorageConfig,
 ) -> Result<OpenedFiles, StoreError>
     requires valid { IsStorage (storage_data config.now) }
+    // The shape is that of this configuration, and of a storage of files.
     requires configured { IsConfigured kinds.Files (storage_data config.now) shape }
 
-    // The storage in use, by the index that was found; the working files are those that it shows.
+    // It shows the view at which the storage opened, mended, with the reports of that view, in which any bytes pass as
+    // a content; its index is that of the text at which it opened. The working files are those of this view.
     ensures opened { IfOk result (λ o. IsOpened D.told (D.medium disk.old).image shape (λ bytes. true) (opened_as o)) }
     ensures adopted { IsTrue D.told → IfOk result (λ o. OpensBy (D.medium disk.old).image shape
         (index_in o.files.store)) }
@@ -68,28 +70,30 @@ pub fn open_files<D: Disk>(
     ensures moment { IfOk result (λ o. o.files.moment ≡ 0) }
     ensures config { IfOk result (λ o. o.files.config ≡ storage_data config.now) }
     ensures used { IfOk result (λ o. IsUsed D.told (D.medium disk.new).image o.files.store) }
+    // A clean place stays clean, and nothing is pending on the disk.
     ensures clean { IsTrue D.told → IsClean shape (D.medium disk.old).image
         → OnOk result (IsClean shape (D.medium disk.new).image) }
     ensures quiet { OnOk result (Quiet (D.medium disk.new)) }
 
-    // A corrupt storage is left as it is.
+    // `Corrupt` is answered only where no text qualifies; then no file changes, nothing is written, nothing is pending.
     ensures corrupt { IsTrue D.told → IsErrOf result StoreError.Corrupt
         → opened_of (store_at (D.medium disk.old).image shape) ≡ None }
     ensures untouched { IsErrOf result StoreError.Corrupt → (D.medium disk.new).image ≡ (D.medium disk.old).image }
     ensures unwritten { IsErrOf result StoreError.Corrupt → (D.medium disk.new).written ≡ (D.medium disk.old).written }
     ensures settled { IsErrOf result StoreError.Corrupt → Quiet (D.medium disk.new) }
 
-    // A failure is that of a call of the disk, and nothing else is reported as one.
+    // The disk's count of faults rose where the answer is `Device`, and stayed with any other answer.
     ensures cause { IsErrOf result StoreError.Device → Rose (D.medium disk.old).faults (D.medium disk.new).faults }
     ensures passes { OnOk result ((D.medium disk.new).faults ≡ (D.medium disk.old).faults) }
     ensures fed { IsErrOf result StoreError.OutOfMemory → (D.medium disk.new).faults ≡ (D.medium disk.old).faults }
     ensures unfailed { IsErrOf result StoreError.Corrupt → (D.medium disk.new).faults ≡ (D.medium disk.old).faults }
 
-    // Where nothing lacks, nothing is written.
+    // Where every copy holds the index, no other text and each readable file, nothing is written.
     ensures idle { IsTrue D.told → LacksNothing shape (D.medium disk.old).image
         → IsAsBefore (D.medium disk.old) (D.medium disk.new) }
 
-    // No file outside the place changes, and a stop at any moment keeps the storage, whatever its next state is to be.
+    // No file outside the place changes, and a stop at any moment leaves the storage as it was, and so on its way to
+    // whatever state comes next.
     ensures storing { (after : State) → IsStoring D.told shape after (D.medium disk.old) (D.medium disk.new) }
 {
     untouched_is_kept();

@@ -20,9 +20,11 @@ impl Files {
             OpenKind.Read mode now ≡ Ok (handle, self.new.session)) }
         ensures refused { IfErr result (λ error. IsRefusal
             (opening.open_file (storage_of self.old.config) self.old.session name.now OpenKind.Read mode now) error) }
+        // Memory runs out where an opening is due, or for the names that `IntegrityCorrupted` carries.
         ensures memory { IfErr result (λ error. error ≡ PerError.OutOfMemory
             → NeedsMemory (opening.open_file (storage_of self.old.config) self.old.session name.now OpenKind.Read mode
             now)) }
+        // The moment is then this one, and all else but the session stays.
         ensures moment { OnOk result (self.new.moment ≡ now) }
         ensures beside { self.new ≡ record self.old { session = self.new.session; moment = self.new.moment } }
         ensures unchanged { OnErr result (self.new ≡ self.old) }
@@ -47,9 +49,11 @@ impl Files {
         ensures refused { IfErr result (λ error. IsRefusal
             (opening.open_file (storage_of self.old.config) self.old.session name.now OpenKind.Write mode now)
             error) }
+        // Memory runs out where an opening is due, or for the names that `IntegrityCorrupted` carries.
         ensures memory { IfErr result (λ error. error ≡ PerError.OutOfMemory
             → NeedsMemory (opening.open_file (storage_of self.old.config) self.old.session name.now OpenKind.Write
             mode now)) }
+        // The moment is then this one, and all else but the session stays.
         ensures moment { OnOk result (self.new.moment ≡ now) }
         ensures beside { self.new ≡ record self.old { session = self.new.session; moment = self.new.moment } }
         ensures unchanged { OnErr result (self.new ≡ self.old) }
@@ -74,9 +78,11 @@ impl Files {
         ensures refused { IfErr result (λ error. IsRefusal
             (opening.open_file (storage_of self.old.config) self.old.session name.now OpenKind.ReadWrite mode now)
             error) }
+        // Memory runs out where an opening is due, or for the names that `IntegrityCorrupted` carries.
         ensures memory { IfErr result (λ error. error ≡ PerError.OutOfMemory
             → NeedsMemory (opening.open_file (storage_of self.old.config) self.old.session name.now OpenKind.ReadWrite
             mode now)) }
+        // The moment is then this one, and all else but the session stays.
         ensures moment { OnOk result (self.new.moment ≡ now) }
         ensures beside { self.new ≡ record self.old { session = self.new.session; moment = self.new.moment } }
         ensures unchanged { OnErr result (self.new ≡ self.old) }
@@ -100,8 +106,10 @@ impl Files {
             kind mode now ≡ Ok (handle, self.new.session)) }
         ensures refused { IfErr result (λ error. IsRefusal
             (opening.open_file (storage_of self.old.config) self.old.session name.now kind mode now) error) }
+        // Memory runs out where an opening is due, or for the names that `IntegrityCorrupted` carries.
         ensures memory { IfErr result (λ error. error ≡ PerError.OutOfMemory
             → NeedsMemory (opening.open_file (storage_of self.old.config) self.old.session name.now kind mode now)) }
+        // The moment is then this one, and all else but the session stays.
         ensures moment { OnOk result (self.new.moment ≡ now) }
         ensures beside { self.new ≡ record self.old { session = self.new.session; moment = self.new.moment } }
         ensures unchanged { OnErr result (self.new ≡ self.old) }
@@ -121,6 +129,7 @@ impl Files {
             ≡ None) }
         ensures refused { IfErr result (λ error. error ≢ PerError.OutOfMemory
             → opening.can_open (storage_of self.now.config) self.now.session name.now kind mode ≡ Some error) }
+        // Memory runs out only for the names that `IntegrityCorrupted` carries.
         ensures memory { IfErr result (λ error. error ≡ PerError.OutOfMemory
             → opening.can_open (storage_of self.now.config) self.now.session name.now kind mode
             ≡ Some (PerError.IntegrityCorrupted (Part self.now.config.name name.now))) }
@@ -128,7 +137,7 @@ impl Files {
         self.table.can_open(name, kind, mode)
     }
 
-    /// Whether the storage has a file of this length under this name. Changes nothing, and does not allocate.
+    /// Checks whether a content of this length would fit under this name. Changes nothing, and does not allocate.
     ///
     /// # Errors
     ///

@@ -20,12 +20,12 @@ pub struct Scoped<'a> {
 }
 
 impl Files {
-    /// Opens a file with a handle that is closed when it is dropped: then the handles are as before, and the
-    /// working files and the moment stay as it left them.
+    /// Opens a file with a handle that is closed when it is dropped: the handles are then as before, and the working
+    /// files and the moment stay as calls through it left them.
     ///
     /// # Errors
     ///
-    /// Those of opening.
+    /// Those of `can_open`, then `OutOfStorageSpace` where an empty file of a missing name would exceed the maximum.
     pub fn scoped(
         &mut self,
         name: &Name,
@@ -33,9 +33,11 @@ impl Files {
         mode: OpenMode,
         now: u64,
     ) -> Result<Scoped<'_>, PerError>
+        // Where it is refused, the storage is given back as it was; else the handle is on this very storage.
         ensures* untouched { sem 𝓛 (RestsIfErr the_row self.entry (λ scoped. scoped.files.ghost_name) result
             (λ last. last ≡ self.old)) }
         ensures same_reference { IfOk result (λ scoped. scoped.files.ghost_name ≡ self.entry.ghost_name) }
+        // The file is opened as by any opening, at this moment, and the other handles are those of before.
         ensures ok { IfOk result (λ scoped. opening.open_file (storage_of self.old.config) self.old.session name.now
             kind mode now ≡ Ok (scoped.handle, scoped.files.now.session)) }
         ensures moment { IfOk result (λ scoped. scoped.files.now.moment ≡ now) }
@@ -45,6 +47,7 @@ impl Files {
             ≡ self.old.session.handles) }
         ensures refused { IfErr result (λ error. IsRefusal
             (opening.open_file (storage_of self.old.config) self.old.session name.now kind mode now) error) }
+        // Memory runs out where an opening is due, or for the names that `IntegrityCorrupted` carries.
         ensures memory { IfErr result (λ error. error ≡ PerError.OutOfMemory
             → NeedsMemory (opening.open_file (storage_of self.old.config) self.old.session name.now kind mode now)) }
     {
@@ -68,20 +71,23 @@ impl Files {
 }
 
 impl<'a> Scoped<'a> {
-    /// The rest, which the position passes.
+    /// What is left of the file from the position on; the position is then at its end.
     ///
     /// # Errors
     ///
     /// `IllegalReadAccess` for a kind that only writes; `IsEof` where nothing is left; `OutOfMemory`.
     pub fn read_all(&mut self) -> Result<Vec<u8>, PerError>
+        // It stays the same handle on the same storage.
         ensures same_reference { self.new.files.ghost_name ≡ self.old.files.ghost_name }
         ensures handle { self.new.handle ≡ self.old.handle }
         ensures ok { IfOk result (λ piece. calls.read_all self.old.files.now.session self.old.handle
             ≡ Ok (piece.items, self.new.files.now.session)) }
         ensures refused { IfErr result (λ error. IsRefusal (calls.read_all self.old.files.now.session self.old.handle)
             error) }
+        // `OutOfMemory` never comes in the place of a refusal.
         ensures memory { IfErr result (λ error. error ≡ PerError.OutOfMemory
             → IsDue (calls.read_all self.old.files.now.session self.old.handle)) }
+        // Only the session changes, and in it no other handle; an error changes nothing.
         ensures beside { self.new.files.now ≡ record self.old.files.now { session = self.new.files.now.session } }
         ensures others { without_handle self.new.files.now.session.handles self.new.handle
             ≡ without_handle self.old.files.now.session.handles self.old.handle }
@@ -91,13 +97,16 @@ impl<'a> Scoped<'a> {
         self.files.read_all(self.handle)
     }
 
-    /// Writes the piece, as through any handle.
+    /// Writes the piece: it overwrites and extends the file from the position on, or with Append from its end on, and
+    /// the position is then past it. An empty piece changes nothing.
     ///
     /// # Errors
     ///
-    /// `IllegalWriteAccess`; `LimitReached` with `FileBytes`; `OutOfStorageSpace`; `OutOfMemory`, and this only where
-    /// the piece reaches past the end of the file.
+    /// `IllegalWriteAccess` for kind Read; `LimitReached` with `FileBytes` where the file would have more than
+    /// 1,048,576 bytes; `OutOfStorageSpace` where the storage would exceed its maximum; `OutOfMemory`, and this only
+    /// where the piece reaches past the end of the file.
     pub fn write(&mut self, bytes: &[u8]) -> Result<(), PerError>
+        // It stays the same handle on the same storage.
         ensures same_reference { self.new.files.ghost_name ≡ self.old.files.ghost_name }
         ensures handle { self.new.handle ≡ self.old.handle }
         ensures ok { OnOk result (calls.write (storage_of self.old.files.now.config) self.old.files.now.session
@@ -105,11 +114,13 @@ impl<'a> Scoped<'a> {
         ensures refused { IfErr result (λ error. IsRefusal
             (calls.write (storage_of self.old.files.now.config) self.old.files.now.session self.old.files.now.moment
             self.old.handle bytes.now) error) }
+        // `OutOfMemory` never comes in the place of a refusal, and only where the piece reaches past the file's end.
         ensures due { IfErr result (λ error. error ≡ PerError.OutOfMemory
             → IsDue (calls.write (storage_of self.old.files.now.config) self.old.files.now.session
             self.old.files.now.moment self.old.handle bytes.now)) }
         ensures memory { IfErr result (λ error. error ≡ PerError.OutOfMemory
             → calls.GrowsBy (open_at self.old.files.now.session self.old.handle) bytes.now) }
+        // Only the session changes, and in it no other handle; an error changes nothing.
         ensures beside { self.new.files.now ≡ record self.old.files.now { session = self.new.files.now.session } }
         ensures others { without_handle self.new.files.now.session.handles self.new.handle
             ≡ without_handle self.old.files.now.session.handles self.old.handle }

@@ -49,8 +49,8 @@ impl Files {
     /// only the blocks that do, and of one whose info alone changed no content. Where nothing differs, the disk is not
     /// called. Handles and positions stay.
     ///
-    /// It is refused, and nothing changes, with `NotOpen`; `IllegalWriteAccess` for kind Read; `LimitReached` with
-    /// `Generations` where files differ and no generation is left.
+    /// It is refused, and nothing changes, with `NotOpen` for a number that no handle has; `IllegalWriteAccess` for
+    /// kind Read; `LimitReached` with `Generations` where files differ and no generation is left.
     ///
     /// # Errors
     ///
@@ -76,7 +76,8 @@ impl Files {
         ensures shape { IfOk result (λ o. store_shape o.files.store ≡ store_shape self.store) }
         ensures used { IfOk result (λ o. IsUsed D.told (D.medium disk.new).image o.files.store) }
 
-        // What differed is durable: in each copy the contents that do, and the index.
+        // What differed is durable, no call of the disk failed, and only the contents that differ and the index were
+        // written in each copy; where it was refused or the disk failed, no more than that.
         ensures durable { IfOk result (λ o. o.refused ≡ None
             → IsDurable D.told (store_shape self.store) (stored_in self.store) self.session.files
             (length (index_text (index_in o.files.store))) (D.medium disk.old) (D.medium disk.new)) }
@@ -91,7 +92,8 @@ impl Files {
             (λ o. o.refused ≡ None → length (index_text (index_in o.files.store))
             ≡ index_length (store_shape self.store).kind (view_in o.files.store).entries) }
 
-        // Running out of memory hands the storage back, and then nothing happened. Only a disk that failed closes it.
+        // Running out of memory hands the storage back, and then nothing happened. Only a disk that failed closes it,
+        // and its count of faults rose.
         ensures memory { IfErr result (λ fault. HandsBack self fault (disk.new ≡ disk.old)) }
         ensures cause { IfErr result (λ fault. IsDeviceFault fault
             → Rose (D.medium disk.old).faults (D.medium disk.new).faults) }
@@ -141,7 +143,8 @@ impl Files {
         ensures opens { IsTrue D.told → IfOk result (λ closed. OnDone closed
             (store_at (D.medium disk.new).image (store_shape self.store) ≡ Opens (synced_view self) [])) }
         ensures stored { IfOk result (λ closed. OnDone closed (map_of (synced_view self) ≡ self.session.files)) }
-        // What differed is durable: in each copy the contents that do, and the index.
+        // What differed is durable, no call of the disk failed, and only the contents that differ and the index were
+        // written in each copy; where it was refused or the disk failed, no more than that.
         ensures durable { IfOk result (λ closed. OnDone closed ((text : List ℕ)
             × (IsTrue D.told → IsAlone (D.medium disk.new).image (store_shape self.store).place
             (synced_view self).generation text)
@@ -149,7 +152,8 @@ impl Files {
             (D.medium disk.old) (D.medium disk.new))) }
         ensures at_most { WritesAtMost self (D.medium disk.old) (D.medium disk.new) }
 
-        // Running out of memory hands the storage back, and then nothing happened. Only a disk that failed closes it.
+        // Running out of memory hands the storage back, and then nothing happened. Only a disk that failed closes it,
+        // and its count of faults rose.
         ensures memory { IfErr result (λ fault. HandsBack self fault (disk.new ≡ disk.old)) }
         ensures cause { IfErr result (λ fault. IsDeviceFault fault
             → Rose (D.medium disk.old).faults (D.medium disk.new).faults) }

@@ -13,14 +13,16 @@ impl Files {
     ///
     /// # Errors
     ///
-    /// Those of an opening for reading with no flag; `OutOfMemory`.
+    /// Those of `can_open` for kind Read with no flag; `OutOfMemory`.
     pub fn whole_content(&mut self, name: &Name, now: u64) -> Result<Vec<u8>, PerError>
         ensures ok { IfOk result (λ content. cat (storage_of self.old.config) self.old.session name.now now
             ≡ Ok (content.items, self.new.session)) }
         ensures refused { IfErr result (λ error. IsRefusal
             (cat (storage_of self.old.config) self.old.session name.now now) error) }
+        // Memory runs out where the call is not to be refused, or for the names that `IntegrityCorrupted` carries.
         ensures memory { IfErr result (λ error. error ≡ PerError.OutOfMemory
             → NeedsMemory (cat (storage_of self.old.config) self.old.session name.now now)) }
+        // The moment is then this one, and all else but the session stays.
         ensures moment { OnOk result (self.new.moment ≡ now) }
         ensures beside { self.new ≡ record self.old { session = self.new.session; moment = self.new.moment } }
         ensures unchanged { OnErr result (self.new ≡ self.old) }
@@ -34,14 +36,16 @@ impl Files {
     ///
     /// # Errors
     ///
-    /// Those of an opening for writing with the flag that truncates; those of `would_fit`; `OutOfMemory`.
+    /// Those of `can_open` for kind Write with the flag that truncates; those of `would_fit`; `OutOfMemory`.
     pub fn replace(&mut self, name: &Name, bytes: &[u8], now: u64) -> Result<(), PerError>
         ensures ok { OnOk result (put_whole (storage_of self.old.config) self.old.session name.now bytes.now now
             ≡ Ok self.new.session) }
         ensures refused { IfErr result (λ error. IsRefusal
             (put_whole (storage_of self.old.config) self.old.session name.now bytes.now now) error) }
+        // Memory runs out where the call is not to be refused, or for the names that `IntegrityCorrupted` carries.
         ensures memory { IfErr result (λ error. error ≡ PerError.OutOfMemory
             → NeedsMemory (put_whole (storage_of self.old.config) self.old.session name.now bytes.now now)) }
+        // The moment is then this one, and all else but the session stays.
         ensures moment { OnOk result (self.new.moment ≡ now) }
         ensures beside { self.new ≡ record self.old { session = self.new.session; moment = self.new.moment } }
         ensures unchanged { OnErr result (self.new ≡ self.old) }

@@ -44,6 +44,7 @@ pub mod Failing
 mod Fresh
 pub mod Hiding
 pub mod Emptying
+pub mod Needing
 pub mod Giving
 pub mod NewestLaws
 pub mod FlashFilesLaws

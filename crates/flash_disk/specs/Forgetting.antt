@@ -1,5 +1,5 @@
 -- Files that are given up: what leaves the flash, and that nothing else changes.
-use Rattle.std.specs.Prelude.{◌≡◌, ◌≢◌, ◌⊎◌, ℕ, ◌<◌, ◌≤◌, Bool, true, [], Some}
+use Rattle.std.specs.Prelude.{◌≡◌, ◌≢◌, ◌⊎◌, ℕ, ◌/◌, ◌<◌, ◌≤◌, Bool, true, [], Some}
 use Rattle.flash_model.specs.Pages.{Pages, blank_page, TornBlock, IsPlain}
 use Rattle.flash_model.specs.State.{FlashCase}
 use Rattle.flash_model.specs.FlashMedium.{FlashMedium, FlashElapses, EachFlashCase}
@@ -7,11 +7,11 @@ use Rattle.flash_disk.specs.declared.table.FilePage.{FilePage}
 use Rattle.flash_disk.specs.declared.table.Newest.{Newest}
 use Rattle.flash_disk.specs.declared.table.Table.{Table}
 use Rattle.flash_disk.specs.declared.layer.LayerState.{LayerState}
-use Rattle.flash_disk.specs.Newest.{newest, places, page_count, page_limit, IsUsable}
+use Rattle.flash_disk.specs.Newest.{Placed, record_at, newest, places, page_count, page_limit, IsUsable}
 use Rattle.flash_disk.specs.FlashFiles.{flash_files}
 use Rattle.flash_disk.specs.Known.{known, HasCapacity}
 use Rattle.flash_disk.specs.Learnt.{LedOf}
-use Rattle.flash_disk.specs.Standing.{IsAgreed, KeepsRecords}
+use Rattle.flash_disk.specs.Standing.{IsAgreed, HasRivals, KeepsRecords}
 use Rattle.flash_disk.specs.Apart.{KeepsHeld, HoldsOneCopy, StandApart}
 use Rattle.flash_disk.specs.Emptied.{IsEmptyBlock}
 use Rattle.flash_disk.specs.Kept.{only_kept, HoldsKept, ComesFrom}
@@ -37,6 +37,27 @@ pub record GivesUp (kept : ℕ → Bool) (old new : FlashMedium) : Type 0 where
   pub now : Forgets kept old.blocks old.state.pages new.state.pages
   pub during : EachFlashCase (LeavesForgetting kept old new) old new
 
+-- a block has the record that is counted for a page of a file that is kept: the newest one of the page, or an equal one
+pub record CountsInBlock (kept : ℕ → Bool) (pages : Pages) (blocks : ℕ) (counting : (file page : ℕ) → ℕ) (block : ℕ)
+    : Type 0 where
+  pub file : ℕ
+  pub page : ℕ
+  pub best : Placed
+  pub own : kept file ≡ true
+  pub newest_is : newest pages file page (places blocks) ≡ Some best
+  pub there : record_at pages (counting file page) ≡ Some best.says
+  pub here : counting file page / 64 ≡ block
+
+-- each block but one has such a record, where one is counted for each page
+pub record IsFullOfKept (kept : ℕ → Bool) (pages : Pages) (blocks : ℕ) : Type 0 where
+  pub counting : (file page : ℕ) → ℕ
+  pub spare : ℕ
+  pub full : (block : ℕ) → block < blocks → block ≢ spare → CountsInBlock kept pages blocks counting block
+
+-- no file may be given up: there are rivals, or each block but one has a record that is counted for a file that is kept
+abbrev pub MayGiveNothing : (kept : ℕ → Bool) → FlashMedium → Type 0
+MayGiveNothing kept m = HasRivals m.state.pages (places m.blocks) ⊎ IsFullOfKept kept m.state.pages m.blocks
+
 -- the table leads from each page of a file that is kept to its newest record, or an equal one
 abbrev pub LeadsKept : (kept : ℕ → Bool) → Pages → (n : ℕ) → Table → Type 0
 LeadsKept kept pages n table = (key : FilePage) → kept key.file ≡ true
@@ -46,6 +67,11 @@ LeadsKept kept pages n table = (key : FilePage) → kept key.file ≡ true
 abbrev pub LeavesKept : (kept : ℕ → Bool) → Table → (block done : ℕ) → Type 0
 LeavesKept kept table block done = (key : FilePage) (entry : Newest) → kept key.file ≡ true
     → known table key ≡ Some entry → entry.place.block ≡ block → done ≤ entry.place.page
+
+-- an entry of a file that is kept leads into a block
+abbrev pub NeedsBlock : (kept : ℕ → Bool) → Table → (block : ℕ) → Type 0
+NeedsBlock kept table block = (key : FilePage) × (entry : Newest) × (kept key.file ≡ true)
+    × (known table key ≡ Some entry) × (entry.place.block ≡ block)
 
 -- a block that is not the spare one, and to which no entry of a file that is kept leads
 pub record MayBeFreed (kept : ℕ → Bool) (blocks : ℕ) (s : LayerState) (block : ℕ) : Type 0 where

@@ -67,7 +67,7 @@ impl<F: Flash> Disk for FlashDisk<F> {
         ensures passes { OnOk result ((disk_seen F.told F.medium self.new).faults
             ≡ (disk_seen F.told F.medium self.old).faults) }
 
-        // When a fault is its own: one at most, and only of a call that fails.
+        // The disk's own faults, in which the flash did not fail: one at most, and only of a call that fails.
         ensures own { IsTrue F.told → (self.new.own ≡ self.old.own)
             ⊎ ((0 < length bytes.now) × FailsAlone (F.medium self.old.flash) self.new.sequence file at
             (length bytes.now)) }
@@ -81,14 +81,14 @@ impl<F: Flash> Disk for FlashDisk<F> {
         ensures takes { IsTrue F.told → OnOk result (TakesPages (F.medium self.old.flash) (F.medium self.new.flash) file
             at (length bytes.now)) }
 
-        // One that is too long or too much changes no page, and one of no bytes changes nothing.
+        // A write that ends too far out or needs too many pages changes no page, and one of no bytes changes nothing.
         ensures refused { IsTrue F.told → EndsTooLate at (length bytes.now)
             ⊎ WantsTooMany (F.medium self.old.flash) file at (length bytes.now)
             → (F.medium self.new.flash).state ≡ (F.medium self.old.flash).state }
         ensures nothing { length bytes.now ≡ 0 → self.new ≡ self.old }
 
-        // How many numbers it uses: one for each 256 bytes at least, if it succeeds; at most one for each byte and each
-        // page below its end.
+        // How many sequence numbers it uses: one for each 256 bytes at least, if it succeeds; at most one for each byte
+        // and each page below its end.
         ensures rises { OnOk result (length bytes.now + 256 * self.old.sequence ≤ 256 * self.new.sequence) }
         ensures later { self.old.sequence ≤ self.new.sequence }
         ensures steps { self.new.sequence ≤ self.old.sequence + length bytes.now
@@ -102,7 +102,7 @@ impl<F: Flash> Disk for FlashDisk<F> {
         ensures empty { IsTrue F.told → OnOk result (0 < length bytes.now
             → HasEmptyBlock (F.medium self.new.flash).state.pages (F.medium self.new.flash).blocks) }
 
-        // Where the copies stand apart they do so at every moment, as long as there is room for the file's.
+        // Where the copies stand apart (no block has records of two) they do at every moment, if the file's has room.
         ensures apart { IsTrue F.told → KeepsApart (copy_of file) (F.medium self.old.flash) (F.medium self.new.flash) }
     {
         if bytes.is_empty() {

@@ -61,8 +61,8 @@ impl<F: Flash> FlashDisk<F> {
         self.layer.flash
     }
 
-    /// Whether the copies are kept apart on the flash as it is: then no loss of pages of one block costs files of two
-    /// of them. It neither allocates nor calls the flash.
+    /// `true` only where the copies are apart on the flash as it is: then no loss of pages of one block costs files of
+    /// two of them. It neither allocates nor calls the flash.
     pub fn keeps_copies_apart(&self) -> bool
         ensures { IsTrue F.told → IsTrue result → IsApart (F.medium self.now.flash).state.pages
             (F.medium self.now.flash).blocks }

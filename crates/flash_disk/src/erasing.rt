@@ -41,7 +41,7 @@ fn make_blank<F: Flash>(flash: &mut F, block: u32) -> Result<(), FlashFailed>
     flash.erase(block)
 }
 
-// Whether each page of a block is blank.
+// `true` only where each page of a block is blank.
 fn is_blank_block<F: Flash>(flash: &mut F, block: u32) -> Result<bool, FlashFailed>
     requires { block < (F.medium flash.old).blocks }
     ensures blank { IsTrue F.told → IfOk result (λ blank. IsTrue blank → (p : ℕ) → p < 64

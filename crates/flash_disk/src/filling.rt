@@ -241,7 +241,7 @@ impl<F: Flash> Layer<F> {
         self.erase_block(block)
     }
 
-    // Whether each page of a block is blank.
+    // `true` only where each page of a block is blank.
     fn is_empty_block(&mut self, block: u32) -> Result<bool, DiskFailed>
         ensures reads { LearnsNothing F.told F.medium self.old self.new result }
         ensures empty { IsTrue F.told → block < (F.medium self.old.flash).blocks → IfOk result (λ empty. IsTrue empty
@@ -314,7 +314,7 @@ impl<F: Flash> Layer<F> {
         Err(self.fault())
     }
 
-    // Whether a page may be filled next: records may be added, it is outside the spare block, and it is blank.
+    // `true` only where a page may be filled next: records may be added, it is outside the spare block and is blank.
     fn is_fresh(&mut self, place: FlashPage) -> Result<bool, DiskFailed>
         ensures reads { LearnsNothing F.told F.medium self.old self.new result }
         ensures page { IfOk result (λ fresh. IsTrue fresh → place.page < 64) }
@@ -457,7 +457,7 @@ impl<F: Flash> Layer<F> {
     }
 }
 
-// Whether a page is blank.
+// `true` only where a page is blank.
 #[tactic(auto, unfolding(flash_model::specs::Pages::blank_page))]
 pub(crate) fn is_blank(page: &[u8]) -> bool
     ensures { IsTrue result → page.now ≡ blank_page }

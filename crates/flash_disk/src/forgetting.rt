@@ -1,6 +1,6 @@
 //! Files that are given up: their records leave the flash, and nothing else changes.
 
-ghost use Rattle.std.specs.Prelude.{◌≡◌, ◌⊎◌, ◌+◌, ◌≤◌, ◌<◌, ℕ, IsTrue, IsFalse, IfOk, IfErr, IfSome, OnOk};
+ghost use Rattle.std.specs.Prelude.{◌≡◌, ◌≢◌, ◌⊎◌, ◌+◌, ◌≤◌, ◌<◌, ℕ, IsTrue, IsFalse, IfOk, IfErr, IfSome, OnOk};
 ghost use Rattle.std.specs.Prelude.{MatchResult};
 ghost use Rattle.std.specs.Prelude.{Some, None, true, not};
 ghost use Rattle.flash_record.specs.PageRecord.{PageRecord, record_in};
@@ -13,7 +13,7 @@ ghost use Rattle.flash_disk.specs.Standing.{StaysAgreed};
 ghost use Rattle.flash_disk.specs.Known.{known, page_of};
 ghost use Rattle.flash_disk.specs.Newest.{places};
 ghost use Rattle.flash_disk.specs.Forgetting.{Forgets, LeadsKept, LeavesKept, IsForgetting, IsFreeBlock, IsMovingKept};
-ghost use Rattle.flash_disk.specs.Forgetting.{GivesUp, MovesKept, MayBeFreed};
+ghost use Rattle.flash_disk.specs.Forgetting.{GivesUp, MovesKept, MayBeFreed, NeedsBlock, MayGiveNothing};
 ghost use Rattle.disk_model.specs.Medium.{Quiet};
 ghost use Rattle.per_base.specs.Causes.{Rose};
 
@@ -68,7 +68,8 @@ impl<F: Flash> FlashDisk<F> {
             (λ forgotten. GivesUp (in_ranges kept.now) (F.medium self.flash) (F.medium forgotten.disk.flash))
             (λ refused. GivesUp (in_ranges kept.now) (F.medium self.flash) (F.medium refused.flash)) }
 
-        // Afterwards all others are empty, or no page changed; no rivals came, and copies stand apart where they did.
+        // If `whole`, all others are empty and some block is; else no page changed, and there were rivals or each block
+        // but one had a record that is needed. No rivals came, and copies stand apart where they did.
         ensures image { IsTrue F.told → IfOk result (λ forgotten. IsTrue forgotten.whole
             → files_on (F.medium forgotten.disk.flash)
             ≡ kept_image (in_ranges kept.now) (files_on (F.medium self.flash))) }
@@ -76,13 +77,15 @@ impl<F: Flash> FlashDisk<F> {
             → HasEmptyBlock (F.medium forgotten.disk.flash).state.pages (F.medium forgotten.disk.flash).blocks) }
         ensures pages { IsTrue F.told → IfOk result (λ forgotten. IsFalse forgotten.whole
             → (F.medium forgotten.disk.flash).state.pages ≡ (F.medium self.flash).state.pages) }
+        ensures due { IsTrue F.told → IfOk result (λ forgotten. IsFalse forgotten.whole
+            → MayGiveNothing (in_ranges kept.now) (F.medium self.flash)) }
         ensures agreed { IsTrue F.told → IfOk result (λ forgotten.
             StaysAgreed (F.medium self.flash) (F.medium forgotten.disk.flash).state.pages) }
         ensures apart { IsTrue F.told → IfOk result (λ forgotten.
             StandApart (F.medium self.flash).state.pages (F.medium self.flash).blocks
             → StandApart (F.medium forgotten.disk.flash).state.pages (F.medium forgotten.disk.flash).blocks) }
 
-        // The disk was just opened.
+        // The disk is as one just opened: nothing is pending, and it has counted no fault of its own and no byte.
         ensures begins { IfOk result (λ forgotten. IsJustOpened F.told (F.medium forgotten.disk.flash)
             (disk_seen F.told F.medium forgotten.disk)) }
         ensures quiet { IfOk result (λ forgotten. Quiet (disk_seen F.told F.medium forgotten.disk)) }
@@ -119,6 +122,8 @@ impl<F: Flash> Layer<F> {
             → HasEmptyBlock (F.medium self.new.flash).state.pages (F.medium self.new.flash).blocks) }
         ensures nothing { IsTrue F.told → IfOk result (λ whole. IsFalse whole
             → (F.medium self.new.flash).state.pages ≡ (F.medium self.old.flash).state.pages) }
+        ensures due { IsTrue F.told → IfOk result (λ whole. IsFalse whole
+            → MayGiveNothing (in_ranges kept.now) (F.medium self.old.flash)) }
         ensures accounts { Accounts F.told F.medium 0 self.old self.new result }
         ensures own { IsTrue F.told → self.new.own ≡ self.old.own }
     {
@@ -139,6 +144,8 @@ impl<F: Flash> Layer<F> {
             → HasEmptyBlock (F.medium self.new.flash).state.pages (F.medium self.new.flash).blocks) }
         ensures nothing { IsTrue F.told → IfOk result (λ whole. IsFalse whole
             → (F.medium self.new.flash).state.pages ≡ (F.medium self.old.flash).state.pages) }
+        ensures due { IsTrue F.told → IfOk result (λ whole. IsFalse whole
+            → MayGiveNothing (in_ranges kept.now) (F.medium self.old.flash)) }
         ensures accounts { Accounts F.told F.medium 0 self.old self.new result }
         ensures own { IsTrue F.told → self.new.own ≡ self.old.own }
     {
@@ -221,6 +228,8 @@ impl<F: Flash> Layer<F> {
             (places (F.medium self.old.flash).blocks) self.old.state.table
             → IfOk result (λ found. IfSome found
             (MayBeFreed (in_ranges kept.now) (F.medium self.old.flash).blocks self.old.state)) }
+        ensures full { IfOk result (λ found. found ≡ None → (block : ℕ) → block < (F.medium self.old.flash).blocks
+            → block ≢ self.old.state.spare → NeedsBlock (in_ranges kept.now) self.old.state.table block) }
     {
         for block in 0..self.flash.blocks() {
             let needed = self.holds_needed(kept, block)?;
@@ -239,6 +248,8 @@ impl<F: Flash> Layer<F> {
             (places (F.medium self.old.flash).blocks) self.old.state.table
             → IfOk result (λ needed. IsFalse needed
             → LeavesKept (in_ranges kept.now) self.old.state.table block 64) }
+        ensures some { IfOk result (λ needed. IsTrue needed
+            → NeedsBlock (in_ranges kept.now) self.old.state.table block) }
     {
         let mut page = BLANK_PAGE;
         for at in 0..BLOCK_PAGES {

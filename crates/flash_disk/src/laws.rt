@@ -8,8 +8,8 @@ ghost use Rattle.flash_disk.specs.Fresh.{IsBlankFlash};
 ghost use Rattle.flash_disk.specs.Apart.{copy_of, IsApart, StandApart, IsOfCopy, LosesPages, CostsOneCopy};
 ghost use Rattle.flash_disk.specs.Emptied.{HasEmptyBlock, LosesAnyPages};
 
-/// A fresh flash can be opened, has no rivals, and keeps the copies apart. No call makes rivals where the records
-/// agree, and where they agree there are none: so on a flash that only such disks wrote, no write fails for rivals.
+/// A blank flash can be opened, has an empty block, keeps the copies apart, and its records agree. Where records agree
+/// there are no rivals, and no call makes any: so on a flash that only such disks wrote, no write fails for rivals.
 pub fn fresh_flashes_open()
     ensures usable { (pages : Pages) (blocks : ℕ) → 0 < blocks → IsBlankFlash pages blocks → IsUsable pages blocks }
     ensures agreed { (pages : Pages) (blocks : ℕ) → IsBlankFlash pages blocks → IsAgreed pages (places blocks) }
@@ -25,8 +25,8 @@ pub fn usable_flashes_are_taken()
     ensures { (pages : Pages) (blocks : ℕ) → IsUsable pages blocks → IsUnusable pages blocks → ⊥ }
 {}
 
-/// What a loss of pages within one block costs: the files of one copy, where the block is of one copy alone. So each is
-/// where the copies stand apart, as every write keeps them (`KeepsApart`). Copy c of a place has the files of copy c.
+/// What a loss of pages within one block costs: the files of one copy, where the block is of one copy alone, as each
+/// is where the copies stand apart. Copy c of a place that begins at a multiple of 32 has the files of copy c.
 pub fn lost_pages_cost_one_copy()
     ensures of_copy { (old new : Pages) (blocks block copy : ℕ) → IsAgreed old (places blocks)
         → IsOfCopy old (places blocks) block copy → LosesPages block old new → CostsOneCopy copy blocks old new }
@@ -37,7 +37,7 @@ pub fn lost_pages_cost_one_copy()
 {}
 
 /// A flash that can be opened and has an empty block, as each write that succeeds leaves one (`write_at.empty`), can be
-/// opened after any loss of pages: some block can be spared then. So can one that lost pages of one block.
+/// opened after any loss of pages (`any`), and after one of pages of one block: some block can be spared then.
 pub fn lost_pages_leave_it_usable()
     ensures any { (old new : Pages) (blocks : ℕ) → IsUsable old blocks → HasEmptyBlock old blocks
         → LosesAnyPages old new → IsUsable new blocks }

@@ -66,7 +66,7 @@ impl<F: Flash> Layer<F> {
         DiskFailed
     }
 
-    // Whether nothing is unsure, and each newest record is in a block with newest records of its copy alone.
+    // `true` only where nothing is unsure and each newest record is in a block with newest records of its copy alone.
     pub(crate) fn is_apart(&self) -> bool
         ensures { IsTrue F.told → IsDescribedBy (F.medium self.now.flash) self.now.state → IsTrue result
             → IsApart (F.medium self.now.flash).state.pages (F.medium self.now.flash).blocks }

@@ -26,9 +26,9 @@
 //! the records of files that nobody names any more, so that what they took is room again.
 //!
 //! A flash that another program wrote may hold what this one never writes. Of two records of one page with one number
-//! the first place counts; while two that differ both have the greatest number of their page nothing is erased, and a
-//! write of some bytes fails. Bytes that a record has past the end of its file are rewritten as zeros before the file
-//! grows over them.
+//! the first place counts; while two that differ both have the greatest number of their page, as *rivals*, nothing is
+//! erased, and a write of some bytes fails. Bytes that a record has past the end of its file are rewritten as zeros
+//! before the file grows over them.
 //!
 //! Where the flash's pages are modelled, the disk's bytes are: they are the files that the newest records denote, and
 //! every clause of the trait is proved, what a crash or a failed call leaves at any moment included, if no page passes

@@ -36,7 +36,7 @@ impl<F: Flash> FlashDisk<F> {
         ensures device { IfErr result (λ refused. refused.error ≡ FlashOpenError.Device
             → Rose (F.medium flash).faults (F.medium refused.flash).faults) }
 
-        // No count falls, and the disk's begins at that of its flash, which rose nowhere.
+        // No count of faults falls, and where the flash opens it is as before.
         ensures faults { MatchResult result (λ disk. (F.medium disk.flash).faults ≡ (F.medium flash).faults)
             (λ refused. (F.medium flash).faults ≤ (F.medium refused.flash).faults) }
 
@@ -49,8 +49,8 @@ impl<F: Flash> FlashDisk<F> {
         ensures unfailed { IfErr result (λ refused. refused.error ≡ FlashOpenError.Unusable
             → (F.medium refused.flash).faults ≡ (F.medium flash).faults) }
 
-        // No page changes, nothing counts as a fault of the disk yet, and a crash leaves what the flash held, meanwhile
-        // and afterwards.
+        // No page changes, nothing counts as a fault of the disk yet, its number is the greatest of a record, and a
+        // crash leaves what the flash held, meanwhile and afterwards.
         ensures pages { IsTrue F.told → IfOk result (λ disk. (F.medium disk.flash).state.pages
             ≡ (F.medium flash).state.pages) }
         ensures blocks { IfOk result (λ disk. (F.medium disk.flash).blocks ≡ (F.medium flash).blocks) }

@@ -145,7 +145,7 @@ impl Streams {
     }
 }
 
-/// Whether each newest record is in a block with newest records of its copy alone.
+/// `true` only where each newest record is in a block with newest records of its copy alone.
 pub fn are_apart(table: &Table) -> bool
     ensures { IsTrue result → IsLedApart table.now }
 {

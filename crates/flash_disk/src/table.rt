@@ -47,7 +47,7 @@ pub struct Newest {
     pub filled: u32,
 }
 
-/// The newest records of all pages.
+/// The newest records of all pages: of each page that has one, an entry that leads to where it is on the flash.
 #[derive(Drop)]
 pub struct Table {
     newest: HashMap<FilePage, Newest>,
@@ -64,7 +64,7 @@ impl Table {
     ghost use Rattle.flash_disk.specs.Known.{PutsAll};
     ghost use Rattle.flash_disk.specs.Known.{SameRecords, SameBounds, Lengthens, SameLens, IsEmptyTable, HasCapacity};
 
-    /// An empty table for a flash of that many blocks.
+    /// An empty table for a flash of that many blocks, with room for as many pages as all blocks but two have.
     pub fn new(alloc: Global, blocks: u32) -> Result<Table, AllocError>
         ensures empty { IfOk result IsEmptyTable }
         ensures limit { IfOk result (λ table. limit_of table ≡ 64 * (blocks - 2)) }
@@ -164,7 +164,7 @@ impl Table {
         }
     }
 
-    /// Sets the newest records of pages that have one.
+    /// Sets the newest records of pages that all have one already; of two for the same page the later stays.
     pub fn put_all(&mut self, news: &[(FilePage, Newest)])
         ensures put { All (λ new. IsSome (known self.old new.0)) news.now → HasCapacity self.old
             → PutsAll self.old self.new news.now }
@@ -220,7 +220,7 @@ impl Table {
         self.blocks >= LEAST_BLOCKS
     }
 
-    /// Whether the newest record of a page is in this block, and the page is of the same copy as `file`.
+    /// `true` only where the page is of `file`'s copy, its newest record in this block: then the block has one of that.
     pub fn has_in(&self, key: FilePage, file: u32, block: u32) -> bool
         ensures { IsTrue result → LeadsSome self.now (copy_of file) block }
     {
@@ -279,8 +279,8 @@ impl Table {
         best == but || load < self.load_of(best)
     }
 
-    /// Whether a block leaves fewer than 8 pages, and less than a quarter of those that the lightest but the spare one
-    /// would.
+    /// `true` only where a block leaves fewer than 8 of its 64 pages, and less than a quarter of those which the
+    /// lightest but the spare one would.
     pub fn leaves_little(&self, block: u32, spare: u32) -> bool
         ensures { IsTrue result → 57 ≤ load_known self.now block }
     {
@@ -328,7 +328,7 @@ impl Table {
         block != but && (best == but || self.load_of(block) < self.load_of(best))
     }
 
-    /// Takes the lengths of the files from the newest records.
+    /// Takes the files' lengths from the newest records, where there is room for them and none is known yet.
     pub fn measure(&mut self)
         ensures lens { page_len self.old ≤ spare self.old.lens → ((file : ℕ) → len_known self.old file ≡ 0)
             → (file : ℕ) → IsLongest self.old.newest file (len_known self.new file) }
@@ -352,7 +352,7 @@ impl Table {
         self.newest.values().any(|newest| newest.rivalled)
     }
 
-    /// Whether each newest record is in a block that is said to be of its file's copy.
+    /// `true` only where each newest record is in a block that `copies` says is of its file's copy.
     pub fn is_apart(&self, copies: &[u8]) -> bool
         ensures { IsTrue result → (key : FilePage) (entry : Newest) → known self.now key ≡ Some entry
             → slice_index copies.now entry.place.block ≡ copy_of key.file }
@@ -473,7 +473,7 @@ fn is_free(foreign: &[u8], block: u32) -> bool
     }
 }
 
-// Whether a block is said to be of a file's copy.
+// `true` only where a block is said to be of a file's copy.
 fn is_of(copies: &[u8], block: u32, file: u32) -> bool
     ensures { IsTrue result → slice_index copies.now block ≡ copy_of file }
 {

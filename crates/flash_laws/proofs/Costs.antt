@@ -12,7 +12,7 @@ use Rattle.flash_disk.specs.Standing.{IsAgreed}
 use Rattle.flash_disk.specs.Throughout.{AgreedSince}
 use Rattle.flash_laws.specs.Outvotes.{IsPlaced, SparesOtherCopies, Outvotes, OutlastsLoss, OutlastsSince}
 use Rattle.flash_laws.proofs.Contents.{content_outvoted, content_stands}
-use Rattle.flash_laws.proofs.Outvoted.{outvoted, outvoted_only, stands_still}
+use Rattle.flash_laws.proofs.Outvoted.{outvoted, outvoted_only, stands_alone, stands_still}
 
 -- which copy the files of a copy of a place are of
 files_of : (first copy k : ℕ) → first % 32 ≡ 0 → copy < 8 → k < 4 → copy_of (first + 4 * copy + k) ≡ copy
@@ -47,6 +47,8 @@ module _ (old new : Pages) (blocks lost : ℕ) (cost : CostsOneCopy lost blocks 
         (flash_files new blocks) place lost len at hash content (areas place placed) all m two few;
     text_of_one = λ generation text place placed few alone least. stands_still (flash_files old blocks)
         (flash_files new blocks) place lost generation text (files place placed) alone 1 (omega arith) few least;
+    only_of_one = λ generation g text t place placed few alone below stands. stands_alone (flash_files old blocks)
+        (flash_files new blocks) place lost generation text (files place placed) alone g t few below stands;
     content_of_one = λ len at hash content place placed few all alike. content_stands (flash_files old blocks)
         (flash_files new blocks) place lost len at hash content (areas place placed) all 1 (omega arith) few alike;
   }

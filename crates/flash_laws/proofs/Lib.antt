@@ -1,3 +1,6 @@
 mod Contents
 mod Costs
+mod Left
+mod Lengths
+mod Newest
 mod Outvoted

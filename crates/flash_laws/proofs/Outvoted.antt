@@ -1,5 +1,5 @@
 -- What every copy holds alone stands when one copy holds anything.
-use Rattle.std.proofs.Common.{◌≡◌, ◌≢◌, ℕ, zero, suc, ◌+◌, ◌*◌, ◌<◌, ◌≤◌, List, sym, subst, inl, inr}
+use Rattle.std.proofs.Common.{◌≡◌, ◌≢◌, ◌⊎◌, ℕ, zero, suc, ◌+◌, ◌*◌, ◌<◌, ◌≤◌, List, sym, subst, inl, inr}
 use Rattle.std.proofs.Common.{⊎_elim, arith}
 use Rattle.std.proofs.lemmas.Bool.{cases_eq}
 use Rattle.hash_guard.specs.SealedText.{VerifiesAs}
@@ -88,3 +88,15 @@ module _ (old new : Image) (place : Place) (lost g : ℕ) (text : List ℕ)
         (let found = at_least_one (λ c. Holds new place c h t) place.copies m positive held in
         most found.0 h t found.1 found.2);
   }
+
+  -- and no other stands, unless one has as great a generation
+  pub stands_alone : (h : ℕ) (t : List ℕ) → 1 < place.copies
+      → ((c i : ℕ) (u : List ℕ) → c < place.copies → Holds new place c i u → (i < g) ⊎ ((i ≡ g) × (u ≡ text)))
+      → IsStanding new place 1 h t → (h ≡ g) × (t ≡ text)
+  stands_alone h t few below stands =
+      let found = at_least_one (λ c. Holds new place c h t) place.copies 1 (omega arith) stands.enough in
+      let high = stands.greatest g text (enough 1 few) in
+      ⊎_elim
+      (λ less. absurd (omega (arith, high, less)))
+      (λ same. same)
+      (below found.0 h t found.1 found.2)

@@ -32,7 +32,8 @@ GiveAll image place blocks len hash content = (copy : ℕ) → copy < place.copi
 -- The files of one copy may be anything, and all others are as they were. Where m copies have to agree, at least 2 and
 -- fewer than there are, a text that each copy holds alone stands, and m copies hold no other; and a content that
 -- each copy gives is the vote. Where one copy is enough, the text needs that no copy gives one of a greater generation,
--- as of a bank that was made again from generation 1; and the content, that no copy gives another under its hash.
+-- as of a bank that was made again from generation 1, and no other stands unless it has the same one; and the content
+-- needs that no copy gives another under its hash.
 pub record Outvotes (old new : Image) : Type 0 where
   pub lost : ℕ
   pub spares : SparesOtherCopies lost old new
@@ -47,6 +48,11 @@ pub record Outvotes (old new : Image) : Type 0 where
       → IsAlone old place generation text
       → ((copy g : ℕ) (t : List ℕ) → copy < place.copies → Holds new place copy g t → g ≤ generation)
       → IsStanding new place 1 generation text
+  pub only_of_one : (generation g : ℕ) (text t : List ℕ) (place : Place) → IsPlaced place → 1 < place.copies
+      → IsAlone old place generation text
+      → ((copy h : ℕ) (u : List ℕ) → copy < place.copies → Holds new place copy h u
+      → (h < generation) ⊎ ((h ≡ generation) × (u ≡ text)))
+      → IsStanding new place 1 g t → (g ≡ generation) × (t ≡ text)
   pub content_of_one : (len : ℕ) (blocks hash content : List ℕ) (place : Place) → IsPlaced place → 1 < place.copies
       → GiveAll old place blocks len hash content
       → ((copy : ℕ) (other : List ℕ) → copy < place.copies

@@ -22,8 +22,8 @@ pub struct FlashFailed;
 
 /// A flash: blocks of 64 pages of 512 bytes, each programmed while it is blank and erased with its block.
 ///
-/// What is said of pages holds where the flash models them, and so does what is said of crashes: a flash that models
-/// nothing names no case. Whether a flash is modelled is a constant of its type, so it never changes from call to call.
+/// What is said of pages holds where the flash models them, and so what is said of crashes: a flash that models
+/// nothing names no case, which is one outcome of a crash. Whether a flash is modelled is a constant of its type.
 ///
 /// Limits, which a device has to keep beneath this trait:
 ///
@@ -44,7 +44,7 @@ pub trait Flash {
     fn blocks(&self) -> u32
         ensures { result ≡ (medium self.now).blocks };
 
-    /// Reads a page.
+    /// Reads a page. No page changes, and a crash meanwhile leaves what there was.
     fn read(&mut self, block: u32, page: u32, out: &mut [u8; 512]) -> Result<(), FlashFailed>
         requires block { block < (medium self.old).blocks }
         requires page { page < 64 }
@@ -55,8 +55,8 @@ pub trait Flash {
         ensures cause { OnErr result (Rose (medium self.old).faults (medium self.new).faults) }
         ensures passes { OnOk result ((medium self.new).faults ≡ (medium self.old).faults) };
 
-    /// Programs a page that is blank. Where the call fails, the page may hold anything, as after a crash; but what its
-    /// start then verifies as, these bytes verify as. A blank page never verifies.
+    /// Programs a blank page. Where the call fails, the page may hold anything, as after a crash; but a text that its
+    /// start then holds under its hash (it *verifies*) is the text of these bytes. A blank page never verifies.
     fn program(&mut self, block: u32, page: u32, bytes: &[u8; 512]) -> Result<(), FlashFailed>
         requires block { block < (medium self.old).blocks }
         requires page { page < 64 }
@@ -73,8 +73,8 @@ pub trait Flash {
         ensures cause { OnErr result (Rose (medium self.old).faults (medium self.new).faults) }
         ensures passes { OnOk result ((medium self.new).faults ≡ (medium self.old).faults) };
 
-    /// Makes all pages of a block blank. Where the call fails, they may hold anything, as after a crash; but what the
-    /// start of a page then verifies as, it verified as before.
+    /// Makes all pages of a block blank. Where the call fails, they may hold anything, as after a crash; but a text
+    /// that the start of a page then holds under its hash, it held before.
     fn erase(&mut self, block: u32) -> Result<(), FlashFailed>
         requires { block < (medium self.old).blocks }
         ensures state { IsTrue told → OnOk result ((medium self.new).state ≡ erased (medium self.old).state block) }

@@ -56,7 +56,7 @@ impl MemFlash {
         })
     }
 
-    /// Makes the calls with these numbers fail, counted from 0 from now on. Replaces an earlier plan.
+    /// Makes the calls with these numbers fail, counted from 0 from now on. It replaces an earlier plan; a stop stays.
     pub fn fail_calls(&mut self, calls: Vec<u64>)
         ensures planned { (k : ℕ) → is_planned self.new k ≡ named_in calls.items k }
         ensures stopped { (k : ℕ) → is_stopped self.new k ≡ is_stopped self.old k }
@@ -66,7 +66,7 @@ impl MemFlash {
         self.orders.plan(calls);
     }
 
-    /// Lets `k` more calls pass, and makes every call after them fail. Replaces an earlier stop.
+    /// Lets `k` more calls pass, and makes every call after them fail. It replaces an earlier stop; a plan stays.
     pub fn stop_after(&mut self, k: u64)
         ensures planned { (n : ℕ) → is_planned self.new n ≡ is_planned self.old n }
         ensures stopped { (n : ℕ) → is_stopped self.new n ≡ nat_le k n }

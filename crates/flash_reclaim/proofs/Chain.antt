@@ -14,12 +14,12 @@ use Rattle.flash_disk.specs.FlashDiskLaws.{told_files, told_moment}
 use Rattle.flash_disk.specs.FlashDiskMedium.{disk_case, disk_seen}
 use Rattle.flash_disk.specs.FlashFiles.{flash_files}
 use Rattle.flash_disk.specs.FlashView.{FlashView}
-use Rattle.flash_disk.specs.Forgetting.{Forgets, GivesUp}
+use Rattle.flash_disk.specs.Forgetting.{Forgets, GivesUp, IsFullOfKept, MayGiveNothing}
 use Rattle.flash_disk.specs.KeepsApart.{ApartSince, StandsOrLacked}
 use Rattle.flash_disk.specs.Looks.{LeavesFlashAlone, OpensFlash}
 use Rattle.flash_disk.specs.Newest.{IsUnusable, IsUsable, places}
 use Rattle.flash_disk.specs.Sound.{files_on}
-use Rattle.flash_disk.specs.Standing.{IsAgreed, StaysAgreed}
+use Rattle.flash_disk.specs.Standing.{HasRivals, IsAgreed, StaysAgreed}
 use Rattle.flash_disk.specs.Kept.{kept_image}
 use Rattle.flash_disk.specs.declared.disk.FlashOpenError.{FlashOpenError}
 use Rattle.flash_disk.specs.declared.disk.FlashOpenError.TheVariants.{WrongSize, Unusable, Device, OutOfMemory}
@@ -42,10 +42,10 @@ pub hands_back : (told : Bool) (old back : FlashMedium) (error : FlashOpenError)
 unfolding HandsBackTold
 hands_back told old back error is = is
 
-pub reclaims_told : (told : Bool) (old new : FlashMedium) (whole : Bool) → (IsTrue told → Reclaims old new whole)
-    → ReclaimsTold told old new whole
+pub reclaims_told : (told : Bool) (old new : FlashMedium) (whole : Bool) (own : ℕ)
+    → (IsTrue told → Reclaims old new whole own) → ReclaimsTold told old new whole own
 unfolding ReclaimsTold
-reclaims_told told old new whole is = is
+reclaims_told told old new whole own is = is
 
 -- a count that rose, where the disk counted none of its own
 pub rose_alone : (before was was_own now now_own : ℕ) → was ≡ before → was_own ≡ 0 → now_own ≡ 0
@@ -178,12 +178,14 @@ module _ {F : Type 0} (told : Bool) (tells : IsTrue told) (medium : F → FlashM
           (files_left c past plain);
     }
 
-    pub seen_reclaims : 4 ≤ start.blocks → start.blocks ≤ 4096 → KeepsUsable start first → KeepsAgreed start first
-        → Reclaims start mid false
-    seen_reclaims many few usable agreed = record {
+    pub seen_reclaims : (own : ℕ) → 0 < own → 4 ≤ start.blocks → start.blocks ≤ 4096 → KeepsUsable start first
+        → KeepsAgreed start first → Reclaims start mid false own
+    seen_reclaims own some many few usable agreed = record {
       stands = seen_stand;
       files = λ is. absurd (true≢false (sym is));
       nothing = λ is. files_seen;
+      due = λ is. inr some;
+      own_faults = λ more. refl;
       opens = usable_seen many few usable;
       agreed = agreed_seen agreed;
       apart = apart_seen;
@@ -243,6 +245,13 @@ module _ {F : Type 0} (told : Bool) (tells : IsTrue told) (medium : F → FlashM
                 lacked.3,
           ))
 
+      -- what kept it from giving up anything still does
+      stuck_still : now.state.pages ≡ mid.state.pages → MayGiveNothing kept mid → MayGiveNothing kept now
+      stuck_still same stuck =
+          subst (λ b. HasRivals now.state.pages (places b) ⊎ IsFullOfKept kept now.state.pages b)
+          (sym gives.time.blocks)
+          (subst (λ p. HasRivals p (places mid.blocks) ⊎ IsFullOfKept kept p mid.blocks) (sym same) stuck)
+
       pub given_refused : (error : FlashOpenError) → (error ≡ Device) ⊎ (error ≡ OutOfMemory)
           → (error ≡ Device → Rose start.faults now.faults) → IsHandedBack start now error
       given_refused error two device = record {
@@ -254,11 +263,12 @@ module _ {F : Type 0} (told : Bool) (tells : IsTrue told) (medium : F → FlashM
 
       pub given_reclaims : (whole : Bool) → ((file : ℕ) → IsGivenUp (files_on start) file → kept file ≡ false)
           → (IsTrue whole → files_on now ≡ kept_image kept (files_on mid))
-          → (IsFalse whole → now.state.pages ≡ mid.state.pages) → StaysAgreed mid now.state.pages
+          → (IsFalse whole → now.state.pages ≡ mid.state.pages)
+          → (IsFalse whole → MayGiveNothing kept mid) → StaysAgreed mid now.state.pages
           → (StandApart mid.state.pages mid.blocks → StandApart now.state.pages now.blocks)
           → 4 ≤ start.blocks → start.blocks ≤ 4096 → KeepsUsable start first → KeepsAgreed start first
-          → now.faults ≡ start.faults → Reclaims start now whole
-      given_reclaims whole unnamed image same agreed_on apart_on many few usable agreed faults = record {
+          → now.faults ≡ start.faults → (own : ℕ) → own ≡ 0 → Reclaims start now whole own
+      given_reclaims whole unnamed image same stuck agreed_on apart_on many few usable agreed faults own none = record {
         stands = given_stand;
         files = λ is. record {
           given_up = λ file up. ap (λ (i : Image). i file) (image is)
@@ -269,6 +279,8 @@ module _ {F : Type 0} (told : Bool) (tells : IsTrue told) (medium : F → FlashM
         };
         nothing = λ is. ap (λ p. flash_files p now.blocks) (same is)
             ∙ (ap (λ b. flash_files mid.state.pages b) gives.time.blocks ∙ files_seen);
+        due = λ is. inl (kept, λ file own up. true≢false (sym own ∙ unnamed file up), stuck_still (same is) (stuck is));
+        own_faults = λ more. absurd (omega (arith, none, more));
         opens = given_usable (usable_seen many few usable);
         agreed = λ was. subst (λ b. IsAgreed now.state.pages (places b)) (sym gives.time.blocks)
             (agreed_on (agreed_seen agreed was));

@@ -16,7 +16,7 @@ pub record IsFreeBank (image : Image) (app bank : ℕ) : Type 0 where
   pub sole : root_sole image app ≡ true
   pub free : IsFree bank (says_at image app)
 
--- a file of such a bank
+-- the file is one of a bank that is free so: it is given up
 pub record IsGivenUp (image : Image) (file : ℕ) : Type 0 where
   pub app : ℕ
   pub bank : ℕ

@@ -1,5 +1,5 @@
 -- What comes of a flash whose room is reclaimed: each application stands as it stood, at each moment.
-use Rattle.std.specs.Prelude.{◌≡◌, ◌⊎◌, ℕ, ◌<◌, ◌≤◌, [], Bool, IsFalse, IsTrue}
+use Rattle.std.specs.Prelude.{◌≡◌, ◌⊎◌, ℕ, ◌<◌, ◌≤◌, [], Bool, true, IsFalse, IsTrue}
 use Rattle.per_base.specs.Causes.{Rose}
 use Rattle.disk_model.specs.Image.{Image}
 use Rattle.flash_model.specs.Pages.{IsPlain}
@@ -9,6 +9,7 @@ use Rattle.flash_disk.specs.declared.disk.FlashOpenError.{FlashOpenError}
 use Rattle.flash_disk.specs.declared.disk.FlashOpenError.TheVariants.{WrongSize, Unusable, Device}
 use Rattle.flash_disk.specs.Apart.{StandApart}
 use Rattle.flash_disk.specs.FlashFiles.{flash_files}
+use Rattle.flash_disk.specs.Forgetting.{MayGiveNothing}
 use Rattle.flash_disk.specs.KeepsApart.{StandsOrLacked}
 use Rattle.flash_disk.specs.Newest.{IsUnusable, places}
 use Rattle.flash_disk.specs.Sound.{files_on}
@@ -22,7 +23,8 @@ unfoldable pub AppsStand : (old new : Image) → Type 0
 AppsStand old new = (app : ℕ) → app < 8
     → (app_at new app ≡ app_at old app) × (IsCleanApp app old → IsCleanApp app new)
 
--- so it is now, and after a crash at any moment since the flash was handed in, if no page passes its hash by chance
+-- every application is what it was now, and after a crash at any moment since the flash was handed in, if no page
+-- passes its hash by chance
 pub record AppsStandSince (old new : FlashMedium) : Type 0 where
   pub now : AppsStand (files_on old) (files_on new)
   pub during : (c : FlashCase) → new.since old.moment c → IsPlain c.before c.whole c.left
@@ -33,13 +35,22 @@ pub record IsReclaimed (old new : Image) : Type 0 where
   pub given_up : (file : ℕ) → IsGivenUp old file → new file ≡ []
   pub kept : (file : ℕ) → file < 4294967295 → ¬ (IsGivenUp old file) → new file ≡ old file
 
--- A flash whose room was reclaimed, in whole or not at all.
-pub record Reclaims (old new : FlashMedium) (whole : Bool) : Type 0 where
+-- there are rivals, which are newest records of one page that differ, or each block but one is needed for files that
+-- are not given up
+abbrev pub MayTakeNothing : (old : Image) → (new : FlashMedium) → Type 0
+MayTakeNothing old new = (kept : ℕ → Bool) × ((file : ℕ) → kept file ≡ true → ¬ (IsGivenUp old file))
+    × MayGiveNothing kept new
+
+-- A flash whose room was reclaimed, in whole or not at all, and what the disk counted of its own while roots were read.
+pub record Reclaims (old new : FlashMedium) (whole : Bool) (own : ℕ) : Type 0 where
   -- each application stands as before, also after a crash at any moment
   pub stands : AppsStandSince old new
   -- the files that no root names are empty, and all others are as they were; or all are
   pub files : IsTrue whole → IsReclaimed (files_on old) (files_on new)
   pub nothing : IsFalse whole → files_on new ≡ files_on old
+  -- not at all only where nothing may be, or that count is not 0
+  pub due : IsFalse whole → MayTakeNothing (files_on old) new ⊎ (0 < own)
+  pub own_faults : 0 < own → IsFalse whole
   -- it can be opened at every moment; no rivals came, and copies stand apart where they did and there was room
   pub opens : UsableSince new old.moment
   pub agreed : IsAgreed old.state.pages (places old.blocks) → IsAgreed new.state.pages (places new.blocks)
@@ -55,9 +66,10 @@ pub record IsHandedBack (old back : FlashMedium) (error : FlashOpenError) : Type
   pub unusable : error ≡ Unusable → IsUnusable old.state.pages old.blocks
   pub device : error ≡ Device → Rose old.faults back.faults
 
--- what is said of a flash that is modelled
-unfoldable pub ReclaimsTold : (told : Bool) → (old new : FlashMedium) → (whole : Bool) → Type 0
-ReclaimsTold told old new whole = IsTrue told → Reclaims old new whole
+-- a flash that is modelled was reclaimed so
+unfoldable pub ReclaimsTold : (told : Bool) → (old new : FlashMedium) → (whole : Bool) → (own : ℕ) → Type 0
+ReclaimsTold told old new whole own = IsTrue told → Reclaims old new whole own
 
+-- a flash that is modelled was handed back so
 unfoldable pub HandsBackTold : (told : Bool) → (old back : FlashMedium) → FlashOpenError → Type 0
 HandsBackTold told old back error = IsTrue told → IsHandedBack old back error

@@ -17,6 +17,9 @@ pub struct Reclaimed<F: Flash> {
     pub flash: F,
     /// Whether every file of a bank without a version is empty now; else none was taken.
     pub whole: bool,
+    /// How many faults of its own the disk counted while the roots were read. A read counts none; where there is one,
+    /// no file was taken.
+    pub own_faults: u64,
 }
 
 /// Takes from a flash the files of every bank in which no version is, so that what they took is room for new records.
@@ -30,9 +33,12 @@ pub struct Reclaimed<F: Flash> {
 ///
 /// Those of an opening ([`FlashDisk::open`]). The flash is handed back, and each application stands on it as before.
 pub fn reclaim<F: Flash>(alloc: Global, flash: F) -> Result<Reclaimed<F>, FlashRefused<F>>
-    // Each application stands as before, also after a stop at any moment; what no root names is empty.
+    // Where the flash is modelled each application stands as before, also after a stop at any moment. Either each file
+    // that is given up (`IsGivenUp`) is empty and all others are as they were, or none changed, which comes only where
+    // nothing could be taken or the disk counted a fault of its own.
     ensures reclaims { IfOk result (λ reclaimed. ReclaimsTold F.told (F.medium flash) (F.medium reclaimed.flash)
-        reclaimed.whole) }
+        reclaimed.whole reclaimed.own_faults) }
+    // A flash that is refused is handed back with the reason, and each application stands on it as before.
     ensures refused { IfErr result (λ refused. HandsBackTold F.told (F.medium flash) (F.medium refused.flash)
         refused.error) }
 {
@@ -40,11 +46,13 @@ pub fn reclaim<F: Flash>(alloc: Global, flash: F) -> Result<Reclaimed<F>, FlashR
     roots_say();
     let mut disk = FlashDisk::open(alloc, flash)?;
     let found = kept_files(alloc, &mut disk);
-    if disk.own_faults() > 0 {
+    let own_faults = disk.own_faults();
+    if own_faults > 0 {
         // No read counts one, so that each failure below is one of the flash.
         return Ok(Reclaimed {
             flash: disk.into_flash(),
             whole: false,
+            own_faults,
         });
     }
     let kept = match found {
@@ -60,6 +68,7 @@ pub fn reclaim<F: Flash>(alloc: Global, flash: F) -> Result<Reclaimed<F>, FlashR
     Ok(Reclaimed {
         flash: disk.into_flash(),
         whole,
+        own_faults,
     })
 }
 

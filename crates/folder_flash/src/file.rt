@@ -1,8 +1,9 @@
 //! The file of a flash.
 
-ghost use Rattle.std.specs.Prelude.{◌≡◌, ◌≤◌, ◌<◌, ◌*◌, ◌+◌, ◌-◌, ◌^◌, ℕ, IfOk, OnOk, OnErr, IfSome, IsTrue};
+ghost use Rattle.std.specs.Prelude.{◌≡◌, ◌⊎◌, ◌≤◌, ◌<◌, ◌*◌, ◌+◌, ◌-◌, ◌^◌, ℕ, IfOk, OnOk, OnErr, IfSome, IsTrue};
 ghost use Rattle.std.specs.Prelude.{length, replicate, slice_index, max, min};
 ghost use Rattle.disk_model.specs.Image.{put_image, TornImage};
+ghost use Rattle.disk_model.specs.Case.{IsSettledAt};
 ghost use Rattle.disk_model.specs.Medium.{Quiet, Elapses, OnlyReads, EachCase};
 ghost use Rattle.folder_disk.specs.FolderView.{disk_seen};
 ghost use Rattle.folder_flash.specs.Bytes.{AreFlashBytes, IsSameFlash, PutsIntoFlash};
@@ -36,13 +37,16 @@ pub(crate) struct FlashFile<S: System> {
     alloc: Global,
     /// How many bytes it has, where the disk was asked for it and no write failed since: only this flash writes it.
     size: Option<u64>,
+    /// Whether all that was written is durable. It may be so where this is not set.
+    is_settled: bool,
     /// Whether the last call failed because memory ran out.
     is_starved: bool,
 }
 
 impl<S: System> Model for FlashFile<S> {
     ghost use Rattle.std.specs.Prelude.{◌≡◌, IfSome, IsTrue, length};
-    ghost use Rattle.folder_disk.specs.FolderView.{FolderView, view_code};
+    ghost use Rattle.disk_model.specs.Medium.{Quiet};
+    ghost use Rattle.folder_disk.specs.FolderView.{FolderView, view_code, disk_seen};
 
     ghost Value = { FolderView S };
 
@@ -50,8 +54,9 @@ impl<S: System> Model for FlashFile<S> {
 
     ghost view = { λ file. file.disk };
 
-    ghost invariant = { λ file. IsTrue S.told → IfSome file.size (λ n.
-        n ≡ length ((S.medium file.disk.system).disk.image 0)) };
+    ghost invariant = { λ file. (IsTrue S.told → IfSome file.size (λ n.
+        n ≡ length ((S.medium file.disk.system).disk.image 0)))
+        × (IsTrue file.is_settled → Quiet (disk_seen S.medium file.disk)) };
 }
 
 impl<S: System> FlashFile<S> {
@@ -62,8 +67,15 @@ impl<S: System> FlashFile<S> {
             disk,
             alloc,
             size: None,
+            is_settled: false,
             is_starved: false,
         }
+    }
+
+    pub(crate) fn into_disk(self) -> FolderDisk<S>
+        ensures { result ≡ self }
+    {
+        self.disk
     }
 
     /// The last failure, as one of the file of a flash.
@@ -111,8 +123,44 @@ impl<S: System> FlashFile<S> {
         Ok(())
     }
 
-    /// Writes bytes from a place on, durably.
+    /// Writes bytes from a place on, durably. What an earlier call left pending is made durable before.
     pub(crate) fn write(&mut self, at: u64, bytes: &[u8]) -> Result<(), FlashFailed>
+        requires some { 0 < length bytes.now }
+        requires end { at + length bytes.now < 2 ^ 64 }
+        ensures puts { IsTrue S.told → OnOk result (PutsIntoFlash at bytes.now
+            ((S.medium self.old.system).disk.image 0) ((S.medium self.new.system).disk.image 0)) }
+        ensures durable { OnOk result (Quiet (disk_seen S.medium self.new)) }
+        ensures torn { IsTrue S.told → OnErr result (TornFile at (length bytes.now)
+            (S.medium self.old.system).disk.image (S.medium self.new.system).disk.image) }
+        ensures during { IsTrue S.told → EachCase (λ c. (disk_seen S.medium self.old).now c
+            ⊎ TornFile at (length bytes.now) (S.medium self.old.system).disk.image c.left)
+            (disk_seen S.medium self.old) (disk_seen S.medium self.new) }
+        ensures time { Elapses (disk_seen S.medium self.old) (disk_seen S.medium self.new) }
+    {
+        self.settle()?;
+        self.write_on(at, bytes)?;
+        Ok(())
+    }
+
+    /// Makes durable what a failed call left pending: else a power loss in the next one might tear what both wrote.
+    fn settle(&mut self) -> Result<(), FlashFailed>
+        ensures image { (S.medium self.new.system).disk.image ≡ (S.medium self.old.system).disk.image }
+        ensures quiet { OnOk result (Quiet (disk_seen S.medium self.new)) }
+        ensures during { EachCase (λ c. (disk_seen S.medium self.old).now c
+            ⊎ IsSettledAt (S.medium self.old.system).disk.image c)
+            (disk_seen S.medium self.old) (disk_seen S.medium self.new) }
+        ensures time { Elapses (disk_seen S.medium self.old) (disk_seen S.medium self.new) }
+    {
+        if self.is_settled {
+            return Ok(());
+        }
+        self.disk.sync().map_err(failed)?;
+        self.is_settled = true;
+        Ok(())
+    }
+
+    /// The same where nothing is pending.
+    fn write_on(&mut self, at: u64, bytes: &[u8]) -> Result<(), FlashFailed>
         requires some { 0 < length bytes.now }
         requires end { at + length bytes.now < 2 ^ 64 }
         ensures puts { IsTrue S.told → OnOk result (PutsIntoFlash at bytes.now
@@ -138,8 +186,8 @@ impl<S: System> FlashFile<S> {
         ensures durable { OnOk result (Quiet (disk_seen S.medium self.new)) }
         ensures torn { IsTrue S.told → OnErr result (TornFile at 32768 (S.medium self.old.system).disk.image
             (S.medium self.new.system).disk.image) }
-        ensures during { IsTrue S.told → Quiet (disk_seen S.medium self.old) → EachCase
-            (λ c. TornFile at 32768 (S.medium self.old.system).disk.image c.left)
+        ensures during { IsTrue S.told → EachCase (λ c. (disk_seen S.medium self.old).now c
+            ⊎ TornFile at 32768 (S.medium self.old.system).disk.image c.left)
             (disk_seen S.medium self.old) (disk_seen S.medium self.new) }
         ensures time { Elapses (disk_seen S.medium self.old) (disk_seen S.medium self.new) }
     {
@@ -190,7 +238,9 @@ impl<S: System> FlashFile<S> {
         ensures time { Elapses (disk_seen S.medium self.old) (disk_seen S.medium self.new) }
     {
         let known = self.size.take();
+        self.is_settled = false;
         store(&mut self.disk, at, bytes)?;
+        self.is_settled = true;
         self.size = size_after(known, at + bytes.len() as u64);
         Ok(())
     }

@@ -1,6 +1,6 @@
 //! A flash over a file.
 
-ghost use Rattle.std.specs.Prelude.{◌≡◌, ◌<◌, ◌*◌, IsTrue, IfOk, OnOk, OnErr, length, nat_lt};
+ghost use Rattle.std.specs.Prelude.{◌≡◌, ◌⊎◌, ◌<◌, ◌*◌, IsTrue, IfOk, OnOk, OnErr, length, nat_lt};
 ghost use Rattle.per_base.specs.Causes.{CountsFaults, Rose};
 ghost use Rattle.disk_model.specs.Medium.{Quiet, Elapses, OnlyReads, EachCase};
 ghost use Rattle.flash_model.specs.Pages.{program_page, erase_block};
@@ -19,7 +19,8 @@ use system_model::{Failure, System};
 /// counts its failures.
 ///
 /// A program is a write and a sync of the file, an erase likewise; both are durable before they are answered. Where a
-/// page follows the end of the file, what is missing up to it is written as blank before.
+/// page follows the end of the file, what is missing up to it is written as blank before. What a call that failed left
+/// pending is made durable before anything else is written, so that one power loss never tears what two calls wrote.
 #[derive(Drop)]
 pub struct FolderFlash<S: System> {
     file: FlashFile<S>,
@@ -39,6 +40,13 @@ impl<S: System> FolderFlash<S> {
             blocks,
             faults: 0,
         }
+    }
+
+    /// The disk that has the file.
+    pub fn into_disk(self) -> FolderDisk<S>
+        ensures { result ≡ self.file }
+    {
+        self.file.into_disk()
     }
 
     /// The last call of the system that failed, for error reporting.
@@ -115,14 +123,15 @@ impl<S: System> Flash for FolderFlash<S> {
         requires page { page < 64 }
 
         // The page of the file is set, durably. Where the call fails nothing but the page is torn, and what the file
-        // lacked up to it; the same is so of a power loss at any moment of the call, if nothing was pending before.
+        // lacked up to it. A power loss at any moment of the call tears the same at most, or leaves what one before
+        // the call would have left.
         ensures puts { IsTrue S.told → OnOk result (pages_seen S.medium self.new.file
             ≡ program_page (pages_seen S.medium self.old.file) block page bytes.now) }
         ensures durable { OnOk result (Quiet (disk_seen S.medium self.new.file)) }
         ensures torn { IsTrue S.told → OnErr result (TornPageOf block page (file_seen S.medium self.old.file)
             (file_seen S.medium self.new.file)) }
-        ensures power { IsTrue S.told → Quiet (disk_seen S.medium self.old.file) → EachCase
-            (λ c. TornPageOf block page (file_seen S.medium self.old.file) (c.left 0))
+        ensures power { IsTrue S.told → EachCase (λ c. (disk_seen S.medium self.old.file).now c
+            ⊎ TornPageOf block page (file_seen S.medium self.old.file) (c.left 0))
             (disk_seen S.medium self.old.file) (disk_seen S.medium self.new.file) }
         ensures clock { Elapses (disk_seen S.medium self.old.file) (disk_seen S.medium self.new.file) }
 
@@ -139,14 +148,14 @@ impl<S: System> Flash for FolderFlash<S> {
         requires { block < self.old.blocks }
 
         // The pages of the block are blank, durably. Where the call fails nothing but the block is torn, and what the
-        // file lacked up to it; the same is so of a power loss, as above.
+        // file lacked up to it. A power loss tears as little, as above.
         ensures puts { IsTrue S.told → OnOk result (pages_seen S.medium self.new.file
             ≡ erase_block (pages_seen S.medium self.old.file) block) }
         ensures durable { OnOk result (Quiet (disk_seen S.medium self.new.file)) }
         ensures torn { IsTrue S.told → OnErr result (TornBlockOf block (file_seen S.medium self.old.file)
             (file_seen S.medium self.new.file)) }
-        ensures power { IsTrue S.told → Quiet (disk_seen S.medium self.old.file) → EachCase
-            (λ c. TornBlockOf block (file_seen S.medium self.old.file) (c.left 0))
+        ensures power { IsTrue S.told → EachCase (λ c. (disk_seen S.medium self.old.file).now c
+            ⊎ TornBlockOf block (file_seen S.medium self.old.file) (c.left 0))
             (disk_seen S.medium self.old.file) (disk_seen S.medium self.new.file) }
         ensures clock { Elapses (disk_seen S.medium self.old.file) (disk_seen S.medium self.new.file) }
 

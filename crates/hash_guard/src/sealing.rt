@@ -24,8 +24,8 @@ pub fn seal(alloc: Global, generation: u64, body: &[u8]) -> Result<Vec<u8>, Allo
     Ok(text)
 }
 
-/// Writes the sealed text of this generation and body over `text`, which has just its length. It does not
-/// allocate.
+/// Writes the sealed text of this generation and body over `text`, which has just its length. It verifies as them,
+/// whatever follows it. Does not allocate.
 pub fn seal_into(text: &mut [u8], generation: u64, body: &[u8])
     requires positive { 1 ≤ generation }
     requires short { length body.now ≤ max_body }

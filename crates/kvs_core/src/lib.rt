@@ -4,10 +4,10 @@
 //! visible one, writes change it, and nothing here touches a disk: a sync takes the changes that make the one map into
 //! the other ([`KeySession::changes`]), and marks what is visible as synchronised once they are written.
 //!
-//! Each call answers exactly by its definition: every refusal in its order with what it carries, and a refused call
-//! changes nothing; neither does `OutOfMemory`. Reading and writing a key take logarithmic time in the number of keys,
-//! and touch no other key. The calls that say so do not allocate. There are at most 1,024 keys, and they never take
-//! more than the storage is allowed.
+//! Each call answers by the function of its name in `specs/Calls`, every refusal in its order with what it carries;
+//! refused, or out of memory, it changes nothing. A key is *visible* where calls see it, *unreadable* where too few
+//! copies agree on its bytes or these encode no value; its *salvage* is a value that is left. Reading and writing a key
+//! take logarithmic time in the number of keys, at most 1,024, which never take more than the storage is allowed.
 #![tactic(auto)]
 
 mod reading;

@@ -66,7 +66,7 @@ impl KeySession {
         ensures valid { IfOk result (λ value. IsValue value.now) }
         ensures refused { IfErr result (λ error. IsRefusal (calls.get_any self.now.config self.now.visible name.now)
             error) }
-        // A value is not allocated, nor is the answer that there is none.
+        // Memory runs out only for the names in `IntegrityCorrupted`: a value and `KeyNotFound` allocate nothing.
         ensures memory { IfErr result (λ error. error ≡ PerError.OutOfMemory
             → IsTextRefusal (calls.get_any self.now.config self.now.visible name.now)) }
     {
@@ -79,7 +79,7 @@ impl KeySession {
         }
     }
 
-    /// The value of a key, asked for by its type.
+    /// The value of a key, asked for by a type in which each group of fields has 1 to 32 members.
     ///
     /// # Errors
     ///
@@ -107,7 +107,7 @@ impl KeySession {
     ///
     /// # Errors
     ///
-    /// Those of `get_any`; `DataTypeMismatch` with the stored and the asked type where they differ; `OutOfMemory`.
+    /// Those of `get_as`, asked for the type of the thing; `OutOfMemory` for the thing too.
     #[tactic(auto, using(crate::proofs::Contents::needs_value, crate::proofs::Contents::text_needs))]
     pub fn get_value<T: PerValue>(&self, name: &Name) -> Result<T, PerError>
         ensures ok { IfOk result (λ thing. calls.get_as self.now.config self.now.visible name.now T.kind

@@ -25,7 +25,7 @@ impl KeySession {
         ensures ok { OnOk result (calls.recover_key self.old.config self.old.visible name.now ≡ Ok self.new.visible) }
         ensures refused { IfErr result (λ error. IsRefusal (calls.recover_key self.old.config self.old.visible name.now)
             error) }
-        // `OutOfMemory` never replaces a refusal; it comes only where a salvage or an initial value is taken.
+        // `OutOfMemory` never comes in the place of a refusal, and only where a salvage or an initial value is copied.
         ensures memory { IfErr result (λ error. error ≡ PerError.OutOfMemory
             → NeedsMemory (calls.recover_key self.old.config self.old.visible name.now)) }
         ensures copies { IfErr result (λ error. error ≡ PerError.OutOfMemory → (key : Element)
@@ -101,14 +101,14 @@ impl KeySession {
     /// # Errors
     ///
     /// `IllegalWriteAccess` where the storage is read-only; `InitValueNotAvailable` where there is no initial value;
-    /// `LimitReached` with `Elements`; `OutOfStorageSpace`; `OutOfMemory`.
+    /// `LimitReached` with `Elements` for one key too many; `OutOfStorageSpace` where it does not fit; `OutOfMemory`.
     #[tactic(auto, using(crate::proofs::Contents::few_without, crate::proofs::Contents::placed_there, crate::proofs::Contents::reset_there))]
     pub fn reset_key(&mut self, name: &Name) -> Result<(), PerError>
         ensures ok { OnOk result (calls.reset_key self.old.config self.old.visible name.now ≡ Ok self.new.visible) }
         // The refusal that is due, or `OutOfMemory`.
         ensures refused { IfErr result (λ error. IsRefusal (calls.reset_key self.old.config self.old.visible name.now)
             error) }
-        // `OutOfMemory` never replaces a refusal.
+        // `OutOfMemory` never comes in the place of a refusal.
         ensures memory { IfErr result (λ error. error ≡ PerError.OutOfMemory
             → NeedsMemory (calls.reset_key self.old.config self.old.visible name.now)) }
         ensures beside { self.new ≡ record self.old { visible = self.new.visible } }

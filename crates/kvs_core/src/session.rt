@@ -73,7 +73,7 @@ impl KeySession {
         })
     }
 
-    /// What always holds of a session.
+    /// What always holds of a session: both maps are in order, and take no more than the storage is allowed.
     pub fn invariants(&self)
         ensures maps { AreTwoMaps (record { synced = self.now.synced; visible = self.now.visible }) }
         ensures room { HasRoom self.now.config (record { synced = self.now.synced; visible = self.now.visible }) }

@@ -15,7 +15,7 @@ impl KeySession {
         self.maps.discard();
     }
 
-    /// Whether the maps differ. Does not allocate.
+    /// Whether the synchronised map and the visible one differ. Does not allocate.
     pub fn has_changes(&self) -> bool
         ensures { (result ≡ false) ↔ (self.now.synced ≡ self.now.visible) }
     {

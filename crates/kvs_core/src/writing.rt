@@ -33,7 +33,7 @@ impl KeySession {
         ensures ok { OnOk result (calls.set_any self.old.config self.old.visible name.now value ≡ Ok self.new.visible) }
         ensures refused { IfErr result (λ error. IsRefusal
             (calls.set_any self.old.config self.old.visible name.now value) error) }
-        // `OutOfMemory` replaces `OutOfStorageSpace` alone.
+        // Memory runs out where only a lack of room could still refuse it, or for the types in `DataTypeMismatch`.
         ensures memory { IfErr result (λ error. error ≡ PerError.OutOfMemory
             → NeedsMemory (calls.takes_any self.old.config self.old.visible name.now (type_of value))) }
         ensures beside { self.new ≡ record self.old { visible = self.new.visible } }
@@ -56,7 +56,7 @@ impl KeySession {
             ≡ Ok self.new.visible) }
         ensures refused { IfErr result (λ error. IsRefusal
             (calls.set_value self.old.config self.old.visible name.now (T.tree value.now)) error) }
-        // `OutOfMemory` replaces `OutOfStorageSpace` alone, but where the value itself is allocated, which comes first.
+        // Memory runs out for the value itself; where only a lack of room could refuse it; or for types in a refusal.
         ensures memory { IfErr result (λ error. error ≡ PerError.OutOfMemory
             → Allocates T.kind ⊎ NeedsMemory (calls.takes_any self.old.config self.old.visible name.now
             (type_of (T.tree value.now)))) }
@@ -75,12 +75,12 @@ impl KeySession {
         }
     }
 
-    /// Removes a key.
+    /// Removes a key. Does not allocate.
     ///
     /// # Errors
     ///
-    /// `IllegalWriteAccess` where the storage is read-only; `KeyNotFound` where the name is not visible. Does not
-    /// allocate.
+    /// `IllegalWriteAccess` where the storage is read-only;
+    /// `KeyNotFound` where the name is not visible.
     pub fn remove_key(&mut self, name: &Name) -> Result<(), PerError>
         ensures ok { OnOk result (calls.remove_key self.old.config self.old.visible name.now ≡ Ok self.new.visible) }
         ensures refused { IfErr result (λ error. calls.remove_key self.old.config self.old.visible name.now
@@ -97,11 +97,11 @@ impl KeySession {
         Ok(())
     }
 
-    /// Removes all keys.
+    /// Removes all keys. Does not allocate.
     ///
     /// # Errors
     ///
-    /// `IllegalWriteAccess` where the storage is read-only. Does not allocate.
+    /// `IllegalWriteAccess` where the storage is read-only.
     pub fn remove_all_keys(&mut self) -> Result<(), PerError>
         ensures ok { OnOk result (calls.remove_all_keys self.old.config self.old.visible ≡ Ok self.new.visible) }
         ensures refused { IfErr result (λ error. calls.remove_all_keys self.old.config self.old.visible ≡ Err error) }

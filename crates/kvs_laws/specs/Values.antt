@@ -33,14 +33,15 @@ pub record ReadsAs (asked : AskedKey) (shape : Shape) (value : Tree) (image : Im
   pub opens : store_at image shape ≡ Opens view others
   pub value_is : HasValue asked (keys_in view) value
 
--- a stop in this case, and then damage that spares as many copies as must agree, of those that lacked nothing, leaves
--- the old value or the new one
+-- a stop in this case, in which nothing passes its hash by chance, and then damage that spares as many copies as must
+-- agree, of those that lacked nothing, leaves the old value or the new one
 abbrev pub LeavesValue : AskedKey → Shape → (lacking : List ℕ) → (before after : Tree) → Case → Type 0
 LeavesValue asked shape lacking before after c = IsSound shape.place c → (damaged : List ℕ) (image : Image)
     → DecaysFor (IsPiece shape.place) damaged c.left image → HasEnough shape damaged lacking
     → ReadsAs asked shape before image ⊎ ReadsAs asked shape after image
 
--- so it is at every moment since a start at which the place was clean
+-- a stop at every moment since a start at which the place was clean, and then such damage, leaves the old value or the
+-- new one
 abbrev pub ValueThroughout : AskedKey → Shape → (lacking : List ℕ) → (before after : Tree) → (old new : Medium) → Type 0
 ValueThroughout asked shape lacking before after old new = IsClean shape old.image
     → EachCase (LeavesValue asked shape lacking before after) old new

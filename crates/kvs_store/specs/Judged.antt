@@ -10,5 +10,6 @@ use Rattle.kvs_core.specs.Calls.{is_readable_key}
 abbrev pub shown_entry : Map → Entry → Entry
 shown_entry m e = record e { content = cond (is_readable_key (element_at m e.name)) e.content (Bad None) }
 
+-- the view in which each entry is unreadable, with no salvage, of whose name the map has no readable key
 abbrev pub shown_view : Map → View → View
 shown_view m v = record v { entries = map (shown_entry m) v.entries }

@@ -26,7 +26,7 @@ abbrev pub synced_view : KvsSession → View
 synced_view kvs = maps.view_once_synced (store_shape kvs.store) (view_in kvs.store) kvs.session.synced
     kvs.session.visible
 
--- in each copy at most the keys that differ, and the next index
+-- at most this is written: in each copy the keys that differ, and the next index
 abbrev pub WritesAtMost : KvsSession → (old new : Medium) → Type 0
 WritesAtMost kvs old new = IsWithin (store_shape kvs.store).place.copies
     (map_cost (store_shape kvs.store).kind kvs.session.synced kvs.session.visible)
@@ -40,7 +40,7 @@ pub record IsSynced (told : Bool) (kvs later : KvsSession) (old new : Medium) : 
   pub used : IsUsed told new.image later.store
   pub durable : IsDurable told (store_shape kvs.store) kvs.session.synced kvs.session.visible
       (length (index_text (index_in later.store))) old new
-  -- its index
+  -- its index: a key that does not differ as it was listed, and in format 2 where one does
   pub carried : KeepsEqual kvs.session.synced kvs.session.visible (index_in kvs.store).entries
       (index_in later.store).entries
   pub format : is_synced kvs ≡ false → (index_in later.store).format ≡ 2

@@ -8,8 +8,8 @@ use kvs_core::KeySession;
 use per_base::{Content, Entry, Sequence};
 use std::alloc::{AllocError, Global};
 
-/// The view as a session of its keys shows it: what the session cannot read as a key is unreadable, with no salvage.
-/// Nothing is decoded.
+/// The view with each entry unreadable of whose name the session shows no readable key, and with no salvage: no bytes
+/// that are left where too few copies agree. All else of it stays. Nothing is decoded.
 pub fn judged(alloc: Global, session: &KeySession, view: View) -> Result<View, AllocError>
     ensures { IfOk result (λ judged. judged ≡ shown_view session.now.visible view) }
 {

@@ -10,6 +10,15 @@
 //! back has done nothing. A stop at any moment leaves the storage as before or as after, and no file outside its
 //! place changes.
 //!
+//! Words of the contracts: a key is *visible* where the calls see it, with what is pending, and *unreadable* where too
+//! few copies agree on its bytes or these encode no value; its *salvage* is the bytes that are left where too few
+//! agree, if they encode a value. A *shape* is a storage as it is configured, its *place* the files of its copies, a
+//! *text* an index as copies hold it. `told` says that the bytes of a disk of this type are modelled. A disk is *quiet*
+//! where nothing is pending, a place *clean* where nothing on it contradicts anything. What a call on keys answers is
+//! the function of its name in `kvs_core/specs/Calls`, of the configuration, the visible keys and the arguments;
+//! `refused` says that an error is the one that is due, or `OutOfMemory`, `memory` when it can be that, and `beside`
+//! that all but the visible keys stays.
+//!
 //! Limits: those of the layers below, 1,024 keys and 4,194,304 bytes; a storage is used with the disk of its opening,
 //! by one caller at a time. Dropping a [`Kvs`] drops its pending changes.
 #![tactic(auto)]

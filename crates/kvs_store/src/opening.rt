@@ -41,8 +41,8 @@ pub struct OpenedKvs {
 ///
 /// # Errors
 ///
-/// `Corrupt` exactly where no text qualifies: then nothing is written. `Device` where the disk fails, and
-/// `OutOfMemory`.
+/// `Corrupt` exactly where no text qualifies, as one does that enough copies support: then nothing is written. `Device`
+/// where the disk fails, and `OutOfMemory`.
 pub fn open_kvs<D: Disk>(
     alloc: Global,
     disk: &mut D,
@@ -50,38 +50,41 @@ pub fn open_kvs<D: Disk>(
     config: &StorageConfig,
 ) -> Result<OpenedKvs, StoreError>
     requires valid { IsStorage (storage_data config.now) }
+    // The shape is that of this configuration, and of a storage of keys.
     requires configured { IsConfigured Keys (storage_data config.now) shape }
 
-    // The storage in use, by the index that was found; what is synchronised is the keys that it shows, and nothing is
-    // pending.
+    // It shows the view at which the storage opened, mended, with the reports of that view; its index is that of the
+    // text at which it opened. What is synchronised is the keys of this view, judged, and it is what the calls see.
     ensures opened { IfOk result (λ o. IsOpened D.told (D.medium disk.old).image shape is_encoding (opened_as o)) }
     ensures adopted { IsTrue D.told → IfOk result (λ o. OpensBy (D.medium disk.old).image shape
         (index_in o.kvs.store)) }
     ensures session { IfOk result (λ o. o.kvs.session.visible ≡ o.kvs.session.synced) }
     ensures config { IfOk result (λ o. o.kvs.config ≡ storage_data config.now) }
     ensures used { IfOk result (λ o. IsUsed D.told (D.medium disk.new).image o.kvs.store) }
+    // A clean place stays clean, and nothing is pending on the disk.
     ensures clean { IsTrue D.told → IsClean shape (D.medium disk.old).image
         → OnOk result (IsClean shape (D.medium disk.new).image) }
     ensures quiet { OnOk result (Quiet (D.medium disk.new)) }
 
-    // A corrupt storage is left as it is.
+    // `Corrupt` is answered only where no text qualifies; then no file changes, nothing is written, nothing is pending.
     ensures corrupt { IsTrue D.told → IsErrOf result StoreError.Corrupt
         → opened_of (store_at (D.medium disk.old).image shape) ≡ None }
     ensures untouched { IsErrOf result StoreError.Corrupt → (D.medium disk.new).image ≡ (D.medium disk.old).image }
     ensures unwritten { IsErrOf result StoreError.Corrupt → (D.medium disk.new).written ≡ (D.medium disk.old).written }
     ensures settled { IsErrOf result StoreError.Corrupt → Quiet (D.medium disk.new) }
 
-    // A failure is that of a call of the disk, and nothing else is reported as one.
+    // The disk's count of faults rose where the answer is `Device`, and stayed with any other answer.
     ensures cause { IsErrOf result StoreError.Device → Rose (D.medium disk.old).faults (D.medium disk.new).faults }
     ensures passes { OnOk result ((D.medium disk.new).faults ≡ (D.medium disk.old).faults) }
     ensures fed { IsErrOf result StoreError.OutOfMemory → (D.medium disk.new).faults ≡ (D.medium disk.old).faults }
     ensures unfailed { IsErrOf result StoreError.Corrupt → (D.medium disk.new).faults ≡ (D.medium disk.old).faults }
 
-    // Where nothing lacks, nothing is written.
+    // Where every copy holds the index, no other text and each key on which enough agree, nothing is written.
     ensures idle { IsTrue D.told → LacksNothing shape (D.medium disk.old).image
         → IsAsBefore (D.medium disk.old) (D.medium disk.new) }
 
-    // No file outside the place changes, and a stop at any moment keeps the storage, whatever its next state is to be.
+    // No file outside the place changes, and a stop at any moment leaves the storage as it was, and so on its way to
+    // whatever state comes next.
     ensures storing { (after : State) → IsStoring D.told shape after (D.medium disk.old) (D.medium disk.new) }
 {
     untouched_is_kept();

@@ -52,7 +52,7 @@ impl Kvs {
         ensures valid { IfOk result (λ value. IsValue value.now) }
         ensures refused { IfErr result (λ error.
             IsRefusal (calls.get_any (kvs_session self.now).config (kvs_session self.now).visible name.now) error) }
-        // A value is not allocated, nor is the answer that there is none.
+        // Memory runs out only for the names in `IntegrityCorrupted`: a value and `KeyNotFound` allocate nothing.
         ensures memory { IfErr result (λ error. error ≡ PerError.OutOfMemory
             → IsTextRefusal (calls.get_any (kvs_session self.now).config (kvs_session self.now).visible name.now)) }
     {
@@ -63,10 +63,13 @@ impl Kvs {
     ///
     /// # Errors
     ///
-    /// Those of `get_any`; `DataTypeMismatch` with the stored and the asked type where they differ; `OutOfMemory`, and
-    /// this only in the place of a refusal that carries names or texts.
+    /// `KeyNotFound` where the name is not visible; `IntegrityCorrupted` where the key is unreadable;
+    /// `DataTypeMismatch` with the stored and the asked type where they differ; `OutOfMemory`, and this only in the
+    /// place of a refusal that carries names or texts.
     pub fn get_as(&self, name: &Name, asked: &ValueType) -> Result<&Value, PerError>
+        // In the asked type each group of fields has 1 to 32 members.
         requires { IsTrue (kind_fits (kind_of asked.now)) }
+        // The value, or the refusal that is due: what `get_as` of the visible keys gives for the asked type.
         ensures ok { IfOk result (λ value.
             calls.get_as (kvs_session self.now).config (kvs_session self.now).visible name.now (kind_of asked.now)
             ≡ Ok value.now) }
@@ -74,6 +77,7 @@ impl Kvs {
         ensures refused { IfErr result (λ error.
             IsRefusal (calls.get_as (kvs_session self.now).config (kvs_session self.now).visible name.now
             (kind_of asked.now)) error) }
+        // Memory runs out only for the names or types in a refusal.
         ensures memory { IfErr result (λ error. error ≡ PerError.OutOfMemory
             → IsTextRefusal (calls.get_as (kvs_session self.now).config (kvs_session self.now).visible name.now
             (kind_of asked.now))) }
@@ -85,14 +89,18 @@ impl Kvs {
     ///
     /// # Errors
     ///
-    /// Those of `get_any`; `DataTypeMismatch` with the stored and the asked type where they differ; `OutOfMemory`.
+    /// `KeyNotFound` where the name is not visible; `IntegrityCorrupted` where the key is unreadable;
+    /// `DataTypeMismatch` with the stored and the asked type where they differ; `OutOfMemory`, for the thing or for a
+    /// refusal that carries texts.
     pub fn get_value<T: PerValue>(&self, name: &Name) -> Result<T, PerError>
+        // The thing whose value is the one that `get_as` gives for the type of `T`, or the refusal that is due.
         ensures ok { IfOk result (λ thing.
             calls.get_as (kvs_session self.now).config (kvs_session self.now).visible name.now T.kind
             ≡ Ok (T.tree thing)) }
         ensures refused { IfErr result (λ error.
             IsRefusal (calls.get_as (kvs_session self.now).config (kvs_session self.now).visible name.now T.kind)
             error) }
+        // Memory runs out for the thing, or for the names or types in a refusal.
         ensures memory { IfErr result (λ error. error ≡ PerError.OutOfMemory
             → NeedsMemory (calls.get_as (kvs_session self.now).config (kvs_session self.now).visible name.now T.kind)) }
     {

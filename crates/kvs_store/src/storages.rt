@@ -46,10 +46,13 @@ impl Model for Kvs {
 }
 
 impl Kvs {
-    /// What always holds of an open storage.
+    /// What always holds of an open storage, for the proofs of callers: it does nothing when it runs.
     pub fn invariants(&self)
+        // Both maps are in order and take no more than the storage is allowed; a visible key that cannot be read is the
+        // very one that is synchronised.
         ensures maps { AreTwoMaps self.now.session }
         ensures room { HasRoom self.now.config self.now.session }
+        // The storage below is the configured one, and the synchronised keys are those that it shows.
         ensures configured { IsConfigured Keys self.now.config (store_shape self.now.store) }
         ensures synced { self.now.session.synced ≡ keys_in (view_in self.now.store) }
     {

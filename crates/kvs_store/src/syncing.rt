@@ -51,14 +51,16 @@ impl Kvs {
         // Where nothing differs nothing happens.
         ensures unchanged { is_synced self ≡ true → (result ≡ Ok self) × (disk.new ≡ disk.old) }
 
-        // What is handed back is unchanged, and so is the disk. Only a disk that failed closes the storage.
+        // What is handed back is unchanged, and so is the disk; it is worn out exactly where the maps differ and the
+        // generation is the greatest. Only a disk that failed closes the storage, and its count of faults rose.
         ensures handed_back { IfErr result (λ fault. HandsBack self fault (disk.new ≡ disk.old)) }
         ensures worn_out { (result ≡ Err (SyncFault.WornOut self)) ↔
             ((is_synced self ≡ false) × IsTrue (is_worn (view_in self.store))) }
         ensures cause { IfErr result (λ fault. IsDeviceFault fault
             → Rose (D.medium disk.old).faults (D.medium disk.new).faults) }
 
-        // What differed is durable: in each copy the keys that do, and the index.
+        // What differed is durable, no call of the disk failed, and only the keys that differ and the index were
+        // written in each copy; where the disk failed, no more than that.
         ensures durable { IfOk result (λ kvs. IsDurable D.told (store_shape self.store) self.session.synced
             self.session.visible
             (length (index_text (index_in kvs.store))) (D.medium disk.old) (D.medium disk.new)) }

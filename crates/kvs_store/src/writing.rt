@@ -30,7 +30,7 @@ impl Kvs {
         ensures refused { IfErr result (λ error.
             IsRefusal (calls.set_any (kvs_session self.old).config (kvs_session self.old).visible name.now value)
             error) }
-        // `OutOfMemory` replaces `OutOfStorageSpace` alone.
+        // Memory runs out where only a lack of room could still refuse it, or for the types in `DataTypeMismatch`.
         ensures memory { IfErr result (λ error. error ≡ PerError.OutOfMemory
             → NeedsMemory (calls.takes_any (kvs_session self.old).config (kvs_session self.old).visible name.now
             (type_of value))) }
@@ -51,7 +51,8 @@ impl Kvs {
         ensures refused { IfErr result (λ error.
             IsRefusal (calls.set_value (kvs_session self.old).config (kvs_session self.old).visible name.now
             (T.tree value.now)) error) }
-        // `OutOfMemory` replaces `OutOfStorageSpace` alone, but where the value itself is allocated, which comes first.
+        // Memory runs out where the thing's value is allocated, which comes first; where only a lack of room could
+        // still refuse it; or for the types in `DataTypeMismatch`.
         ensures memory { IfErr result (λ error. error ≡ PerError.OutOfMemory → Allocates T.kind
             ⊎ NeedsMemory (calls.takes_any (kvs_session self.old).config (kvs_session self.old).visible name.now
             (type_of (T.tree value.now)))) }
@@ -106,7 +107,7 @@ impl Kvs {
             ≡ Ok (kvs_session self.new).visible) }
         ensures refused { IfErr result (λ error.
             IsRefusal (calls.recover_key (kvs_session self.old).config (kvs_session self.old).visible name.now) error) }
-        // `OutOfMemory` never replaces a refusal; it comes only where a salvage or an initial value is taken.
+        // `OutOfMemory` never comes in the place of a refusal, and only where a salvage or an initial value is copied.
         ensures memory { IfErr result (λ error. error ≡ PerError.OutOfMemory
             → NeedsMemory (calls.recover_key (kvs_session self.old).config (kvs_session self.old).visible name.now)) }
         ensures copies { IfErr result (λ error. error ≡ PerError.OutOfMemory → (key : Element)
@@ -123,14 +124,15 @@ impl Kvs {
     /// # Errors
     ///
     /// `IllegalWriteAccess` where the storage is read-only; `InitValueNotAvailable` where there is no initial value;
-    /// `LimitReached` with `Elements`; `OutOfStorageSpace`; `OutOfMemory`.
+    /// `LimitReached` with `Elements` where the name is not visible and 1,024 are; `OutOfStorageSpace` where the
+    /// initial value does not fit; `OutOfMemory`.
     pub fn reset_key(&mut self, name: &Name) -> Result<(), PerError>
         ensures ok { OnOk result (calls.reset_key (kvs_session self.old).config (kvs_session self.old).visible name.now
             ≡ Ok (kvs_session self.new).visible) }
         // The refusal that is due, or `OutOfMemory`.
         ensures refused { IfErr result (λ error.
             IsRefusal (calls.reset_key (kvs_session self.old).config (kvs_session self.old).visible name.now) error) }
-        // `OutOfMemory` never replaces a refusal.
+        // `OutOfMemory` never comes in the place of a refusal.
         ensures memory { IfErr result (λ error. error ≡ PerError.OutOfMemory
             → NeedsMemory (calls.reset_key (kvs_session self.old).config (kvs_session self.old).visible name.now)) }
         ensures beside { self.new ≡ showing self.old (kvs_session self.new).visible }

@@ -4,4 +4,5 @@ mod Lists
 mod Roots
 mod Silent
 mod Since
+mod Spared
 mod Storages

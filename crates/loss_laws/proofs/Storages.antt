@@ -44,7 +44,7 @@ use Rattle.loss_laws.proofs.Silent.{IsWholeElement, silent_lacking, silent_whole
 
 -- ---- lists
 
-map_none : {A B : Type 0} (f : A → B) (xs : List A) → map f xs ≡ [] → xs ≡ []
+pub map_none : {A B : Type 0} (f : A → B) (xs : List A) → map f xs ≡ [] → xs ≡ []
 map_none f [] e = refl
 map_none f (x ∷ xs) e = cc
 

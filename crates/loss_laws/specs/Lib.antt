@@ -1,4 +1,5 @@
 pub mod Laws
 pub mod ReadsOn
 pub mod Since
+pub mod Spared
 pub mod Whole

@@ -4,15 +4,20 @@
 //! (`Outvotes`). So a storage of which at least two copies, and fewer than there are, have to agree reads as before
 //! ([`storages_read_on`]), and so do each root ([`roots_read_on`]) and each application ([`applications_read_on`]), if
 //! they were whole: each copy held them, with nothing beside. So it is at any moment of a run
-//! ([`applications_read_on_since`]).
+//! ([`applications_read_on_since`]). On any flash, with any number of copies, what did not lie in the lost pages reads
+//! as before ([`what_lay_elsewhere_reads_on`]), and what did as before, older, or not at all
+//! ([`what_was_lost_reads_older`]).
 #![tactic(auto)]
 
 ghost use Rattle.std.specs.Prelude.{ℕ};
 ghost use Rattle.flash_laws.specs.Outvotes.{OutlastsSince};
 ghost use Rattle.loss_laws.specs.Laws.{AloneRootsLaw, AppsLaw, RootsLaw, StoragesLaw, StoragesOfOneLaw};
 ghost use Rattle.loss_laws.specs.Since.{ReadOnSince};
+ghost use Rattle.loss_laws.specs.Spared.{OlderLaw, SparedRootsLaw, SparedSlotsLaw, SparedStoragesLaw};
 
 use deploy_laws::roots_say;
+use element_laws::places_stand_apart;
+use flash_laws::only_what_lay_there_is_lost;
 use flash_model::Flash;
 
 /// A storage that was whole opens under its generation with its map, if at least two copies, and fewer than there are,
@@ -38,10 +43,29 @@ pub fn applications_read_on()
     roots_read_on();
 }
 
-/// So it is now and after a crash at any moment since one from which on each loss of pages of one block is outvoted, as
-/// it is from the start of a run on (`OpensAgain.outlasts`), unless at some moment there was no room for a copy.
+/// If since a moment copies outvote each loss of pages of one block, then after such a loss, now or after a crash at
+/// any moment since, what was whole reads as before ([`applications_read_on`]), or there was once no room for a copy.
 pub fn applications_read_on_since<F: Flash>()
     ensures { (flash : F) (t : ℕ) → OutlastsSince (F.medium flash) t → ReadOnSince (F.medium flash) t }
 {
     applications_read_on();
 }
+
+/// On any number of blocks and with any number of copies, one too: after any loss of pages a storage or root of whose
+/// files no record that counted was lost reads as before. One of whose slots none was lost reads no older value: it
+/// opens under its generation, each element as synchronised or corrupt, or it is corrupt.
+pub fn what_lay_elsewhere_reads_on()
+    ensures storages { SparedStoragesLaw }
+    ensures roots { SparedRootsLaw }
+    ensures slots { SparedSlotsLaw }
+{
+    only_what_lay_there_is_lost();
+    places_stand_apart();
+    roots_say();
+}
+
+/// Where a loss reached the slots of a storage that no other copy outvotes, as with one copy, it opens as it was or
+/// older, or is corrupt, if what came up in its slots is older.
+pub fn what_was_lost_reads_older()
+    ensures { OlderLaw }
+{}

@@ -30,11 +30,12 @@ IsDurableOrRefused told image before refused (made.Done later) = (refused ≡ No
     × IsMadeDurable told image before later
 IsDurableOrRefused told image before refused (made.Refused same error) = (refused ≡ Some error) × (same ≡ before)
 
--- refused where there is an error
+-- the storage as it is durable, or as it is refused where there is an error
 abbrev pub made_of : Open → Option PerError → Durable
 made_of o None = made.Done o
 made_of o (Some error) = made.Refused o error
 
+-- a storage was closed, which was not to be refused; or it was refused for what was due, and handed back as it was
 abbrev pub IsClosedOrRefused : Open → Option PerError → Closing → Type 0
 IsClosedOrRefused before refused left.Done = refused ≡ None
 IsClosedOrRefused before refused (left.Refused same error) = (refused ≡ Some error) × (same ≡ before)
@@ -44,7 +45,7 @@ abbrev pub OnClosed : Closing → Type 0 → Type 0
 OnClosed left.Done P = P
 OnClosed (left.Refused same error) P = ⊤
 
--- in each copy at most the contents that differ, and the next index
+-- into each copy at most the contents that differ and the next index are written
 abbrev pub WritesAtMost : Open → (old new : Medium) → Type 0
 WritesAtMost o old new = IsWithin (store_shape (store_in o)).place.copies
     (map_cost (config_in o).kind (synced_in_session (session_in o)) (seen_of (session_in o)))

@@ -17,10 +17,12 @@ keys_of k = record { synced = k.session.synced; visible = k.session.visible }
 abbrev pub files_of : working.FilesInUse → FileSession
 files_of f = record { synced = working.stored_in f.store; working = f.session }
 
+-- the session of an open storage: what is synchronised, and what its calls see
 abbrev pub session_in : Open → Session
 session_in (Keys k) = keys (keys_of k)
 session_in (Files f) = files (files_of f)
 
+-- how an open storage is configured
 abbrev pub config_in : Open → StorageData
 config_in (Keys k) = k.config
 config_in (Files f) = f.config

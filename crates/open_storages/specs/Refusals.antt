@@ -28,21 +28,25 @@ abbrev pub durable_view : Open → View
 durable_view o = view_once_synced (store_shape (store_in o)) (view_in (store_in o)) (synced_in_session (session_in o))
     (seen_of (session_in o))
 
+-- the refusal, where there is one
 abbrev pub error_of : {A : Type 0} → Result A PerError → Option PerError
 error_of (Ok x) = None
 error_of (Err error) = Some error
 
+-- why a sync is refused: something differs, and no generation is left for it
 abbrev pub sync_refused : Open → Option PerError
 sync_refused o = when (worn o) (LimitReached limit.Generations)
 
--- by a handle: whether it may write is asked first
+-- why a flush through this handle is refused: the handle may not, or else as a sync
 abbrev pub flush_refused : Open → (handle : ℕ) → Option PerError
 flush_refused o handle = or_next (error_of (may_flush (session_in o) handle)) (sync_refused o)
 
--- the pending changes of keys are dropped, so that no generation is needed
+-- what a closing makes durable may refuse it: of files as a sync; of keys pending changes are dropped, which needs no
+-- generation
 abbrev pub leaving_refused : Open → Option PerError
 leaving_refused (Keys k) = None
 leaving_refused (Files f) = sync_refused (Files f)
 
+-- why a closing is refused: a handle is open, or what is to be made durable
 abbrev pub close_refused : Open → Option PerError
 close_refused o = or_next (busy (lowest_handle (session_in o))) (leaving_refused o)

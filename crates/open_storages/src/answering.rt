@@ -24,6 +24,8 @@ impl Open {
     /// to an open storage of this kind; `OutOfMemory`, which comes in the place of any other answer.
     #[tactic(auto, using(crate::proofs::Rows::answered_ok, crate::proofs::Rows::answered_refused))]
     pub fn call(&mut self, alloc: Global, now: u64, call: &Call) -> Result<Answer, PerError>
+        // The row `in_session` gives the answer and the session then; a refusal is the row's or `OutOfMemory`, never
+        // that the device failed, and changes nothing. The configuration and what is synchronised stay.
         ensures ok { IfOk result (λ answer. in_session (config_in self.old) now (session_in self.old) call.now
             ≡ Ok (answer, session_in self.new)) }
         ensures text { IfOk result HasText }

@@ -33,7 +33,7 @@ impl Open {
     /// Closes the storage. The pending changes of keys are dropped, without a call of the disk; working files are made
     /// durable.
     ///
-    /// It is refused, and nothing changes, with `ResourceBusy` of the lowest handle where one is open; then with
+    /// The call is refused, and nothing changes, with `ResourceBusy` of the lowest handle where one is open; then with
     /// `LimitReached` of `Generations` where files differ and no generation is left.
     ///
     /// # Errors
@@ -54,10 +54,13 @@ impl Open {
         ensures opens { IsTrue D.told → (config_in self).kind ≡ kinds.Files → IfOk result (λ closing. OnClosed closing
             (store_at (D.medium disk.new).image (store_shape (store_in self)) ≡ Opens (durable_view self) [])) }
 
+        // A disk with nothing pending ends so, and a clean place stays clean. Each copy gets at most what differs and
+        // the next index.
         ensures quiet { Quiet (D.medium disk.old) → OnOk result (Quiet (D.medium disk.new)) }
         ensures clean { IsTrue D.told → IsClean (store_shape (store_in self)) (D.medium disk.old).image
             → OnOk result (IsClean (store_shape (store_in self)) (D.medium disk.new).image) }
         ensures at_most { WritesAtMost self (D.medium disk.old) (D.medium disk.new) }
+        // Faults were counted where the device failed, none where the call succeeded; without memory nothing is done.
         ensures cause { IsErrOf result Stop.Device → Rose (D.medium disk.old).faults (D.medium disk.new).faults }
         ensures passes { OnOk result ((D.medium disk.new).faults ≡ (D.medium disk.old).faults) }
         ensures fed { IsErrOf result Stop.OutOfMemory → disk.new ≡ disk.old }

@@ -36,9 +36,9 @@ pub enum Opening {
     Corrupt(Report),
 }
 
-/// Opens the storage that is at a shape, as it is configured: every copy is brought to the text at which it opens,
-/// and each element on which enough copies agree is written again where it lacks. Nothing is then pending, and no
-/// handle is open.
+/// Opens the storage of this shape (its place, its kind, how many copies must agree, its size), as it is configured:
+/// every copy is brought to the text at which it opens, and each element on which enough copies agree is written again
+/// where a copy lacks it. Nothing is then pending, and no handle is open.
 ///
 /// # Errors
 ///
@@ -52,11 +52,14 @@ pub fn open_storage<D: Disk>(
     requires valid { IsStorage (storage_data config.now) }
     requires configured { IsConfigured config.now.kind (storage_data config.now) shape }
 
+    // A storage that opens comes open, with its view and the reports of that; one that does not is reported as corrupt.
+    // What is open is as it was configured, at its place, and in use on the disk.
     ensures opened { IsTrue D.told → IfOk result (IsOpeningOf (store_at (D.medium disk.old).image shape) shape
         (storage_data config.now)) }
     ensures placed { IfOk result (λ opening. OnOpened opening (IsWhereConfigured shape (storage_data config.now))) }
     ensures used { IfOk result (λ opening. OnOpened opening
         (λ o. IsUsed D.told (D.medium disk.new).image (store_in o))) }
+    // Where the call succeeds, a clean place has stayed clean, and nothing is pending.
     ensures clean { IsTrue D.told → IsClean shape (D.medium disk.old).image
         → OnOk result (IsClean shape (D.medium disk.new).image) }
     ensures quiet { OnOk result (Quiet (D.medium disk.new)) }
@@ -66,11 +69,12 @@ pub fn open_storage<D: Disk>(
         (((D.medium disk.new).image ≡ (D.medium disk.old).image)
         × ((D.medium disk.new).written ≡ (D.medium disk.old).written))) }
 
+    // The count of faults rose where the device failed, and stayed where the call succeeded or memory ran out.
     ensures cause { IsErrOf result Stop.Device → Rose (D.medium disk.old).faults (D.medium disk.new).faults }
     ensures passes { OnOk result ((D.medium disk.new).faults ≡ (D.medium disk.old).faults) }
     ensures fed { IsErrOf result Stop.OutOfMemory → (D.medium disk.new).faults ≡ (D.medium disk.old).faults }
 
-    // No file outside the place changes, and a stop at any moment keeps the storage, whatever its next state is to be.
+    // No file outside the place changes, and a stop at any moment keeps the storage as before: `after` is any state.
     ensures storing { (after : State) → IsStoring D.told shape after (D.medium disk.old) (D.medium disk.new) }
 {
     untouched_is_kept();

@@ -34,8 +34,8 @@ impl Open {
     /// Makes what the calls see of a storage of keys durable, all at once: only the keys that differ are written, and
     /// where none does, the disk is not called.
     ///
-    /// It is refused, and nothing changes, with `LimitReached` of `Generations` where keys differ and no generation is
-    /// left.
+    /// The call is refused, and nothing changes, with `LimitReached` of `Generations` where keys differ and no
+    /// generation is left.
     ///
     /// # Errors
     ///
@@ -50,10 +50,13 @@ impl Open {
             → (result ≡ Ok (Durable.Refused self error)) × (disk.new ≡ disk.old) }
         ensures unchanged { has_nothing_pending self ≡ true → IsOk result × (disk.new ≡ disk.old) }
 
+        // A disk with nothing pending ends so, and a clean place stays clean. Each copy gets at most what differs and
+        // the next index.
         ensures quiet { Quiet (D.medium disk.old) → OnOk result (Quiet (D.medium disk.new)) }
         ensures clean { IsTrue D.told → IsClean (store_shape (store_in self)) (D.medium disk.old).image
             → OnOk result (IsClean (store_shape (store_in self)) (D.medium disk.new).image) }
         ensures at_most { WritesAtMost self (D.medium disk.old) (D.medium disk.new) }
+        // Faults were counted where the device failed, none where the call succeeded; without memory nothing is done.
         ensures cause { IsErrOf result Stop.Device → Rose (D.medium disk.old).faults (D.medium disk.new).faults }
         ensures passes { OnOk result ((D.medium disk.new).faults ≡ (D.medium disk.old).faults) }
         ensures fed { IsErrOf result Stop.OutOfMemory → disk.new ≡ disk.old }
@@ -84,7 +87,7 @@ impl Open {
     /// Makes the working files of a whole storage durable through a handle, all at once: only what differs is written,
     /// and where nothing does, the disk is not called.
     ///
-    /// It is refused, and nothing changes, with `StorageNotFound` for a storage of keys; `NotOpen`;
+    /// The call is refused, and nothing changes, with `StorageNotFound` for a storage of keys; `NotOpen`;
     /// `IllegalWriteAccess` for a handle that only reads; `LimitReached` of `Generations` where files differ and no
     /// generation is left.
     ///
@@ -94,20 +97,25 @@ impl Open {
     pub fn flush<D: Disk>(self, disk: &mut D, handle: u32) -> Result<Durable, Stop>
         requires used { IsUsed D.told (D.medium disk.old).image (store_in self) }
 
+        // The refusal that is due, which hands the storage back as it was; and where nothing differs nothing happens.
         ensures done { IfOk result (IsDurableOrRefused D.told (D.medium disk.new).image self
             (flush_refused self handle)) }
         ensures due { (error : PerError) → flush_refused self handle ≡ Some error
             → (result ≡ Ok (Durable.Refused self error)) × (disk.new ≡ disk.old) }
         ensures unchanged { has_nothing_pending self ≡ true → IsOk result × (disk.new ≡ disk.old) }
 
+        // A disk with nothing pending ends so, and a clean place stays clean. Each copy gets at most what differs and
+        // the next index.
         ensures quiet { Quiet (D.medium disk.old) → OnOk result (Quiet (D.medium disk.new)) }
         ensures clean { IsTrue D.told → IsClean (store_shape (store_in self)) (D.medium disk.old).image
             → OnOk result (IsClean (store_shape (store_in self)) (D.medium disk.new).image) }
         ensures at_most { WritesAtMost self (D.medium disk.old) (D.medium disk.new) }
+        // Faults were counted where the device failed, none where the call succeeded; without memory nothing is done.
         ensures cause { IsErrOf result Stop.Device → Rose (D.medium disk.old).faults (D.medium disk.new).faults }
         ensures passes { OnOk result ((D.medium disk.new).faults ≡ (D.medium disk.old).faults) }
         ensures fed { IsErrOf result Stop.OutOfMemory → disk.new ≡ disk.old }
 
+        // No file outside the place changes, and a stop at any moment leaves the storage as before or as after.
         ensures storing { IsStoring D.told (store_shape (store_in self)) (Opens (durable_view self) [])
             (D.medium disk.old) (D.medium disk.new) }
     {

@@ -30,5 +30,6 @@ abbrev pub verdict : List Finding → List ℕ
 verdict [] = codes "sound\n"
 verdict (f ∷ findings) = codes "findings " ++ decimal (length (f ∷ findings)) ++ codes "\n"
 
+-- the whole text: the elements, the findings, and the verdict
 unfoldable pub audit_text : List Listed → List Finding → List ℕ
 audit_text elements findings = flat_map element_line elements ++ flat_map finding_line findings ++ verdict findings

@@ -24,12 +24,12 @@ use Rattle.per_audit.specs.declared.findings.Listed.{Listed}
 abbrev pub finding : (app : ℕ) → (bank : Option ℕ) → FindingKind → Unit → (copies : List ℕ) → Finding
 finding app bank kind unit copies = record { app = app; bank = bank; unit = unit; kind = kind; copies = copies }
 
--- it is damaged where copies lack it
+-- a unit, a root, a storage or an element, is damaged where copies lack it
 abbrev pub damaged_by : (app : ℕ) → (bank : Option ℕ) → Unit → (lacking : List ℕ) → List Finding
 damaged_by app bank unit [] = []
 damaged_by app bank unit (copy ∷ copies) = finding app bank Damaged unit (copy ∷ copies) ∷ []
 
--- and unsettled where a text is held besides the one that counts
+-- a unit is unsettled where a text is held besides the one that counts
 abbrev pub unless_sole : (sole : Bool) → (app : ℕ) → (bank : Option ℕ) → Unit → List Finding
 unless_sole true app bank unit = []
 unless_sole false app bank unit = finding app bank Unsettled unit [] ∷ []
@@ -56,6 +56,7 @@ of_element app bank s e = cond (is_readable_by (is_content s.kind) e.content)
     (damaged_by app (Some bank) (Part s.name e.name) (lacking_named s.scope e.lacking))
     (finding app (Some bank) Lost (Part s.name e.name) e.lacking ∷ [])
 
+-- there is no other text that could be the storage's
 abbrev pub is_none_left : List View → Bool
 is_none_left [] = true
 is_none_left (v ∷ others) = false
@@ -99,19 +100,22 @@ each_storage f [] states = []
 each_storage f (s ∷ storages) [] = []
 each_storage f (s ∷ storages) (state ∷ states) = f s.0 s.1 state ++ each_storage f storages states
 
+-- what is found of an application: of its root, and then of each storage that the root names
 unfoldable pub findings_of : (app : ℕ) → (sole : Bool) → App → List Finding
 findings_of app sole a = of_root app sole a.says a.lacking
     ++ each_storage (of_storage app) (storages_named a.says) a.states
 
+-- the elements of an application, storage by storage
 unfoldable pub elements_of : (app : ℕ) → App → List Listed
 elements_of app a = each_storage (listed_of app) (storages_named a.says) a.states
 
 -- ---- a disk
 
--- of its eight applications, in their order
+-- what is found of the eight applications of a disk, in their order
 unfoldable pub findings_at : Image → List Finding
 findings_at image = flat_map (λ app. findings_of app (root_sole image app) (app_at image app)) (range_with_len 0 8)
 
+-- the elements of the eight applications of a disk, in their order
 unfoldable pub elements_at : Image → List Listed
 elements_at image = flat_map (λ app. elements_of app (app_at image app)) (range_with_len 0 8)
 

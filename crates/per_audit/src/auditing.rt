@@ -26,15 +26,18 @@ use std::alloc::Global;
 /// The applications of a disk.
 const APPS: u32 = 8;
 
-/// Looks at every application of a disk and changes nothing: lists every element of each storage that opens, and what
-/// is damaged, lost or unsettled. Each content is read once. It begins with a sync and writes nothing.
+/// Looks at every application of a disk and changes nothing: lists every element of each storage that opens, and which
+/// roots, storages and elements are damaged (copies lack them), lost (too few copies agree) or unsettled (another text
+/// is held beside theirs). Each content is read once. It begins with a sync and writes nothing.
 ///
 /// # Errors
 ///
 /// `Device` where the disk fails, and `OutOfMemory`.
 pub fn audit<D: Disk>(alloc: Global, disk: &mut D) -> Result<Audit, Stop>
+    // What is listed and found is what the image that the disk then had gives.
     ensures elements { IsTrue D.told → IfOk result (λ audit. audit.elements ≡ elements_at (D.medium disk.old).image) }
     ensures findings { IsTrue D.told → IfOk result (λ audit. audit.findings ≡ findings_at (D.medium disk.old).image) }
+    // Nothing is written, and where it succeeds nothing is pending.
     ensures quiet { OnOk result (Quiet (D.medium disk.new)) }
     ensures image { (D.medium disk.new).image ≡ (D.medium disk.old).image }
     ensures written { (D.medium disk.new).written ≡ (D.medium disk.old).written }
@@ -42,6 +45,7 @@ pub fn audit<D: Disk>(alloc: Global, disk: &mut D) -> Result<Audit, Stop>
     // A crash meanwhile leaves what reads give, or what one before the audit might have left.
     ensures during { EachCase (λ c. (D.medium disk.old).now c ⊎ IsSettledAt (D.medium disk.old).image c)
         (D.medium disk.old) (D.medium disk.new) }
+    // The count of faults rose where the device failed, and stayed where the call succeeded or memory ran out.
     ensures cause { IsErrOf result Stop.Device → Rose (D.medium disk.old).faults (D.medium disk.new).faults }
     ensures passes { OnOk result ((D.medium disk.new).faults ≡ (D.medium disk.old).faults) }
     ensures fed { IsErrOf result Stop.OutOfMemory → (D.medium disk.new).faults ≡ (D.medium disk.old).faults }

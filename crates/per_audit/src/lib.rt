@@ -5,6 +5,9 @@
 //! another text is held. What it lists and finds is a function of what the disk holds (`specs/Audits`), and where it
 //! finds nothing no later opening reports anything ([`sound_disks_report_nothing`]). [`Audit::text`] gives its one
 //! text.
+//!
+//! In the contracts `told` is that a disk's bytes are modelled, `quiet` that nothing is pending on it, and `time` that
+//! its moments go on and no count falls.
 #![tactic(auto)]
 
 mod auditing;

@@ -43,16 +43,17 @@ abbrev pub exported_contents : StorageData → List Entry → Result (List Fresh
 exported_contents s [] = Ok []
 exported_contents s (e ∷ es) = fresh_of s e >>= λ f. exported_contents s es >>= λ fs. Ok (f ∷ fs)
 
--- a storage that does not open is not exported
+-- the export of a storage in this state, or the refusal: one that does not open is not exported
 abbrev pub exported_from : StorageData → State → Result Export PerError
 exported_from s (Corrupt salvage others) = Err (error.IntegrityCorrupted (unit.Whole s.name))
 exported_from s (Opens v others) = exported_contents s v.entries >>= λ contents.
     Ok (record { kind = s.kind; contents = contents })
 
+-- the text of that export
 abbrev pub text_from : StorageData → State → Result (List ℕ) PerError
 text_from s state = exported_from s state >>= λ x. Ok (export_text x)
 
--- the text of a storage of the active version
+-- the text of the storage of this name in the active version, or the refusal
 unfoldable pub exporting : App → (name : List ℕ) → Result (List ℕ) PerError
 exporting a name = storage_in a name None >>= λ f. text_from f.config f.state
 
@@ -86,12 +87,12 @@ least_mismatch s [] = None
 least_mismatch s (f ∷ fs) = or_next (mismatch_of s f) (least_mismatch s fs)
 
 -- the state of the storage that is made of a text: exactly the contents of the export, infos included, under the
--- generation of a reset
+-- next generation; or the refusal
 unfoldable pub importing : StorageData → State → (text : List ℕ) → Result State PerError
 importing s state text = export_for s.kind (export_of text) >>= λ x.
     refused_by (least_mismatch s x.contents) (if_contents_fit s state x.contents)
 
--- the application with this storage so
+-- the application in which the storage of this name has what the text spells, or the refusal
 unfoldable pub importing_into : App → (name text : List ℕ) → Result App PerError
 importing_into a name text = storage_in a name None >>= λ f. importing f.config f.state text >>= λ state.
     Ok (with_storage_state a f state)
@@ -114,7 +115,7 @@ dumping a = dumping_over a a.says
 
 -- ---- a restore
 
--- what the root says may refuse it
+-- why nothing can be restored over a root that says this: none where nothing is installed and a generation is left
 abbrev pub taken : Says → Option PerError
 taken nothing = Some (error.IntegrityCorrupted unit.Root)
 taken (absent g) = cond (nat_le greatest_generation g) (Some (error.LimitReached limit.Generations)) None
@@ -141,6 +142,7 @@ abbrev pub made_from : (manifest : List ℕ) (texts : List (List ℕ)) → (gene
 made_from manifest texts g = deployment_of manifest >>= λ d. states_from d.storages texts >>= λ states.
     Ok (restored_app g d states)
 
--- the application that is restored: the version of the manifest, and of each storage exactly what its text says
+-- the application that is restored: the version of the manifest, and of each storage exactly what its text says; or the
+-- refusal
 unfoldable pub restoring : (manifest : List ℕ) (texts : List (List ℕ)) → App → Result App PerError
 restoring manifest texts a = refused_by (taken a.says) (made_from manifest texts (says_generation a.says))

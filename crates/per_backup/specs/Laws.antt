@@ -14,8 +14,8 @@ use Rattle.export_text.specs.Exports.{IsExport, export_of, export_text}
 use Rattle.per_backup.specs.Backups.{dumping, exported_from, exporting, importing, importing_into, least_mismatch}
 use Rattle.per_backup.specs.Backups.{restoring}
 
--- what is imported is what the text spells, names, contents and infos, under the generation of a reset, and nothing of
--- what was there
+-- what is imported is what the text spells, names, contents and infos, under the storage's next generation, and nothing
+-- of what was there
 abbrev pub ImportsLaw : Type 0
 ImportsLaw = (s : StorageData) (state : State) (text : List ℕ) (x : Export) (next : State) → export_of text ≡ Some x
     → importing s state text ≡ Ok next → next ≡ fresh_state (next_generation (salvage_of state)) (fresh_map x.contents)
@@ -38,13 +38,15 @@ abbrev pub RestoredLaw : Type 0
 RestoredLaw = (a b : App) (manifest : List ℕ) (texts : List (List ℕ)) → AllByRecursion AreBytes texts
     → restoring manifest texts a ≡ Ok b → dumping b ≡ Ok texts
 
--- every refusal has a number, and so a line that says it
+-- every refusal of an export has a number, and so a line that says it
 abbrev pub ExportNumbersLaw : Type 0
 ExportNumbersLaw = (a : App) (name : List ℕ) → IfErr (exporting a name) (λ e. IsSome (error_number e))
 
+-- every refusal of an import has a number
 abbrev pub ImportNumbersLaw : Type 0
 ImportNumbersLaw = (a : App) (name text : List ℕ) → IfErr (importing_into a name text) (λ e. IsSome (error_number e))
 
+-- every refusal of a restore has a number
 abbrev pub RestoreNumbersLaw : Type 0
 RestoreNumbersLaw = (a : App) (manifest : List ℕ) (texts : List (List ℕ)) → IfErr (restoring manifest texts a)
     (λ e. IsSome (error_number e))

@@ -45,10 +45,13 @@ pub enum Exported {
 /// `Device` where the disk fails, and `OutOfMemory`.
 pub fn export<D: Disk>(alloc: Global, disk: &mut D, app: u32, name: &Name) -> Result<Exported, Stop>
     requires { app < 8 }
+    // The text or the refusal that `exporting` has for the application that is seen.
     ensures answer { IfOk result (λ x. (it : App) × IsAppSeen D.told (D.medium disk.old).image app it
         × (exported_as x ≡ exporting it name.now)) }
+    // Nothing is written, and where it succeeds nothing is pending.
     ensures stays { LooksOnly (D.medium disk.old) (D.medium disk.new) }
     ensures quiet { OnOk result (Quiet (D.medium disk.new)) }
+    // The count of faults rose where the device failed, and stayed where the call succeeded or memory ran out.
     ensures cause { IsErrOf result Stop.Device → Rose (D.medium disk.old).faults (D.medium disk.new).faults }
     ensures passes { OnOk result ((D.medium disk.new).faults ≡ (D.medium disk.old).faults) }
     ensures fed { IsErrOf result Stop.OutOfMemory → (D.medium disk.new).faults ≡ (D.medium disk.old).faults }

@@ -27,7 +27,7 @@ use per_base::{Fresh, Name, PerError, StoreKind};
 use std::alloc::{AllocError, Global};
 
 /// Rebuilds the storage of this name in the active version of an application with exactly the contents of an export,
-/// infos included, under the generation of a reset. It may be read-only, and it need not open.
+/// infos included, under the storage's next generation. It may be read-only, and it need not open.
 ///
 /// Refusals, the first that holds: `IntegrityCorrupted` with the root where it is bad; `NotInstalled`;
 /// `StorageNotFound`; `ExportRejected` where the bytes are no export of the storage's kind; `DataTypeMismatch` for the
@@ -48,17 +48,19 @@ pub fn import<D: Disk>(
 ) -> Result<Option<PerError>, Stop>
     requires { app < 8 }
 
-    // The refusal that its row has for the application that is seen; then nothing changed.
+    // The refusal that `importing_into` has for the application that is seen, or none; with a refusal nothing changed.
     ensures refused { IfOk result (λ refused. (it : App) × IsAppSeen D.told (D.medium disk.old).image app it
         × AnswersRow refused (importing_into it name.now bytes.now)) }
     ensures unchanged { IfOk result (λ refused. IsSome refused
         → LooksOnly (D.medium disk.old) (D.medium disk.new)) }
 
-    // The application that the row makes; at every moment the storage is as it was or as it is imported.
+    // The application that `importing_into` makes; at every moment the storage is as it was or as it is imported, and
+    // no other file changes.
     ensures imported { IsTrue D.told → OnOk result (Imported app name.now bytes.now (D.medium disk.old)
         (D.medium disk.new)) }
     ensures keeps { IsTrue D.told → ImportKeeps app name.now bytes.now (D.medium disk.old) (D.medium disk.new) }
     ensures quiet { OnOk result (Quiet (D.medium disk.new)) }
+    // The count of faults rose where the device failed, and stayed where the call succeeded or memory ran out.
     ensures cause { IsErrOf result Stop.Device → Rose (D.medium disk.old).faults (D.medium disk.new).faults }
     ensures passes { OnOk result ((D.medium disk.new).faults ≡ (D.medium disk.old).faults) }
     ensures fed { IsErrOf result Stop.OutOfMemory → (D.medium disk.new).faults ≡ (D.medium disk.old).faults }

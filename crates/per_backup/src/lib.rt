@@ -11,6 +11,10 @@
 //! changed. A stop at any moment of an import leaves the storage as it was or as it is imported, and all else as it
 //! was; one of a restore leaves nothing installed, or all of the application. What was imported or restored is exported
 //! again as the same text, byte for byte.
+//!
+//! A *row* of `specs/Backups` gives, of an application, what a call makes of it or the refusal. In the contracts `told`
+//! is that a disk's bytes are modelled, `quiet` that nothing is pending on it, and `time` that its moments go on and no
+//! count falls.
 #![tactic(auto)]
 
 mod exporting;

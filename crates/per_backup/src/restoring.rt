@@ -47,16 +47,17 @@ pub fn restore<D: Disk>(
 ) -> Result<Option<PerError>, Stop>
     requires { app < 8 }
 
-    // The refusal that its row has for the application that is seen.
+    // The refusal that `restoring` has for the application that is seen, or none.
     ensures refused { IfOk result (λ refused. (it : App) × IsAppSeen D.told (D.medium disk.old).image app it
         × AnswersRow refused (restoring manifest.now texts.now it)) }
 
-    // The application that the row makes, whose root has this manifest; at every moment it is as it was, or that.
+    // The application that `restoring` makes, whose root has this manifest; at every moment it is as it was, or that.
     ensures restored { IsTrue D.told → OnOk result (Restored app manifest.now texts.now (D.medium disk.old)
         (D.medium disk.new)) }
     ensures held { IfOk result (IfHeld D.told (D.medium disk.new).image app manifest.now) }
     ensures keeps { IsTrue D.told → RestoreKeeps app manifest.now texts.now (D.medium disk.old) (D.medium disk.new) }
     ensures quiet { OnOk result (Quiet (D.medium disk.new)) }
+    // The count of faults rose where the device failed, and stayed where the call succeeded or memory ran out.
     ensures cause { IsErrOf result Stop.Device → Rose (D.medium disk.old).faults (D.medium disk.new).faults }
     ensures passes { OnOk result ((D.medium disk.new).faults ≡ (D.medium disk.old).faults) }
     ensures fed { IsErrOf result Stop.OutOfMemory → (D.medium disk.new).faults ≡ (D.medium disk.old).faults }

@@ -47,7 +47,7 @@ pub struct FileInfo {
 pub enum Content {
     /// M copies agree on these bytes.
     Good(Bytes),
-    /// Fewer agree; the salvage, where some copy verifies.
+    /// Fewer agree; the salvage, which is the bytes of a copy that has the right hash, where one has.
     Bad(Option<Bytes>),
 }
 
@@ -60,8 +60,8 @@ pub struct Element {
     pub content: Content,
 }
 
-/// An element as it is on the disk: besides, the generation of its last change and the copies that lack it,
-/// ascending.
+/// An element as it is on the disk: an [`Element`] with its name, the generation of its last change and the copies
+/// that lack it, counted from 1 and ascending.
 #[derive(Debug, Drop)]
 pub struct Entry {
     pub name: Name,
@@ -175,7 +175,7 @@ pub fn element_size(name: &Name, len: u32) -> u64
     text.len() as u64 + len as u64
 }
 
-/// The size of a storage in bytes: the sum over its elements, which no list of them makes too great for a `u64`.
+/// The size of a storage in bytes: the sum over its elements, of which it has at most 1,024, so that a `u64` holds it.
 pub fn storage_size(entries: &[Entry]) -> u64
     requires { length entries.now ≤ 1024 }
     ensures size { result ≡ sum_by (λ e. length e.name + e.len) entries.now }

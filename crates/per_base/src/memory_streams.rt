@@ -171,8 +171,8 @@ impl Sink for MemSink {
         ensures told { is_some (Some self.new.written) ≡ is_some (Some self.old.written) }
         ensures cause { HasCause self.old.faults self.new.faults result }
         ensures stuck { IfOk result (λ n. n ≡ 0 → 0 < length bytes.now → Rose self.old.faults self.new.faults) }
-        // As much as there is, up to the piece, and a failure only where the plan has one or memory ran out, which is
-        // counted.
+        // It takes as much as there is, up to the piece. It fails where the plan says so, and else only where memory
+        // ran out, which `starved` counts; a call that succeeds leaves that count (`fed`).
         ensures count { IfOk result (λ n. n ≡ min self.old.piece (length bytes.now)) }
         ensures planned { IsTrue (is_failing self.old.failing self.old.calls) → IsErr result }
         ensures fails { OnErr result (FailsAsPlanned self.old self.new ⊎ RunsOutOfMemory self.old self.new) }

@@ -10,7 +10,7 @@ pub struct Failed;
 
 /// A stream of bytes that are read.
 pub trait Source {
-    /// The bytes that are left, where the source models them.
+    /// The bytes that are left, or `None` where the source does not model them, which never changes.
     ghost left: { Self → Option (List ℕ) };
 
     /// How many calls failed. The count stops at the greatest `u64`.
@@ -31,7 +31,7 @@ pub trait Source {
 
 /// A stream of bytes that are written.
 pub trait Sink {
-    /// The bytes that were taken, where the sink models them.
+    /// The bytes that were taken, or `None` where the sink does not model them, which never changes.
     ghost written: { Self → Option (List ℕ) };
 
     /// How many calls failed. The count stops at the greatest `u64`.

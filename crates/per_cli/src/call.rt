@@ -6,15 +6,16 @@
 
 ghost use Rattle.std.specs.Prelude.{◌≤◌, length};
 
+use crate::causes::none_of_these;
 use crate::saying::{Screen, say};
 use crate::{NO_DISK, NO_INPUT, REFUSED_CALL, REFUSED_WORDS, program};
 use command_text::LineError;
 use memchr::memchr;
-use per_reasons::why_no_call;
+use per_reasons::{dots_after, why_no_call, word_shown};
 use per_run::{JobKind, WordsError, read_words};
 use per_words::{
     Shown, call_lines, call_word, content_lines, manifest_lines, options_in, shown_bytes, shown_in,
-    takes_manifest,
+    takes_manifest, unknown_in,
 };
 use std::alloc::{AllocError, Global};
 use std::cell::Cell;
@@ -24,6 +25,9 @@ use std::rt::Files;
 
 /// One byte more than a file may have: of a longer input no more is read.
 const CONTENT_BYTES: u64 = 1_048_577;
+
+/// How many bytes a manifest has at most.
+const MANIFEST_BYTES: usize = 65_536;
 
 /// How many digits of the bytes of a file are turned into bytes at once, an even number.
 const DIGITS: usize = 65_536;
@@ -35,6 +39,10 @@ enum Unmade {
     Refused,
     /// An option is none that may stand beside a call.
     Beside,
+    /// The manifest is empty.
+    NoManifest,
+    /// The manifest is longer than one may be.
+    LongManifest,
     /// A file, or the input, cannot be read.
     Unread(io::Error),
     OutOfMemory,
@@ -73,7 +81,7 @@ pub(crate) fn run<R: Files<File = File> + AllocGlobal + Input + Print + Screen>(
     match made(rt, words, named) {
         Ok(status) => status,
         Err(Unmade::Refused) => {
-            let _ = say_refused(rt, rt.alloc(), named);
+            let _ = say_refused(rt, rt.alloc(), words, named);
             REFUSED_WORDS
         }
         Err(Unmade::Beside) => {
@@ -82,8 +90,19 @@ pub(crate) fn run<R: Files<File = File> + AllocGlobal + Input + Print + Screen>(
             );
             REFUSED_WORDS
         }
+        Err(Unmade::NoManifest) => {
+            let _ = rt.eprintln("per: invalid arguments: the manifest is empty (per --help)");
+            REFUSED_WORDS
+        }
+        Err(Unmade::LongManifest) => {
+            let _ = rt.eprintln(
+                "per: invalid arguments: the manifest has more than 65536 bytes (per --help)",
+            );
+            REFUSED_WORDS
+        }
         Err(Unmade::Unread(error)) => {
-            let line = format!(in rt.alloc(); "per: what the call takes cannot be read: {error}");
+            let input = input_name(named);
+            let line = format!(in rt.alloc(); "per: {input} cannot be read: {error}");
             let _ = say(rt, rt.alloc(), line);
             NO_INPUT
         }
@@ -91,8 +110,30 @@ pub(crate) fn run<R: Files<File = File> + AllocGlobal + Input + Print + Screen>(
     }
 }
 
+/// What the call takes: a file by its name, or standard input.
+fn input_name<'a>(named: &[&'a [u8]]) -> &'a str {
+    match named {
+        [call, _, file] if takes_manifest(call) && *file != b"-".as_slice() => {
+            str::from_utf8(*file).unwrap_or("the file")
+        }
+        _ => "standard input",
+    }
+}
+
 /// Says why the arguments are invalid.
-fn say_refused<R: Screen>(rt: &R, alloc: Global, named: &[&[u8]]) -> io::Result<()> {
+fn say_refused<R: Screen>(
+    rt: &R,
+    alloc: Global,
+    words: &[String],
+    named: &[&[u8]],
+) -> io::Result<()> {
+    if let Some(why) = unknown_option(alloc, words)? {
+        return say(
+            rt,
+            alloc,
+            format!(in alloc; "per: invalid arguments: {why} (per --help)"),
+        );
+    }
     match why_refused(alloc, named) {
         Ok(Some(why)) => say(
             rt,
@@ -100,6 +141,15 @@ fn say_refused<R: Screen>(rt: &R, alloc: Global, named: &[&[u8]]) -> io::Result<
             format!(in alloc; "per: invalid arguments: {why} (per --help)"),
         ),
         Ok(None) | Err(_) => rt.eprintln(refusal_of(named)),
+    }
+}
+
+/// Which option is none of a run, where one is.
+fn unknown_option(alloc: Global, words: &[String]) -> Result<Option<String>, AllocError> {
+    let options = options_in(alloc, words)?;
+    match unknown_in(options.as_slice()) {
+        Some(word) => none_of_these(alloc, word),
+        None => Ok(None),
     }
 }
 
@@ -131,27 +181,61 @@ fn why_refused(alloc: Global, named: &[&[u8]]) -> Result<Option<String>, AllocEr
     let [call, target, arguments @ ..] = named else {
         return Ok(None);
     };
-    let [digit, storage @ ..] = *target else {
-        return Ok(None);
+    let Some((digit, storage)) = target_in(target) else {
+        return why_no_target(alloc, call, target);
     };
-    if *digit < b'0' || *digit > b'7' {
-        return Ok(None);
+    if storage.is_none_or(|name| name.is_empty()) && !is_of_application(alloc, call)? {
+        let missing = "what is missing is a storage, as 0:k";
+        return Ok(Some(String::from_str(alloc, missing)?));
     }
     let mut line = Vec::new(alloc);
-    line.push(*digit)?;
+    line.push(digit)?;
     line.push(b' ')?;
     line.extend_from_slice(call_word(call))?;
-    if let Some(storage) = storage.strip_prefix(b":") {
+    if let Some(storage) = storage {
         line.push(b' ')?;
         line.extend_from_slice(storage)?;
-    } else if !storage.is_empty() {
-        return Ok(None);
     }
     for argument in arguments {
         line.push(b' ')?;
         line.extend_from_slice(*argument)?;
     }
     why_no_call(alloc, line.as_slice())
+}
+
+/// The digit of an application, and the name after a colon where one follows it.
+fn target_in(target: &[u8]) -> Option<(u8, Option<&[u8]>)> {
+    match target {
+        [digit] if is_digit(*digit) => Some((*digit, None)),
+        [digit, b':', storage @ ..] if is_digit(*digit) => Some((*digit, Some(storage))),
+        _ => None,
+    }
+}
+
+/// What is said of a word to which no call is made.
+fn why_no_target(alloc: Global, call: &[u8], target: &[u8]) -> Result<Option<String>, AllocError> {
+    let needed = if is_of_application(alloc, call)? {
+        "an application, 0 to 7"
+    } else {
+        "an application, 0 to 7, and a storage, as 0:k"
+    };
+    let dots = dots_after(target);
+    match str::from_utf8(word_shown(target)) {
+        Ok("") | Err(_) => Ok(None),
+        Ok(word) => Ok(Some(format!(in alloc; "{word}{dots} is to be {needed}")?)),
+    }
+}
+
+/// Whether the call is made to an application, and to no storage.
+fn is_of_application(alloc: Global, call: &[u8]) -> Result<bool, AllocError> {
+    if takes_manifest(call) {
+        return Ok(true);
+    }
+    match call_lines(alloc, call, b"0", &[]) {
+        Ok(_) => Ok(true),
+        Err(LineError::NotALine) => Ok(false),
+        Err(LineError::OutOfMemory) => Err(AllocError),
+    }
 }
 
 fn made<R: Files<File = File> + AllocGlobal + Input + Print + Screen>(
@@ -230,7 +314,7 @@ fn lines_of_call<R: Files<File = File> + AllocGlobal + Input>(
     match arguments {
         [file] if takes_manifest(call) => {
             let manifest = manifest_in(rt, alloc, file)?;
-            Ok(manifest_lines(alloc, call, target, manifest.as_slice())?)
+            lines_of_manifest(alloc, call, target, manifest.as_slice())
         }
         [file] if is_first(named, b"put") => {
             let content = input_of(rt, alloc)?;
@@ -238,6 +322,41 @@ fn lines_of_call<R: Files<File = File> + AllocGlobal + Input>(
         }
         _ => Ok(call_lines(alloc, call, target, arguments)?),
     }
+}
+
+/// The line of a call with this manifest.
+fn lines_of_manifest(
+    alloc: Global,
+    call: &[u8],
+    target: &[u8],
+    manifest: &[u8],
+) -> Result<Vec<u8>, Unmade> {
+    match manifest_lines(alloc, call, target, manifest) {
+        Ok(lines) => Ok(lines),
+        Err(LineError::NotALine) if is_application(target) => {
+            if manifest.is_empty() {
+                Err(Unmade::NoManifest)
+            } else if manifest.len() > MANIFEST_BYTES {
+                Err(Unmade::LongManifest)
+            } else {
+                Err(Unmade::Refused)
+            }
+        }
+        Err(error) => Err(Unmade::from(error)),
+    }
+}
+
+/// Whether the word is the number of an application.
+fn is_application(word: &[u8]) -> bool {
+    match word {
+        [digit] => is_digit(*digit),
+        _ => false,
+    }
+}
+
+/// Whether the byte is the number of an application.
+fn is_digit(byte: u8) -> bool {
+    byte >= b'0' && byte <= b'7'
 }
 
 /// The manifest in this file; the file `-` is standard input.

@@ -1,7 +1,10 @@
 //! Why a run ended, in one line on standard error.
 
 use crate::saying::{Screen, say as say_line};
-use std::alloc::Global;
+use per_reasons::{dots_after, word_shown};
+use per_run::{WordsError, read_words};
+use per_words::unknown_in;
+use std::alloc::{AllocError, Global};
 use std::rt::Files;
 use std::{fmt, fs, io};
 use system_model::{Asked, Failure};
@@ -15,6 +18,17 @@ const USAGE: &str = "usage: per --dir DIR [--flash N] [--serve | --format | --ge
            reset-key cat put files file-exists size-of info delete recover-file
            reset-file recover-storage reset-storage
        per --help, --version or --demo";
+
+/// The options with a value, and what they take.
+const VALUES: [(&str, &str); 7] = [
+    ("--dir", "a folder"),
+    ("--flash", "a number of blocks, 4 to 4096"),
+    ("--generate", "a number, 1 to 100000"),
+    ("--export", "an application, 0 to 7, and a storage, as 0:k"),
+    ("--import", "an application, 0 to 7, and a storage, as 0:k"),
+    ("--list", "lines or json"),
+    ("--recover-root", "an application, 0 to 7"),
+];
 
 /// Why calls of the disk failed.
 #[derive(Clone, Copy, Debug)]
@@ -42,8 +56,8 @@ impl fmt::Display for Fault {
 pub(crate) struct Ended<'a> {
     pub(crate) status: u8,
     pub(crate) dir: &'a str,
-    /// The first argument that is none of a run's.
-    pub(crate) unknown: Option<&'a [u8]>,
+    /// The arguments of the run.
+    pub(crate) words: &'a [String],
     /// How many blocks the flash has, where the folder is to hold one.
     pub(crate) flash: Option<u32>,
     /// Whether the lines of the input were to be handled.
@@ -100,7 +114,7 @@ pub(crate) fn say_foreign<R: Screen>(
 pub(crate) fn say<R: Files + Screen>(rt: &R, alloc: Global, ended: &Ended<'_>) -> io::Result<()> {
     match ended.status {
         0 => say_of_answers(rt, alloc, ended),
-        1 => say_usage(rt, alloc, ended.unknown),
+        1 => say_usage(rt, alloc, ended.words),
         2 => rt.eprintln(
             "per: a line is outside the grammar; the last reply has its number (per --help)",
         ),
@@ -154,12 +168,72 @@ fn say_of_device<R: Files + Screen>(rt: &R, alloc: Global, ended: &Ended<'_>) ->
     say_failure(rt, alloc, what, dir, ended.disk)
 }
 
-/// Says which arguments there are, and which one is none of them.
-fn say_usage<R: Screen>(rt: &R, alloc: Global, unknown: Option<&[u8]>) -> io::Result<()> {
-    rt.eprintln(USAGE)?;
-    match str::from_utf8(unknown.unwrap_or(&[])) {
-        Ok("") | Err(_) => Ok(()),
-        Ok(word) => say_line(rt, alloc, format!(in alloc; "per: {word} is none of these")),
+/// Says what is wrong with the arguments, and which there are.
+fn say_usage<R: Screen>(rt: &R, alloc: Global, words: &[String]) -> io::Result<()> {
+    if let Some(why) = wrong_words(alloc, words)? {
+        say_line(rt, alloc, format!(in alloc; "per: {why}"))?;
+    }
+    rt.eprintln(USAGE)
+}
+
+/// What is wrong with the arguments of a run: one is none of these, a value is none of its option, the folder is not
+/// named, or two do not stand together.
+fn wrong_words(alloc: Global, words: &[String]) -> Result<Option<String>, AllocError> {
+    if let Some(word) = unknown_in(words) {
+        return none_of_these(alloc, word);
+    }
+    for (option, takes) in VALUES.iter() {
+        if has_wrong_value(alloc, words, option)? {
+            return Ok(Some(format!(in alloc; "{option} takes {takes}")?));
+        }
+    }
+    let why = if words.iter().any(|word| is_option(word, "--dir")) {
+        "two of these options do not stand together"
+    } else {
+        "what is missing is --dir DIR"
+    };
+    Ok(Some(String::from_str(alloc, why)?))
+}
+
+/// That the word is none of the arguments, where it can be shown.
+pub(crate) fn none_of_these(alloc: Global, word: &[u8]) -> Result<Option<String>, AllocError> {
+    let dots = dots_after(word);
+    match str::from_utf8(word_shown(word)) {
+        Ok("") | Err(_) => Ok(None),
+        Ok(word) => Ok(Some(format!(in alloc; "{word}{dots} is none of these")?)),
+    }
+}
+
+/// Whether the option stands among the arguments with a value that it does not take, or without one. The value is tried
+/// as that of the option alone.
+fn has_wrong_value(alloc: Global, words: &[String], option: &str) -> Result<bool, AllocError> {
+    for (at, word) in words.iter().enumerate() {
+        if is_option(word, option) {
+            let mut tried = Vec::new(alloc);
+            if option != "--dir" {
+                tried.push(String::from_str(alloc, "--dir=.")?)?;
+            }
+            tried.push(word.clone()?)?;
+            if word.as_str() == option {
+                if let Some(value) = words.get(at.saturating_add(1)) {
+                    tried.push(value.clone()?)?;
+                }
+            }
+            match read_words(alloc, tried.as_slice()) {
+                Ok(_) => {}
+                Err(WordsError::Refused) => return Ok(true),
+                Err(WordsError::OutOfMemory) => return Err(AllocError),
+            }
+        }
+    }
+    Ok(false)
+}
+
+/// Whether the word is this option, with its value after an equals sign or not.
+fn is_option(word: &String, option: &str) -> bool {
+    match word.as_bytes().strip_prefix(option.as_bytes()) {
+        Some([]) | Some([b'=', ..]) => true,
+        _ => false,
     }
 }
 
@@ -266,6 +340,6 @@ fn is_other<R: Files>(rt: &R, dir: &str) -> bool {
 }
 
 /// Whether the folder is there, as far as the system says.
-fn has_folder<R: Files>(rt: &R, dir: &str) -> bool {
+pub(crate) fn has_folder<R: Files>(rt: &R, dir: &str) -> bool {
     !matches!(fs::exists(rt, dir), Ok(false))
 }

@@ -17,10 +17,10 @@ use folder_disk::FolderDisk;
 use folder_flash::{FolderFlash, of_flash};
 use per_base::{PerError, Sequence};
 use per_dump::{Dumped, dump_application, restore_application};
-use per_reasons::why_refused;
+use per_reasons::{why_not_restored, why_refused};
 use per_run::{JobKind, WordsError, read_words};
 use per_system::{Access, DeviceKind, HostSystem, Noted, NotedFlash, Notes};
-use per_words::{options_in, unknown_in};
+use per_words::options_in;
 use std::alloc::{AllocError, Global};
 use std::fs::{self, File};
 use std::io::{self, Input, Read, Write};
@@ -121,7 +121,8 @@ pub(crate) fn run<R: Files<File = File> + AllocGlobal + Input + Print + Screen>(
             REFUSED_WORDS
         }
         Err(Unbegun::Unread(error)) => {
-            let line = format!(in alloc; "per: the dump cannot be read: {error}");
+            let input = input_name(named);
+            let line = format!(in alloc; "per: the dump cannot be read: {input}: {error}");
             let _ = say_line(rt, alloc, line);
             NO_INPUT
         }
@@ -131,6 +132,14 @@ pub(crate) fn run<R: Files<File = File> + AllocGlobal + Input + Print + Screen>(
             REFUSED_CALL
         }
         Err(Unbegun::OutOfMemory) => program::no_memory(rt),
+    }
+}
+
+/// Of what a restore reads the text: a file by its name, or standard input.
+fn input_name<'a>(named: &[&'a [u8]]) -> &'a str {
+    match named {
+        [_, file] => str::from_utf8(*file).unwrap_or("the file"),
+        _ => "standard input",
     }
 }
 
@@ -150,7 +159,7 @@ fn begun<R: Files<File = File> + Input>(
         [word] if *word == b"restore".as_slice() => {
             let mut text = Vec::new(alloc);
             rt.reader().read_to_end(&mut text)?;
-            Wanted::Restore(read_dump(alloc, text.as_slice())?)
+            Wanted::Restore(dump_in(alloc, text.as_slice())?)
         }
         [word, file] if *word == b"restore".as_slice() => {
             let Ok(file) = str::from_utf8(file) else {
@@ -158,12 +167,20 @@ fn begun<R: Files<File = File> + Input>(
             };
             let mut text = Vec::new(alloc);
             fs::open(rt, file)?.read_to_end(&mut text)?;
-            Wanted::Restore(read_dump(alloc, text.as_slice())?)
+            Wanted::Restore(dump_in(alloc, text.as_slice())?)
         }
         [word, ..] if *word == b"dump".as_slice() => return Err(Unbegun::Refused(DUMP_TAKES)),
         _ => return Err(Unbegun::Refused(RESTORE_TAKES)),
     };
     Ok((wanted, place))
+}
+
+/// The applications of a dump.
+fn dump_in(alloc: Global, text: &[u8]) -> Result<Vec<DumpedApplication>, Unbegun> {
+    if text.is_empty() {
+        return Err(Unbegun::NoDump(String::from_str(alloc, "it is empty")?));
+    }
+    Ok(read_dump(alloc, text)?)
 }
 
 /// The folder, and the blocks of its flash.
@@ -217,7 +234,7 @@ fn done<R: Files<File = File> + AllocGlobal + Print + Screen>(
         let ended = Ended {
             status,
             dir: dir.as_str(),
-            unknown: unknown_in(words),
+            words,
             flash,
             takes_lines: false,
             lists: false,
@@ -383,10 +400,10 @@ fn dump<R: Screen, D: Disk>(
             }
             Ok(Dumped::Absent) if application.is_none() => {}
             Ok(Dumped::Absent) => {
-                return Err(refused(rt, alloc, number, "dumped", PerError::NotInstalled, &[]));
+                return Err(refused(rt, alloc, number, "dumped", PerError::NotInstalled, None));
             }
             Ok(Dumped::Refused(error)) => {
-                return Err(refused(rt, alloc, number, "dumped", error, &[]));
+                return Err(refused(rt, alloc, number, "dumped", error, None));
             }
             Err(stop) => return Err(status_of(stop)),
         }
@@ -420,8 +437,7 @@ fn restore<R: Screen, D: Disk>(
                 }
             }
             Ok(Some(error)) => {
-                let manifest = dumped.manifest.as_slice();
-                status = refused(rt, alloc, number, "restored", error, manifest);
+                status = refused(rt, alloc, number, "restored", error, Some(dumped));
             }
             Err(stop) => return status_of(stop),
         }
@@ -436,14 +452,14 @@ fn say_restored(alloc: Global, number: u32, output: &mut Vec<u8>) -> Result<(), 
     Ok(())
 }
 
-/// Says why an application is not dumped, or not restored with this manifest, and gives the status.
+/// Says why an application is not dumped, or this one is not restored, and gives the status.
 fn refused<R: Screen>(
     rt: &R,
     alloc: Global,
     number: u32,
     what: &str,
     error: PerError,
-    manifest: &[u8],
+    dumped: Option<&DumpedApplication>,
 ) -> u8 {
     errors_have_texts();
     if matches!(&error, PerError::OutOfMemory) {
@@ -462,17 +478,32 @@ fn refused<R: Screen>(
         let line = format!(in alloc; "per: application {number} is not {what}: {text}");
         let _ = say_line(rt, alloc, line);
     }
-    let _ = say_why(rt, alloc, answer, manifest);
+    if let Some(dumped) = dumped {
+        if let Ok(Some(why)) = why(alloc, answer, dumped) {
+            let _ = say_line(rt, alloc, format!(in alloc; "per: {why}"));
+        }
+    }
     REFUSED_CALL
 }
 
-/// Says for which part of the manifest an installation is refused so, where there is more to say.
-fn say_why<R: Screen>(rt: &R, alloc: Global, answer: &[u8], manifest: &[u8]) -> io::Result<()> {
+/// For which part of it an application is not restored: by its manifest, or by what it holds.
+fn why(
+    alloc: Global,
+    answer: &[u8],
+    dumped: &DumpedApplication,
+) -> Result<Option<String>, AllocError> {
     let mut line = Vec::from_slice(alloc, b"0 install ")?;
-    line.extend_from_slice(manifest)?;
-    match why_refused(alloc, answer, line.as_slice()) {
-        Ok(Some(why)) => say_line(rt, alloc, format!(in alloc; "per: {why}")),
-        Ok(None) | Err(_) => Ok(()),
+    line.extend_from_slice(dumped.manifest.as_slice())?;
+    match why_refused(alloc, answer, line.as_slice())? {
+        Some(why) => Ok(Some(why)),
+        None => {
+            let mut exports = Vec::new(alloc);
+            for storage in dumped.storages.as_slice() {
+                exports.push(storage.text.as_slice())?;
+            }
+            let manifest = dumped.manifest.as_slice();
+            why_not_restored(alloc, answer, manifest, exports.as_slice())
+        }
     }
 }
 

@@ -2,12 +2,12 @@
 
 use crate::NO_OUTPUT;
 use crate::saying::{Screen, say};
-use per_words::{column_after, is_line_word, row_word, rows_of};
+use per_words::{Needed, column_after, flaw_in, is_line_word, row_word, rows_of};
 use std::alloc::{AllocError, Global};
 use std::io::{self, Write};
 
 /// The version of the sources.
-const VERSION: &str = "0.16.0";
+const VERSION: &str = "0.17.0";
 
 /// A column after which no word stands.
 const FULL: usize = 80;
@@ -147,6 +147,12 @@ const VALUES: &str = " Values are bool:true, u8:1 to u64:1, i8:-1 to i64:-1, tex
  list<u8>[u8:1,u8:2], {u8:1,text:\"a\"}.
 ";
 
+/// What a name is in a line.
+const NAMES: &str =
+    " A name of a storage, a key or a file is 1 to 255 ASCII letters, digits, _, -, .
+ or /.
+";
+
 /// The errors by their numbers.
 const ERRORS: &str = "Errors
   1  StorageNotFound          no such storage of this kind
@@ -241,7 +247,7 @@ const STATUS: &str = "Status
   3 the disk failed while the program started or formatted, in an audit, a
     listing, an export, an import, a recovery, a dump or a restore, or in a call
     by itself; or another run holds the folder; or --serve or install found
-    nothing but other files in it
+    nothing but other files in it; or there is no folder to list
   4 memory ran out
   5 the input failed, or the file that a call by itself or a restore takes
   6 the output failed
@@ -252,7 +258,7 @@ const STATUS: &str = "Status
     dump or the restore of an application was refused; its line says why
  10 the flash cannot be opened: too many pages of files, or no spare block
  11 the file of the flash has more blocks than N
- 12 the system does not give the arguments
+ 12 the system does not give the arguments, or one is no text in UTF-8
  13 the program could not be built
 ";
 
@@ -268,7 +274,7 @@ pub(crate) fn show_version(rt: &impl Print) -> u8 {
 
 fn written(rt: &impl Print) -> io::Result<()> {
     println!(rt; "{WORDS}")?;
-    println!(rt; "{LINES}{VALUES}")?;
+    println!(rt; "{LINES}{NAMES}{VALUES}")?;
     println!(rt; "{ERRORS}")?;
     println!(rt; "{REFUSALS}")?;
     print!(rt; "{STATUS}")
@@ -327,6 +333,9 @@ fn show_bytes(rt: &impl Print, before: &[u8], text: &[u8], column: usize) -> io:
 /// Says how a line of the call is written, what it does, and what may refuse it.
 fn show_call(rt: &impl Print, alloc: Global, word: &[u8]) -> io::Result<()> {
     show_rows(rt, alloc, LINES, word)?;
+    if takes_name(alloc, word)? {
+        print!(rt; "{NAMES}")?;
+    }
     if word == b"set".as_slice() || word == b"get-as".as_slice() {
         print!(rt; "{VALUES}")?;
     }
@@ -340,6 +349,17 @@ fn show_call(rt: &impl Print, alloc: Global, word: &[u8]) -> io::Result<()> {
         }
     }
     Ok(())
+}
+
+/// Whether a line of the call has a name first.
+fn takes_name(alloc: Global, call: &[u8]) -> Result<bool, AllocError> {
+    let mut line = Vec::new(alloc);
+    line.extend_from_slice(b"0 ")?;
+    line.extend_from_slice(call)?;
+    match flaw_in(alloc, line.as_slice())? {
+        Some(flaw) => Ok(matches!(flaw.needed, Needed::Name)),
+        None => Ok(false),
+    }
 }
 
 /// Shows the rows of the text that this word has.

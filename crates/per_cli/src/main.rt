@@ -19,6 +19,7 @@
 #![tactic(auto)]
 
 mod asking;
+mod beside;
 mod call;
 mod causes;
 mod demo;
@@ -30,11 +31,14 @@ mod listing;
 mod program;
 mod saying;
 mod telling;
+mod trying;
 
 use asking::Asking;
 use per_run::{JobKind, read_words};
 use per_system::fill_streams;
 use per_words::{asks_help, is_call, named_words};
+use saying::{Screen, say};
+use std::alloc::{AllocError, Global};
 use std::io::IsTerminal;
 use std::process::{self, ExitCode};
 use std::{env, io};
@@ -62,6 +66,12 @@ const WRONG_SIZE: u8 = 11;
 
 /// The status where the arguments cannot be read.
 const NO_WORDS: u8 = 12;
+
+/// How many bytes an argument has at most of which it is said that it is no text.
+const ARGUMENT_BYTES: usize = 4096;
+
+/// How many bytes of it are shown.
+const SHOWN_BYTES: usize = 60;
 
 /// What the arguments ask of main itself.
 #[derive(Clone, Copy)]
@@ -92,7 +102,7 @@ fn main(rt: HostRuntime) -> ExitCode {
     let words = match words_of(&rt) {
         Ok(words) => words,
         Err(error) => {
-            let _ = eprintln!(rt; "per: the arguments cannot be read: {error}");
+            let _ = say_unread(&rt, error);
             return ExitCode::from(status_of(&error));
         }
     };
@@ -122,6 +132,53 @@ fn words_of(rt: &(impl env::Env + AllocGlobal)) -> io::Result<Vec<String>> {
         Ok(words) => Ok(words),
         Err(_) => Err(io::Error::from(io::ErrorKind::OutOfMemory)),
     }
+}
+
+/// Says why the arguments cannot be read, and which one is no text, where one is.
+fn say_unread<R: env::Env + AllocGlobal + Screen>(rt: &R, error: io::Error) -> io::Result<()> {
+    let alloc = rt.alloc();
+    let line = match no_text(rt, alloc)? {
+        Some((number, shown)) => format!(in alloc;
+            "per: the arguments cannot be read: argument {number} is no text in UTF-8: {shown}"
+        ),
+        None => format!(in alloc; "per: the arguments cannot be read: {error}"),
+    };
+    say(rt, alloc, line)
+}
+
+/// The first argument after the program's name that is no text, by its number, and as much of it as is shown.
+fn no_text<R: env::Env>(rt: &R, alloc: Global) -> Result<Option<(usize, String)>, AllocError> {
+    for number in 1..usize::MAX {
+        let mut room = [0u8; ARGUMENT_BYTES];
+        match rt.arg(number, &mut room) {
+            Ok(length) => {
+                let word = room.get(..length).unwrap_or(&[]);
+                if str::from_utf8(word).is_err() {
+                    return Ok(Some((number, shown(alloc, word)?)));
+                }
+            }
+            // It is passed over, since it is too long to be looked at.
+            Err(env::FillError::TooLong) => {}
+            Err(env::FillError::NotPresent) => return Ok(None),
+        }
+    }
+    Ok(None)
+}
+
+/// The first bytes of a word, with the digits of those that no ASCII shows.
+fn shown(alloc: Global, word: &[u8]) -> Result<String, AllocError> {
+    let mut text = String::new(alloc);
+    for byte in word.iter().take(SHOWN_BYTES) {
+        if byte.is_ascii_graphic() {
+            text.push(char::from(*byte))?;
+        } else {
+            text.push_str(format!(in alloc; "\\x{byte:02x}")?.as_str())?;
+        }
+    }
+    if word.len() > SHOWN_BYTES {
+        text.push_str("..")?;
+    }
+    Ok(text)
 }
 
 /// The status where the arguments cannot be read.

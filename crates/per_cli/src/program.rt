@@ -1,9 +1,10 @@
 //! A run of the program over a folder, or a flash in it, and two streams.
 
-use crate::causes::{Ended, Fault, say, say_foreign, say_of_folder};
+use crate::causes::{Ended, Fault, has_folder, say, say_foreign, say_of_folder};
 use crate::hearing::{LastRead, NotedInput};
 use crate::saying::Screen;
 use crate::telling::Telling;
+use crate::trying::Place;
 use crate::{NO_DISK, NO_MEMORY, WRONG_SIZE};
 use flash_disk::{FlashOpenError, erase_all};
 use flash_model::Flash;
@@ -17,7 +18,6 @@ use per_run::{FlashRun, JobKind, WordsError, per_flash, per_run, read_words};
 use per_system::{
     Access, DeviceKind, HostSystem, Noted, NotedFlash, Notes, StdSink, StdSource, holds_only_others,
 };
-use per_words::unknown_in;
 use std::alloc::{AllocError, Global};
 use std::cell::Cell;
 use std::fs::File;
@@ -163,7 +163,7 @@ fn run_with<R: Files<File = File> + Screen, I: Read + Drop, O: Write + Drop>(
 fn run_noting<'a, R: Files<File = File> + Screen, I: Read + Drop, O: Write + Drop>(
     rt: &'a R,
     alloc: Global,
-    migrations: &Migrations,
+    migrations: &'a Migrations,
     words: &'a [String],
     input: I,
     output: O,
@@ -178,11 +178,19 @@ fn run_noting<'a, R: Files<File = File> + Screen, I: Read + Drop, O: Write + Dro
         let _ = say_foreign(rt, alloc, dir, target.flash);
         return NO_DISK;
     }
+    if target.lists && !has_folder(rt, target.dir.as_str()) {
+        let _ = say_of_folder(rt, alloc, target.dir.as_str(), target.flash);
+        return NO_DISK;
+    }
     let mut source = StdSource::new(input);
     let mut sink = StdSink::new(Telling {
         rt,
         alloc,
-        dir: target.dir.as_str(),
+        place: Place {
+            dir: target.dir.as_str(),
+            flash: target.flash,
+            migrations,
+        },
         notes,
         otherwise: target.flash.map(|_| Fault::Full),
         last,
@@ -207,7 +215,7 @@ fn run_noting<'a, R: Files<File = File> + Screen, I: Read + Drop, O: Write + Dro
     let ended = Ended {
         status: outcome.status,
         dir: target.dir.as_str(),
-        unknown: unknown_in(words),
+        words,
         flash: target.flash,
         takes_lines: target.takes_lines,
         lists: target.lists,

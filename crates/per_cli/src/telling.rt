@@ -3,21 +3,25 @@
 use crate::causes::{Fault, say_answered};
 use crate::hearing::LastRead;
 use crate::saying::{Screen, say};
+use crate::trying::{Place, why_not_updated_in};
 use per_reasons::why_refused;
 use per_system::Notes;
-use std::alloc::Global;
+use std::alloc::{AllocError, Global};
 use std::cell::Cell;
+use std::fs::File;
 use std::io::{self, Write};
+use std::rt::Files;
 
 /// The reply where the disk failed.
 const FAILED: &[u8] = b"error 4 PhysicalStorageFailure\n";
 
 /// An output that says on standard error why the disk failed, or a line was refused, before it takes the reply.
 #[derive(Drop)]
-pub(crate) struct Telling<'a, R: Screen, O: Write + Drop> {
+pub(crate) struct Telling<'a, R: Files<File = File> + Screen, O: Write + Drop> {
     pub(crate) rt: &'a R,
     pub(crate) alloc: Global,
-    pub(crate) dir: &'a str,
+    /// Where the run is.
+    pub(crate) place: Place<'a>,
     pub(crate) notes: &'a Notes,
     /// Why the disk failed, where no call of the system did.
     pub(crate) otherwise: Option<Fault>,
@@ -28,7 +32,7 @@ pub(crate) struct Telling<'a, R: Screen, O: Write + Drop> {
     pub(crate) output: O,
 }
 
-impl<'a, R: Screen, O: Write + Drop> Write for Telling<'a, R, O> {
+impl<'a, R: Files<File = File> + Screen, O: Write + Drop> Write for Telling<'a, R, O> {
     fn write(&mut self, bytes: &[u8]) -> io::Result<usize> {
         if answers_failure(bytes) {
             self.say_fault();
@@ -52,13 +56,14 @@ impl<'a, R: Screen, O: Write + Drop> Write for Telling<'a, R, O> {
     }
 }
 
-impl<'a, R: Screen, O: Write + Drop> Telling<'a, R, O> {
+impl<'a, R: Files<File = File> + Screen, O: Write + Drop> Telling<'a, R, O> {
     /// Says why the disk failed.
     #[cold]
     #[inline(never)]
     fn say_fault(&self) {
         let news = self.notes.news().map(Fault::System);
-        let _ = say_answered(self.rt, self.alloc, self.dir, news.or(self.otherwise));
+        let dir = self.place.dir;
+        let _ = say_answered(self.rt, self.alloc, dir, news.or(self.otherwise));
     }
 
     /// Says why the line was refused, where it is known and there is more to say.
@@ -69,9 +74,17 @@ impl<'a, R: Screen, O: Write + Drop> Telling<'a, R, O> {
             return Ok(());
         };
         let line = self.last.next_line(text.as_slice());
-        match why_refused(self.alloc, answer, line) {
+        match self.why(answer, line) {
             Ok(Some(why)) => say(self.rt, self.alloc, format!(in self.alloc; "per: {why}")),
             Ok(None) | Err(_) => Ok(()),
+        }
+    }
+
+    /// Why the line was refused: by what it says, or by what is stored.
+    fn why(&self, answer: &[u8], line: &[u8]) -> Result<Option<String>, AllocError> {
+        match why_refused(self.alloc, answer, line)? {
+            Some(why) => Ok(Some(why)),
+            None => why_not_updated_in(self.rt, self.alloc, self.place, answer, line),
         }
     }
 }

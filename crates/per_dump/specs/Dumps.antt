@@ -34,6 +34,7 @@ pub record IsDumpOf (application : ℕ) (says : Says) (d : DumpedApplication) : 
   pub manifest : deployment_in d.manifest ≡ Some active.deployment
   pub names : dumped_names d.storages.items ≡ storage_names active.deployment
 
+-- where the application is dumped, the dump is that of the version that is active
 abbrev pub IsOfActive : (application : ℕ) → Says → Dumped → Type 0
 IsOfActive application says (Application d) = IsDumpOf application says d
 IsOfActive application says Absent = ⊤
@@ -49,6 +50,7 @@ pub record HoldsManifest (image : Image) (application : ℕ) (manifest : List �
   pub text : seen.text ≡ root_text (root.installed bank active previous)
   pub manifest_is : active.text ≡ manifest
 
+-- where the application is dumped, two copies of its root hold the manifest of the dump
 abbrev pub IsHeld : Image → (application : ℕ) → Dumped → Type 0
 IsHeld image application (Application d) = HoldsManifest image application d.manifest
 IsHeld image application Absent = ⊤

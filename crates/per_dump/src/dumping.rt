@@ -30,10 +30,10 @@ pub enum Dumped {
 }
 
 /// All that an application has: the manifest of its active version, and of each storage the text that its export has,
-/// as it is on the disk. Nothing is changed.
+/// as it is on the disk; or that nothing is installed. Nothing is changed.
 ///
-/// It is refused with `IntegrityCorrupted`: with the root where that is bad, with the first storage that cannot be
-/// opened, or with the first element that cannot be read.
+/// The call is refused with `IntegrityCorrupted`: with the root where that is bad, with the first storage that cannot
+/// be opened, or with the first element that cannot be read.
 ///
 /// # Errors
 ///
@@ -52,8 +52,10 @@ pub fn dump_application<D: Disk>(
     ensures active { IsTrue D.told → IfOk result (λ x. IsOfActive application
         (says_at (D.medium disk.old).image application) x) }
     ensures held { IsTrue D.told → IfOk result (IsHeld (D.medium disk.old).image application) }
+    // Nothing is written, and where it succeeds nothing is pending.
     ensures stays { LooksOnly (D.medium disk.old) (D.medium disk.new) }
     ensures quiet { OnOk result (Quiet (D.medium disk.new)) }
+    // The count of faults rose where the device failed, and stayed where the call succeeded or memory ran out.
     ensures cause { IsErrOf result Stop.Device → Rose (D.medium disk.old).faults (D.medium disk.new).faults }
     ensures passes { OnOk result ((D.medium disk.new).faults ≡ (D.medium disk.old).faults) }
     ensures fed { IsErrOf result Stop.OutOfMemory → (D.medium disk.new).faults ≡ (D.medium disk.old).faults }

@@ -5,6 +5,9 @@
 //! all, as [`per_backup::restore`] does. The text of a dump is [`dump_text`]'s.
 //!
 //! A dump has the active version alone: an update that is not finished is dumped as if it were.
+//!
+//! In the contracts `told` is that a disk's bytes are modelled, `quiet` that nothing is pending on it, and `time` that
+//! its moments go on and no count falls.
 #![tactic(auto)]
 
 mod dumping;

@@ -20,7 +20,7 @@ use std::alloc::{AllocError, Global};
 /// Installs an application of a dump where nothing is installed, in one installation, of which the root is written
 /// last.
 ///
-/// It is refused as [`per_backup::restore`] refuses the manifest and the texts of the storages: then nothing was
+/// The call is refused as [`per_backup::restore`] refuses the manifest and the texts of the storages: then nothing was
 /// written.
 ///
 /// # Errors
@@ -31,12 +31,12 @@ pub fn restore_application<D: Disk>(
     disk: &mut D,
     dumped: &DumpedApplication,
 ) -> Result<Option<PerError>, Stop>
-    // The refusal that the row of a restore has for the application that is seen.
+    // The refusal that `restoring` has for the application that is seen, or none.
     ensures refused { IfOk result (λ refused. (it : App)
         × IsAppSeen D.told (D.medium disk.old).image dumped.now.application it
         × AnswersRow refused (restoring dumped.now.manifest (dumped_texts dumped.now) it)) }
 
-    // The application that the row makes, whose root has this manifest; at every moment it is as it was, or that.
+    // The application that `restoring` makes, whose root has this manifest; at every moment it is as it was, or that.
     ensures restored { IsTrue D.told → OnOk result (Restored dumped.now.application dumped.now.manifest
         (dumped_texts dumped.now) (D.medium disk.old) (D.medium disk.new)) }
     ensures held { IfOk result (IfHeld D.told (D.medium disk.new).image dumped.now.application
@@ -44,6 +44,7 @@ pub fn restore_application<D: Disk>(
     ensures keeps { IsTrue D.told → RestoreKeeps dumped.now.application dumped.now.manifest (dumped_texts dumped.now)
         (D.medium disk.old) (D.medium disk.new) }
     ensures quiet { OnOk result (Quiet (D.medium disk.new)) }
+    // The count of faults rose where the device failed, and stayed where the call succeeded or memory ran out.
     ensures cause { IsErrOf result Stop.Device → Rose (D.medium disk.old).faults (D.medium disk.new).faults }
     ensures passes { OnOk result ((D.medium disk.new).faults ≡ (D.medium disk.old).faults) }
     ensures fed { IsErrOf result Stop.OutOfMemory → (D.medium disk.new).faults ≡ (D.medium disk.old).faults }

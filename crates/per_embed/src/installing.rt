@@ -37,6 +37,7 @@ pub fn installed<D: Disk>(
     manifest: &str,
     now: u64,
 ) -> Result<Installed, PerError>
+    // What is given is the root of application 0, in use on the disk, on which nothing is pending.
     ensures root { IfOk result (λ v. RootAt D.told (D.medium disk.new).image 0 (Root.Installed v)) }
     ensures quiet { OnOk result (Quiet (D.medium disk.new)) }
 

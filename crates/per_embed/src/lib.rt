@@ -10,6 +10,10 @@
 //! before or as after. A call that is refused has changed nothing. Once a call of the disk failed the storage is
 //! closed, and each call answers `PhysicalStorageFailure`, until the storage is opened again.
 //!
+//! What the calls *see* is what was set and removed since the last sync, over what is synchronised: a key is *visible*
+//! where they see it, and *pending* is what they see and is not synchronised. `told` is that the disk's bytes are
+//! modelled.
+//!
 //! Limits: application 0 of the disk, one storage at a time, and the limits of `kvs_store` and `deploy`.
 #![tactic(auto)]
 

@@ -42,6 +42,7 @@ impl<D: Disk + Drop> KeyStorage<D> {
     ) -> Result<KeyStorage<D>, PerError>
         // It is open, and nothing is pending.
         ensures saved { IfOk result (λ s. IsSomeAnd s.kvs IsSaved) }
+        // Where a version was installed, the storage is the one of this name in its active version.
         ensures stands { IsTrue D.told → (generation : ℕ) (active : Named) (previous : Option Named)
             → says_at (D.medium disk).image 0 ≡ installed generation active previous
             → IfOk result (λ s. IsSomeAnd s.kvs (λ kvs. storage_named active.deployment name.now

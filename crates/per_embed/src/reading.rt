@@ -23,6 +23,9 @@ impl<D: Disk + Drop> KeyStorage<D> {
     /// stored and the asked type where they differ; `OutOfMemory`; `PhysicalStorageFailure` where the storage is
     /// closed.
     pub fn get<T: PerValue>(&self, key: &Name) -> Result<T, PerError>
+        // The value that the calls see of the key, as one of the asked type; or the refusal of `get_as`, or
+        // `OutOfMemory`, which comes only where the answer needs memory. `PhysicalStorageFailure` comes where the
+        // storage is closed, and only there.
         ensures ok { IfOk result (λ thing. IsSomeAnd self.now.kvs (λ kvs.
             HasValue (asked_of kvs key.now T.kind) kvs.session.visible (T.tree thing))) }
         ensures refused { IfErr result (λ error. IfSome self.now.kvs (λ kvs.
@@ -31,7 +34,7 @@ impl<D: Disk + Drop> KeyStorage<D> {
             NeedsMemory (get_as kvs.config kvs.session.visible key.now T.kind))) }
         ensures closed { IsErrOf result PerError.PhysicalStorageFailure ↔ (self.now.kvs ≡ None) }
 
-        // What is not pending is on the disk: it reads so.
+        // Where nothing is pending, the value is the one that the disk reads.
         ensures reads { IfOk result (λ thing. IsTrue D.told → IfSome self.now.kvs (λ kvs. IsSaved kvs
             → ReadsAs (asked_of kvs key.now T.kind) (store_shape kvs.store) (T.tree thing)
             (D.medium self.now.disk).image)) }

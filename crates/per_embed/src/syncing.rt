@@ -28,9 +28,11 @@ impl<D: Disk + Drop> KeyStorage<D> {
         // What the calls see is then what is synchronised, and durable; all else stays.
         ensures synced { OnOk result (IsSomeAnd self.old.kvs (λ kvs. IsSomeAnd self.new.kvs (λ later.
             IsSynced D.told kvs later (D.medium self.old.disk) (D.medium self.new.disk)))) }
+        // Where nothing is pending it succeeds, and nothing changes.
         ensures idle { IfSome self.old.kvs (λ kvs. is_synced kvs ≡ true → IsOk result × (self.new ≡ self.old)) }
 
-        // Only a disk that failed closes it; another refusal changes nothing.
+        // Only a disk that failed closes it, and its count of faults rose; another refusal changes nothing. Where no
+        // generation is left, a sync is refused for that exactly where something is pending.
         ensures closes { IsErrOf result PerError.PhysicalStorageFailure → self.new.kvs ≡ None }
         ensures closed { self.old.kvs ≡ None
             → (result ≡ Err PerError.PhysicalStorageFailure) × (self.new ≡ self.old) }
@@ -41,8 +43,8 @@ impl<D: Disk + Drop> KeyStorage<D> {
         ensures cause { IsErrOf result PerError.PhysicalStorageFailure → IfSome self.old.kvs (λ _.
             Rose (D.medium self.old.disk).faults (D.medium self.new.disk).faults) }
 
-        // However it ends: no file outside the storage changes, and a stop at any moment leaves it as before or as
-        // after, and so each value.
+        // However it ends: at most what differs is written, no file outside the storage changes, and a stop at any
+        // moment leaves it as before or as after, and so each value.
         ensures at_most { IfSome self.old.kvs (λ kvs. WritesAtMost kvs (D.medium self.old.disk)
             (D.medium self.new.disk)) }
         ensures storing { IfSome self.old.kvs (λ kvs. IsStoring D.told (store_shape kvs.store)

@@ -29,16 +29,21 @@ impl<D: Disk + Drop> KeyStorage<D> {
     /// the name is not visible and 1,024 are; `OutOfStorageSpace` where the visible size would exceed the maximum, with
     /// both numbers; `OutOfMemory`; `PhysicalStorageFailure` where the storage is closed.
     pub fn set<T: PerValue>(&mut self, key: &Name, value: &T) -> Result<(), PerError>
+        // The calls then see what `set_value` makes of what they saw.
         ensures ok { OnOk result (IsSomeAnd self.old.kvs (λ kvs. IsSomeAnd self.new.kvs (λ later.
             set_value kvs.config kvs.session.visible key.now (T.tree value.now) ≡ Ok later.session.visible))) }
-        // What was set is what is got.
+        // What was set is what is got, of a value that is as deep and as long as values may be (`IsValue`).
         ensures got { OnOk result (IsValue (T.tree value.now) → IsSomeAnd self.new.kvs (λ later.
             HasValue (asked_of later key.now T.kind) later.session.visible (T.tree value.now))) }
+        // A refusal is that of `set_value`, or `OutOfMemory`, which comes only where the value or the answer needs
+        // memory.
         ensures refused { IfErr result (λ error. IfSome self.old.kvs (λ kvs.
             IsRefusal (set_value kvs.config kvs.session.visible key.now (T.tree value.now)) error)) }
         ensures memory { IfErr result (λ error. error ≡ PerError.OutOfMemory → IsSomeAnd self.old.kvs (λ kvs.
             Allocates T.kind ⊎ NeedsMemory (takes_any kvs.config kvs.session.visible key.now
             (type_of (T.tree value.now))))) }
+        // Nothing else changes, of the storage or of the disk, and by a refused call nothing at all.
+        // `PhysicalStorageFailure` comes where the storage is closed, and only there.
         ensures beside { IfSome self.old.kvs (λ kvs. IsSomeAnd self.new.kvs (λ later.
             later ≡ showing kvs later.session.visible)) }
         ensures disk { self.new ≡ record self.old { kvs = self.new.kvs } }
@@ -48,17 +53,20 @@ impl<D: Disk + Drop> KeyStorage<D> {
         set_in(&mut self.kvs, key, value)
     }
 
-    /// Removes a key: the calls see none at once, and the next sync makes that durable. Does not allocate.
+    /// Removes a key: the calls no longer see it, and the next sync makes that durable. Does not allocate.
     ///
     /// # Errors
     ///
     /// `IllegalWriteAccess` where the storage is read-only; `KeyNotFound` where the name is not visible;
     /// `PhysicalStorageFailure` where the storage is closed.
     pub fn remove(&mut self, key: &Name) -> Result<(), PerError>
+        // The calls then see what `remove_key` makes of what they saw, and a refusal is that of `remove_key`.
         ensures ok { OnOk result (IsSomeAnd self.old.kvs (λ kvs. IsSomeAnd self.new.kvs (λ later.
             remove_key kvs.config kvs.session.visible key.now ≡ Ok later.session.visible))) }
         ensures refused { IfErr result (λ error. IfSome self.old.kvs (λ kvs.
             remove_key kvs.config kvs.session.visible key.now ≡ Err error)) }
+        // Nothing else changes, of the storage or of the disk, and by a refused call nothing at all. A storage that is
+        // closed answers `PhysicalStorageFailure`.
         ensures beside { IfSome self.old.kvs (λ kvs. IsSomeAnd self.new.kvs (λ later.
             later ≡ showing kvs later.session.visible)) }
         ensures disk { self.new ≡ record self.old { kvs = self.new.kvs } }

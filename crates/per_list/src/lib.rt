@@ -5,6 +5,9 @@
 //! writes nothing to the disk and mends nothing. Its text is a function of what the disk holds (`specs/Listings`), in
 //! one of two forms: lines of words, or one JSON object. Which copies are damaged an audit says, which counts copies
 //! and banks alike.
+//!
+//! In the contracts `told` is that a disk's bytes are modelled, `quiet` that nothing is pending on it, and `time` that
+//! its moments go on and no count falls.
 #![tactic(auto)]
 
 mod forms;

@@ -40,14 +40,17 @@ const APPS: u32 = 8;
 ///
 /// `Device` where the disk fails, and `OutOfMemory`.
 pub fn list<D: Disk>(alloc: Global, disk: &mut D, form: Form) -> Result<Vec<u8>, Stop>
+    // The text says in this form what the image that the disk then had gives.
     ensures text { IsTrue D.told → IfOk result (λ text. text.items ≡ listing_text form (D.medium disk.old).image) }
+    // Nothing is written, and where it succeeds nothing is pending.
     ensures quiet { OnOk result (Quiet (D.medium disk.new)) }
     ensures image { (D.medium disk.new).image ≡ (D.medium disk.old).image }
     ensures written { (D.medium disk.new).written ≡ (D.medium disk.old).written }
 
-    // A crash meanwhile leaves what reads give, or what one before might have left.
+    // A crash meanwhile leaves what reads give, or what a crash before the listing might have left.
     ensures during { EachCase (λ c. (D.medium disk.old).now c ⊎ IsSettledAt (D.medium disk.old).image c)
         (D.medium disk.old) (D.medium disk.new) }
+    // The count of faults rose where the device failed, and stayed where the call succeeded or memory ran out.
     ensures cause { IsErrOf result Stop.Device → Rose (D.medium disk.old).faults (D.medium disk.new).faults }
     ensures passes { OnOk result ((D.medium disk.new).faults ≡ (D.medium disk.old).faults) }
     ensures fed { IsErrOf result Stop.OutOfMemory → (D.medium disk.new).faults ≡ (D.medium disk.old).faults }

@@ -1,2 +1,3 @@
 mod Results
+mod Ruled
 mod Wrong

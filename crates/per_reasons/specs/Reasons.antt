@@ -1,13 +1,15 @@
 -- Why a line was refused, in words.
-use Rattle.std.specs.Prelude.{◌≡◌, ◌-◌, ⊤, ℕ, List, [], ◌∷◌, ◌++◌, codes, drop, Bool, ◌&&◌, nat_eq, if◌then◌else◌}
+use Rattle.std.specs.Prelude.{◌≡◌, ◌-◌, ⊤, ℕ, List, [], ◌∷◌, ◌++◌, codes, drop, take, Bool, ◌&&◌, nat_eq}
+use Rattle.std.specs.Prelude.{nat_lt, if◌then◌else◌}
 use Rattle.std.specs.Prelude.{Option, Some, None, option_map}
 use Rattle.std.specs.List.{ends_with}
 use Rattle.std.specs.Fmt.{decimal}
 use Rattle.std.specs.Str.{IsUtf8}
-use Rattle.per_words.specs.Flaws.{after_space, flaw_in, has_space, leading_word, takes_text}
+use Rattle.per_words.specs.Flaws.{after_space, flaw_in, has_space, leading_length, leading_word, takes_text}
 use Rattle.per_words.specs.declared.flaws.Flaw.{Flaw}
 use Rattle.per_words.specs.declared.needs.Needed.{Needed}
 use Rattle.per_words.specs.declared.needs.Needed.TheVariants as needed
+use Rattle.per_reasons.specs.Rules.{rule_text}
 
 -- ---- a text that is no line
 
@@ -15,7 +17,7 @@ use Rattle.per_words.specs.declared.needs.Needed.TheVariants as needed
 abbrev pub needed_text : Needed → Option (List ℕ)
 needed_text needed.Application = Some (codes "an application, 0 to 7, or now or end")
 needed_text needed.CallWord = Some (codes "the word of a call")
-needed_text needed.Name = Some (codes "a name")
+needed_text needed.Name = Some (codes "a name of 1 to 255 ASCII letters, digits, _, -, . or /")
 needed_text needed.Handle = Some (codes "the number of a handle")
 needed_text needed.Number = Some (codes "a number")
 needed_text needed.TypeText = Some (codes "a type, as u8")
@@ -48,13 +50,28 @@ no_line_text line = option_map
 
 -- ---- words that are no call
 
+-- how much of the first word is shown
+abbrev pub shown_length : List ℕ → ℕ
+shown_length text = if nat_lt 60 (leading_length text) then 60 else leading_length text
+
+abbrev pub word_shown : List ℕ → List ℕ
+word_shown text = take (shown_length text) text
+
+-- what follows where not all of it is
+abbrev pub dots_after : List ℕ → List ℕ
+dots_after text = if nat_lt 60 (leading_length text) then codes ".." else []
+
+-- what is needed in place of this word, of which no more is shown
+abbrev pub IsNeededText : (word dots needed text : List ℕ) → Type 0
+IsNeededText [] dots needed text = text ≡ codes "what is missing is " ++ needed
+IsNeededText (byte ∷ word) dots needed text =
+    (IsUtf8 (byte ∷ word) → text ≡ (byte ∷ word) ++ (dots ++ (codes " is to be " ++ needed)))
+    × (¬ (IsUtf8 (byte ∷ word)) → text ≡ codes "what is wrong is to be " ++ needed)
+
 -- what is needed in place of these bytes, with which the first wrong word begins
 abbrev pub IsWordText : Option (List ℕ) → (rest text : List ℕ) → Type 0
 IsWordText None rest text = text ≡ codes "it takes fewer words"
-IsWordText (Some needed) [] text = text ≡ codes "what is missing is " ++ needed
-IsWordText (Some needed) (byte ∷ rest) text =
-    (IsUtf8 (byte ∷ rest) → text ≡ (byte ∷ rest) ++ (codes " is to be " ++ needed))
-    × (¬ (IsUtf8 (byte ∷ rest)) → text ≡ codes "what is wrong is to be " ++ needed)
+IsWordText (Some needed) rest text = IsNeededText (word_shown rest) (dots_after rest) needed text
 
 -- which word is none of the call with this line
 abbrev pub SaysNoCall : List ℕ → Option Flaw → Option (List ℕ) → Type 0
@@ -74,7 +91,23 @@ manifest_of_line line =
 abbrev pub explained_text : (answer line : List ℕ) → Option (List ℕ)
 explained_text answer line = option_map (λ why. answer ++ (codes ": " ++ why)) (no_line_text line)
 
--- the rule that a manifest breaks is named
+-- the part of a manifest in which it breaks a rule, where it is known
+abbrev pub place_text : Option (List ℕ) → List ℕ
+place_text None = []
+place_text (Some part) = codes " in " ++ part
+
+-- which byte shows that it is no JSON, where the rule is this
+abbrev pub end_text : (rule byte : ℕ) → List ℕ
+end_text rule byte =
+    if nat_eq rule 2 then codes ", which its byte " ++ (decimal byte ++ codes " shows") else []
+
+-- the text names the rule that a manifest breaks, perhaps a part of it, and what the rule says
+pub record IsRuleText (rule : ℕ) (text : List ℕ) : Type 0 where
+  pub part : Option (List ℕ)
+  pub byte : ℕ
+  pub spelled : text ≡ codes "the manifest breaks rule "
+      ++ (decimal rule ++ (place_text part ++ (rule_text rule ++ end_text rule byte)))
+
 abbrev pub NamesRule : ℕ → Option (List ℕ) → Type 0
 NamesRule rule None = ⊥
-NamesRule rule (Some text) = (more : List ℕ) × (text ≡ codes "the manifest breaks rule " ++ (decimal rule ++ more))
+NamesRule rule (Some text) = IsRuleText rule text

@@ -1,20 +1,15 @@
-//! Which part of a manifest breaks a rule, and for which parts an update may have been refused.
+//! Which part of a manifest breaks a rule.
 
-use deployment_model::{CollectionStrategy, ElementConfig, ElementStrategy, StorageConfig};
 use manifest::{ManifestError, read_manifest};
 use per_base::Name;
 use serde_json::Value;
 use std::alloc::{AllocError, Global};
-use value_text::parse_type;
 
 /// The first rule on single elements.
 const FIRST_OF_ELEMENTS: u32 = 19;
 
-/// How many parts are named at most.
-const NAMED_PARTS: usize = 8;
-
 /// The lists of storages of a manifest, each with the word for a list of elements of its storages.
-const LISTS: [(&str, &str); 2] = [
+pub(crate) const LISTS: [(&str, &str); 2] = [
     ("keyValueStorages", "keyValuePairs"),
     ("fileStorages", "files"),
 ];
@@ -204,7 +199,7 @@ impl Rejected<'_> {
 }
 
 /// The list that the value has under this word.
-fn things<'a>(value: &'a Value, word: &str) -> &'a [Value] {
+pub(crate) fn things<'a>(value: &'a Value, word: &str) -> &'a [Value] {
     match value.get(word).and_then(Value::as_array) {
         Some(list) => list.as_slice(),
         None => &[],
@@ -216,105 +211,5 @@ pub(crate) fn end_of_json(alloc: Global, manifest: &[u8]) -> usize {
     match Value::from_slice(alloc, manifest) {
         Ok(_) => manifest.len(),
         Err(error) => error.column(),
-    }
-}
-
-/// The keys that may be stored with another type than this one, which the manifest says of them, in words.
-pub(crate) fn keys_of_type(
-    alloc: Global,
-    manifest: &[u8],
-    asked: &str,
-) -> Result<Option<String>, AllocError> {
-    let mut parts = Parts::new(alloc);
-    let Ok(asked) = parse_type(alloc, asked.as_bytes()) else {
-        return Ok(None);
-    };
-    let Ok(deployment) = read_manifest(alloc, manifest) else {
-        return Ok(None);
-    };
-    for storage in deployment.storages.as_slice() {
-        for element in storage.elements.as_slice() {
-            let has_type = matches!(&element.value_type, Some(stored) if stored.is_same(&asked));
-            if has_type && is_kept(storage, element) {
-                parts.push(&storage.name, Some(&element.name))?;
-            }
-        }
-    }
-    parts.into_text()
-}
-
-/// The storages that may have `maximum` bytes, in words.
-pub(crate) fn storages_of_size(
-    alloc: Global,
-    manifest: &[u8],
-    maximum: u64,
-) -> Result<Option<String>, AllocError> {
-    let mut parts = Parts::new(alloc);
-    let Ok(deployment) = read_manifest(alloc, manifest) else {
-        return Ok(None);
-    };
-    for storage in deployment.storages.as_slice() {
-        if storage.maximum == maximum {
-            parts.push(&storage.name, None)?;
-        }
-    }
-    parts.into_text()
-}
-
-/// Whether an update keeps what is stored of the element.
-fn is_kept(storage: &StorageConfig, element: &ElementConfig) -> bool {
-    match element.strategy {
-        Some(strategy) => matches!(strategy, ElementStrategy::KeepExisting),
-        None => matches!(storage.strategy, CollectionStrategy::KeepExisting),
-    }
-}
-
-/// Parts of a manifest, of which one is meant.
-#[derive(Drop)]
-struct Parts {
-    alloc: Global,
-    text: String,
-    count: usize,
-}
-
-impl Parts {
-    fn new(alloc: Global) -> Parts {
-        Parts {
-            alloc,
-            text: String::new(alloc),
-            count: 0,
-        }
-    }
-
-    fn push(&mut self, storage: &Name, element: Option<&Name>) -> Result<(), AllocError> {
-        if self.count < NAMED_PARTS {
-            if self.count > 0 {
-                self.text.push_str(", ")?;
-            }
-            self.text.push_str(storage.as_str())?;
-            if let Some(element) = element {
-                self.text.push(':')?;
-                self.text.push_str(element.as_str())?;
-            }
-        }
-        self.count = self.count.saturating_add(1);
-        Ok(())
-    }
-
-    /// The parts in words; nothing where there is none.
-    fn into_text(self) -> Result<Option<String>, AllocError> {
-        let Parts { alloc, text, count } = self;
-        match count {
-            0 => Ok(None),
-            1 => Ok(Some(text)),
-            _ => {
-                let more = count.saturating_sub(NAMED_PARTS);
-                if more == 0 {
-                    Ok(Some(format!(in alloc; "one of {text}")?))
-                } else {
-                    Ok(Some(format!(in alloc; "one of {text} and {more} others")?))
-                }
-            }
-        }
     }
 }

@@ -3,9 +3,10 @@
 ghost use Rattle.std.specs.Prelude.{◌≡◌, IfOk, option_map, string_bytes};
 ghost use Rattle.value_text.specs.Readers.{Finds};
 ghost use Rattle.per_words.specs.Flaws.{flaw_in};
-ghost use Rattle.per_reasons.specs.Reasons.{IsWordText, SaysNoCall, column_text, ending_text};
+ghost use Rattle.per_reasons.specs.Reasons.{IsNeededText, IsWordText, SaysNoCall, column_text, ending_text};
 ghost use Rattle.per_reasons.specs.Reasons.{needed_text, no_line_text};
 
+use crate::words::{dots_after, word_shown};
 use per_words::{Needed, flaw_in};
 use std::alloc::{AllocError, Global};
 
@@ -56,7 +57,7 @@ fn ending_text(line: &[u8]) -> &'static str
     }
 }
 
-/// Why words are no call by itself, whose line would be this one, in words. Nothing where no word is wrong.
+/// Why words from a shell make no call, in words, by the line that they would make. Nothing where no word is wrong.
 ///
 /// # Errors
 ///
@@ -77,14 +78,21 @@ pub fn why_no_call(alloc: Global, line: &[u8]) -> Result<Option<String>, AllocEr
 fn word_text(alloc: Global, needed: Option<&str>, rest: &[u8]) -> Result<String, AllocError>
     ensures { IfOk result (λ text. IsWordText (option_map (λ n. n.now) needed.entry) rest.now (string_bytes text)) }
 {
-    let Some(needed) = needed else {
-        return String::from_str(alloc, "it takes fewer words");
-    };
-    if rest.is_empty() {
+    match needed {
+        Some(needed) => text_of_word(alloc, needed, word_shown(rest), dots_after(rest)),
+        None => String::from_str(alloc, "it takes fewer words"),
+    }
+}
+
+/// What is needed in place of this word.
+fn text_of_word(alloc: Global, needed: &str, word: &[u8], dots: &str) -> Result<String, AllocError>
+    ensures { IfOk result (λ text. IsNeededText word.now dots.now needed.now (string_bytes text)) }
+{
+    if word.is_empty() {
         return format!(in alloc; "what is missing is {needed}");
     }
-    match str::from_utf8(rest) {
-        Ok(rest) => format!(in alloc; "{rest} is to be {needed}"),
+    match str::from_utf8(word) {
+        Ok(word) => format!(in alloc; "{word}{dots} is to be {needed}"),
         Err(_) => format!(in alloc; "what is wrong is to be {needed}"),
     }
 }
@@ -96,7 +104,7 @@ fn needed_text(needed: Needed) -> Option<&'static str>
     match needed {
         Needed::Application => Some("an application, 0 to 7, or now or end"),
         Needed::CallWord => Some("the word of a call"),
-        Needed::Name => Some("a name"),
+        Needed::Name => Some("a name of 1 to 255 ASCII letters, digits, _, -, . or /"),
         Needed::Handle => Some("the number of a handle"),
         Needed::Number => Some("a number"),
         Needed::TypeText => Some("a type, as u8"),

@@ -8,16 +8,14 @@ ghost use Rattle.std.specs.Str.{IsUtf8, bytes_eq};
 ghost use Rattle.per_words.specs.Flaws.{takes_text};
 ghost use Rattle.per_reasons.specs.Reasons.{NamesRule, explained_text, manifest_of_line};
 
-use crate::blame::{keys_of_type, storages_of_size};
 use crate::lines::why_no_line;
 use crate::rules::why_rejected;
 use crate::words::split;
 use std::alloc::{AllocError, Global};
 use value_text::parse_unsigned;
 
-/// Why a line was answered so, in words; nothing where the answer says all that is known. Of a bad line it is where the
-/// line stops being one, of a manifest that is rejected the rule with the storage and the element that break it, and of
-/// an update for which a type or a size does not fit, the keys or the storages that may be meant.
+/// Why a line was answered so, in words; nothing where the line and the answer say no more. Of a bad line it is where
+/// the line stops being one, of a manifest that is rejected the rule with the storage and the element that break it.
 ///
 /// # Errors
 ///
@@ -64,51 +62,11 @@ fn why_unfit(alloc: Global, answer: &[u8], manifest: &[u8]) -> Result<Option<Str
             Err(_) => Ok(None),
         };
     }
-    if let Some(types) = answer.strip_prefix(b"error 7 DataTypeMismatch ") {
-        return match split(types) {
-            Some((_, asked)) => why_mismatched(alloc, asked, manifest),
-            None => Ok(None),
-        };
-    }
-    if let Some(sizes) = answer.strip_prefix(b"error 10 OutOfStorageSpace ") {
-        return match split(sizes) {
-            Some((_, allowed)) => why_full(alloc, allowed, manifest),
-            None => Ok(None),
-        };
-    }
     Ok(None)
 }
 
-/// Which keys an update may have been refused for, where no converter leads to their type.
-fn why_mismatched(
-    alloc: Global,
-    asked: &[u8],
-    manifest: &[u8],
-) -> Result<Option<String>, AllocError> {
-    let Ok(asked) = str::from_utf8(asked) else {
-        return Ok(None);
-    };
-    match keys_of_type(alloc, manifest, asked)? {
-        Some(keys) => Ok(Some(format!(in alloc; "the manifest says {asked} of {keys}")?)),
-        None => Ok(None),
-    }
-}
-
-/// Which storages an update may have been refused for, where the contents do not fit.
-fn why_full(alloc: Global, allowed: &[u8], manifest: &[u8]) -> Result<Option<String>, AllocError> {
-    let Ok(allowed) = parse_unsigned(u64::MAX, allowed) else {
-        return Ok(None);
-    };
-    match storages_of_size(alloc, manifest, allowed)? {
-        Some(storages) => {
-            Ok(Some(format!(in alloc; "the manifest allows {allowed} bytes to {storages}")?))
-        }
-        None => Ok(None),
-    }
-}
-
 /// The manifest in a line that has one.
-fn manifest_of_line(line: &[u8]) -> Option<&[u8]>
+pub(crate) fn manifest_of_line(line: &[u8]) -> Option<&[u8]>
     ensures { option_map (λ m. m.now) result ≡ manifest_of_line line.now }
 {
     let (_, call) = split(line)?;

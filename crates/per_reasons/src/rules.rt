@@ -1,7 +1,8 @@
 //! Which rule a manifest breaks, in words.
 
-ghost use Rattle.std.specs.Prelude.{IfOk, Some, string_bytes};
-ghost use Rattle.per_reasons.specs.Reasons.{NamesRule};
+ghost use Rattle.std.specs.Prelude.{◌≡◌, IfOk, option_map, string_bytes};
+ghost use Rattle.per_reasons.specs.Reasons.{IsRuleText, end_text, place_text};
+ghost use Rattle.per_reasons.specs.Rules.{rule_text};
 
 use crate::blame::{blamed, end_of_json};
 use std::alloc::{AllocError, Global};
@@ -9,61 +10,69 @@ use std::alloc::{AllocError, Global};
 /// The rule that a manifest is JSON.
 const IS_JSON: u32 = 2;
 
-/// What a manifest breaks, or a part of it, from rule 1 on.
-const RULES: [&str; 24] = [
-    "it has more than 65536 bytes",
-    "it is no JSON",
-    "it is no object",
-    "version is no whole number from 1 to 4294967295",
-    "keyValueStorages or fileStorages is no list of objects",
-    "it has a member that is none of version, keyValueStorages and fileStorages",
-    "it has more than 16 storages",
-    "it has a member that is none of a storage of its kind",
-    "its name is none of 1 to 255 letters, digits, _, -, . and /",
-    "another storage has its name",
-    "minimumSustainedSize is none from 0 to 4194304, or maximumAllowedSize none from 1 to 4194304",
-    "minimumSustainedSize is above maximumAllowedSize",
-    "up to it maximumAllowedSize sums up to more than 16777216",
-    "updateStrategy is neither keepExisting nor delete",
-    "readOnly is neither true nor false",
-    "redundancy is no object of m, n and scope, or scope is neither element nor storage",
-    "m and n of redundancy are not there, or not 1 <= m <= n <= 7",
-    "keyValuePairs or files is no list of at most 1024 objects",
-    "it has a member that is none of an element of its kind",
-    "its name is none of 1 to 255 letters, digits, _, -, . and /, or another has it",
-    "type is no type, or one more than 8 deep",
-    "initial is no value of its type, or no content in lower-case hexadecimal digits",
-    "updateStrategy is none of keepExisting, overwrite and delete, or overwrite has no initial",
-    "up to it the initial contents are more than maximumAllowedSize",
-];
-
-/// Which rule a manifest breaks, and where.
+/// Which rule a manifest breaks, where, and what the rule says.
 pub(crate) fn why_rejected(alloc: Global, rule: u32, manifest: &[u8]) -> Result<String, AllocError>
-    ensures { IfOk result (λ text. NamesRule rule (Some (string_bytes text))) }
+    ensures { IfOk result (λ text. IsRuleText rule (string_bytes text)) }
 {
-    let mut text = format!(in alloc; "the manifest breaks rule {rule}")?;
-    let more = rule_text(alloc, rule, manifest)?;
-    text.push_str(more.as_str())?;
-    Ok(text)
+    let place = place_text(alloc, blamed(alloc, manifest, rule)?)?;
+    let broken = rule_text(rule);
+    let end = end_text(alloc, rule, end_of_json(alloc, manifest))?;
+    format!(in alloc; "the manifest breaks rule {rule}{place}{broken}{end}")
 }
 
-/// Where the rule is broken, and what it says.
-fn rule_text(alloc: Global, rule: u32, manifest: &[u8]) -> Result<String, AllocError> {
-    let mut text = String::new(alloc);
-    if let Some(part) = blamed(alloc, manifest, rule)? {
-        text.push_str(" in ")?;
-        text.push_str(part.as_str())?;
+/// The part of a manifest in which it breaks a rule, where it is known.
+fn place_text(alloc: Global, part: Option<String>) -> Result<String, AllocError>
+    ensures { IfOk result (λ text. string_bytes text ≡ place_text (option_map string_bytes part)) }
+{
+    match part {
+        Some(part) => format!(in alloc; " in {part}"),
+        None => Ok(String::new(alloc)),
     }
-    if let Some(place) = rule.checked_sub(1) {
-        if let Some(broken) = RULES.get(place as usize) {
-            text.push_str(": ")?;
-            text.push_str(*broken)?;
-        }
-    }
+}
+
+/// Which byte of the manifest shows that it is no JSON, where the rule is this.
+fn end_text(alloc: Global, rule: u32, byte: usize) -> Result<String, AllocError>
+    ensures { IfOk result (λ text. string_bytes text ≡ end_text rule byte) }
+{
     if rule == IS_JSON {
-        let end = end_of_json(alloc, manifest);
-        let place = format!(in alloc; ", which its byte {end} shows")?;
-        text.push_str(place.as_str())?;
+        format!(in alloc; ", which its byte {byte} shows")
+    } else {
+        Ok(String::new(alloc))
     }
-    Ok(text)
+}
+
+/// What a manifest breaks, or a part of it, that breaks this rule; nothing where there is no such rule.
+fn rule_text(rule: u32) -> &'static str
+    ensures { result.now ≡ rule_text rule }
+{
+    match rule {
+        1 => ": it has more than 65536 bytes",
+        2 => ": it is no JSON",
+        3 => ": it is no object",
+        4 => ": version is no whole number from 1 to 4294967295",
+        5 => ": keyValueStorages or fileStorages is no list of objects",
+        6 => ": it has a member that is none of version, keyValueStorages and fileStorages",
+        7 => ": it has more than 16 storages",
+        8 => ": it has a member that is none of a storage of its kind",
+        9 => ": its name is none of 1 to 255 letters, digits, _, -, . and /",
+        10 => ": another storage has its name",
+        11 =>
+            ": minimumSustainedSize is none from 0 to 4194304, or maximumAllowedSize none from 1 to 4194304",
+        12 => ": minimumSustainedSize is above maximumAllowedSize",
+        13 => ": up to it maximumAllowedSize sums up to more than 16777216",
+        14 => ": updateStrategy is neither keepExisting nor delete",
+        15 => ": readOnly is neither true nor false",
+        16 =>
+            ": redundancy is no object of m, n and scope, or scope is neither element nor storage",
+        17 => ": m and n of redundancy are not there, or not 1 <= m <= n <= 7",
+        18 => ": keyValuePairs or files is no list of at most 1024 objects",
+        19 => ": it has a member that is none of an element of its kind",
+        20 => ": its name is none of 1 to 255 letters, digits, _, -, . and /, or another has it",
+        21 => ": type is no type, or one more than 8 deep",
+        22 => ": initial is no value of its type, or no content in lower-case hexadecimal digits",
+        23 =>
+            ": updateStrategy is none of keepExisting, overwrite and delete, or overwrite has no initial",
+        24 => ": up to it the initial contents are more than maximumAllowedSize",
+        _ => "",
+    }
 }

@@ -2,6 +2,10 @@
 
 ghost use Rattle.std.specs.Prelude.{◌≡◌, ◌≤◌, IfNone, IfSome, false, length, true};
 ghost use Rattle.per_words.specs.Flaws.{after_space, has_space, leading_length, leading_word};
+ghost use Rattle.per_reasons.specs.Reasons.{dots_after, shown_length, word_shown};
+
+/// How many bytes of a word are shown at most.
+const SHOWN_BYTES: usize = 60;
 
 /// What stands before the first space, and after it.
 pub(crate) fn split(text: &[u8]) -> Option<(&[u8], &[u8])>
@@ -29,4 +33,36 @@ fn leading_length(text: &[u8]) -> usize
         }
     }
     text.len()
+}
+
+/// The first word of a text, as far as a refusal shows it: at most its first 60 bytes.
+pub fn word_shown(text: &[u8]) -> &[u8]
+    ensures { result.now ≡ word_shown text.now }
+{
+    let (word, _) = text.split_at(shown_length(text));
+    word
+}
+
+/// What a refusal shows after the first word of a text: two dots where it has more than 60 bytes, else nothing.
+pub fn dots_after(text: &[u8]) -> &'static str
+    ensures { result.now ≡ dots_after text.now }
+{
+    if leading_length(text) > SHOWN_BYTES {
+        ".."
+    } else {
+        ""
+    }
+}
+
+/// How much of the first word is shown.
+fn shown_length(text: &[u8]) -> usize
+    ensures value { result ≡ shown_length text.now }
+    ensures bound { result ≤ length text.now }
+{
+    let length = leading_length(text);
+    if length > SHOWN_BYTES {
+        SHOWN_BYTES
+    } else {
+        length
+    }
 }

@@ -28,6 +28,7 @@ use Rattle.per_run.specs.Jobs.{IsCaused, JobDone}
 
 -- ---- the opening
 
+-- a flash of so many blocks is too small or too large to be a disk
 abbrev pub IsWrongSize : (blocks : ℕ) → Type 0
 IsWrongSize blocks = (blocks < 4) ⊎ (4096 < blocks)
 
@@ -126,11 +127,12 @@ pub data HasNotRun (told : Bool) (job : Option Job) (status : ℕ) (flash back :
   short : status ≡ 4 → HasNotRun told job status flash back
   unopened : (said : Job) → job ≡ Some said → IsNotOpened told status flash back → HasNotRun told job status flash back
 
--- what is said of the disk or of the flash that is handed back
+-- P holds of the status and of the disk, where the flash was opened and the job begun
 abbrev pub IfRan : {F : Type 0} → FlashRun F → (ℕ → FlashView F → Type 0) → Type 0
 IfRan (Ran status disk) P = P status disk
 IfRan (Unopened status flash) P = ⊤
 
+-- P holds of the status and of the flash that is handed back, where no job was begun
 abbrev pub IfUnopened : {F : Type 0} → FlashRun F → (ℕ → F → Type 0) → Type 0
 IfUnopened (Ran status disk) P = ⊤
 IfUnopened (Unopened status flash) P = P status flash

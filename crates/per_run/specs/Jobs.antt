@@ -70,7 +70,8 @@ FailsAtThree status before now = status ≢ 3 → now ≡ before
 
 -- ---- format
 
--- eight applications of which nothing is installed, in clean places, and nothing pending
+-- eight applications of which nothing is installed, in clean places (in which each text is a root's, and no two have
+-- one generation), and nothing pending
 pub record Formats (told : Bool) (status : ℕ) (before now : Option (List ℕ)) (old new : Medium) : Type 0 where
   pub output : WritesOutput status before now (codes "ok\n")
   pub world : IsTrue told → CameToOutput status → world_at new.image ≡ formatted
@@ -106,6 +107,7 @@ abbrev pub size_given : List Reply → Option ℕ
 size_given [] = None
 size_given (r ∷ rs) = option_or (number_in r.answer) (size_given rs)
 
+-- the line of a summary: how many lines there were, how many replies were `ok`, another answer, an error, and the size
 abbrev pub summary_text : (lines done other errors : ℕ) → (size : Option ℕ) → List ℕ
 summary_text lines done other errors size = codes "lines "
     ++ (decimal lines ++ (codes " ok " ++ (decimal done ++ (codes " other " ++ (decimal other
@@ -247,6 +249,7 @@ pub record Recovers (told : Bool) (app status : ℕ) (before now : Option (List 
 
 -- ---- all jobs
 
+-- what each job promises, by its status, of the source, the sink and the disk: the promise of its own
 abbrev pub JobDone : {D : Type 0} → (told : Bool) → (medium : D → Medium) → JobKind → List Rule → Answers → (status : ℕ)
     → (left_before left_now before now : Option (List ℕ))
     → (old_counts new_counts : FailureCounts) → (old new : D) → Type 0

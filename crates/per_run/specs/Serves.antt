@@ -132,8 +132,8 @@ IsServedInput other ended count = ⊤
 
 -- ---- a run that stays, from its start on
 
--- A last line without its line feed is none of the lines. What is promised of the disk is what a run promises: the
--- bytes that were written are said apart, so that a sink of which nothing is known stands there.
+-- A last line without its line feed is none of the lines. Of the disk is promised what a run promises, but with None
+-- for what was written, as for a sink that models nothing: here `ends` says that.
 pub record Serve (told : Bool) (rules : List Rule) (answers : Answers) (status : ℕ)
     (left_before left_now before now : Option (List ℕ))
     (source_before source_now sink_before sink_now : ℕ) (old new : Medium) : Type 0 where
@@ -170,17 +170,18 @@ pub record IsFreshlyFormatted (told : Bool) (old start : Medium) : Type 0 where
   pub passes : start.faults ≡ old.faults
   pub time : Elapses old start
 
--- it starts on the disk as it was; or on one that it formatted, since it was empty
+-- a run that stays starts on the disk as it was; or on one that it formatted, since it was empty
 pub data IsPreparedDisk {D : Type 0} (told : Bool) (medium : D → Medium) (old start : D) : Type 0 where
   as_it_was : (IsTrue told → HasNoBytes (medium old).image → ⊥) → start ≡ old → IsPreparedDisk told medium old start
   formatted_first : (IsTrue told → HasNoBytes (medium old).image) → IsFreshlyFormatted told (medium old) (medium start)
       → IsPreparedDisk told medium old start
 
--- it was empty; or the disk failed while it was looked at, and nothing changed
+-- the disk was empty; or it failed while it was looked at, and nothing changed
 abbrev pub HadNothing : {D : Type 0} → (told : Bool) → (medium : D → Medium) → (old new : D) → Type 0
 HadNothing told medium old new = (IsTrue told → HasNoBytes (medium old).image) ⊎ OnlyReads (medium old) (medium new)
 
--- A run that stays went over the disk that was prepared; or no start on it has ended, and no line was taken.
+-- A run that stays went over the disk that was prepared; or that was empty or could not be read, and the runtime did
+-- not start: no line was taken and nothing written.
 pub data Serves {D : Type 0} (told : Bool) (medium : D → Medium) (rules : List Rule) (answers : Answers) (status : ℕ)
     (left_before left_now before now : Option (List ℕ))
     (source_before source_now sink_before sink_now : ℕ) (old new : D) : Type 0 where

@@ -47,7 +47,7 @@ pub record Hearing (told : Bool) (rules : List Rule) (answers : Answers) (start 
   pub wrote : Appends before now (heard_texts heard)
   pub goes : Goes told rules answers start (turns_in heard) memory medium
 
--- the same with one line more
+-- these lines and one more were handled since the start, and what came of each was written
 abbrev pub HearsOne : (told : Bool) → List Rule → Answers → (start : Medium) → (before : Option (List ℕ))
     → (heard : List Heard) → (text : List ℕ) → (now : Option (List ℕ)) → Memory → Medium → Type 0
 HearsOne told rules answers start before heard text now memory medium = (h : Heard) × (heard_line h ≡ text)

@@ -70,7 +70,7 @@ PutsOutput text before now (Err Sink) = WroteProperPrefix before now text
 PutsOutput text before now (Err OutOfMemory) = Appends before now []
 PutsOutput text before now (Err other) = ⊥
 
--- the same of the answer to a line outside the grammar, which ends the handling
+-- of the answer to a line outside the grammar, which ends the handling: the sink took all of it, or as the ending says
 abbrev pub IsBadLineAnswer : (text : List ℕ) → (before now : Option (List ℕ)) → Ending → Type 0
 IsBadLineAnswer text before now BadLine = Appends before now text
 IsBadLineAnswer text before now Sink = WroteProperPrefix before now text

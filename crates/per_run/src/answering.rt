@@ -30,7 +30,8 @@ pub enum LineOutcome {
     OutOfMemory,
 }
 
-/// Reads a line and does what it says.
+/// Reads a line and does what it says: nothing, or a command, which the runtime answers; or it ends the input, or is no
+/// line.
 #[inline(always)]
 pub fn answer_line<D: Disk>(
     alloc: Global,
@@ -40,9 +41,11 @@ pub fn answer_line<D: Disk>(
     text: &[u8],
 ) -> LineOutcome
     requires { IsRuntime D.told (D.medium disk.old) runtime.old }
+    // What came of the line, from the memory and the disk before it to those after it.
     ensures answered { IsLineOutcome D.told D.medium (rules_of migrations.now) (answers_of migrations.now) text.now
         (memory_of runtime.old) (memory_of runtime.new)
         disk.old disk.new result }
+    // The runtime stays in use, unless memory ran out.
     ensures memory { result ≢ LineOutcome.OutOfMemory → IsRuntime D.told (D.medium disk.new) runtime.new }
     ensures time { Elapses (D.medium disk.old) (D.medium disk.new) }
 {

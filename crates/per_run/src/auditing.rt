@@ -15,10 +15,12 @@ use per_audit::{Audit, audit};
 use per_base::Sink;
 use std::alloc::Global;
 
-/// Audits the disk, which changes nothing of it, and writes what is listed and found.
+/// Audits the disk, which changes nothing of it, and writes what is listed and found. Gives the status.
 pub fn audit_disk<D: Disk, K: Sink>(alloc: Global, sink: &mut K, disk: &mut D) -> u8
+    // By the status: what the sink took, before the call and after it; and of the disk that nothing changed.
     ensures job { Audits D.told result (K.written sink.old) (K.written sink.new) (D.medium disk.old)
         (D.medium disk.new) }
+    // A status of a failure comes only where the count of failures rose: 3 of the disk, 6 of the sink.
     ensures caused { (source : ℕ) → IsCaused JobKind.Audit result
         (record { disk = (D.medium disk.old).faults; source = source; sink = K.faults sink.old })
         (record { disk = (D.medium disk.new).faults; source = source; sink = K.faults sink.new }) }

@@ -24,7 +24,7 @@ impl Ending {
     ghost use Rattle.run_model.specs.Endings.{ending_status};
     ghost use Rattle.per_run.specs.Steps.{ending_of};
 
-    /// The status of the program.
+    /// The status of the program where the handling of its input ended so.
     pub fn status(self) -> u8
         ensures { result ≡ ending_status (ending_of self) }
     {

@@ -17,7 +17,7 @@ use per_backup::{Exported, export, refusals_are_numbered};
 use per_base::{Name, Sink};
 use std::alloc::Global;
 
-/// Writes the storage of this name of an application as one text, and changes nothing of the disk.
+/// Writes the storage of this name of an application as one text, and changes nothing of the disk. Gives the status.
 pub fn export_storage<D: Disk, K: Sink>(
     alloc: Global,
     application: u32,
@@ -26,8 +26,10 @@ pub fn export_storage<D: Disk, K: Sink>(
     disk: &mut D,
 ) -> u8
     requires { application < 8 }
+    // By the status: what the sink took, before the call and after it; and of the disk that nothing changed.
     ensures job { Exports D.told application name.now result (K.written sink.old) (K.written sink.new)
         (D.medium disk.old) (D.medium disk.new) }
+    // A status of a failure comes only where the count of failures rose: 3 of the disk, 6 of the sink.
     ensures caused { (source : ℕ) → IsCaused (JobKind.Export application name.now) result
         (record { disk = (D.medium disk.old).faults; source = source; sink = K.faults sink.old })
         (record { disk = (D.medium disk.new).faults; source = source; sink = K.faults sink.new }) }

@@ -53,7 +53,8 @@ pub fn per_flash<F: Flash, S: Source, K: Sink>(
     sink: &mut K,
     flash: F,
 ) -> FlashRun<F>
-    // What the job promises, over the flash as a disk; and at every moment a stop leaves a flash that opens again.
+    // What the job promises, over the flash as a disk; and at every moment a stop leaves a flash that opens again. A
+    // job that reads no input takes nothing of the source.
     ensures ran { IfRan result (λ status disk. IsSomeAnd (job_of (map string_bytes words.now)) (λ job.
         FlashRan F.told F.medium job.kind (rules_of migrations.now) (answers_of migrations.now) status
         (S.left source.old) (S.left source.new)
@@ -62,7 +63,7 @@ pub fn per_flash<F: Flash, S: Source, K: Sink>(
     ensures unread { IfRan result (λ status disk. IfSome (job_of (map string_bytes words.now)) (λ job.
         reads_input job.kind ≡ false → source.new ≡ source.old)) }
 
-    // A run over lines that are all in the grammar, with no failure, handles them all, unless memory ran out.
+    // A run over lines that are all in the grammar, with no failure, handles them all (0), unless memory ran out (4).
     ensures complete { IfRan result (λ status disk. IfSome (job_of (map string_bytes words.now))
         (λ job. job.kind ≡ JobKind.Run
         → (Rose (F.medium flash).faults ((F.medium disk.flash).faults + disk.own) → ⊥)
@@ -75,6 +76,7 @@ pub fn per_flash<F: Flash, S: Source, K: Sink>(
         HasNotRun F.told (job_of (map string_bytes words.now)) status (F.medium flash) (F.medium back)) }
     ensures back { IfUnopened result (λ status back. IsHandedBack F.told (F.medium flash) (F.medium back)) }
     ensures untouched { IfUnopened result (λ status back. (source.new ≡ source.old) × (sink.new ≡ sink.old)) }
+    // With invalid arguments (1), without memory (4) or of a wrong size (11) the flash is handed back as it was given.
     ensures same { IfUnopened result (λ status back. (status ≡ 1) ⊎ ((status ≡ 4) ⊎ (status ≡ 11)) → back ≡ flash) }
 {
     one_line();

@@ -23,7 +23,8 @@ use per_base::Sink;
 use per_runtime::{Runtime, start};
 use std::alloc::{AllocError, Global};
 
-/// Formats the disk, handles the lines that the number gives, and writes the summary of their replies.
+/// Formats the disk, handles the lines that the number, of at most 100,000, gives, and writes the summary of their
+/// replies. Gives the status.
 pub fn generate<D: Disk, K: Sink>(
     alloc: Global,
     number: u32,
@@ -32,8 +33,10 @@ pub fn generate<D: Disk, K: Sink>(
     disk: &mut D,
 ) -> u8
     requires { number ≤ 100000 }
+    // By the rules and the answers of the converters, and the status: what the sink took, and what the disk then is.
     ensures job { Generates D.told (rules_of migrations.now) (answers_of migrations.now) number result
         (K.written sink.old) (K.written sink.new) (D.medium disk.old) (D.medium disk.new) }
+    // 0 where all is done, 4 where memory ran out, 3 only where the disk failed, and 6 only where the sink did.
     ensures status { (result ≡ 0) ⊎ ((result ≡ 4) ⊎ (((result ≡ 3)
         × Rose (D.medium disk.old).faults (D.medium disk.new).faults)
         ⊎ ((result ≡ 6) × Rose (K.faults sink.old) (K.faults sink.new)))) }
@@ -46,12 +49,14 @@ pub fn generate<D: Disk, K: Sink>(
     }
 }
 
-/// The runtime on a disk that is formatted.
+/// Formats the disk and starts the runtime on it.
 pub fn start_formatted<D: Disk>(alloc: Global, disk: &mut D) -> Result<Runtime, Stop>
+    // What the runtime keeps in memory is in use on the disk, which was formatted and then started on.
     ensures memory { IfOk result (IsRuntime D.told (D.medium disk.new)) }
     ensures begun { IfOk result (λ r. (middle : D) × IsServeBegun D.told (memory_of r) (D.medium disk.old)
         (D.medium middle)
         (D.medium disk.new)) }
+    // Where the device failed, the count of faults rose.
     ensures cause { IsErrOf result Stop.Device → Rose (D.medium disk.old).faults (D.medium disk.new).faults }
     ensures time { Elapses (D.medium disk.old) (D.medium disk.new) }
 {

@@ -21,7 +21,7 @@ use per_base::{Name, PerError, Sink, Source};
 use std::alloc::Global;
 
 /// Reads the input to its end, rebuilds the storage of this name of an application from it, and says so. Where the
-/// input is not read to its end, the disk is not touched.
+/// input is not read to its end, the disk is not touched. Gives the status.
 pub fn import_storage<D: Disk, S: Source, K: Sink>(
     alloc: Global,
     application: u32,
@@ -31,8 +31,11 @@ pub fn import_storage<D: Disk, S: Source, K: Sink>(
     disk: &mut D,
 ) -> u8
     requires { application < 8 }
+    // By the status: what was taken of the source, what the sink took, and what the disk then is; of each what was
+    // before the call and what is after it.
     ensures job { Imports D.told application name.now result (S.left source.old) (S.left source.new)
         (K.written sink.old) (K.written sink.new) (D.medium disk.old) (D.medium disk.new) }
+    // A status of a failure comes only where the count of failures rose: 3 of the disk, 5 of the source, 6 of the sink.
     ensures caused { IsCaused (JobKind.Import application name.now) result
         (record { disk = (D.medium disk.old).faults; source = S.faults source.old; sink = K.faults sink.old })
         (record { disk = (D.medium disk.new).faults; source = S.faults source.new; sink = K.faults sink.new }) }

@@ -16,7 +16,7 @@ pub const INPUT_BYTES: usize = 67_108_864;
 /// How many bytes are read at once.
 pub const PIECE_BYTES: usize = 65_536;
 
-/// Reads at most as many bytes as there is room for.
+/// Reads a piece of the source into the first `room` bytes of a buffer, and gives how many bytes it took.
 pub fn read_piece<S: Source>(
     source: &mut S,
     buffer: &mut [u8],
@@ -25,9 +25,12 @@ pub fn read_piece<S: Source>(
     requires some { 0 < room }
     requires within { room ≤ length buffer.old }
     ensures bound { IfOk result (λ count. count ≤ room) }
+    // What was taken of the source is in the buffer, and nothing only at the end of the source; a failed call takes
+    // nothing.
     ensures bytes { MatchResult result (λ count. Consumes (S.left source.old) (S.left source.new)
         (take count buffer.new)
         × (count ≡ 0 → IsAtEnd (S.left source.new))) (λ _. Keeps (S.left source.old) (S.left source.new)) }
+    // The call fails only where the count of failures rose.
     ensures cause { HasCause (S.faults source.old) (S.faults source.new) result }
 {
     match source.read(&mut buffer[..room]) {
@@ -48,6 +51,7 @@ pub fn zeros(alloc: Global, count: usize) -> Result<Vec<u8>, AllocError>
 /// Errors: `Source` where it failed; `TooLong` where it gave [`INPUT_BYTES`] bytes, and its end was not seen;
 /// `OutOfMemory`.
 pub fn read_whole<S: Source>(alloc: Global, source: &mut S) -> Result<Vec<u8>, Ending>
+    // All bytes of the source are given, and its end was seen; or some were taken, and the end was not seen.
     ensures read { MatchResult result (λ whole. IsInputTaken (S.left source.old) (S.left source.new) whole.items true)
         (λ ending. Breaks (S.left source.old) (S.left source.new) ending) }
     ensures failed { IsErrOf result Ending.Source → Rose (S.faults source.old) (S.faults source.new) }

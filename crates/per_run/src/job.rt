@@ -50,13 +50,14 @@ pub fn per_run<D: Disk, S: Source, K: Sink>(
     sink: &mut K,
     disk: &mut D,
 ) -> u8
-    // Invalid arguments, and only they, give 1, unless memory ran out; and then nothing happened.
+    // Invalid arguments, and only they, give 1, unless memory ran out, which gives 4; and then nothing happened.
     ensures refused { result ≡ 1 → job_of (map string_bytes words.now) ≡ None }
     ensures words { job_of (map string_bytes words.now) ≡ None → (result ≡ 1) ⊎ (result ≡ 4) }
     ensures untouched { job_of (map string_bytes words.now) ≡ None
         → (source.new ≡ source.old) × (sink.new ≡ sink.old) × (disk.new ≡ disk.old) }
 
-    // What the job promises, and why it ended so.
+    // What the job promises (`JobDone`), and that a status of a failure comes only where the count of failures rose. A
+    // job that reads no input takes nothing of the source.
     ensures job { IfSome (job_of (map string_bytes words.now))
         (λ job. JobDone D.told D.medium job.kind (rules_of migrations.now) (answers_of migrations.now) result
         (S.left source.old) (S.left source.new) (K.written sink.old) (K.written sink.new)
@@ -69,7 +70,7 @@ pub fn per_run<D: Disk, S: Source, K: Sink>(
     ensures unread { IfSome (job_of (map string_bytes words.now))
         (λ job. reads_input job.kind ≡ false → source.new ≡ source.old) }
 
-    // A run over lines that are all in the grammar, with no failure, handles them all, unless memory ran out.
+    // A run over lines that are all in the grammar, with no failure, handles them all (0), unless memory ran out (4).
     ensures complete { IfSome (job_of (map string_bytes words.now)) (λ job. job.kind ≡ JobKind.Run
         → (Rose (D.medium disk.old).faults (D.medium disk.new).faults → ⊥)
         → ¬ (Rose (S.faults source.old) (S.faults source.new))
@@ -86,7 +87,7 @@ pub fn per_run<D: Disk, S: Source, K: Sink>(
     }
 }
 
-/// Does a job.
+/// Does a job, as [`per_run`] does one that its arguments ask for. Gives the status.
 pub fn run_job<D: Disk, S: Source, K: Sink>(
     alloc: Global,
     kind: JobKind,
@@ -96,11 +97,15 @@ pub fn run_job<D: Disk, S: Source, K: Sink>(
     disk: &mut D,
 ) -> u8
     requires { IsInRange kind }
+    // What the job promises by its status (`JobDone`), of the source, the sink, the counts of their failures, and the
+    // disk.
     ensures job { JobDone D.told D.medium kind (rules_of migrations.now) (answers_of migrations.now) result
         (S.left source.old) (S.left source.new) (K.written sink.old) (K.written sink.new)
         (record { disk = (D.medium disk.old).faults; source = S.faults source.old; sink = K.faults sink.old })
         (record { disk = (D.medium disk.new).faults; source = S.faults source.new; sink = K.faults sink.new })
         disk.old disk.new }
+    // A status of a failure comes only where the count of failures rose: 3 of the disk, 5 of the source, 6 of the sink.
+    // A job that reads no input takes nothing of the source.
     ensures caused { IsCaused kind result
         (record { disk = (D.medium disk.old).faults; source = S.faults source.old; sink = K.faults sink.old })
         (record { disk = (D.medium disk.new).faults; source = S.faults source.new; sink = K.faults sink.new }) }

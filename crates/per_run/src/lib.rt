@@ -12,14 +12,19 @@
 //! what was written, what the disk then denotes, what a stop at any moment leaves, and that a failure of the disk, the
 //! source or the sink ends the program only where its count of faults rose.
 //!
-//! Statuses: the table above [`per_run`] says when 0 to 9 come, and that above [`per_flash`] which come where a flash
-//! is not opened, as 10 and 11. `specs/Jobs` says the same in clauses, job by job, and `specs/Endings` of `run_model`
-//! of the job that handles lines; `specs/Serves` says those of `--serve`. `endings` has the numbers. The help of
-//! `per_cli` lists every status of the program, those of main and of the script too.
+//! A job gives a status: 0 where it is done, 1 of invalid arguments, 2 of a line outside the grammar, 3 where the disk
+//! failed, 4 where memory ran out, 5 where the source failed, 6 where the sink did, 7 of too long an input, 8 of
+//! an audit that found something, and 9 of a refusal. The table above [`per_run`] says when they come, and that above
+//! [`per_flash`] which come where a flash is not opened, as 10 and 11. `specs/Jobs` says the same in clauses, job by
+//! job, and `specs/Endings` of `run_model` of the job that handles lines; `specs/Serves` says those of `--serve`. The
+//! help of `per_cli` lists every status of the program, those of main and of the script too.
 //!
 //! [`read_words`] gives the job that the arguments ask for. Limits: lines of 262,144 bytes, and without `--serve` an
 //! input of fewer than 67,108,864 bytes, or with the line `end` among them. The text of a reply is handed to the sink
 //! before the next line is looked at. What is not promised is that memory is there.
+//!
+//! In the contracts `told` is that the disk's bytes are modelled, `job` what a job promises, `caused` that a status of
+//! a failure comes only with that failure, and `time` that the disk's moments go on and no count falls.
 #![tactic(auto)]
 
 mod answering;

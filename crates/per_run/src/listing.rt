@@ -13,10 +13,12 @@ use per_base::Sink;
 use per_list::{Form, list};
 use std::alloc::Global;
 
-/// Says in this form what is on the disk, and changes nothing of it.
+/// Says in this form what is on the disk, and changes nothing of it. Gives the status.
 pub fn list_disk<D: Disk, K: Sink>(alloc: Global, form: Form, sink: &mut K, disk: &mut D) -> u8
+    // By the status: what the sink took, before the call and after it; and of the disk that nothing changed.
     ensures job { Lists D.told form result (K.written sink.old) (K.written sink.new) (D.medium disk.old)
         (D.medium disk.new) }
+    // A status of a failure comes only where the count of failures rose: 3 of the disk, 6 of the sink.
     ensures caused { (source : ℕ) → IsCaused (JobKind.Listing form) result
         (record { disk = (D.medium disk.old).faults; source = source; sink = K.faults sink.old })
         (record { disk = (D.medium disk.new).faults; source = source; sink = K.faults sink.new }) }

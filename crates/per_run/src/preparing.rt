@@ -23,8 +23,10 @@ const FILES: u32 = 32_768;
 /// `Device` where the disk fails, and `OutOfMemory`.
 pub fn prepare<D: Disk>(alloc: Global, disk: &mut D) -> Result<Runtime, Stop>
     ensures memory { IfOk result (IsRuntime D.told (D.medium disk.new)) }
+    // The runtime started on the disk that was there, or on one that was empty and is formatted; or it did not start.
     ensures readied { IfOk result (λ r. IsReadied D.told D.medium (memory_of r) disk.old disk.new) }
     ensures unready { OnErr result (IsUnready D.told D.medium disk.old disk.new) }
+    // Where the device failed, the count of faults rose.
     ensures cause { IsErrOf result Stop.Device → Rose (D.medium disk.old).faults (D.medium disk.new).faults }
     ensures time { Elapses (D.medium disk.old) (D.medium disk.new) }
 {

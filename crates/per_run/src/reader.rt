@@ -38,7 +38,7 @@ pub struct Reader {
 }
 
 impl Reader {
-    /// A reader at the start of the input.
+    /// A reader at the start of the input: no line was counted yet, and nothing of one is kept.
     pub fn new(alloc: Global, runtime: Runtime) -> Reader
         ensures runtime { result.runtime ≡ runtime }
         ensures kept { result.kept.items ≡ [] }
@@ -54,7 +54,8 @@ impl Reader {
     }
 }
 
-/// Handles the bytes of one piece of the input.
+/// Handles the bytes of one piece of the input: each line that ends in it, and of the rest it keeps what may begin a
+/// line.
 pub fn feed<D: Disk, K: Sink>(
     reader: &mut Reader,
     migrations: &Migrations,
@@ -63,6 +64,8 @@ pub fn feed<D: Disk, K: Sink>(
     piece: &[u8],
 ) -> Result<(), Ending>
     requires { IsRuntime D.told (D.medium disk.old) reader.old.runtime }
+    // From wherever the reader stood since a start of the runtime (`Reached`), in an input of fewer than 2^63 bytes, it
+    // stands one piece further; or the handling of the lines ended, and so (`Course`).
     ensures goes_on { OnOk result ((start : D) (before : Option (List ℕ)) (given : List ℕ)
         → length (given ++ piece.now) < 2 ^ 63
         → Reached D.told (rules_of migrations.now) (answers_of migrations.now) (D.medium start) before given
@@ -78,6 +81,7 @@ pub fn feed<D: Disk, K: Sink>(
         reader.old.number
         → Course D.told (rules_of migrations.now) (answers_of migrations.now) (ending_of ending) (D.medium start) before
         (lines_of false (given ++ piece.now)) (K.written sink.new) (D.medium disk.new)) }
+    // The runtime stays in use. An ending for the sink comes only where its count of failures rose.
     ensures memory { OnOk result (IsRuntime D.told (D.medium disk.new) reader.new.runtime) }
     ensures blames { Blames (K.faults sink.old) (K.faults sink.new) result }
     ensures time { Elapses (D.medium disk.old) (D.medium disk.new) }
@@ -115,6 +119,8 @@ pub fn finish<D: Disk, K: Sink>(
     disk: &mut D,
 ) -> Ending
     requires { IsRuntime D.told (D.medium disk.old) reader.old.runtime }
+    // From wherever the reader stood since a start of the runtime (`Reached`), the handling of the lines ended so
+    // (`Course`): all of them are handled, or it was broken off, for the sink only where its count of failures rose.
     ensures ends { AppLaws → (start : D) (before : Option (List ℕ)) (given : List ℕ) → length given < 2 ^ 63
         → Reached D.told (rules_of migrations.now) (answers_of migrations.now) (D.medium start) before given
         (K.written sink.old) (memory_of reader.old.runtime) (D.medium disk.old) reader.old.kept.items
@@ -173,7 +179,8 @@ fn feed_line<D: Disk, K: Sink>(
     }
 }
 
-/// Puts bytes after the prefix of the line that is kept, as long as the line may still be one.
+/// Puts bytes after the prefix of the line that is kept: one byte more than a line may have, 262,145, is kept of it and
+/// no more.
 pub fn keep(kept: &mut Vec<u8>, bytes: &[u8]) -> Result<(), Ending>
     ensures kept { OnOk result ((rest : List ℕ) → kept.old.items ≡ take 262145 rest
         → kept.new.items ≡ take 262145 (rest ++ bytes.now)) }
@@ -278,6 +285,7 @@ fn handle_text<D: Disk, K: Sink>(
 /// sink fails not all.
 pub fn write_reply<K: Sink>(sink: &mut K, room: &mut String, reply: &Reply) -> Result<(), Ending>
     requires { HasText reply.now.answer }
+    // The sink took the whole text; or it failed, only where its count of failures rose; or memory ran out.
     ensures puts { PutsOutput (reply_text reply.now) (K.written sink.old) (K.written sink.new) result }
     ensures blames { Blames (K.faults sink.old) (K.faults sink.new) result }
 {

@@ -14,11 +14,13 @@ use root_recovery::{Recovery, RecoveryError, recover_root};
 use std::alloc::Global;
 
 /// Recovers the root of an application where it does not read and some copy holds one, and says which it took, or why
-/// it took none.
+/// it took none. Gives the status.
 pub fn recover<D: Disk, K: Sink>(alloc: Global, application: u32, sink: &mut K, disk: &mut D) -> u8
     requires { application < 8 }
+    // By the status: what the sink took, before the call and after it, and what the disk then is.
     ensures job { Recovers D.told application result (K.written sink.old) (K.written sink.new) (D.medium disk.old)
         (D.medium disk.new) }
+    // A status of a failure comes only where the count of failures rose: 3 of the disk, 6 of the sink.
     ensures caused { (source : ℕ) → IsCaused (JobKind.RecoverRoot application) result
         (record { disk = (D.medium disk.old).faults; source = source; sink = K.faults sink.old })
         (record { disk = (D.medium disk.new).faults; source = source; sink = K.faults sink.new }) }

@@ -14,6 +14,7 @@ use std::alloc::Global;
 /// Writes the line of an error, and gives the status of a refused call where the sink took all.
 pub fn write_refusal<K: Sink>(alloc: Global, sink: &mut K, error: PerError) -> u8
     requires { IsSome (error_number error) }
+    // The sink took the line, by the status: 9 for all of it, 6 only where the sink failed, 4 where memory ran out.
     ensures output { WritesOutput result (K.written sink.old) (K.written sink.new) (error_line error) }
     ensures status { (result ≡ 9) ⊎ ((result ≡ 4) ⊎ ((result ≡ 6) × Rose (K.faults sink.old) (K.faults sink.new))) }
 {

@@ -20,7 +20,7 @@ use per_runtime::{Runtime, start};
 use run_model::applications_stand;
 use std::alloc::Global;
 
-/// Starts the runtime and handles the lines of the source, each with its reply to the sink.
+/// Starts the runtime and handles the lines of the source, each with its reply to the sink. Gives the status.
 pub fn run<D: Disk, S: Source, K: Sink>(
     alloc: Global,
     migrations: &Migrations,
@@ -28,6 +28,8 @@ pub fn run<D: Disk, S: Source, K: Sink>(
     sink: &mut K,
     disk: &mut D,
 ) -> u8
+    // By the rules and the answers of the converters: the status, what is left of the source, what the sink took, how
+    // many calls of each failed, and the disk; of each what was before the call, and what is after it.
     ensures run { Run D.told (rules_of migrations.now) (answers_of migrations.now) result (S.left source.old)
         (S.left source.new) (K.written sink.old) (K.written sink.new)
         (S.faults source.old) (S.faults source.new) (K.faults sink.old) (K.faults sink.new) (D.medium disk.old)

@@ -27,7 +27,7 @@ use run_model::applications_stand;
 use std::alloc::Global;
 
 /// Formats the disk where it is empty, starts the runtime, and handles the lines of the source until its end or
-/// the line `end`, each with its reply to the sink.
+/// the line `end`, each with its reply to the sink. Gives the status: 0, or 3 to 7.
 pub fn serve<D: Disk, S: Source, K: Sink>(
     alloc: Global,
     migrations: &Migrations,
@@ -35,9 +35,13 @@ pub fn serve<D: Disk, S: Source, K: Sink>(
     sink: &mut K,
     disk: &mut D,
 ) -> u8
+    // By the rules and the answers of the converters: the status, what is left of the source, what the sink took, how
+    // many calls of each failed, and the disk; of each what was before the call, and what is after it.
     ensures serves { Serves D.told D.medium (rules_of migrations.now) (answers_of migrations.now) result
         (S.left source.old) (S.left source.new) (K.written sink.old) (K.written sink.new)
         (S.faults source.old) (S.faults source.new) (K.faults sink.old) (K.faults sink.new) disk.old disk.new }
+
+    // To what crashes since an earlier moment might have left the call only adds; and no count falls.
     ensures time { Elapses (D.medium disk.old) (D.medium disk.new) }
 {
     applications_stand();

@@ -19,7 +19,7 @@ pub struct Tally {
 }
 
 impl Tally {
-    /// No reply yet.
+    /// A tally in which no reply is counted yet.
     pub fn new() -> Tally
         ensures { Tallies [] result }
     {
@@ -33,6 +33,7 @@ impl Tally {
 
     /// Counts one reply more.
     pub fn count(&mut self, reply: &Reply)
+        // Where these replies were counted before, they are counted with this one after them.
         ensures { (replies : List Reply) → length replies < 2 ^ 32 → Tallies replies self.old
             → Tallies (replies ++ reply.now ∷ []) self.new }
     {
@@ -47,7 +48,7 @@ impl Tally {
         }
     }
 
-    /// The summary of the replies to that many lines, as a text.
+    /// The summary of the replies that were counted, to this many lines, as a text.
     pub fn summary(&self, alloc: Global, lines: u64) -> Result<String, AllocError>
         ensures { IfOk result (λ text. string_bytes text ≡ summary_text lines self.now.done self.now.other
             self.now.errors self.now.size) }

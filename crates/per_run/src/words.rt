@@ -73,8 +73,9 @@ impl From<AllocError> for WordsError {
 ///
 /// # Errors
 ///
-/// `Refused` only where they ask for none; `OutOfMemory`.
+/// `Refused` only where they ask for none; `OutOfMemory` where memory ran out, whatever they ask for.
 pub fn read_words(alloc: Global, words: &[String]) -> Result<Job, WordsError>
+    // The job is the one that the arguments ask for (`job_of`), and they are refused only where they ask for none.
     ensures job { IfOk result (λ job. job_of (map string_bytes words.now) ≡ Some job) }
     ensures refused { IsErrOf result WordsError.Refused → job_of (map string_bytes words.now) ≡ None }
 {

@@ -12,6 +12,7 @@ use std::alloc::AllocError;
 
 /// Hands the whole text to the sink; where the sink fails, it has taken less than the whole.
 pub fn write_all<K: Sink>(sink: &mut K, text: &[u8]) -> Result<(), Failed>
+    // The sink took the whole text; or a proper prefix, where it failed, and then its count of failures rose.
     ensures whole { OnOk result (Appends (K.written sink.old) (K.written sink.new) text.now) }
     ensures cut { OnErr result (WroteProperPrefix (K.written sink.old) (K.written sink.new) text.now) }
     ensures cause { HasCause (K.faults sink.old) (K.faults sink.new) result }
@@ -29,6 +30,7 @@ pub fn write_all<K: Sink>(sink: &mut K, text: &[u8]) -> Result<(), Failed>
 
 /// Hands a text that was made to the sink, where there was memory for it.
 pub fn write_made<K: Sink>(sink: &mut K, made: Result<Vec<u8>, AllocError>) -> Result<(), Ending>
+    // Of a text that was made the sink took all, or it failed, only where its count of failures rose; else nothing.
     ensures puts { (text : List ℕ) → IfOk made (λ bytes. bytes.items ≡ text)
         → PutsOutput text (K.written sink.old) (K.written sink.new) result }
     ensures blames { Blames (K.faults sink.old) (K.faults sink.new) result }
@@ -41,6 +43,7 @@ pub fn write_made<K: Sink>(sink: &mut K, made: Result<Vec<u8>, AllocError>) -> R
 
 /// Hands a text to the sink.
 pub fn write_text<K: Sink>(sink: &mut K, text: &[u8]) -> Result<(), Ending>
+    // The sink took the whole text, or it failed and took less, only where its count of failures rose.
     ensures puts { PutsOutput text.now (K.written sink.old) (K.written sink.new) result }
     ensures blames { Blames (K.faults sink.old) (K.faults sink.new) result }
 {
@@ -54,6 +57,7 @@ pub fn write_text<K: Sink>(sink: &mut K, text: &[u8]) -> Result<(), Ending>
 /// took all.
 pub fn write_output<K: Sink>(sink: &mut K, text: &[u8], done: u8) -> u8
     requires { IsOutputWritten done }
+    // The sink took the whole text, and the status is `done`; or it failed, its count rose, and the status is 6.
     ensures output { WritesOutput result (K.written sink.old) (K.written sink.new) text.now }
     ensures status { (result ≡ done) ⊎ ((result ≡ 6) × Rose (K.faults sink.old) (K.faults sink.new)) }
     ensures later { K.faults sink.old ≤ K.faults sink.new }
@@ -64,9 +68,12 @@ pub fn write_output<K: Sink>(sink: &mut K, text: &[u8], done: u8) -> u8
     }
 }
 
-/// The same of an output that was made, where there was memory for it.
+/// Hands the output of a job, where there was memory to make it, to the sink, and gives the status: `done` where the
+/// sink took all, 4 where memory ran out, and 6 where the sink failed.
 pub fn write_made_output<K: Sink>(sink: &mut K, made: Result<Vec<u8>, AllocError>, done: u8) -> u8
     requires { IsOutputWritten done }
+    // What the sink took is by the status all of the text, less, or nothing; 6 comes only where the count of its
+    // failures rose.
     ensures output { (text : List ℕ) → IfOk made (λ bytes. bytes.items ≡ text)
         → WritesOutput result (K.written sink.old) (K.written sink.new) text }
     ensures status { (result ≡ done) ⊎ ((result ≡ 4) ⊎ ((result ≡ 6) × Rose (K.faults sink.old) (K.faults sink.new))) }

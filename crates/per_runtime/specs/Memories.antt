@@ -7,6 +7,7 @@ use Rattle.app_runtime.specs.declared.running.Running.{Running}
 use Rattle.app_runtime.specs.Running.{IsRunning, running_in}
 use Rattle.per_runtime.specs.declared.runtime.Runtime.{Runtime}
 
+-- what a runtime keeps in memory, as the world has it
 abbrev pub memory_of : Runtime → Memory
 memory_of r = record { now = r.now; apps = map running_in r.apps.items; in_doubt = r.in_doubt }
 

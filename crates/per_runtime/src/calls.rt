@@ -56,6 +56,7 @@ fn open_and_answer<D: Disk>(
 }
 
 // Answers a call of an application whose root is not to be opened.
+#[inline(always)]
 fn answer_opened<D: Disk>(
     running: &mut Running,
     disk: &mut D,

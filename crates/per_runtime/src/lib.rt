@@ -7,6 +7,9 @@
 //!
 //! Every command is a step of the world of `run_model`, and a stop at any moment leaves each application between two
 //! worlds that follow each other. Running out of memory ends the run; nothing else does.
+//!
+//! A *doubt* is what a failed command leaves: how much of it was done is not known until a sync. In the contracts
+//! `told` is that the disk's bytes are modelled, and `time` that its moments go on and no count falls.
 #![tactic(auto)]
 
 mod calls;

@@ -51,6 +51,9 @@ impl Runtime {
 
         ensures memory { IfOk result (λ reply. IsRuntime D.told (D.medium disk.new) self.new) }
         ensures text { IfOk result (λ reply. HasText reply.answer) }
+        // In whatever doubt the memory is, the reply and the world after it are a step of the world before (`Stepped`).
+        // Where memory ran out the command is in progress, and each moment stands between before and after it
+        // (`Stopped`).
         ensures stepped { IsTrue D.told → IfOk result (λ reply. (doubt : Option Doubt)
             → IsDoubt (memory_of self.old) doubt
             → Stepped (rules_of migrations.now) (answers_of migrations.now) event.now reply (memory_of self.old)

@@ -24,6 +24,7 @@ const APPS: u32 = 8;
 /// `Device` where the disk fails, and `OutOfMemory`.
 pub fn start<D: Disk>(alloc: Global, disk: &mut D) -> Result<Runtime, Stop>
     ensures memory { IfOk result (IsRuntime D.told (D.medium disk.new)) }
+    // A start that ends well has opened every root, and keeps in memory what a fresh runtime does.
     ensures starts { IsTrue D.told → IfOk result (λ r. Starts (memory_of r) (D.medium disk.old) (D.medium disk.new)) }
     ensures fresh { IfOk result (λ r. memory_of r ≡ fresh) }
 

@@ -1,7 +1,8 @@
 //! What an error of the system says of a file.
 
 ghost use Rattle.std.specs.Prelude.{◌≡◌, ◌↔◌, IsTrue, Ok, Err};
-ghost use Rattle.per_system.specs.Errors.{SaysNothing};
+ghost use Rattle.std.specs.Prelude.{is_ok};
+ghost use Rattle.per_system.specs.Errors.{SaysNothing, HoldsNothingPending};
 
 use std::io;
 
@@ -34,7 +35,10 @@ fn is_outside(error: io::Error) -> bool
 
 /// What is no file holds nothing that is pending, and cannot be synced; nor can, on some systems, a folder in which
 /// nothing may be written.
-pub(crate) fn passed_by(error: io::Error) -> io::Result<()> {
+pub(crate) fn passed_by(error: io::Error) -> io::Result<()>
+    ensures passed { HoldsNothingPending error → IsTrue (is_ok result) }
+    ensures failed { ¬ (HoldsNothingPending error) → result ≡ Err error }
+{
     match error.kind() {
         io::ErrorKind::InvalidInput => Ok(()),
         _ => Err(error),

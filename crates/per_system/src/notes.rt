@@ -54,7 +54,7 @@ pub struct Noted<'a, D: Drop> {
 }
 
 impl<'a, D: Drop> Noted<'a, D> {
-    /// The device, with its failures noted.
+    /// This device, whose failures are noted from then on where they are answered.
     pub fn new(device: D, notes: &'a Notes) -> Noted<'a, D>
         ensures { result.device ≡ device }
     {
@@ -107,7 +107,7 @@ impl<'a, D: Disk + Explains + Drop> Disk for Noted<'a, D> {
     }
 }
 
-/// A flash over a folder, likewise.
+/// A flash over a folder, whose failures are noted where they are answered.
 #[derive(Drop)]
 pub struct NotedFlash<'a, F: Drop> {
     device: F,
@@ -115,7 +115,7 @@ pub struct NotedFlash<'a, F: Drop> {
 }
 
 impl<'a, F: Drop> NotedFlash<'a, F> {
-    /// The flash, with its failures noted.
+    /// This flash, whose failures are noted from then on where they are answered.
     pub fn new(device: F, notes: &'a Notes) -> NotedFlash<'a, F>
         ensures { result.device ≡ device }
     {
@@ -184,7 +184,7 @@ impl<'a, F: Flash + Explains + Drop> Flash for NotedFlash<'a, F> {
 
 /// What can say why its last call failed.
 pub trait Explains {
-    /// The last call of the system that failed.
+    /// The last call of the system that failed, and how; none where none failed.
     fn failure(&self) -> Option<Failure>;
 }
 

@@ -85,6 +85,7 @@ impl<T: Write + Drop> Sink for StdSink<T> {
     ghost faults = { λ s. s.faults };
 
     fn write(&mut self, bytes: &[u8]) -> Result<usize, Failed>
+        // At most all bytes are taken. The call fails, or takes none of some, only where the count of failures rose.
         ensures bound { IfOk result (λ n. n ≤ length bytes.now) }
         ensures cause { HasCause self.old.faults self.new.faults result }
         ensures stuck { IfOk result (λ n. n ≡ 0 → 0 < length bytes.now → Rose self.old.faults self.new.faults) }

@@ -32,7 +32,8 @@ pub record RecoveryKeeps (app : ℕ) (old new : Medium) : Type 0 where
   pub stands : IsCleanApp app old.image → AreCleanAfter old.image app
       → EachCase (λ c. old.now c ⊎ StandsCase app (app_at old.image app) (after_recovery old.image app) c) old new
 
--- A recovery that was refused.
+-- A recovery that took no root: nothing is changed, and a crash meanwhile leaves what reads give, or what one before it
+-- might have left.
 pub record LeavesAll (old new : Medium) : Type 0 where
   pub image : new.image ≡ old.image
   pub written : new.written ≡ old.written

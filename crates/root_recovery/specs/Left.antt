@@ -33,6 +33,7 @@ pub record IsRootLeft (image : Image) (app generation : ℕ) (root : Root) (copi
   pub lowest : (copy : ℕ) (other : List ℕ) → HoldsRoot image app copy generation other → ¬ (other ≡ text)
       → (lower : ℕ) × (lower < copy) × Holds image (root_place app) lower generation text
 
+-- the row says of this root what is so: it reads, nothing is left of it, or this is
 abbrev pub IsRowOf : Image → ℕ → RootRow → Type 0
 IsRowOf image app reads = ¬ (says_at image app ≡ nothing)
 IsRowOf image app none_left = NoneIsLeft image app

@@ -41,15 +41,17 @@ taking (Some seen) = taking_root seen (root_of seen.text)
 
 -- ---- a recovery
 
--- only a root that says nothing is recovered
+-- what is recovered of a root that says this, of which this is left: only one that says nothing is
 abbrev pub recovery_by : Says → Option Seen → RootRow
 recovery_by says.nothing left = taking left
 recovery_by (says.absent g) left = reads
 recovery_by (says.installed g active previous) left = reads
 
+-- what a recovery takes on this image of an application's root, or why it takes none
 unfoldable pub recovery_at : Image → ℕ → RootRow
 recovery_at image app = recovery_by (says_at image app) (left_at image app)
 
+-- the application after this row
 abbrev pub after_row : Image → ℕ → RootRow → App
 after_row image app reads = app_at image app
 after_row image app none_left = app_at image app
@@ -61,11 +63,13 @@ after_recovery image app = after_row image app (recovery_at image app)
 
 -- ---- what is answered
 
+-- what a recovery answered, as a row: which root was taken, or why none was
 abbrev pub row_answered : Recovery → RootRow
 row_answered Reads = reads
 row_answered NoneLeft = none_left
 row_answered (Taken recovered) = takes recovered.generation (root_said recovered.says) recovered.copies
 
+-- no root was taken
 abbrev pub IsRefused : RootRow → Type 0
 IsRefused reads = ⊤
 IsRefused none_left = ⊤

@@ -11,6 +11,9 @@
 //!
 //! Limits: eight applications, and one caller at a time. What the storages hold that the recovered root names is not
 //! looked at.
+//!
+//! In the contracts `told` is that a disk's bytes are modelled, `quiet` that nothing is pending on it, and `time` that
+//! its moments go on and no count falls.
 #![tactic(auto)]
 
 mod choosing;

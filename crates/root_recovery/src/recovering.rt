@@ -62,17 +62,23 @@ pub fn recover_root<D: Disk>(
     app: u32,
 ) -> Result<Recovery, RecoveryError>
     requires { app < 8 }
+    // Which root is taken, or why none is, is as `recovery_at` has it of the disk before; the application then is what
+    // that root says, with its storages as they were.
     ensures ended { IsTrue D.told → IfOk result (λ recovery.
         IsRecovered app (row_answered recovery) (D.medium disk.old).image (D.medium disk.new).image) }
+    // Where no root is taken, or memory ran out, nothing is changed.
     ensures refused { IfOk result (λ recovery. IsRefused (row_answered recovery)
         → LeavesAll (D.medium disk.old) (D.medium disk.new)) }
     ensures memory { IsErrOf result RecoveryError.OutOfMemory
         → ((D.medium disk.new).image ≡ (D.medium disk.old).image)
         × ((D.medium disk.new).written ≡ (D.medium disk.old).written) }
     ensures quiet { OnOk result (Quiet (D.medium disk.new)) }
+    // The count of faults rose where the device failed, and stayed where the call succeeded or memory ran out.
     ensures cause { IsErrOf result RecoveryError.Device → Rose (D.medium disk.old).faults (D.medium disk.new).faults }
     ensures passes { OnOk result ((D.medium disk.new).faults ≡ (D.medium disk.old).faults) }
     ensures fed { IsErrOf result RecoveryError.OutOfMemory → (D.medium disk.new).faults ≡ (D.medium disk.old).faults }
+    // However it ends, only slots of the root change, at any moment, and the application is as it was or recovered. At
+    // most a root's text and two blanks are written into each of the three copies.
     ensures keeps { IsTrue D.told → RecoveryKeeps app (D.medium disk.old) (D.medium disk.new) }
     ensures written { (D.medium disk.new).written ≤ (D.medium disk.old).written + most_written }
     ensures time { Elapses (D.medium disk.old) (D.medium disk.new) }

@@ -61,6 +61,7 @@ root_text (installed bank active previous) = 1 ∷ 1 ∷ parts_text (parts_of ba
 abbrev pub IsVersion : Version → Type 0
 IsVersion v = deployment_in v.text ≡ Some v.deployment
 
+-- where there is a previous version, its text is a manifest and says its deployment
 abbrev pub IfVersion : Option Version → Type 0
 IfVersion None = ⊤
 IfVersion (Some v) = IsVersion v
@@ -70,6 +71,7 @@ pub record IsInstalled (bank : ℕ) (active : Version) (previous : Option Versio
   pub of_active : IsVersion active
   pub of_previous : IfVersion previous
 
+-- what is installed is in bank 0 or 1, and the texts of its versions are manifests
 abbrev pub IsRoot : Root → Type 0
 IsRoot absent = ⊤
 IsRoot (installed bank active previous) = IsInstalled bank active previous

@@ -15,7 +15,7 @@ pub fn one_root()
     // what is said is in bank 0 or 1, and its texts are manifests
     ensures is_root { (text : List ℕ) (r : Root) → root_of text ≡ Some r → IsRoot r }
 
-    // and a text is short enough for a register
+    // and a text is short enough for a register: two manifests of at most 65,536 bytes, their lengths, and four bytes
     ensures short { (r : Root) → IsRoot r → length (root_text r) ≤ 131084 }
 {
     said_is_kept();

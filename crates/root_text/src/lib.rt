@@ -1,8 +1,8 @@
 //! The text of a root: what is installed of an application.
 //!
-//! A root says that nothing is installed, or the version that is active with its bank, and the previous one where there
-//! is one, which is in the other bank. A version is the text of its manifest. [`read_root`] takes exactly the texts
-//! of roots apart, and [`write_absent`] and [`write_installed`] give the one text of each root ([`one_root`]).
+//! A root says that nothing is installed, or the active version and its bank, one of two places for the storages of a
+//! version, and the previous version, if any, in the other bank. A version is its manifest's text. [`read_root`] takes
+//! exactly the texts of roots apart; [`write_absent`] and [`write_installed`] give each root's one text ([`one_root`]).
 #![tactic(auto)]
 
 mod errors;

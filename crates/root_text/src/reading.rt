@@ -20,7 +20,7 @@ use std::alloc::Global;
 ///
 /// `NotARoot` exactly where the bytes are the text of no root; `OutOfMemory`.
 pub fn read_root(alloc: Global, text: &[u8]) -> Result<RootSays, RootError>
-    // What is read is in its bank, its texts are manifests, and it is spelled so.
+    // What is read is in bank 0 or 1, its texts are manifests, and the bytes are its text.
     ensures rules { IfOk result (λ says. IsRoot (root_said says)) }
     ensures spelled { IfOk result (λ says. text.now ≡ root_text (root_said says)) }
 
@@ -30,7 +30,7 @@ pub fn read_root(alloc: Global, text: &[u8]) -> Result<RootSays, RootError>
     // Which root it is, as a function of the bytes.
     ensures read { Gives root_said result (root_of text.now) }
 
-    // Only where a text has all its parts are its manifests copied.
+    // Memory runs out only where the text has all parts of a root: only then are its manifests copied.
     ensures memory { IsErrOf result RootError.OutOfMemory → parts_of_text text.now ≢ None }
 {
     one_root();

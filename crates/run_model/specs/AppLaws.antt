@@ -33,7 +33,7 @@ pub record Calls (a : ℕ) (after : Disks) (old new : Medium) : Type 0 where
   pub elsewhere : Spares (IsNoFileOf a) old.image new.image
 
 -- What the opening of a root promises: the application is the one with its root mended, and at every moment it stands
--- on its way to whatever may come of it.
+-- between what it was and any later state.
 pub record OpensRoot (a : ℕ) (old new : Medium) : Type 0 where
   pub app : app_at new.image a ≡ reopened (app_at old.image a)
   pub any_moment : Quiet old → IsCleanApp a old.image → (after : App) → IsLater (app_at old.image a) after

@@ -47,6 +47,7 @@ abbrev pub concluded : Application → Result Outcome PerError → Outcome
 concluded r (Ok outcome) = outcome
 concluded r (Err e) = answered (answer.Error e) r
 
+-- what was found, or else this refusal
 abbrev pub found_or : {A : Type 0} → Option A → PerError → Result A PerError
 found_or None e = Err e
 found_or (Some x) e = Ok x
@@ -57,15 +58,19 @@ abbrev pub if_open : Option (Option Session) → Option Session
 if_open None = None
 if_open (Some s) = s
 
+-- the session of the storage of this number, where it is open
 abbrev pub session_at : Application → ℕ → Option Session
 session_at r number = if_open (slice_get r.sessions number)
 
+-- the application with this session open in the storage of this number
 abbrev pub with_session : Application → ℕ → Session → Application
 with_session r number s = record r { sessions = slice_set r.sessions number (Some s) }
 
+-- the application with the storage of this number closed
 abbrev pub without_session : Application → ℕ → Application
 without_session r number = record r { sessions = slice_set r.sessions number None }
 
+-- the rest, but busy where the storage is open
 abbrev pub unless_open : {A : Type 0} → Application → FoundStorage → Result A PerError → Result A PerError
 unless_open r f rest = refuse (is_some (session_at r f.number)) (error.ResourceBusy (holder.Storage f.config.name)) rest
 
@@ -212,11 +217,13 @@ first_open (s ∷ ss) [] = None
 first_open (Some s ∷ ss) (c ∷ cs) = Some c.name
 first_open (None ∷ ss) (c ∷ cs) = first_open ss cs
 
+-- the storages of the version that is active; none where nothing is installed
 abbrev pub active_storages : Says → List StorageData
 active_storages nothing = []
 active_storages (absent g) = []
 active_storages (installed g active previous) = active.deployment.storages
 
+-- the open storage with the least name, of the active version
 abbrev pub least_open : Application → Option (List ℕ)
 least_open r = first_open r.sessions (active_storages r.disk.says)
 

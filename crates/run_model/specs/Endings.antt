@@ -52,6 +52,7 @@ has_started start_memory over = absurd over
 has_started memory over = absurd over
 has_started other over = over
 
+-- the line that says that line n is a bad one
 abbrev pub bad_line_text : ℕ → List ℕ
 bad_line_text n = codes "bad-line " ++ (decimal n ++ codes "\n")
 

@@ -86,7 +86,7 @@ after_sync_keeps app w w' d told old now new doubt lawful time nothing quiet lat
 
 -- ---- the root of an application is opened before the command
 
--- the application stands on its way to whatever may come of it
+-- at every moment the application stands between what it was and any later state
 abbrev pub StaysOnTheWay : ℕ → (before : Disks) → (old new : Medium) → Type 0
 StaysOnTheWay app before old new = (after : Disks) → IsLater (disk_at before app) (disk_at after app)
     → EachCase (Between app before after) old new

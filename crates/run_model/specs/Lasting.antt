@@ -38,12 +38,14 @@ IsStageOn (updating p) (installed g active None) ss = (ss ≡ none_open)
     × (length p.contents ≡ length p.deployment.storages) × (p.built ≤ length p.contents)
 IsStageOn (updating p) says ss = ⊥
 
+-- What holds of an application in every world: each open session is one of its storage, and the stage fits.
 pub record IsApplication (a : Application) : Type 0 where
   -- there is room for sixteen
   pub room : length a.sessions ≡ 16
   pub sessions : AreSessionsOn a.sessions (active_storages a.disk.says) a.disk.states
   pub stage : IsStageOn a.stage a.disk.says a.sessions
 
+-- What holds of every world: it has eight applications, and this holds of each.
 pub record IsWorld (w : World) : Type 0 where
   pub eight : length w.apps ≡ 8
   pub each : AllByRecursion IsApplication w.apps

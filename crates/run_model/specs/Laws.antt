@@ -204,12 +204,12 @@ AllOpenedLaw old now = OpenedUpTo 8 old now → StartKeeps old now
 
 -- ---- a life
 
--- of each application, over any number of runs
+-- Over any number of jobs of a life, the places of each application are clean, and it stands between two of the pairs.
 abbrev pub LifeLaw : {D : Type 0} → (medium : D → Medium) → List Rule → Answers → Type 0
 LifeLaw {D} medium rules answers = (app : ℕ) → app < 8 → (m : D) (pairs : List Pair)
     → Life medium rules answers app m pairs → Known app (medium m) pairs
 
--- And across a power loss: by what it leaves, with its damage, the application stands between two of the pairs that
+-- By what a power loss leaves, with its damage, the application stands between the two states of one of the pairs that
 -- were there before.
 abbrev pub LifeStopsLaw : {D : Type 0} → (medium : D → Medium) → List Rule → Answers → Type 0
 LifeStopsLaw {D} medium rules answers = (app : ℕ) → app < 8 → (old new m : D) (pairs : List Pair)
@@ -221,7 +221,7 @@ LifeStopsLaw {D} medium rules answers = (app : ℕ) → app < 8 → (old new m :
 
 -- ---- a run
 
--- causes add up, command by command
+-- where each failed reply of a run has its cause in its command, so it is with one such command more
 abbrev pub BlamedLaw : Type 0
 BlamedLaw = (before : ℕ) (ts : List Turn) (t : Turn) (after : ℕ) → AreBlamed before ts after
     → IsBlamed after t.faults t.reply → AreBlamed before (ts ++ t ∷ []) t.faults
@@ -237,7 +237,9 @@ StartStopsLaw rules answers old new = (ending : Ending) (before after : Option (
     → ¬ (HasStarted ending) → StartKeeps old new
     → DiskSide rules answers ending [] [] [] before after old new
 
--- a command that was answered is one turn more
+-- A run that came through these turns from `old` to `now`, and then a command that is answered, also by the failure of
+-- the device, which leads from `now` to `new`, are a run that came one turn further: with this command, its reply and
+-- the world after it.
 abbrev pub RunGoesOnLaw : List Rule → Answers → (old now new : Medium) → Type 0
 RunGoesOnLaw rules answers old now new = (turns : List Turn) (e : Event) (reply : Reply) (memory memory' : Memory)
     (doubt : Option Doubt) → Elapses now new

@@ -16,11 +16,12 @@ use Rattle.run_model.specs.Worlds.{Disks, Doubt, World, disks, disk_at}
 abbrev pub Between : ℕ → (before after : Disks) → Case → Type 0
 Between app before after c = StandsCase app (disk_at before app) (disk_at after app) c
 
--- or between the two sides of a doubt
+-- where there is a doubt, the application stands in this case between its two sides
 abbrev pub InDoubt : ℕ → Option Doubt → Case → Type 0
 InDoubt app None c = ⊥
 InDoubt app (Some d) c = Between app d.before d.after c
 
+-- there is a doubt
 abbrev pub IsInDoubt : Option Doubt → Type 0
 IsInDoubt None = ⊥
 IsInDoubt (Some d) = Unit {0}
@@ -65,6 +66,8 @@ pub record KeepsApplication (app : ℕ) (w w' : World) (old new : Medium) : Type
   -- after it, in a doubt: one that stays has no new crash, and in one that is new each stands between its two sides
   pub calm : IsInDoubt w'.doubt → (c : Case) → new.now c → ((w'.doubt ≡ w.doubt) × old.now c) ⊎ InDoubt app w'.doubt c
 
+-- a command from the world w to w' keeps the application, if its places were clean and, without a doubt, nothing
+-- pending
 abbrev pub StepKeeps : ℕ → (w w' : World) → (old new : Medium) → Type 0
 StepKeeps app w w' old new = IsReady app w old → KeepsApplication app w w' old new
 

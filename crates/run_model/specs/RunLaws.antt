@@ -69,14 +69,19 @@ blamed_on before (u ∷ us) t after blamed cause = (blamed.0, blamed_on u.faults
 
 -- ---- what is said of a run so far
 
+-- A run so far, with no command in progress: its start led from the world `entry` to `start`, and these turns, each a
+-- command with its reply and the world after it, led on to what the disk, this memory and this doubt are now.
 pub record Going (rules : List Rule) (answers : Answers) (entry start : World) (turns : List Turn) (memory : Memory)
     (doubt : Option Doubt) (old now : Medium) : Type 0 where
   pub eight : length memory.apps ≡ 8
+  -- each reply and each world is the specified one, and the last world is what is there now
   pub follow : Follow rules answers start turns
   pub worlds : AllByRecursion IsWorld (start ∷ worlds_of turns)
   pub last : last_of start (worlds_of turns) ≡ world_of now.image memory doubt
+  -- a doubt has a case of the disk since the start, and what reads then gave; without one nothing is pending
   pub cases : AreCases (IsReadSince old now) (worlds_of turns)
   pub quiet : doubt ≡ None → Quiet now
+  -- each application is what some image denotes, and each moment so far is one of the start or of a command
   pub imaged : (app : ℕ) → app < 8 → AreImaged app (start ∷ worlds_of turns)
   pub stayed : (app : ℕ) → app < 8 → IsCleanApp app old.image → AreSoundDoubts app (worlds_of turns)
       → Stayed app entry start (worlds_of turns) old now

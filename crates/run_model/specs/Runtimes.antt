@@ -116,6 +116,7 @@ IsBesideNamed w (event.App app c) file = (is_to_open (app_of w app).stage ≡ fa
 abbrev pub IsUnwritten : (old new : Medium) → Type 0
 IsUnwritten old new = (new.image ≡ old.image) × (new.written ≡ old.written)
 
+-- the command calls no device
 abbrev pub calls_none : World → Event → Bool
 calls_none w (event.Now t) = true
 calls_none w (event.App app c) = not (calls_device (app_of w app) c)
@@ -126,6 +127,7 @@ is_refusal (answer.Error error.PhysicalStorageFailure) = false
 is_refusal (answer.Error e) = true
 is_refusal other = false
 
+-- the root of the application is to be opened before the command
 abbrev pub opens_root : World → Event → Bool
 opens_root w (event.Now t) = false
 opens_root w (event.App app c) = is_to_open (app_of w app).stage
@@ -135,6 +137,7 @@ abbrev pub only_plans : Call → Bool
 only_plans (call.UpdateBegin text) = true
 only_plans other = false
 
+-- the command begins an update
 abbrev pub plans_update : Event → Bool
 plans_update (event.Now t) = false
 plans_update (event.App app c) = only_plans c
@@ -143,7 +146,7 @@ plans_update (event.App app c) = only_plans c
 abbrev pub only_looks : World → Event → Bool
 only_looks w e = calls_none w e || (plans_update e && not (opens_root w e))
 
--- and one that is refused
+-- the command only looks, or it is refused and no root is opened before it
 abbrev pub writes_none : World → Event → Reply → Bool
 writes_none w e reply = only_looks w e || (is_refusal reply.answer && not (opens_root w e))
 
@@ -163,6 +166,7 @@ pub record CostsWithin (app : ℕ) (f : FoundStorage) (s : Session) (before now 
       (index_length f.config.kind (view_once_synced (shape_in app f) v (synced_in_session s) (seen_of s)).entries)
       before now
 
+-- from old to new at most the bytes are written that making this session durable may cost
 abbrev pub WritesWithin : (app : ℕ) → FoundStorage → Session → (old new : Medium) → Type 0
 WritesWithin app f s old new = CostsWithin app f s old.written new.written
 
@@ -173,6 +177,7 @@ CostsBy w (event.App app c) before now = is_durable c ≡ true → (f : FoundSto
     → found_named (app_of w app) c ≡ Some (Ok f)
     → session_at (app_of w app) f.number ≡ Some s → CostsWithin app f s before now
 
+-- the bound of `CostsBy`, on the bytes written from old to new
 abbrev pub WrittenBy : World → Event → (old new : Medium) → Type 0
 WrittenBy w e old new = CostsBy w e old.written new.written
 

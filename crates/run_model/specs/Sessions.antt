@@ -32,6 +32,7 @@ pub record FileSession : Type 0 where
   pub synced : Map
   pub working : handles.Session
 
+-- an open storage of keys, what is on the disk and what the calls see; or one of files
 pub data Session : Type 0 where
   keys : TwoMaps → Session
   files : FileSession → Session
@@ -129,6 +130,7 @@ on_working c now w other = Err error.StorageNotFound
 
 -- ---- either
 
+-- what a call answers in an open storage, at the moment now, and the session after it
 abbrev pub in_session : StorageData → (now : ℕ) → Session → Call → Answered Session
 in_session c now (keys s) l = on_keys c s l >>= λ a. Ok (a.0, keys a.1)
 in_session c now (files s) l = on_working c now s.working l >>= λ a. Ok (a.0, files (record s { working = a.1 }))

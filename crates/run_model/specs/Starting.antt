@@ -45,8 +45,9 @@ pub at_start : (image : Image) (b : ℕ) → b < 8 → disk_at (disks (after_sta
 unfolding world_at
 at_start image b lt = start_disk (app_at image) 0 8 b lt ∙ ap (λ (k : ℕ). reopened (app_at image k)) (omega arith)
 
--- ---- the roots below this number are opened
+-- ---- a start that is under way
 
+-- the roots below this number are opened, the others are as they were, and each application stood so at every moment
 pub record OpenedUpTo (count : ℕ) (old now : Medium) : Type 0 where
   pub moments : (b : ℕ) → b < 8 → IsCleanApp b old.image
       → EachCase (OrBefore old (StandsCase b (app_at old.image b) (reopened (app_at old.image b)))) old now

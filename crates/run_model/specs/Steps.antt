@@ -60,10 +60,11 @@ Step rules answers w (event.App app c) reply w' = (outcome : Outcome)
 
 -- ---- a device that fails
 
+-- the reply that the device failed
 abbrev pub failure : Reply
 failure = record { reports = []; answer = answer.Error error.PhysicalStorageFailure }
 
--- it fails in the sync that was to end the doubt: nothing changes
+-- the device fails in the sync that was to end the doubt: nothing changes
 abbrev pub SyncFails : World → Event → Reply → World → Type 0
 SyncFails w (event.Now t) reply w' = ⊥
 SyncFails w (event.App app c) reply w' = IsTrue (calls_device (app_of w app) c && is_some w.doubt) × (reply ≡ failure)
@@ -80,6 +81,7 @@ device_storage (call.RecoverStorage n) = Some n
 device_storage (call.ResetStorage n) = Some n
 device_storage other = None
 
+-- the storage on which a command works that may call the device, or the refusal where it is not found
 abbrev pub found_named : Application → Call → Option (Result FoundStorage PerError)
 found_named r c = option_map (λ n. storage_in r.disk n None) (device_storage c)
 

@@ -59,7 +59,7 @@ pub record IsBlamed (before now : ℕ) (reply : Reply) : Type 0 where
   pub cause : reply.answer ≡ answer.Error error.PhysicalStorageFailure → Rose before now
   pub passes : reply.answer ≢ answer.Error error.PhysicalStorageFailure → now ≡ before
 
--- so each is, and nothing failed between them
+-- each of these commands is answered that the device failed just where the count rose in it, and between them it stayed
 abbrev pub AreBlamed : (before : ℕ) → List Turn → (after : ℕ) → Type 0
 AreBlamed before [] after = after ≡ before
 AreBlamed before (t ∷ ts) after = IsBlamed before t.faults t.reply × AreBlamed t.faults ts after

@@ -13,11 +13,13 @@ pub data Stage : Type 0 where
   at_rest : Stage
   updating : InProgress → Stage
 
+-- whether the root is to be opened before anything else
 abbrev pub is_to_open : Stage → Bool
 is_to_open to_open = true
 is_to_open at_rest = false
 is_to_open (updating p) = false
 
+-- the update in progress, where one is
 abbrev pub update_in : Stage → Option InProgress
 update_in to_open = None
 update_in at_rest = None
@@ -27,6 +29,7 @@ update_in (updating p) = Some p
 abbrev pub Sessions : Type 0
 Sessions = List (Option Session)
 
+-- no storage is open
 abbrev pub none_open : Sessions
 none_open = replicate 16 None
 
@@ -47,12 +50,14 @@ pub record Doubt : Type 0 where
   pub after : Disks
   pub case : Case
 
+-- the moment in seconds, the applications, and what a command may have left undecided
 pub record World : Type 0 where
   pub now : ℕ
   pub apps : List Application
   -- until the disk is synchronised again
   pub doubt : Option Doubt
 
+-- what is on the disk of each application
 abbrev pub disks : World → Disks
 disks w = map (λ (a : Application). a.disk) w.apps
 
@@ -64,6 +69,7 @@ abbrev pub or_none : Option App → App
 or_none None = no_app
 or_none (Some a) = a
 
+-- what is on the disk of an application
 abbrev pub disk_at : Disks → ℕ → App
 disk_at ds app = or_none (slice_get ds app)
 

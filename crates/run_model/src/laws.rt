@@ -23,7 +23,8 @@ use deploy_laws::{others_stand, roots_stay, untouched_stands};
 use disk_model::Disk;
 use migrate_fns::Migrations;
 
-/// The laws of applications that a run relies on.
+/// What a run relies on of applications: one that no file of is touched, or only another's are, stands as it was; what
+/// stands with nothing damaged has clean places; and copies that lack a root do not matter beside two that hold it.
 pub fn applications_stand()
     ensures { AppLaws }
 {
@@ -32,8 +33,9 @@ pub fn applications_stand()
     roots_stay();
 }
 
-/// Two worlds that agree on an application and on the moment answer its commands alike where no device fails, and lead
-/// it to the same; and every other application stays as it was, however a command is answered.
+/// Where two worlds agree on an application and on the moment, each answer that a command of it can have in the one,
+/// with no device failing, it can have in the other, leading the application to the same; and every other application
+/// stays as it was, however a command is answered.
 pub fn answers_are_alike(migrations: &Migrations)
     ensures alike { AlikeLaw (rules_of migrations.now) (answers_of migrations.now) }
     ensures others { OthersStayLaw (rules_of migrations.now) (answers_of migrations.now) }
@@ -45,9 +47,9 @@ pub fn failures_end_sessions(migrations: &Migrations)
     ensures session { SessionEndsLaw (rules_of migrations.now) (answers_of migrations.now) }
 {}
 
-/// A command that is answered keeps what holds of every world: what an open session has as synchronised is what its
-/// storage holds, with no other text beside it, and no session is open while a root is to be opened again or an update
-/// is in progress.
+/// A command that is answered with no device failing keeps what holds of every world: what an open session has as
+/// synchronised is what its storage holds, with no other text beside it, and no session is open while a root is to be
+/// opened again or an update is in progress. So does setting the moment.
 pub fn answers_keep_worlds(migrations: &Migrations)
     ensures now { NowLastsLaw (rules_of migrations.now) (answers_of migrations.now) }
     ensures answered { AnswersLastLaw (rules_of migrations.now) (answers_of migrations.now) }
@@ -61,13 +63,15 @@ pub fn failures_keep_worlds(migrations: &Migrations)
     ensures storage { StorageFailureLastsLaw (rules_of migrations.now) (answers_of migrations.now) }
 {}
 
-/// A storage in another state comes later, so that a root may be opened before the command that makes it.
+/// An application of which one storage is in another state counts as later (`IsLater`): its root says the same, and it
+/// has as many storages.
 pub fn storages_lead_on()
     ensures { StorageLaterLaw }
 {}
 
-/// A moment after the last command has no root from further back, and a storage whose command failed at the device is
-/// not emptied.
+/// At a moment after the last command the root says what it said then, or what the command in progress leads to,
+/// nothing older; and a storage whose command failed at the device opens at its view before or after it, and is not
+/// emptied.
 pub fn moments_are_bounded()
     ensures back { NotFurtherBackLaw }
     ensures either { OpensAsEitherLaw }
@@ -86,8 +90,8 @@ pub fn a_command_keeps<D: Disk>(old: &D, new: &D)
     applications_stand();
 }
 
-/// The same of two stretches: the sync of a doubt and then the command, and the opening of its application's root and
-/// then the command.
+/// A command before which something else is done keeps each application through both: the sync that ends a doubt, or
+/// the opening of its application's root, from `old` to `now`, and then the command, from `now` to `new`.
 pub fn a_command_follows<D: Disk>(old: &D, now: &D, new: &D)
     ensures synced { SyncedKeepsLaw (D.medium old.now) (D.medium now.now) (D.medium new.now) }
     ensures root { RootKeepsLaw (D.medium old.now) (D.medium now.now) (D.medium new.now) }
@@ -96,7 +100,8 @@ pub fn a_command_follows<D: Disk>(old: &D, now: &D, new: &D)
     applications_stand();
 }
 
-/// The start opens eight roots, one after another, and keeps each application at every moment.
+/// The start of a run opens the eight roots, one after another, and keeps each application at every moment. From `old`
+/// to `now` some are opened, and from `now` to `new` the next.
 pub fn a_start_keeps<D: Disk>(old: &D, now: &D, new: &D)
     ensures none { NoneOpenedLaw (D.medium old.now) (D.medium new.now) }
     ensures one { OneOpenedLaw (D.medium old.now) (D.medium now.now) (D.medium new.now) }
@@ -105,7 +110,8 @@ pub fn a_start_keeps<D: Disk>(old: &D, now: &D, new: &D)
     applications_stand();
 }
 
-/// A reply that the device failed has its cause in its own command, also in a run with one command more.
+/// Where each reply of a run that the device failed has its cause in its own command, in which the count of faults
+/// rose, so it is in the run with one such command more.
 pub fn causes_add_up()
     ensures { BlamedLaw }
 {}
@@ -118,7 +124,7 @@ pub fn a_run_begins<D: Disk>(migrations: &Migrations, old: &D, new: &D)
         (D.medium new.now) }
 {}
 
-/// A command that was answered is one turn more of a run, on a disk whose bytes are modelled.
+/// A run from `old` to `now`, and then a command that is answered, from `now` to `new`, are a run of one turn more.
 pub fn a_run_goes_on<D: Disk>(migrations: &Migrations, old: &D, now: &D, new: &D)
     ensures { IsTrue D.told → RunGoesOnLaw (rules_of migrations.now) (answers_of migrations.now) (D.medium old.now)
         (D.medium now.now) (D.medium new.now) }

@@ -8,6 +8,12 @@
 //! `Endings` how a run ends, by which status, and what it has then written; `Runtimes` what the runtime promises of its
 //! start and of each command; `Runs` what a whole run promises. The laws lead from the one to the other: they are
 //! contracts of functions with nothing to do, which a caller calls to cite them, or are cited as lemmas of `specs/`.
+//!
+//! A *doubt* is what a command leaves whose device failed: nobody knows how much of it was done, until a sync succeeds.
+//! A *turn* is a command with its reply and the world after it. That a command *keeps* an application says what a stop
+//! at any of its moments leaves, with damage: the application as before or as after it, or as one side of a doubt. A
+//! *life* is the formatting of a disk and then any number of runs, audits, exports and imports, each ended in some way;
+//! it keeps *pairs*, of what an application was and what it was to become.
 #![tactic(auto)]
 
 mod laws;

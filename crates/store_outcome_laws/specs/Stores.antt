@@ -38,7 +38,8 @@ use Rattle.element_store.specs.Stores.{IsUsed, store_shape, view_in}
 
 -- ---- what is written
 
--- of a changed file the blocks that are equal are written too
+-- of a changed file the blocks of 256 bytes that are equal are written too, beside the index with its head of 44 bytes
+-- and a blank as long
 abbrev pub EqualBlocksWritten : Type 0
 EqualBlocksWritten = (copies index old new : ℕ) (entries : List Entry) (f : Fresh) (was : List ℕ)
     → IsWithin copies (commit_cost Files entries (Put f ∷ [])) index old new
@@ -46,7 +47,7 @@ EqualBlocksWritten = (copies index old new : ℕ) (entries : List Entry) (f : Fr
     ≤ copies
     → ¬ (new ≡ old + copies * (256 * blocks_for (length f.bytes) + index + 88))
 
--- a content that did not change is written: more than the index, where nothing changed
+-- a content that did not change is written: more than the index, its head and a blank, where nothing changed
 abbrev pub UnchangedWritten : Type 0
 UnchangedWritten = (copies index old new : ℕ) (kind : StoreKind) (entries : List Entry)
     → IsWithin copies (commit_cost kind entries []) index old new → ¬ (old + copies * (index + 88) < new)
@@ -59,7 +60,7 @@ FailureAsNoMemory = (result : Result Store StoreError) (before after : ℕ)
 
 -- ---- what is in the copies at the end of a commit, and of an opening
 
--- only enough copies have the index
+-- a copy lacks the index: only as many as must agree have it
 abbrev pub FewCopies : Type 0
 FewCopies = (told : Bool) (image : Image) (s : Store) (copy : ℕ) → IsUsed told image s → IsTrue told
     → copy < (store_shape s).place.copies

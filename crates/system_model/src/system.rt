@@ -14,7 +14,7 @@ use std::alloc::Global;
 use std::io;
 
 /// The files of one folder, named by numbers, as the operating system has them.
-///
+/// A byte is *free* while no sync since its last write covered it, and *lost* where a failed sync may have dropped it.
 /// What is said of bytes and of power losses holds where the system models them. A call that fails may be interrupted,
 /// or find no descriptor left: then it did nothing, as any other that fails, but for syncs.
 pub trait System {
@@ -30,13 +30,13 @@ pub trait System {
     /// What reads give, what a power loss may leave, and what is not durable yet.
     ghost medium: { Self → SystemMedium };
 
-    /// The files that the folder has. Of any other a power loss leaves nothing, as reads give nothing of it.
+    /// The files that the folder has: of any other neither reads nor a power loss give a byte. It changes nothing.
     fn list(&mut self, alloc: Global) -> io::Result<Vec<u32>>
         ensures others { IsTrue told → IfOk result (λ files. (f : ℕ) → ¬ (Contains files.items f)
             → IsAbsent (medium self.new) f) }
         ensures looks { Looks (medium self.old) (medium self.new) };
 
-    /// Whether what stands in the place of the file is one. What is none may hold up whoever opens it.
+    /// `false` only where no file stands in this place. What stands there instead may hold up whoever opens it.
     fn is_file(&mut self, file: u32) -> io::Result<bool>
         ensures absent { IsTrue told → IfOk result (λ is. IsFalse is → IsAbsent (medium self.new) file) }
         ensures looks { Looks (medium self.old) (medium self.new) };
@@ -52,7 +52,7 @@ pub trait System {
         requires { IsTrue told → (medium self.old).disk.image file ≡ [] }
         ensures looks { Looks (medium self.old) (medium self.new) };
 
-    /// Makes the file, which the folder does not have, and opens it. Its name is durable after `sync_folder`.
+    /// Makes the file, which the folder does not have, and opens it; no byte changes. Durable after `sync_folder`.
     fn make(&mut self, file: u32) -> io::Result<Self::File>
         ensures number { IfOk result (λ it. number it ≡ file) }
         ensures reads { OnlyReads (medium self.old).disk (medium self.new).disk }
@@ -65,7 +65,7 @@ pub trait System {
         requires { IsTrue told → HasNothingFree (medium self.old) (number file) }
         ensures looks { Looks (medium self.old) (medium self.new) };
 
-    /// Reads some of the bytes from `at` on, and none only at the end of the file or where there is no room.
+    /// Reads some bytes from `at` on (sure if nothing of the file is lost), none only at its end or without room.
     fn read(&mut self, file: &Self::File, at: u64, out: &mut [u8]) -> io::Result<Reading>
         ensures count { IfOk result (λ reading. read_count reading ≤ length out.old) }
         ensures gives { IsTrue told → IsWhole (medium self.old) (number file.now) → IfOk result (λ reading.
@@ -98,14 +98,14 @@ pub trait System {
         ensures found { IsTrue told → IfOk result (λ n. (i : ℕ) → InRange at n i
             → ¬ ((medium self.new).lost (number file.now) i)) }
 
-        // To write once more what is there, and is free anyway, makes no case.
+        // To write once more what is there, and is free anyway, adds nothing to what a power loss may leave.
         ensures again { (IsTrue told → (i : ℕ) → InRange at (length bytes.now) i
             → (medium self.old).free (number file.now) i)
             → (IsTrue told → ShowsBytes ((medium self.old).disk.image (number file.now)) at bytes.now)
             → OnlyReads (medium self.old).disk (medium self.new).disk };
 
-    /// Makes the file durable: what was written to it by whatever process, but for what is lost, and where its name is
-    /// durable. Where it fails, anything of that may be lost.
+    /// Makes the file durable, whoever wrote it, if nothing of it is lost and its name is durable. Where it fails, what
+    /// was free of it may be lost.
     fn sync_file(&mut self, file: &Self::File) -> io::Result<()>
         ensures safe { IsTrue told → OnOk result (IsWhole (medium self.old) (number file.now)
             → (medium self.old).named (number file.now) → IsSafe (medium self.new).disk (number file.now)) }
@@ -158,6 +158,6 @@ pub trait System {
         ensures free { (f i : ℕ) → (medium self.new).free f i ↔ (medium self.old).free f i }
         ensures lost { (f i : ℕ) → (medium self.new).lost f i → (medium self.old).lost f i }
         ensures failed { OnErr result (Looks (medium self.old) (medium self.new)) };
-
+    /// A folder obeys the laws of a disk.
     ghost lawful: { (system : Self) → IsLawful told (medium system).disk };
 }

@@ -34,6 +34,7 @@ abbrev pub IsSmall : StoreKind → Content → Type 0
 IsSmall kind (Good bytes) = length bytes ≤ max_len kind
 IsSmall kind (Bad salvage) = ⊤
 
+-- an element as a storage of this kind is read: an info exactly for a file, and no content that is too long
 pub record IsStoredEntry (kind : StoreKind) (e : Entry) : Type 0 where
   pub info : IsTrue (has_info kind e.info)
   pub small : IsSmall kind e.content
@@ -43,6 +44,7 @@ pub record AreStored (kind : StoreKind) (es : List Entry) : Type 0 where
   pub names_ascend : IsStrictlySortedBy name_cmp (map (λ (e : Entry). e.name) es)
   pub each : AllByRecursion (IsStoredEntry kind) es
 
+-- what is there of a storage of this kind: nothing, damage, or its elements as they are read
 abbrev pub ArePresent : StoreKind → StorageContents → Type 0
 ArePresent kind Missing = ⊤
 ArePresent kind Damaged = ⊤
@@ -53,9 +55,11 @@ abbrev pub AreContentsOf : Option StorageData → StorageContents → Type 0
 AreContentsOf None contents = ⊤
 AreContentsOf (Some s) contents = ArePresent s.kind contents
 
+-- what is stored under this name is what a storage of the old version's kind has
 abbrev pub IsStoredOf : DeploymentData → Stored → Type 0
 IsStoredOf old x = AreContentsOf (storage_named old x.name) x.contents
 
+-- where nothing is handed over the storage is missing
 abbrev pub or_missing : Option (Bor StorageContents) → StorageContents
 or_missing None = Missing
 or_missing (Some contents) = contents.now
@@ -113,12 +117,14 @@ abbrev pub within_limits : ℕ → List Fresh → Result (List Fresh) PerError
 within_limits maximum new = cond (nat_lt 1024 (length new)) (Err (LimitReached limit.Elements))
     (cond (nat_lt maximum (sum_by fresh_size new)) (Err (OutOfStorageSpace (sum_by fresh_size new) maximum)) (Ok new))
 
+-- the plan over these stored elements: this refusal, or what the storage has after the update, if within its limits
 abbrev pub PlansOver : List Rule → Answers → ℕ → StorageData → List Entry → Option PerError
     → Result (List Fresh) PerError → Type 0
 PlansOver rules answers now s old (Some e) plan = plan ≡ Err e
 PlansOver rules answers now s old None plan = (new : List Fresh) × Updated rules answers now s old new
     × (plan ≡ within_limits s.maximum new)
 
+-- the plan of one storage, by what is stored of it: nothing, damage (the plan is refused then), or these elements
 abbrev pub PlansFor : List Rule → Answers → ℕ → StorageData → StorageContents → Result (List Fresh) PerError → Type 0
 PlansFor rules answers now s Missing plan = PlansOver rules answers now s [] None plan
 PlansFor rules answers now s Damaged plan = plan ≡ Err (IntegrityCorrupted (Whole s.name))
@@ -137,6 +143,7 @@ Continues (Err e) others plan = plan ≡ Err e
 Continues (Ok new) others plan = (rest : Result (List (List Fresh)) PerError) × others rest
     × (plan ≡ with_first new rest)
 
+-- the plan of all storages, in their order: what each has after the update, or the first refusal
 abbrev pub PlansAll : List Rule → Answers → ℕ → (StorageData → StorageContents) → List StorageData
     → Result (List (List Fresh)) PerError → Type 0
 PlansAll rules answers now stored [] plan = plan ≡ Ok []

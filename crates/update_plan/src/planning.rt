@@ -25,8 +25,8 @@ use std::alloc::Global;
 /// The most elements of a storage.
 const MAX_ELEMENTS: usize = 1024;
 
-/// What each storage of a new version has after an update at this moment, in seconds, in the order of the storages:
-/// what it is to be made of.
+/// What each storage of the version `new` is to be made of by an update at the moment `now`, in seconds, from what is
+/// stored of the version `old` (`contents`): its elements, in the order of the storages.
 ///
 /// Errors, storage by storage: `IntegrityCorrupted` with the storage where what is stored is damaged; then element by
 /// element `IntegrityCorrupted` with the element where it is to be kept and is unreadable, or `DataTypeMismatch` where

@@ -155,7 +155,7 @@ fn push_nodes(out: &mut String, nodes: &[Node]) -> Result<(), AllocError>
     Ok(())
 }
 
-/// The text of a type that is within the limits of types.
+/// The text of a type; each group of fields in it must have 1 to 32 members.
 pub fn print_type(alloc: Global, value_type: &ValueType) -> Result<String, AllocError>
     requires { IsTrue (kind_fits (kind_of value_type.now)) }
     ensures { IfOk result (λ text. string_bytes text ≡ type_text (kind_of value_type.now)) }

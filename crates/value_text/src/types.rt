@@ -136,7 +136,7 @@ pub fn parse_type(alloc: Global, text: &[u8]) -> Result<ValueType, DecodeError>
     ensures found { IfOk result (λ t. IsType (kind_of t) × (text.now ≡ type_text (kind_of t))) }
     ensures only { IsErrOf result DecodeError.NotAValue → (k : Kind) → IsType k → text.now ≢ type_text k }
 
-    // the text alone decides
+    // the text alone decides: which type it is, or that it is none, is what `kind_in` gives for it
     ensures exact { Gives (λ t. kind_of t) result (kind_in text.now) }
 {
     type_in(alloc, text)

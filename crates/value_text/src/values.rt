@@ -221,7 +221,7 @@ pub fn parse_value(alloc: Global, text: &[u8]) -> Result<Value, DecodeError>
     ensures found { IfOk result (λ v. IsValue v × (text.now ≡ value_text v)) }
     ensures only { IsErrOf result DecodeError.NotAValue → (t : Tree) → IsValue t → text.now ≢ value_text t }
 
-    // the text alone decides
+    // the text alone decides: which value it is, or that it is none, is what `value_in` gives for it
     ensures exact { Gives (λ v. v) result (value_in text.now) }
 {
     value_in(alloc, text)

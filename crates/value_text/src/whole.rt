@@ -66,8 +66,8 @@ pub fn parse_signed(max: u64, text: &[u8]) -> Result<i64, DecodeError>
     requires { max < 2 ^ 63 }
     ensures found { IfOk result (λ z. (mag z ≤ max) × (text.now ≡ signed_decimal z)) }
     ensures only { IsErrOf result DecodeError.NotAValue → (z : ℤ) → mag z ≤ max → text.now ≢ signed_decimal z }
-
-    // the text alone decides
+    // (`mag z` is z, or -z - 1 where z is negative: at most `max` just for the numbers from `-max - 1` to `max`.)
+    // What it returns is what reading the text gives, `signed_in`, and an error where that is `None`.
     ensures exact { Gives (λ z. z) result (signed_in (max + 1) text.now) }
     ensures memory { result ≢ Err DecodeError.OutOfMemory }
 {
@@ -96,7 +96,7 @@ pub fn parse_hex(alloc: Global, text: &[u8]) -> Result<Bytes, DecodeError>
     ensures only { IsErrOf result DecodeError.NotAValue → (b : List ℕ) → ((i : ℕ) → slice_index b i < 256)
         → text.now ≢ hex_text b }
 
-    // the text alone decides
+    // What it returns is what reading the text gives, `bytes_in`, or an error where that is `None` or memory ran out.
     ensures exact { Gives (λ b. b) result (bytes_in text.now) }
 {
     bytes_in(alloc, text)

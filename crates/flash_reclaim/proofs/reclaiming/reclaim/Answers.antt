@@ -36,11 +36,13 @@ returns-then-own_faults-gt0-clause-reclaims g c =
     let seen = c.kept_files-found.new.disk in
     let e = c.in_ok-disk.ensures in
     let k = c.kept_files-found.ensures in
-    subst (λ f. ReclaimsTold told start (medium f) false) (sym c.into_flash.ensures)
-    (reclaims_told told start (medium seen.flash) false
+    let some = c.if-own_faults-gt0.true in
+    subst (λ f. ReclaimsTold told start (medium f) false c.own_faults-own_faults.result) (sym c.into_flash.ensures)
+    (reclaims_told told start (medium seen.flash) false c.own_faults-own_faults.result
     (λ tells. seen_reclaims told tells medium c.args.flash c.in_ok-disk.disk seen e.blocks (e.pages tells) e.opens
     k.time (k.idle e.quiet) c.others_stand.ensures.frame c.others_stand.ensures.free_bank
-    c.roots_say.ensures.versions e.size.0 e.size.1 (e.throughout tells) (e.agreed tells)))
+    c.roots_say.ensures.versions c.own_faults-own_faults.result some e.size.0 e.size.1 (e.throughout tells)
+    (e.agreed tells)))
 
 -- ---- a root was not read
 
@@ -53,7 +55,7 @@ returns-in-Err-clause-refused g c =
     let seen = c.kept_files-found.new.disk in
     let e = c.in_ok-disk.ensures in
     let k = c.kept_files-found.ensures in
-    let count = c.own_faults.ensures in
+    let count = c.own_faults-own_faults.ensures in
     let none = c.if-own_faults-gt0.false in
     let own : seen.own ≡ 0 = omega (arith, count, none) in
     subst (λ f. HandsBackTold told start (medium f) c.error_of.result) (sym c.into_flash-in-Err.ensures)
@@ -78,7 +80,7 @@ returns-in_err-disk-2-clause-refused g c =
     let k = c.in-Ok.ensures in
     let f = c.in_err-disk-2.ensures in
     let versions = c.roots_say.ensures.versions in
-    let count = c.own_faults.ensures in
+    let count = c.own_faults-own_faults.ensures in
     let none = c.if-own_faults-gt0.false in
     let own : seen.own ≡ 0 = omega (arith, count, none) in
     let passes = k.passes in
@@ -114,7 +116,7 @@ returns-clause-reclaims g c =
     let k = c.in-Ok.ensures in
     let f = c.in_ok-disk-2.ensures in
     let versions = c.roots_say.ensures.versions in
-    let count = c.own_faults.ensures in
+    let count = c.own_faults-own_faults.ensures in
     let none = c.if-own_faults-gt0.false in
     let own : seen.own ≡ 0 = omega (arith, count, none) in
     let passes = k.passes in
@@ -122,8 +124,8 @@ returns-clause-reclaims g c =
     let first_faults = e.faults in
     let same : (medium seen.flash).faults ≡ start.faults = omega (arith, passes, own, first_own, first_faults) in
     let flash : now.flash ≡ c.into_flash-2.result = cc (c.into_flash-2.ensures) in
-    subst (λ z. ReclaimsTold told start (medium z) whole) flash
-    (reclaims_told told start (medium now.flash) whole
+    subst (λ z. ReclaimsTold told start (medium z) whole c.own_faults-own_faults.result) flash
+    (reclaims_told told start (medium now.flash) whole c.own_faults-own_faults.result
     (λ tells.
     let ranges : c.as_slice.result.now ≡ all_kept (files_on start) = c.as_slice.ensures.value ∙ (k.kept tells
     ∙ ap all_kept (image_first told tells medium c.args.flash opened seen e.blocks (e.pages tells) e.opens k.time
@@ -136,5 +138,6 @@ returns-clause-reclaims g c =
     (medium now.flash) (f.gives_up tells) whole
     (λ file up. ap (λ (rs : List FileRange). in_ranges rs file) ranges
     ∙ given_false (files_on start) (versions (files_on start)) file up)
-    (f.image tells) (f.pages tells) (f.agreed tells) (f.apart tells) e.size.0 e.size.1 (e.throughout tells)
-    (e.agreed tells) (f.faults tells ∙ same)))
+    (f.image tells) (f.pages tells) (f.due tells) (f.agreed tells) (f.apart tells) e.size.0 e.size.1
+    (e.throughout tells) (e.agreed tells) (f.faults tells ∙ same)
+    c.own_faults-own_faults.result (omega (arith, none))))

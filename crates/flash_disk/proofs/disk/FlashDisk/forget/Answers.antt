@@ -4,7 +4,7 @@ use Rattle.flash_disk.specs.Standing.{StaysAgreed}
 use Rattle.flash_disk.specs.Apart.{StandApart}
 use Rattle.flash_disk.specs.Sound.{files_on}
 use Rattle.flash_disk.specs.Kept.{in_ranges, kept_image}
-use Rattle.flash_disk.specs.Forgetting.{GivesUp}
+use Rattle.flash_disk.specs.Forgetting.{GivesUp, MayGiveNothing}
 use Rattle.flash_disk.proofs.Giving.{only_two, begins_again, gives_up, gives_up_then, gave_image, gave_agreed, gave_apart}
 use Rattle.flash_disk.proofs.Giving.{gave_empty, unchanged}
 use Rattle.flash_disk.proofs.disk.FlashDisk.forget.Goals as goal
@@ -60,6 +60,11 @@ returns-in-Ok-open-clause-pages g c told is =
     subst (λ v. now.state.pages ≡ (g.F.Flash.medium v.flash).state.pages) c.self.view_is
     (unchanged (in_ranges c.args.kept.now) m mid now (a.accounts.time told) (a.does told) e.blocks (e.pages told)
     c.in-Ok.whole (a.whole told) (a.nothing told) is)
+
+pub returns-in-Ok-open-clause-due : goal.returns-in-Ok-open-clause-due
+returns-in-Ok-open-clause-due g c told is =
+    subst (λ v. MayGiveNothing (in_ranges c.args.kept.now) (g.F.Flash.medium v.flash)) c.self.view_is
+    (c.in-Ok.ensures.due told is)
 
 pub returns-in-Ok-open-clause-agreed : goal.returns-in-Ok-open-clause-agreed
 returns-in-Ok-open-clause-agreed g c told =

@@ -1,16 +1,17 @@
-use Rattle.std.proofs.Common.{◌<◌, ◌∙◌, ℕ, refl, sym, ap, subst, arith}
+use Rattle.std.proofs.Common.{◌<◌, ◌∙◌, ℕ, refl, sym, ap, subst, inl, inr, arith}
 use Rattle.std.specs.Prelude.{IsFalse, IfSome}
 use Rattle.flash_disk.specs.declared.layer.LayerState.{LayerState}
 use Rattle.flash_disk.specs.Newest.{places}
 use Rattle.flash_disk.specs.Sound.{IsSoundLayer}
 use Rattle.flash_disk.specs.Kept.{in_ranges, HoldsKept}
-use Rattle.flash_disk.specs.Forgetting.{Forgets, LeadsKept, MayBeFreed}
+use Rattle.flash_disk.specs.Forgetting.{Forgets, LeadsKept, MayBeFreed, NeedsBlock}
 use Rattle.flash_disk.proofs.Entering.{sound_usable}
 use Rattle.flash_disk.proofs.Stretches.{does_nothing}
 use Rattle.flash_disk.proofs.Steps.{nothing_then}
 use Rattle.flash_disk.proofs.Hiding.{hidden_led}
 use Rattle.flash_disk.proofs.Emptying.{clearing_forgets, emptied_holds, forgets_after, forgets_refl}
 use Rattle.flash_disk.proofs.Emptying.{look_sound}
+use Rattle.flash_disk.proofs.Needing.{full_of_kept}
 use Rattle.flash_disk.proofs.layer.Layer.forget_others.Goals as goal
 
 -- ---- there are rivals
@@ -23,6 +24,9 @@ returns-then-self-clause-does g c told =
     does_nothing m m (Forgets kept m.blocks m.state.pages) refl (λ x past. lawful.only_now x past)
     (forgets_refl kept m.blocks m.state.pages (sound_usable m.state.pages m.blocks c.args.self.now.state
     (c.requires.ready.sound told)))
+
+pub returns-then-self-clause-due : goal.returns-then-self-clause-due
+returns-then-self-clause-due g c told is = inl ((c.requires.ready.sound told).rivals c.if-self.true)
 
 -- ---- which block has other files
 
@@ -141,6 +145,17 @@ returns-in_default-2-clause-does g c told =
 pub returns-in_default-2-clause-nothing : goal.returns-in_default-2-clause-nothing
 returns-in_default-2-clause-nothing g c told whole =
     (nothing_then c.in_ok-first.ensures.reads c.find_free.ensures.reads).only.pages told
+
+pub returns-in_default-2-clause-due : goal.returns-in_default-2-clause-due
+returns-in_default-2-clause-due g c told is =
+    let m = g.F.Flash.medium c.args.self.now.flash in
+    let s = c.args.self.now.state in
+    let kept = in_ranges c.args.kept.now in
+    let r = c.in_ok-first.ensures.reads in
+    inr (full_of_kept kept m.state.pages m.blocks s.table (c.requires.ready.sound told).knows.led s.spare
+    (λ block within apart. subst (λ (q : LayerState). NeedsBlock kept q.table block) r.state
+    (c.in_ok-free.ensures.full c.in_default-2.is block (subst (λ k. block < k) (sym r.only.blocks) within)
+    (λ here. apart (here ∙ ap (λ (q : LayerState). q.spare) r.state)))))
 
 -- ---- both are found
 

@@ -3,8 +3,10 @@ use Rattle.std.specs.Prelude.{Some}
 use Rattle.flash_disk.specs.declared.layer.LayerState.{LayerState}
 use Rattle.flash_disk.specs.Known.{known, page_of}
 use Rattle.flash_disk.specs.Kept.{in_ranges}
+use Rattle.flash_disk.specs.Forgetting.{NeedsBlock}
 use Rattle.flash_disk.proofs.Emptying.{leaves_more}
 use Rattle.flash_disk.proofs.Losing.{none_there}
+use Rattle.flash_disk.proofs.Needing.{found_needs}
 use Rattle.flash_disk.proofs.Steps.{nothing_as, nothing_fails, nothing_then}
 use Rattle.flash_disk.proofs.layer.Layer.holds_needed.Goals as goal
 
@@ -34,6 +36,15 @@ returns-in_err-read_page-clause-reads g c = nothing_fails c.from_residual.result
 pub returns-then-is_some-clause-reads : goal.returns-then-is_some-clause-reads
 returns-then-is_some-clause-reads g c =
     nothing_as (nothing_then c.loop-at.invariant.reads c.in_ok-read_page.ensures.reads) tt
+
+pub returns-then-is_some-clause-some : goal.returns-then-is_some-clause-some
+returns-then-is_some-clause-some g c needed =
+    let kept = in_ranges c.args.kept.now in
+    let n = c.needed_in.ensures in
+    subst (λ (s : LayerState). NeedsBlock kept s.table c.args.block)
+    (c.in_ok-read_page.ensures.reads.state ∙ c.loop-at.invariant.reads.state)
+    (found_needs kept c.read_page.new.self.state.table c.args.block c.needed_in.result c.is_some.result
+    c.is_some.ensures c.if-is_some.true n.known n.kept n.block)
 
 pub returns-clause-none : goal.returns-clause-none
 returns-clause-none g c told within led none key e own is at_block =

@@ -1,6 +1,6 @@
-use Rattle.std.proofs.Common.{◌≡◌, ℕ, length, replicate, ap, subst, ◌∙◌}
+use Rattle.std.proofs.Common.{◌≡◌, ◌⊎◌, ℕ, length, replicate, ap, subst, ◌∙◌}
 use Rattle.std.proofs.lemmas.List.{length-replicate}
-use Rattle.disk_model.specs.Medium.{Quiet, EachCase}
+use Rattle.disk_model.specs.Medium.{EachCase}
 use Rattle.folder_disk.specs.FolderView.{disk_seen}
 use Rattle.folder_flash.specs.Bytes.{PutsIntoFlash}
 use Rattle.folder_flash.specs.FilePages.{TornFile}
@@ -36,11 +36,12 @@ returns-in_err-write-clause-during g c = λ t.
     let medium = g.S.System.medium in
     let long : length c.as_slice.result.now ≡ 32768 =
     ap length (c.as_slice.ensures.value ∙ c.in_ok-blank.ensures.blank) ∙ length-replicate {A = ℕ} 32768 255 in
-    subst (λ s. Quiet (disk_seen medium s) → EachCase (λ x. TornFile at 32768 (medium s.system).disk.image x.left)
+    let mid = c.blank_block.new.self in
+    subst (λ s. EachCase
+    (λ x. (disk_seen medium s).now x ⊎ TornFile at 32768 (medium s.system).disk.image x.left)
     (disk_seen medium s) (disk_seen medium c.write.new.self)) c.in_ok-blank.ensures.same
-    (subst (λ n. Quiet (disk_seen medium c.blank_block.new.self)
-    → EachCase (λ x. TornFile at n (medium c.blank_block.new.self.system).disk.image x.left)
-    (disk_seen medium c.blank_block.new.self) (disk_seen medium c.write.new.self)) long (c.write.ensures.during t))
+    (subst (λ n. EachCase (λ x. (disk_seen medium mid).now x ⊎ TornFile at n (medium mid.system).disk.image x.left)
+    (disk_seen medium mid) (disk_seen medium c.write.new.self)) long (c.write.ensures.during t))
 
 pub returns-clause-during : goal.returns-clause-during
 returns-clause-during g c = λ t.
@@ -48,8 +49,9 @@ returns-clause-during g c = λ t.
     let medium = g.S.System.medium in
     let long : length c.as_slice.result.now ≡ 32768 =
     ap length (c.as_slice.ensures.value ∙ c.in_ok-blank.ensures.blank) ∙ length-replicate {A = ℕ} 32768 255 in
-    subst (λ s. Quiet (disk_seen medium s) → EachCase (λ x. TornFile at 32768 (medium s.system).disk.image x.left)
+    let mid = c.blank_block.new.self in
+    subst (λ s. EachCase
+    (λ x. (disk_seen medium s).now x ⊎ TornFile at 32768 (medium s.system).disk.image x.left)
     (disk_seen medium s) (disk_seen medium c.write.new.self)) c.in_ok-blank.ensures.same
-    (subst (λ n. Quiet (disk_seen medium c.blank_block.new.self)
-    → EachCase (λ x. TornFile at n (medium c.blank_block.new.self.system).disk.image x.left)
-    (disk_seen medium c.blank_block.new.self) (disk_seen medium c.write.new.self)) long (c.write.ensures.during t))
+    (subst (λ n. EachCase (λ x. (disk_seen medium mid).now x ⊎ TornFile at n (medium mid.system).disk.image x.left)
+    (disk_seen medium mid) (disk_seen medium c.write.new.self)) long (c.write.ensures.during t))

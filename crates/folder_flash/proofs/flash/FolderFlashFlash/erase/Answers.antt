@@ -1,4 +1,4 @@
-use Rattle.std.proofs.Common.{◌≡◌, replicate, sym, subst, ap}
+use Rattle.std.proofs.Common.{◌≡◌, ◌⊎◌, replicate, sym, subst, ap, inl, inr, ⊎_elim}
 use Rattle.disk_model.specs.Medium.{EachCase}
 use Rattle.flash_model.specs.Pages.{erase_block}
 use Rattle.folder_disk.specs.FolderView.{disk_seen}
@@ -36,11 +36,12 @@ returns-clause-torn g c = λ t.
     (c.write_blank-done.ensures.torn t)
 
 pub returns-clause-power : goal.returns-clause-power
-returns-clause-power g c = λ t quiet.
+returns-clause-power g c = λ t.
     let medium = g.S.System.medium in
     let old = (medium c.args.self.now.file.system).disk.image in
     let a = disk_seen medium c.args.self.now.file in
-    subst (λ v. EachCase (λ x. TornBlockOf c.args.block (old 0) (x.left 0)) a (disk_seen medium v))
+    subst (λ v. EachCase (λ x. a.now x ⊎ TornBlockOf c.args.block (old 0) (x.left 0)) a (disk_seen medium v))
     (sym c.counted.ensures.file)
-    (λ x past. erase_torn_at c.place_of.result c.args.block old x.left c.place_of.ensures
-    (c.write_blank-done.ensures.during t quiet x past))
+    (λ x past. ⊎_elim inl
+    (λ torn. inr (erase_torn_at c.place_of.result c.args.block old x.left c.place_of.ensures torn))
+    (c.write_blank-done.ensures.during t x past))

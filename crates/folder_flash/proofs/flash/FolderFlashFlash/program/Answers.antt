@@ -1,4 +1,4 @@
-use Rattle.std.proofs.Common.{◌≡◌, length, sym, subst, ap, arith}
+use Rattle.std.proofs.Common.{◌≡◌, ◌⊎◌, length, sym, subst, ap, inl, inr, ⊎_elim, arith}
 use Rattle.disk_model.specs.Medium.{EachCase}
 use Rattle.flash_model.specs.Pages.{program_page}
 use Rattle.folder_disk.specs.FolderView.{disk_seen}
@@ -40,12 +40,15 @@ returns-clause-torn g c = λ t.
     (c.write-done.ensures.torn t)
 
 pub returns-clause-power : goal.returns-clause-power
-returns-clause-power g c = λ t quiet.
+returns-clause-power g c = λ t.
     let medium = g.S.System.medium in
     let long : length c.args.bytes.now ≡ 512 = omega (arith, c.told-bytes) in
     let old = (medium c.args.self.now.file.system).disk.image in
     let a = disk_seen medium c.args.self.now.file in
-    subst (λ v. EachCase (λ x. TornPageOf c.args.block c.args.page (old 0) (x.left 0)) a (disk_seen medium v))
+    subst
+    (λ v. EachCase (λ x. a.now x ⊎ TornPageOf c.args.block c.args.page (old 0) (x.left 0)) a (disk_seen medium v))
     (sym c.counted.ensures.file)
-    (λ x past. program_torn_at c.place_of.result (length c.args.bytes.now) c.args.block c.args.page old x.left
-    c.place_of.ensures c.requires.page long (c.write-done.ensures.during t quiet x past))
+    (λ x past. ⊎_elim inl
+    (λ torn. inr (program_torn_at c.place_of.result (length c.args.bytes.now) c.args.block c.args.page old x.left
+    c.place_of.ensures c.requires.page long torn))
+    (c.write-done.ensures.during t x past))

@@ -4,7 +4,7 @@ use Rattle.folder_flash.specs.Bytes.{PutsIntoFlash}
 use Rattle.folder_flash.specs.FilePages.{TornFile}
 use Rattle.folder_flash.proofs.Cutting.{filled_alone, filled_then_put, fills_then, on_err}
 use Rattle.folder_flash.proofs.Putting.{fills_then_puts, puts_in}
-use Rattle.folder_flash.proofs.file.FlashFile.write.Goals as goal
+use Rattle.folder_flash.proofs.file.FlashFile.write_on.Goals as goal
 
 pub returns-in_err-fill_up_to-clause-torn : goal.returns-in_err-fill_up_to-clause-torn
 returns-in_err-fill_up_to-clause-torn g c = λ t.

@@ -1,0 +1,112 @@
+//! One run over the flash in a folder in memory.
+
+ghost use Rattle.std.specs.Prelude.{ℕ};
+ghost use Rattle.system_model.specs.SystemMedium.{IsWhole};
+ghost use Rattle.mem_system.specs.Memory.{mem_medium};
+
+use crate::steps::Step;
+use flash_model::Flash;
+use folder_disk::FolderDisk;
+use folder_flash::FolderFlash;
+use mem_system::MemSystem;
+use std::alloc::{AllocError, Global};
+
+/// What came of a run: whether each step succeeded, and the folder.
+#[derive(Drop)]
+pub(crate) struct Ran {
+    pub(crate) answers: Vec<bool>,
+    pub(crate) system: MemSystem,
+}
+
+impl Ran {
+    /// How many steps succeeded before the first that failed.
+    pub(crate) fn done(&self) -> usize {
+        let mut count = 0usize;
+        for answer in &self.answers {
+            if !*answer {
+                break;
+            }
+            count = count.saturating_add(1);
+        }
+        count
+    }
+
+    /// Whether this step succeeded.
+    pub(crate) fn is_done(&self, step: usize) -> bool {
+        match self.answers.get(step) {
+            Some(answer) => *answer,
+            None => false,
+        }
+    }
+}
+
+/// Takes the steps over the flash of a folder. Where the folder cannot be opened, or holds what a failed sync was to
+/// write and did not, none is taken.
+pub(crate) fn run(
+    alloc: Global,
+    blocks: u32,
+    system: MemSystem,
+    steps: &[Step],
+) -> Result<Ran, AllocError> {
+    let mut answers = Vec::new(alloc);
+    if !system.is_whole() {
+        return Ok(Ran { answers, system });
+    }
+    match open(alloc, blocks, system) {
+        Ok(mut flash) => {
+            for step in steps {
+                answers.push(step.take(&mut flash))?;
+            }
+            let system = flash.into_disk().into_system();
+            Ok(Ran { answers, system })
+        }
+        Err(system) => Ok(Ran { answers, system }),
+    }
+}
+
+/// Each page that is not blank, as it is read.
+pub(crate) fn pages(alloc: Global, blocks: u32, system: MemSystem) -> Result<String, AllocError> {
+    let mut shown = String::new(alloc);
+    if !system.is_whole() {
+        return Ok(shown);
+    }
+    let Ok(mut flash) = open(alloc, blocks, system) else {
+        return Ok(shown);
+    };
+    for block in 0..flash.blocks() {
+        for page in 0..64 {
+            show(&mut shown, &mut flash, block, page)?;
+        }
+    }
+    Ok(shown)
+}
+
+fn show(
+    shown: &mut String,
+    flash: &mut FolderFlash<MemSystem>,
+    block: u32,
+    page: u32,
+) -> Result<(), AllocError> {
+    let mut bytes = [0; 512];
+    if block >= flash.blocks() || page >= 64 || flash.read(block, page, &mut bytes).is_err() {
+        return shown.push_str("= unread\n");
+    }
+    let first = bytes[0];
+    if bytes.iter().any(|byte| *byte != first) {
+        return write!(shown, "< {block} {page}: torn\n");
+    }
+    if first != 0xff {
+        return write!(shown, "< {block} {page}: {first}\n");
+    }
+    Ok(())
+}
+
+/// The flash in a folder of which nothing is lost.
+fn open(alloc: Global, blocks: u32, system: MemSystem) -> Result<FolderFlash<MemSystem>, MemSystem>
+    requires { (f : ℕ) → IsWhole (mem_medium system) f }
+{
+    match FolderDisk::open(alloc, system) {
+        Ok(disk) => Ok(FolderFlash::new(alloc, disk, blocks)),
+        Err(refused) => Err(refused.system),
+    }
+}

@@ -1,0 +1,202 @@
+//! Steps that are killed, or meet a failure, at each call of the system.
+
+use crate::runs::{Ran, run};
+use crate::steps::{Step, Tear, is_torn_by};
+use mem_system::{MemSystem, Trouble};
+use std::alloc::{AllocError, Global};
+
+/// What a power loss leaves of the writes that were not synced: nothing, all, halves, and these by turns.
+const SEEDS: [u64; 6] = [
+    0,
+    0x5555_5555_5555_5555,
+    0xaaaa_aaaa_aaaa_aaaa,
+    0x1111_1111_1111_1111,
+    0x4444_4444_4444_4444,
+    0xbbbb_bbbb_bbbb_bbbb,
+];
+
+/// The file of the flash.
+const FILE: u32 = 0;
+
+/// Steps over the flash of a folder.
+#[derive(Drop)]
+pub(crate) struct Sweep<'a> {
+    pub(crate) alloc: Global,
+    pub(crate) blocks: u32,
+    /// The folder before the steps; all of it is durable.
+    pub(crate) start: MemSystem,
+    pub(crate) steps: &'a [Step],
+}
+
+/// What fails alone.
+#[derive(Clone, Copy)]
+enum Failing {
+    Call,
+    Sync,
+}
+
+impl Failing {
+    fn at(self, number: u64) -> Trouble {
+        match self {
+            Failing::Call => Trouble::Call(number),
+            Failing::Sync => Trouble::Sync(number),
+        }
+    }
+}
+
+impl<'a> Sweep<'a> {
+    /// `= kept` where, with each call failing alone, each step changes its own pages alone, whole where it succeeds;
+    /// and where power is lost after a change that it made, it changes no other page than its own, or nothing but
+    /// pages of one step that failed since the last success. Else the first call and step for which it is not so.
+    pub(crate) fn failures(&self) -> Result<String, AllocError> {
+        self.failing(self.whole()?.system.calls(), Failing::Call)
+    }
+
+    /// The same with each sync failing alone.
+    pub(crate) fn syncs(&self) -> Result<String, AllocError> {
+        self.failing(self.whole()?.system.syncs(), Failing::Sync)
+    }
+
+    /// `= kept` where, after a kill at each call, the steps that succeeded are done and no other page is changed but
+    /// those of the next; and where power is lost after a change of a new run that takes the steps from that one on,
+    /// each changes no page but its own. Else the first call and step for which it is not so.
+    pub(crate) fn kills(&self) -> Result<String, AllocError> {
+        for call in 0..self.whole()?.system.calls() {
+            let killed = self.ran(self.steps.len(), Trouble::Kill(call))?;
+            let done = killed.done();
+            let kept = self.ran(done, Trouble::Nothing)?;
+            let next = self.tear(done, &kept);
+            if !is_torn_by(next, kept.system.bytes(FILE), killed.system.bytes(FILE)) {
+                return self.fault(call, done);
+            }
+            let opened = self.ran_again(call, done, done)?;
+            if !self.are_torn_by(next, &[], &killed.system, &opened.system)? {
+                return self.fault(call, done);
+            }
+            let mut before = opened;
+            for place in done..self.steps.len() {
+                let after = self.ran_again(call, done, place.saturating_add(1))?;
+                let is_done = after.is_done(place.saturating_sub(done));
+                if !is_done || !self.is_good(place, &[], is_done, &before, &after)? {
+                    return self.fault(call, place);
+                }
+                before = after;
+            }
+        }
+        String::from_str(self.alloc, "= kept\n")
+    }
+
+    fn failing(&self, count: u64, failing: Failing) -> Result<String, AllocError> {
+        for call in 0..count {
+            let trouble = failing.at(call);
+            let mut before = self.ran(0, trouble)?;
+            if !self.are_torn_by(None, &[], &self.start, &before.system)? {
+                return self.fault(call, 0);
+            }
+            let mut failed = Vec::new(self.alloc);
+            for place in 0..self.steps.len() {
+                let after = self.ran(place.saturating_add(1), trouble)?;
+                let is_done = after.is_done(place);
+                if !self.is_good(place, &failed, is_done, &before, &after)? {
+                    return self.fault(call, place);
+                }
+                if is_done {
+                    failed.clear();
+                } else if let Some(tear) = self.tear(place, &before) {
+                    failed.push(tear)?;
+                }
+                before = after;
+            }
+        }
+        String::from_str(self.alloc, "= kept\n")
+    }
+
+    /// Whether a step did what it answered, and a power loss meanwhile tears no more than it may.
+    fn is_good(
+        &self,
+        place: usize,
+        failed: &[Tear],
+        is_done: bool,
+        before: &Ran,
+        after: &Ran,
+    ) -> Result<bool, AllocError> {
+        let Some(tear) = self.tear(place, before) else {
+            return Ok(false);
+        };
+        let old = before.system.bytes(FILE);
+        let new = after.system.bytes(FILE);
+        if is_done && !tear.step.is_done(old, new) || !is_torn_by(Some(tear), old, new) {
+            return Ok(false);
+        }
+        self.are_torn_by(Some(tear), failed, &before.system, &after.system)
+    }
+
+    /// Whether a power loss after each change from one state to the other leaves of the first what the step may tear,
+    /// or what one of the others may.
+    fn are_torn_by(
+        &self,
+        tear: Option<Tear>,
+        others: &[Tear],
+        before: &MemSystem,
+        after: &MemSystem,
+    ) -> Result<bool, AllocError> {
+        let old = before.bytes(FILE);
+        for changes in before.changes()..=after.changes() {
+            for seed in SEEDS {
+                let left = after.power_loss(changes, seed)?;
+                let new = left.bytes(FILE);
+                let is_other = |other: &Tear| is_torn_by(Some(*other), old, new);
+                if !is_torn_by(tear, old, new) && !others.iter().any(is_other) {
+                    return Ok(false);
+                }
+            }
+        }
+        Ok(true)
+    }
+
+    /// A step, with the file that it finds.
+    fn tear(&self, place: usize, before: &Ran) -> Option<Tear> {
+        match self.steps.get(place) {
+            Some(step) => Some(Tear {
+                step: *step,
+                len: before.system.bytes(FILE).len(),
+            }),
+            None => None,
+        }
+    }
+
+    /// The folder after all steps.
+    fn whole(&self) -> Result<Ran, AllocError> {
+        self.ran(self.steps.len(), Trouble::Nothing)
+    }
+
+    /// What comes of the first of the steps.
+    fn ran(&self, count: usize, trouble: Trouble) -> Result<Ran, AllocError> {
+        let mut system = self.start.restarted()?;
+        system.set_trouble(trouble);
+        run(
+            self.alloc,
+            self.blocks,
+            system,
+            self.steps.get(..count).unwrap_or(&[]),
+        )
+    }
+
+    /// What comes of the steps from one place to another in a new run, after one that was killed.
+    fn ran_again(&self, call: u64, from: usize, to: usize) -> Result<Ran, AllocError> {
+        let killed = self.ran(self.steps.len(), Trouble::Kill(call))?;
+        let mut system = killed.system;
+        system.set_trouble(Trouble::Nothing);
+        run(
+            self.alloc,
+            self.blocks,
+            system,
+            self.steps.get(from..to).unwrap_or(&[]),
+        )
+    }
+
+    fn fault(&self, call: u64, step: usize) -> Result<String, AllocError> {
+        let fault = format!(in self.alloc; "= call {call}, step {step}\n")?;
+        Ok(fault)
+    }
+}

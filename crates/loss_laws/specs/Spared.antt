@@ -1,0 +1,96 @@
+-- What is read where pages were lost, by what lay in them: on any number of blocks, and with any number of copies.
+use Rattle.std.specs.Prelude.{◌≡◌, ◌⊎◌, ◌<◌, ◌≤◌, ℕ, List, [], Option, Some}
+use Rattle.std.specs.List.{AllZip}
+use Rattle.per_base.specs.declared.elements.Content.TheVariants.{Bad, Good}
+use Rattle.per_base.specs.declared.elements.Entry.{Entry}
+use Rattle.per_base.specs.declared.elements.Scope.TheVariants as scope
+use Rattle.disk_model.specs.Image.{Image}
+use Rattle.disk_model.specs.Place.{slot}
+use Rattle.disk_model.specs.declared.place.Place.{Place}
+use Rattle.flash_model.specs.Pages.{Pages}
+use Rattle.flash_disk.specs.Emptied.{LosesAnyPages}
+use Rattle.flash_disk.specs.FlashFiles.{flash_files}
+use Rattle.flash_disk.specs.Newest.{places}
+use Rattle.flash_laws.specs.Lost.{SparesFile}
+use Rattle.guarded_cell.specs.Register.{Holds}
+use Rattle.block_files.specs.Aside.{Where}
+use Rattle.element_state.specs.Clean.{counting_at}
+use Rattle.element_state.specs.declared.shapes.Shape.{Shape}
+use Rattle.element_state.specs.declared.shapes.View.{View}
+use Rattle.element_state.specs.States.{State, Corrupt, Opens, store_at}
+use Rattle.element_laws.specs.Phases.{IsOfPlace}
+use Rattle.deploy_laws.specs.Apps.{says_at}
+use Rattle.deploy_laws.specs.Places.{root_place}
+
+-- each record that counted for a file of this place is where it was
+abbrev pub SparesPlace : Place → (old new : Pages) → (blocks : ℕ) → Type 0
+SparesPlace place old new blocks = (file : ℕ) → IsOfPlace place file → SparesFile old new (places blocks) file
+
+-- each one that counted for a slot of it is
+abbrev pub SparesSlots : Place → (old new : Pages) → (blocks : ℕ) → Type 0
+SparesSlots place old new blocks = (copy parity : ℕ) → copy < place.copies → parity < 2
+    → SparesFile old new (places blocks) (slot place copy parity)
+
+-- contents that count under one entry, before and after, are the same
+abbrev pub KeepTwins : Place → (old new : Image) → Type 0
+KeepTwins place old new = (at : Where) (a b : ℕ) (s t : List ℕ) → a < place.copies → b < place.copies
+    → counting_at old place a at ≡ Some s → counting_at new place b at ≡ Some t → t ≡ s
+
+-- an element is listed as it was, and if it had a value it has this one or is corrupt
+pub record IsKeptOrCorrupt (now was : Entry) : Type 0 where
+  pub name : now.name ≡ was.name
+  pub info : now.info ≡ was.info
+  pub changed : now.changed ≡ was.changed
+  pub len : now.len ≡ was.len
+  pub content : (value : List ℕ) → was.content ≡ Good value
+      → (now.content ≡ Good value) ⊎ ((salvage : Option (List ℕ)) × (now.content ≡ Bad salvage))
+
+-- A storage opens under the generation that it had, each element as it was or corrupt, or it is corrupt; with element
+-- scope it opens.
+pub record ReadsOrRefuses (shape : Shape) (was : View) (state : State) : Type 0 where
+  pub view : View
+  pub is : (state ≡ Opens view []) ⊎ (state ≡ Corrupt (Some view) [])
+  pub element : shape.scope ≡ scope.Element → state ≡ Opens view []
+  pub generation : view.generation ≡ was.generation
+  pub each : AllZip IsKeptOrCorrupt view.entries was.entries
+
+-- what a copy holds now some copy held, or it is of a lesser generation than this one
+abbrev pub BringsOlder : Place → (generation : ℕ) → (old new : Image) → Type 0
+BringsOlder place generation old new = (copy g : ℕ) (text : List ℕ) → copy < place.copies
+    → Holds new place copy g text → (g < generation)
+    ⊎ ((c : ℕ) × (c < place.copies) × Holds old place c g text)
+
+-- a view is of a lesser generation, or of the same, and each element is as it was or corrupt
+abbrev pub IsSameOrOlder : (now was : View) → Type 0
+IsSameOrOlder now was = (now.generation < was.generation)
+    ⊎ ((now.generation ≡ was.generation) × AllZip IsKeptOrCorrupt now.entries was.entries)
+
+-- ---- the laws
+
+-- a storage of whose files no record that counted was lost reads as before
+abbrev pub SparedStoragesLaw : Type 0
+SparedStoragesLaw = (old new : Pages) (blocks : ℕ) (shape : Shape) → LosesAnyPages old new
+    → SparesPlace shape.place old new blocks
+    → store_at (flash_files new blocks) shape ≡ store_at (flash_files old blocks) shape
+
+-- a root of whose files no record that counted was lost says what it said
+abbrev pub SparedRootsLaw : Type 0
+SparedRootsLaw = (old new : Pages) (blocks app : ℕ) → LosesAnyPages old new
+    → SparesPlace (root_place app) old new blocks
+    → says_at (flash_files new blocks) app ≡ says_at (flash_files old blocks) app
+
+-- A storage of whose slots no record that counted was lost reads no older value: each element is as it was or corrupt,
+-- or the storage is.
+abbrev pub SparedSlotsLaw : Type 0
+SparedSlotsLaw = (old new : Pages) (blocks : ℕ) (shape : Shape) (view : View) → LosesAnyPages old new → 1 ≤ shape.m
+    → SparesSlots shape.place old new blocks
+    → KeepTwins shape.place (flash_files old blocks) (flash_files new blocks)
+    → store_at (flash_files old blocks) shape ≡ Opens view []
+    → ReadsOrRefuses shape view (store_at (flash_files new blocks) shape)
+
+-- Whatever was lost, a storage opens older or as it was, with no element otherwise than corrupt, or it is corrupt, if
+-- what came up in its slots is older: with one copy too. A bank that was made again may bring up greater generations.
+abbrev pub OlderLaw : Type 0
+OlderLaw = (old new : Image) (shape : Shape) (view : View) → 1 ≤ shape.m → KeepTwins shape.place old new
+    → BringsOlder shape.place view.generation old new → store_at old shape ≡ Opens view []
+    → (now : View) (others : List View) → store_at new shape ≡ Opens now others → IsSameOrOlder now view
