@@ -71,8 +71,8 @@ impl MemDisk {
         self.orders.stop(k);
     }
 
-    /// Sets one byte, where nothing waits for a sync, as damage that is in every case from then on. Gives `false`, and
-    /// changes nothing, where the file is not that long. The record of calls starts over.
+    /// Sets the byte at the place `at` of a file, where nothing waits for a sync, as damage that is in every case from
+    /// then on. Gives `false`, and changes nothing, where the file is not that long. The record of calls starts over.
     pub fn spoil(&mut self, file: u32, at: u64, byte: u8) -> bool
         requires { Quiet (mem_medium self.old) }
         ensures within { IsTrue result ↔ (at < length ((mem_medium self.old).image file)) }

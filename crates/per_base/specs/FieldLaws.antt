@@ -12,6 +12,7 @@ use Rattle.std.proofs.lemmas.Nat.{le_bytes_2, le_bytes_4, le_bytes_8, from_le_by
 use Rattle.std.proofs.lemmas.Nat.{from_le_bytes-to_le_bytes_4, from_le_bytes-to_le_bytes_8}
 use Rattle.per_base.specs.Fields.{◌>>=◌, byte_at, bytes_at, number_at, only_if, many, AreBytes}
 
+-- what is left of bytes, or taken of them, are bytes
 pub AreBytes-drop : (n : ℕ) (bytes : List ℕ) → AreBytes bytes → AreBytes (drop n bytes)
 AreBytes-drop n bytes fits i = rw get_or-drop (fits (n + i))
 
@@ -22,7 +23,7 @@ AreBytes-take n bytes fits i =
       | inr le ↦ rw (get_or_past (take n bytes) i 0 (omega (arith, length-take n bytes))) (omega arith)
     ]
 
--- the bytes are a text and the bytes after it
+-- the bytes are this text and the rest after it, and each number of the rest is a byte
 pub record Takes (bytes text rest : List ℕ) : Type 0 where
   pub parts : bytes ≡ text ++ rest
   pub rest_fits : AreBytes rest
@@ -34,7 +35,8 @@ Takes-then {x = x} {y = y} {c = c} p q = record {
   rest_fits = q.rest_fits;
 }
 
--- the reader takes exactly the texts of what fits
+-- `read` takes exactly the texts of what fits: what it gives fits, and the bytes began with its text; and the text of a
+-- thing that fits is read as that thing, whatever follows
 pub record IsReader {A : Type 0} (read : List ℕ → Option (A × List ℕ)) (text : A → List ℕ) (Fits : A → Type 0) : Type 0
   where
     pub takes : (bytes : List ℕ) (x : A) (rest : List ℕ) → AreBytes bytes → read bytes ≡ Some (x, rest)

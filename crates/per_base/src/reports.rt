@@ -6,7 +6,8 @@ use crate::lists::Numbers;
 use crate::names::Name;
 use std::alloc::AllocError;
 
-/// What an opening found of a storage or an element.
+/// What an opening found of a storage (of keys: Kvs, of files: Files) or of an element of one (Key, File). *Recovered*:
+/// it can be read, though some copies lack it. *Failed*: too few copies agree on it, or its content is no value.
 #[derive(Clone, Copy, Debug, PartialEq, Eq)]
 pub enum ReportKind {
     KvsRecovered,
