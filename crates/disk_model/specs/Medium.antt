@@ -52,8 +52,8 @@ pub record IsLawful (told : Bool) (m : Medium) : Type 0 where
   -- what reads gave is what a crash might have left
   pub gave_left : (t : ℕ) (c : Case) → m.gave t c → m.since t c
 
--- What came since each moment t up to `moment` is what `old` has, which was noted by then, and what came since `moment`,
--- no more and no less (`new t x`: x came at moment t or later).
+-- What came since each moment t up to `moment` is what `old` has of it and what came since `moment`, no more and no
+-- less (`new t x`: x came at moment t or later).
 pub record Grows {X : Type 0} (moment : ℕ) (old new : ℕ → X → Type 0) : Type 0 where
   pub nothing_else : (t : ℕ) (x : X) → t ≤ moment → new t x → old t x ⊎ new moment x
   pub keeps : (t : ℕ) (x : X) → t ≤ moment → old t x → new t x

@@ -26,8 +26,8 @@ pub trait Disk {
     /// written.
     ghost medium: { Self → Medium };
 
-    /// Reads a file from the byte `at` on into the start of `out`, as many bytes as there are and as it has room for, and
-    /// says how many. The rest of `out` may hold anything.
+    /// Reads a file from the byte `at` on into the start of `out`, as many bytes as there are and as it has room for,
+    /// and says how many. The rest of `out` may hold anything.
     fn read(&mut self, file: u32, at: u64, out: &mut [u8]) -> Result<usize, DiskFailed>
         ensures count { IfOk result (λ n. n ≤ length out.old) }
         ensures bytes { IsTrue told → IfOk result (λ n.
@@ -40,7 +40,8 @@ pub trait Disk {
         ensures passes { OnOk result ((medium self.new).faults ≡ (medium self.old).faults) };
 
     /// Writes the bytes into a file from the byte `at` on; a gap before them reads as zeros, and no bytes change
-    /// nothing. They are durable after the next `sync`. Where the call fails, the range may hold anything, as after a crash.
+    /// nothing. They are durable after the next `sync`. Where the call fails, the range may hold anything, as after a
+    /// crash.
     fn write_at(&mut self, file: u32, at: u64, bytes: &[u8]) -> Result<(), DiskFailed>
         ensures image { IsTrue told → OnOk result
             ((medium self.new).image ≡ put_image (medium self.old).image file at bytes.now) }

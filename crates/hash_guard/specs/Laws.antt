@@ -63,6 +63,7 @@ parts h a b body rest lh la lb =
       long = ap length regrouped ∙ simp length-append (omega arith);
     }
 
+-- what is sealed verifies as what was sealed, whatever follows it
 pub sealed_verifies : (generation : ℕ) (body rest : List ℕ) → 1 ≤ generation → generation < 2 ^ 64
     → length body ≤ max_body → VerifiesAs (sealed generation body ++ rest) generation body
 unfolding sealed numbered generation_in length_in
@@ -241,6 +242,7 @@ sealed-is_sealed slot e =
       hash = (bytes_eq-Decides (take 32 slot) (sha256 (take (12 + length_in slot) (drop 32 slot)))).0 hash.1;
     }
 
+-- as what a slot verifies, `verified` gives, and the other way round
 pub verifies-verified : (slot : List ℕ) (g : ℕ) (body : List ℕ) → VerifiesAs slot g body
     → verified slot ≡ Some (g, body)
 unfolding verified

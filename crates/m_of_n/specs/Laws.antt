@@ -9,6 +9,7 @@ use Rattle.std.specs.Str.{bytes_eq}
 use Rattle.std.proofs.lemmas.Slice.Eq.{bytes_eq-Decides}
 use Rattle.m_of_n.specs.Vote.{holders, is_text, voted}
 
+-- the text of each copy, None where it is missing or unreadable
 abbrev pub Copies : Type 0
 Copies = List (Option (List ℕ))
 
