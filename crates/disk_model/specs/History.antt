@@ -86,7 +86,8 @@ recorded image start calls faults written = record {
   written = written;
 }
 
--- whether the i-th write since the last sync, from 0, stands: where bit `i mod 64` of the pattern is 1
+-- whether the i-th write since the last sync, from 0, stands, which is to be kept whole by a crash: where bit
+-- `i mod 64` of the pattern is 1
 abbrev pub stands : ℕ → ℕ → Bool
 stands pattern i = (pattern / 2 ^ (i % 64)) % 2 == 1
 

@@ -69,8 +69,11 @@ pub record KeepsCounts (old new : MemDisk) : Type 0 where
 -- How a call answers, by the disk before and after it and whether it failed: it fails where the plan names it and where
 -- it comes after the stop, and else because memory ran out alone, which is counted beside the fault.
 pub record AnswersAsPlanned (old new : MemDisk) (failed : Bool) : Type 0 where
+  -- a call that is to fail fails, and not because memory ran out
   pub due : IsTrue (is_due old) → IsTrue failed × (starved_count new ≡ starved_count old)
+  -- any other fails only because memory ran out
   pub starves : IsFalse (is_due old) → IsTrue failed → starved_count new ≡ raised (starved_count old)
+  -- a failure counts as one fault, and a success as none
   pub fails : IsTrue failed → (mem_medium new).faults ≡ raised (mem_medium old).faults
   pub passes : IsFalse failed → KeepsCounts old new
   -- the next call is now number 0

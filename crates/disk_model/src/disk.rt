@@ -43,6 +43,8 @@ pub trait Disk {
     /// nothing. They are durable after the next `sync`. Where the call fails, the range may hold anything, as after a
     /// crash.
     fn write_at(&mut self, file: u32, at: u64, bytes: &[u8]) -> Result<(), DiskFailed>
+        // After a success reads give the bytes written; after a failure only the range, and what is past the old end,
+        // may have changed.
         ensures image { IsTrue told → OnOk result
             ((medium self.new).image ≡ put_image (medium self.old).image file at bytes.now) }
         ensures torn { IsTrue told → OnErr result
@@ -72,6 +74,8 @@ pub trait Disk {
 
     /// Makes every write so far durable, in all files: afterwards a crash leaves what reads give.
     fn sync(&mut self) -> Result<(), DiskFailed>
+        // After a success nothing is pending; after a failure a crash leaves nothing that it would not have left
+        // before.
         ensures quiet { OnOk result (Quiet (medium self.new)) }
         ensures failed { OnErr result (OnlyReads (medium self.old) (medium self.new)) }
         // No byte changes. A crash meanwhile leaves what one before or one after does. Faults rise just on a failure.
@@ -80,7 +84,7 @@ pub trait Disk {
         ensures cause { OnErr result (Rose (medium self.old).faults (medium self.new).faults) }
         ensures passes { OnOk result ((medium self.new).faults ≡ (medium self.old).faults) };
 
-    /// This moment counts among those since an earlier one, since now there is no other, and what reads give is what
-    /// some crash leaves.
+    /// Of each disk: this moment counts among those since an earlier one, since now there is no other, and what reads
+    /// give is what some crash leaves.
     ghost lawful: { (disk : Self) → IsLawful told (medium disk) };
 }

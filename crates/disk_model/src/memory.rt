@@ -123,8 +123,8 @@ impl MemDisk {
     }
 
     /// The disk after a crash that tears: each file is as long as all writes since the last sync make it, and the i-th
-    /// of these writes, from 0, stands where bit `i mod 64` of the pattern is 1. Past the old end, bytes that no
-    /// standing write gave are zeros.
+    /// of these writes, from 0, stands, which is to be kept whole, where bit `i mod 64` of the pattern is 1. Past the
+    /// old end, bytes that no standing write gave are zeros.
     pub fn crash_torn(self, pattern: u64) -> Result<MemDisk, AllocError>
         ensures bytes { IfOk result (λ disk. (mem_medium disk).image ≡ torn_image self pattern) }
         // Each file f is as long as reads gave it. This is one of the cases that the disk named, and the new disk has

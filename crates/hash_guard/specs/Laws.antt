@@ -24,6 +24,7 @@ length-numbered generation body =
     length-three (little_bytes 8 generation) (little_bytes 4 (length body)) body (length body)
     (length-bytes_low_first 0 8 generation) (length-bytes_low_first 0 4 (length body)) refl
 
+-- a sealed text has 44 bytes more than its body
 pub length-sealed : (generation : ℕ) (body : List ℕ) → length (sealed generation body) ≡ header + length body
 unfolding sealed
 length-sealed generation body =
@@ -117,6 +118,7 @@ text_within slot g body v = omega (arith, v.front.whole, length-body slot g body
 
 -- ---- what never verifies
 
+-- neither zeros at the start, nor a slot shorter than a header, nor one that states too long a body
 pub blank_never : (rest : List ℕ) (g : ℕ) (body : List ℕ) → VerifiesAs (replicate 44 0 ++ rest) g body → ⊥
 unfolding generation_in
 blank_never rest g body v =

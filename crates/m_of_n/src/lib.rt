@@ -17,6 +17,7 @@ ghost use Rattle.m_of_n.specs.Vote.{holders, texts_of, voted};
 #[tactic(auto, unfolding(crate::specs::Vote::voted))]
 pub fn vote(m: u32, copies: &[Option<Vec<u8>>]) -> Option<&[u8]>
     requires { 1 ≤ m }
+    // The answer is the text that the vote gives, as its bytes, and none where the vote gives none.
     ensures { option_copied result ≡ voted m (texts_of copies.now) }
 {
     for copy in copies {

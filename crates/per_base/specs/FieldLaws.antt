@@ -82,6 +82,7 @@ byte_takes (c ∷ bytes) b rest fits e =
     subst (λ (x : ℕ × List ℕ). Takes (c ∷ bytes) (x.0 ∷ []) x.1 × (x.0 < 256)) same
     (record { parts = refl; rest_fits = λ i. fits (suc i) }, fits 0)
 
+-- one byte, a number below 256
 pub byte_reader : IsReader byte_at (λ b. b ∷ []) (λ b. b < 256)
 byte_reader = record { takes = byte_takes; again = λ b rest fits. refl }
 
@@ -102,12 +103,13 @@ bytes_again n x rest len =
     let long : ltb (length (x ++ rest)) n ≡ false = le-ltb _ _ (omega (arith, length-append x rest)) in
     rw (long, take_at x rest n len, drop_at x rest n len) refl
 
+-- n bytes
 pub bytes_reader : (n : ℕ) → IsReader (bytes_at n) (λ x. x) (λ x. length x ≡ n)
 bytes_reader n = record { takes = bytes_take n; again = bytes_again n }
 
 -- ---- numbers
 
--- numbers below the limit have as many bytes as the width, and are read back
+-- a width, and the limit below which numbers fit in it: they have as many bytes as the width, and are read back
 pub record IsWide (w : Width) (limit : ℕ) : Type 0 where
   pub len : (n : ℕ) → length (to_le_bytes w n) ≡ byte_len w
   pub back : (bytes : List ℕ) → length bytes ≡ byte_len w → AreBytes bytes
@@ -173,6 +175,7 @@ number_again w limit wide n rest lt =
       wide.again n lt,
     ) refl
 
+-- a number below the limit, in as many bytes as its width, the lowest first
 pub number_reader : (w : Width) (limit : ℕ) → IsWide w limit → IsReader (number_at w) (to_le_bytes w) (λ n. n < limit)
 number_reader w limit wide = record { takes = number_takes w limit wide; again = number_again w limit wide }
 

@@ -15,7 +15,7 @@ pub enum StoreKind {
     Files,
 }
 
-/// What must agree in M copies: each element by itself, or the whole storage.
+/// What must agree in M of the copies that are kept of a storage: each element by itself, or the whole storage.
 #[derive(Clone, Copy, Debug, PartialEq, Eq)]
 pub enum Scope {
     Element,
@@ -32,7 +32,8 @@ pub enum Cause {
     Application,
 }
 
-/// What is known of a file besides its content: three moments in seconds, and the causes of its making and last change.
+/// What is known of a file besides its content: when it was made, last changed and last opened, in seconds, and the
+/// causes of its making and of its last change.
 #[derive(Clone, Copy, Debug, PartialEq, Eq)]
 pub struct FileInfo {
     pub created: u64,

@@ -11,6 +11,7 @@ pub struct Ended;
 
 /// Reads the first byte, and gives it with the bytes after it; `Ended` exactly where there is none.
 pub fn byte_of(bytes: &[u8]) -> Result<(u8, &[u8]), Ended>
+    // The pair x of the byte and the bytes after it is what the definition reads, and an error where it reads nothing.
     ensures { Reads (λ x. (x.0, x.1.now)) result (byte_at bytes.now) }
 {
     match bytes {
@@ -22,6 +23,8 @@ pub fn byte_of(bytes: &[u8]) -> Result<(u8, &[u8]), Ended>
 /// Reads the first `count` bytes, and gives them with the bytes after them; `Ended` exactly where there are fewer.
 #[tactic(auto, unfolding(crate::specs::Fields::bytes_at))]
 pub fn bytes_of(count: usize, bytes: &[u8]) -> Result<(&[u8], &[u8]), Ended>
+    // The pair x of the bytes read and those after them is what the definition reads, and an error where it reads
+    // nothing.
     ensures front { Reads (λ x. (x.0.now, x.1.now)) result (bytes_at count bytes.now) }
     ensures length { IfOk result (λ x. length x.0.now ≡ count) }
 {
@@ -35,6 +38,7 @@ pub fn bytes_of(count: usize, bytes: &[u8]) -> Result<(&[u8], &[u8]), Ended>
 /// fewer than two.
 #[tactic(auto, unfolding(crate::specs::Fields::number_at))]
 pub fn u16_of(bytes: &[u8]) -> Result<(u16, &[u8]), Ended>
+    // The pair x of the number and the bytes after it is what the definition reads, and an error where it reads nothing.
     ensures { Reads (λ x. (x.0, x.1.now)) result (number_at w16 bytes.now) }
 {
     if bytes.len() < 2 {
@@ -49,6 +53,7 @@ pub fn u16_of(bytes: &[u8]) -> Result<(u16, &[u8]), Ended>
 /// fewer than four.
 #[tactic(auto, unfolding(crate::specs::Fields::number_at))]
 pub fn u32_of(bytes: &[u8]) -> Result<(u32, &[u8]), Ended>
+    // The pair x of the number and the bytes after it is what the definition reads, and an error where it reads nothing.
     ensures { Reads (λ x. (x.0, x.1.now)) result (number_at w32 bytes.now) }
 {
     if bytes.len() < 4 {
@@ -63,6 +68,7 @@ pub fn u32_of(bytes: &[u8]) -> Result<(u32, &[u8]), Ended>
 /// fewer than eight.
 #[tactic(auto, unfolding(crate::specs::Fields::number_at))]
 pub fn u64_of(bytes: &[u8]) -> Result<(u64, &[u8]), Ended>
+    // The pair x of the number and the bytes after it is what the definition reads, and an error where it reads nothing.
     ensures { Reads (λ x. (x.0, x.1.now)) result (number_at w64 bytes.now) }
 {
     if bytes.len() < 8 {

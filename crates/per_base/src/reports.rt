@@ -20,7 +20,8 @@ pub enum ReportKind {
     FileFailed,
 }
 
-/// One report: the storage, the element where it speaks of one, and exactly the lacking copies, ascending from 1.
+/// One report: the storage, the element where it speaks of one, and exactly the copies that lack what it speaks of,
+/// counted from 1 and ascending.
 #[derive(Debug, Drop)]
 pub struct Report {
     pub kind: ReportKind,
