@@ -1,6 +1,6 @@
 //! How a call fails that takes over what it works on.
 
-/// Why a call failed that was given a thing for good, such as an open storage, of the type `T`.
+/// Why a call failed that took over a thing of the type `T`, such as an open storage.
 #[derive(Debug, Drop)]
 pub enum Fault<T> {
     /// The disk failed, and its count of faults rose: what was given is closed.

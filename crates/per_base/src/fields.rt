@@ -11,7 +11,7 @@ pub struct Ended;
 
 /// Reads the first byte, and gives it with the bytes after it; `Ended` exactly where there is none.
 pub fn byte_of(bytes: &[u8]) -> Result<(u8, &[u8]), Ended>
-    // The pair x of the byte and the bytes after it is what the definition reads, and an error where it reads nothing.
+    // The pair x of the byte and the bytes after it is what the definition reads; an error where it reads nothing.
     ensures { Reads (λ x. (x.0, x.1.now)) result (byte_at bytes.now) }
 {
     match bytes {
@@ -38,7 +38,7 @@ pub fn bytes_of(count: usize, bytes: &[u8]) -> Result<(&[u8], &[u8]), Ended>
 /// fewer than two.
 #[tactic(auto, unfolding(crate::specs::Fields::number_at))]
 pub fn u16_of(bytes: &[u8]) -> Result<(u16, &[u8]), Ended>
-    // The pair x of the number and the bytes after it is what the definition reads, and an error where it reads nothing.
+    // The pair x of the number and the bytes after it is what the definition reads; an error where it reads nothing.
     ensures { Reads (λ x. (x.0, x.1.now)) result (number_at w16 bytes.now) }
 {
     if bytes.len() < 2 {
@@ -53,7 +53,7 @@ pub fn u16_of(bytes: &[u8]) -> Result<(u16, &[u8]), Ended>
 /// fewer than four.
 #[tactic(auto, unfolding(crate::specs::Fields::number_at))]
 pub fn u32_of(bytes: &[u8]) -> Result<(u32, &[u8]), Ended>
-    // The pair x of the number and the bytes after it is what the definition reads, and an error where it reads nothing.
+    // The pair x of the number and the bytes after it is what the definition reads; an error where it reads nothing.
     ensures { Reads (λ x. (x.0, x.1.now)) result (number_at w32 bytes.now) }
 {
     if bytes.len() < 4 {
@@ -68,7 +68,7 @@ pub fn u32_of(bytes: &[u8]) -> Result<(u32, &[u8]), Ended>
 /// fewer than eight.
 #[tactic(auto, unfolding(crate::specs::Fields::number_at))]
 pub fn u64_of(bytes: &[u8]) -> Result<(u64, &[u8]), Ended>
-    // The pair x of the number and the bytes after it is what the definition reads, and an error where it reads nothing.
+    // The pair x of the number and the bytes after it is what the definition reads; an error where it reads nothing.
     ensures { Reads (λ x. (x.0, x.1.now)) result (number_at w64 bytes.now) }
 {
     if bytes.len() < 8 {
