@@ -1,10 +1,11 @@
--- What writes leave alone: files that are spared, and blocks of 256 bytes that are apart from what is written.
+-- What writes leave alone: files that are spared, and blocks of 256 bytes that are apart from what is written. `spared`
+-- says which file numbers are spared, and `apart` which block numbers k are: block k is the bytes from 256 k on.
 -- Read by `slice_index`, which gives 0 past the end, so that a gap that a write fills with zeros reads as before.
 use Rattle.std.specs.Prelude.{◌≡◌, ℕ, ◌+◌, ◌*◌, ◌<◌, ◌≤◌, length, slice_index}
 use Rattle.disk_model.specs.Image.{Image}
 use Rattle.disk_model.specs.Case.{Case}
 
--- the files that are spared hold what they held
+-- the files that are spared hold in the new image what they held in the old one
 abbrev pub Spares : (spared : ℕ → Type 0) → Image → Image → Type 0
 Spares spared old new = (f : ℕ) → spared f → new f ≡ old f
 
@@ -14,13 +15,14 @@ pub record IsSettledOn (files : ℕ → Type 0) (image : Image) (c : Case) : Typ
   pub full : Spares files image c.full
   pub left : Spares files image c.left
 
--- whole writes: no file gets shorter, and blocks apart read as before
+-- whole writes lead from the old image to the new: spared files stay, blocks apart read as before in every file (byte j
+-- of block k of file f), and no file gets shorter
 pub record Keeps (spared apart : ℕ → Type 0) (old new : Image) : Type 0 where
   pub files : Spares spared old new
   pub bytes : (f k j : ℕ) → j < 256 → apart k → slice_index (new f) (256 * k + j) ≡ slice_index (old f) (256 * k + j)
   pub no_shorter : (f : ℕ) → length (old f) ≤ length (new f)
 
--- writes that a crash may have cut short: what is past an old end may hold anything
+-- the same of writes that a crash may have cut short: what is past the old end of a file may hold anything
 pub record Tears (spared apart : ℕ → Type 0) (old new : Image) : Type 0 where
   pub files : Spares spared old new
   pub bytes : (f k j : ℕ) → j < 256 → apart k → 256 * k + j < length (old f)

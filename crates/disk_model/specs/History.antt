@@ -14,52 +14,55 @@ use Rattle.disk_model.specs.Medium.{Medium}
 abbrev pub WrittenFiles : Type 0
 WrittenFiles = BTreeMap ℕ (Vec ℕ Global)
 
+-- the bytes of a file, none where it was never written
 abbrev pub bytes_or_none : Option (Vec ℕ Global) → List ℕ
 bytes_or_none None = []
 bytes_or_none (Some bytes) = bytes.items
 
--- the bytes of each file
+-- the bytes of each file by its number f
 abbrev pub image_of : WrittenFiles → Image
 image_of files f = bytes_or_none (get nat_cmp files f)
 
--- the image at the start of a record; no copy of it is kept before the first write
+-- the image at the start of a record, by the files now and the copy that was kept of them, if one was; before the first
+-- write none is kept, and the files are still as they were
 abbrev pub start_image : WrittenFiles → Option WrittenFiles → Image
 start_image files None = image_of files
 start_image files (Some start) = image_of start
 
--- what reads give after the calls
+-- what reads give after the calls, which began at this image
 abbrev pub image_after : List Call → Image → Image
 image_after [] image = image
 image_after (Write file at bytes ∷ calls) image = image_after calls (put_image image file at bytes.items)
 image_after (Sync ∷ calls) image = image_after calls image
 image_after (Read ∷ calls) image = image_after calls image
 
--- what reads gave after the last sync among the calls, or before them where there is none: base
+-- what reads gave after the last sync among the calls, which began at `image`; where there is no sync, `base`
 abbrev pub base_after : List Call → (base image : Image) → Image
 base_after [] base image = base
 base_after (Write file at bytes ∷ calls) base image = base_after calls base (put_image image file at bytes.items)
 base_after (Sync ∷ calls) base image = base_after calls image image
 base_after (Read ∷ calls) base image = base_after calls base image
 
--- what a crash may leave after one call more
+-- the cases of a crash after one call more, by the cases before it: c follows on some case d of those
 abbrev pub cases_after_call : Call → (Case → Type 0) → Case → Type 0
 cases_after_call (Write file at bytes) cases c = (d : Case) × cases d × WriteCase file at bytes.items d c
 cases_after_call Sync cases c = (d : Case) × cases d × IsSettledAt d.full c
 cases_after_call Read cases c = cases c
 
--- what a crash may leave after the calls
+-- the cases of a crash after the calls, by the cases before them
 abbrev pub cases_after : List Call → (Case → Type 0) → Case → Type 0
 cases_after [] cases = cases
 cases_after (call ∷ calls) cases = cases_after calls (cases_after_call call cases)
 
--- what a crash after at least t of the calls might have left
+-- c is a case of a crash after k of the calls, at least t of them, which began at the image `start` with nothing
+-- pending
 pub record CaseSince (start : Image) (calls : List Call) (t : ℕ) (c : Case) : Type 0 where
   pub k : ℕ
   pub from : t ≤ k
   pub to : k ≤ length calls
   pub case : cases_after (take k calls) (IsSettledAt start) c
 
--- the case that leaves what reads gave after at least t of the calls
+-- the same, where the crash leaves what reads gave after those k calls
 pub record GaveSince (start : Image) (calls : List Call) (t : ℕ) (c : Case) : Type 0 where
   pub k : ℕ
   pub from : t ≤ k
@@ -67,7 +70,8 @@ pub record GaveSince (start : Image) (calls : List Call) (t : ℕ) (c : Case) : 
   pub case : cases_after (take k calls) (IsSettledAt start) c
   pub image : c.left ≡ image_after (take k calls) start
 
--- a disk with this record, which reads as this image; whatever a stop leaves of its files is a disk again
+-- A disk that reads as this image, with a record of the calls since it held `start` with nothing pending. A moment is a
+-- number of calls. Whatever a stop leaves of its files is a disk again.
 abbrev pub recorded : (image start : Image) → List Call → (faults written : ℕ) → Medium
 recorded image start calls faults written = record {
   image = image;
@@ -82,15 +86,16 @@ recorded image start calls faults written = record {
   written = written;
 }
 
--- whether the i-th write since the last sync stands, which bit `i mod 64` of the pattern says
+-- whether the i-th write since the last sync, from 0, stands, which is to be kept whole by a crash: where bit
+-- `i mod 64` of the pattern is 1
 abbrev pub stands : ℕ → ℕ → Bool
 stands pattern i = (pattern / 2 ^ (i % 64)) % 2 == 1
 
--- a file that is at least this long, with zeros past its old end
+-- a file made at least n bytes long, with zeros past its old end
 abbrev pub grown : List ℕ → ℕ → List ℕ
 grown old n = old ++ replicate (n - length old) 0
 
--- the image where a write only made its file as long as it would be
+-- the image with one file made at least n bytes long so
 abbrev pub grow_image : Image → ℕ → ℕ → Image
 grow_image image file n f = if f == file then grown (image f) n else image f
 
@@ -104,7 +109,7 @@ torn_after pattern i (Write file at bytes ∷ calls) image = torn_after pattern 
 torn_after pattern i (Sync ∷ calls) image = torn_after pattern i calls image
 torn_after pattern i (Read ∷ calls) image = torn_after pattern i calls image
 
--- the calls after the last sync among these
+-- the calls after the last sync among these, or where there is no sync all of them after those in `pending`
 abbrev pub pending_after : List Call → List Call → List Call
 pending_after [] pending = pending
 pending_after (Write file at bytes ∷ calls) pending = pending_after calls (pending ++ Write file at bytes ∷ [])

@@ -111,6 +111,7 @@ from_quiet P m new quiet steps c now = let (d, was, step) = steps c now in (d, q
 
 -- ---- calls that only read
 
+-- an empty stretch of calls only reads, and so do two on end of which each does
 pub reads_none : {told : Bool} {m : Medium} → IsLawful told m → OnlyReads m m
 reads_none law = record { image = refl; now = λ c now. now; during = λ c past. law.only_now c past; written = refl }
 
@@ -137,6 +138,7 @@ reads_write_nothing reads = record {
 
 -- ---- reads and syncs on a quiet disk
 
+-- on a quiet disk an empty stretch of calls, or one that only reads, is idle
 pub idle_none : {told : Bool} {m : Medium} → IsLawful told m → Quiet m → IsIdle m m
 idle_none law quiet = record {
   image = refl;
@@ -164,6 +166,7 @@ idle_sync {a} {b} quiet calls after = record {
   written = calls.written;
 }
 
+-- two idle stretches on end are one
 pub idle_on : {a b c : Medium} → Elapses a b → IsIdle a b → Elapses b c → IsIdle b c → IsIdle a c
 idle_on {a} {b} {c} time first later next = record {
   image = next.image ∙ first.image;

@@ -3,23 +3,25 @@ use Rattle.std.specs.Prelude.{◌≡◌, ◌⊎◌, ℕ, ◌≤◌, Bool, IsTrue
 use Rattle.disk_model.specs.Image.{Image}
 use Rattle.disk_model.specs.Case.{Case, IsSettledAt}
 
--- All that is said of a disk at one moment.
+-- All that is said of a disk at one moment. A case is one way that a crash may end; moments are numbers, and t is this
+-- one or an earlier one.
 pub record Medium : Type 1 where
   -- what reads give
   pub image : Image
   -- what a crash now may leave
   pub now : Case → Type 0
-  -- the clock
+  -- the number of this moment, which later moments do not go below
   pub moment : ℕ
-  -- what a crash at this or at some later moment might have left
+  -- what a crash at moment t or later, up to now, might have left
   pub since : ℕ → Case → Type 0
-  -- what reads gave at this or at some later moment: the cases then possible that leave it
+  -- what reads gave at moment t or later, up to now, as the cases then possible that leave it
   pub gave : ℕ → Case → Type 0
-  -- since this moment a stop at any time, and the present, left what can be opened again
+  -- what a stop at moment t or later would have left, and what is there now, can be opened again as a disk
   pub opens : ℕ → Type 0
-  -- and what goes on taking writes once it is opened: nothing there contradicts itself
+  -- and it goes on taking writes once it is opened: nothing there contradicts itself
   pub agrees : ℕ → Type 0
-  -- and what one fault of the device cannot take from two copies of a place, as far as there was room for that
+  -- and in it two copies of a place share nothing that one fault of the device takes away, as far as there was room to
+  -- keep them apart
   pub apart : ℕ → Type 0
   -- how many calls have failed, up to the greatest u64
   pub faults : ℕ
@@ -34,7 +36,7 @@ Quiet m = (c : Case) → m.now c → IsSettledAt m.image c
 abbrev pub IsOutcome : Medium → Image → Type 0
 IsOutcome m image = (c : Case) × m.now c × (c.left ≡ image)
 
--- What is so of each disk that meets the model.
+-- What is so of each disk that meets the model; `told` says whether its bytes are modelled.
 pub record IsLawful (told : Bool) (m : Medium) : Type 0 where
   -- this moment is one of those since an earlier one
   pub counts_now : (t : ℕ) (c : Case) → t ≤ m.moment → m.now c → m.since t c
@@ -50,7 +52,8 @@ pub record IsLawful (told : Bool) (m : Medium) : Type 0 where
   -- what reads gave is what a crash might have left
   pub gave_left : (t : ℕ) (c : Case) → m.gave t c → m.since t c
 
--- What came since each moment t up to this one is what came before, and what came since this moment.
+-- What came since each moment t up to `moment` is what `old` has of it and what came since `moment`, no more and no
+-- less (`new t x`: x came at moment t or later).
 pub record Grows {X : Type 0} (moment : ℕ) (old new : ℕ → X → Type 0) : Type 0 where
   pub nothing_else : (t : ℕ) (x : X) → t ≤ moment → new t x → old t x ⊎ new moment x
   pub keeps : (t : ℕ) (x : X) → t ≤ moment → old t x → new t x
@@ -91,6 +94,6 @@ pub record IsIdle (old new : Medium) : Type 0 where
   pub during : (c : Case) → new.since old.moment c → IsSettledAt old.image c
   pub written : new.written ≡ old.written
 
--- P holds of each case of a crash since the start of a stretch of calls
+-- P holds of each case of a crash at any moment of a stretch of calls, by the disk at its start and at its end
 abbrev pub EachCase : (P : Case → Type 0) → Medium → Medium → Type 0
 EachCase P old new = (c : Case) → new.since old.moment c → P c

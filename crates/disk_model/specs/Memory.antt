@@ -22,8 +22,8 @@ starved_count disk = disk.starved
 abbrev pub synced_image : MemDisk → Image
 synced_image disk = base_after disk.calls.items (start_image disk.files disk.start) (start_image disk.files disk.start)
 
--- what is left where the writes since the last sync stand that the pattern says, and every file is as long as all of
--- them make it
+-- what a crash leaves that keeps, of the writes since the last sync, those of which the pattern has a 1 (`stands`), and
+-- makes every file as long as all of them make it
 abbrev pub torn_image : MemDisk → ℕ → Image
 torn_image disk pattern = torn_after pattern 0 (pending_after disk.calls.items []) (synced_image disk)
 
@@ -66,11 +66,14 @@ pub record KeepsCounts (old new : MemDisk) : Type 0 where
   pub faults : (mem_medium new).faults ≡ (mem_medium old).faults
   pub starved : starved_count new ≡ starved_count old
 
--- How a call answers: it fails where the plan names it and where it comes after the stop, and else because memory ran
--- out alone, which is counted beside the fault.
+-- How a call answers, by the disk before and after it and whether it failed: it fails where the plan names it and where
+-- it comes after the stop, and else because memory ran out alone, which is counted beside the fault.
 pub record AnswersAsPlanned (old new : MemDisk) (failed : Bool) : Type 0 where
+  -- a call that is to fail fails, and not because memory ran out
   pub due : IsTrue (is_due old) → IsTrue failed × (starved_count new ≡ starved_count old)
+  -- any other fails only because memory ran out
   pub starves : IsFalse (is_due old) → IsTrue failed → starved_count new ≡ raised (starved_count old)
+  -- a failure counts as one fault, and a success as none
   pub fails : IsTrue failed → (mem_medium new).faults ≡ raised (mem_medium old).faults
   pub passes : IsFalse failed → KeepsCounts old new
   -- the next call is now number 0

@@ -2,11 +2,12 @@
 use Rattle.std.specs.Prelude.{◌≢◌, ℕ, ◌+◌, ◌*◌, ◌<◌}
 use Rattle.disk_model.specs.declared.place.Place.{Place}
 
--- the slot file of a copy for texts of even (0) or odd (1) generation
+-- The slot file of a copy for texts of even (parity 0) or odd (1) generation. A generation is the number of a version
+-- of a text, so that the next version goes into the other slot and leaves this one as it is.
 abbrev pub slot : Place → (copy parity : ℕ) → ℕ
 slot place copy parity = place.first + 4 * copy + parity
 
--- the area file of a copy
+-- the area file of a copy, which keeps contents in blocks of 256 bytes
 abbrev pub area : Place → (copy : ℕ) → ℕ
 area place copy = place.first + 4 * copy + 2
 

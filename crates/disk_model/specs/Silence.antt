@@ -19,6 +19,7 @@ silent_medium faults = record {
   written = 0;
 }
 
+-- it meets the laws of a disk
 pub silent_is_lawful : (faults : ℕ) → IsLawful false (silent_medium faults)
 silent_is_lawful faults = record {
   counts_now = λ t c le now. now;

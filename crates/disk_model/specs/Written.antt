@@ -108,6 +108,7 @@ module _ (old : List ℕ) (at : ℕ) (bytes : List ℕ) where
   length-put_some some = put_cases (λ new. length new ≡ max (length old) (at + length bytes))
       (λ none. absurd (some none)) (λ _. length-spliced)
 
+  -- a whole write is one way to tear it
   pub put_torn : Torn at (length bytes) old (put_bytes old at bytes)
   put_torn = record {
     kept = λ i inside outside. put_outside i outside;
@@ -115,6 +116,7 @@ module _ (old : List ℕ) (at : ℕ) (bytes : List ℕ) where
     no_longer = omega (arith, length-put_bytes);
   }
 
+-- what a whole write makes of the file that it is in, and that it leaves every other file
 pub put_image_here : (image : Image) (file at : ℕ) (bytes : List ℕ)
     → put_image image file at bytes file ≡ put_bytes (image file) at bytes
 put_image_here image file at bytes =

@@ -10,7 +10,11 @@ ghost use Rattle.disk_model.specs.Medium.{Medium, Quiet, IsLawful, Elapses, Only
 #[derive(Clone, Copy, Debug, PartialEq, Eq)]
 pub struct DiskFailed;
 
-/// A disk of files that are named by numbers. A file that was never written is empty.
+/// A disk of files that are named by numbers. A file that was never written is empty. Places and sizes are in bytes.
+///
+/// What a crash may leave is said by *cases*: a case is one way that it may end. `now` has those of a crash now, and
+/// `since t` those of a crash at the moment t or later, up to now; moments are numbers that never fall.
+///
 /// Each call says too that time goes on (`Elapses`): what a crash might have left before counts still, no count falls.
 /// What is said of bytes holds where the disk models them, and so what is said of crashes: a disk that models nothing
 /// names no case, which is one outcome of a crash. Whether a disk is modelled is a constant of its type.
@@ -18,11 +22,12 @@ pub trait Disk {
     /// Whether the bytes of a disk of this type are modelled.
     ghost told: { Bool };
 
-    /// What reads give, what a crash may leave, the clock, and the counts of faults and of bytes written.
+    /// What reads give, what a crash may leave, the number of this moment, and the counts of faults and of bytes
+    /// written.
     ghost medium: { Self → Medium };
 
-    /// Reads from the byte `at` on as many bytes as there are, and at most as many as `out` has room for. The rest of
-    /// `out` is free.
+    /// Reads a file from the byte `at` on into the start of `out`, as many bytes as there are and as it has room for,
+    /// and says how many. The rest of `out` may hold anything.
     fn read(&mut self, file: u32, at: u64, out: &mut [u8]) -> Result<usize, DiskFailed>
         ensures count { IfOk result (λ n. n ≤ length out.old) }
         ensures bytes { IsTrue told → IfOk result (λ n.
@@ -34,15 +39,19 @@ pub trait Disk {
         ensures cause { OnErr result (Rose (medium self.old).faults (medium self.new).faults) }
         ensures passes { OnOk result ((medium self.new).faults ≡ (medium self.old).faults) };
 
-    /// Writes the bytes from the byte `at` on; a gap before them reads as zeros, and no bytes change nothing. They are
-    /// durable after the next `sync`. Where the call fails, the range may hold anything, as after a crash.
+    /// Writes the bytes into a file from the byte `at` on; a gap before them reads as zeros, and no bytes change
+    /// nothing. They are durable after the next `sync`. Where the call fails, the range may hold anything, as after a
+    /// crash.
     fn write_at(&mut self, file: u32, at: u64, bytes: &[u8]) -> Result<(), DiskFailed>
+        // After a success reads give the bytes written; after a failure only the range, and what is past the old end,
+        // may have changed.
         ensures image { IsTrue told → OnOk result
             ((medium self.new).image ≡ put_image (medium self.old).image file at bytes.now) }
         ensures torn { IsTrue told → OnErr result
             (TornImage file at (length bytes.now) (medium self.old).image (medium self.new).image) }
 
-        // What a crash may leave after the call, and at any moment of it.
+        // What a crash may leave after the call, and at any moment of it (`during`): each case comes from one before
+        // the call, by the write whole or cut short or, in its midst, left out.
         ensures now { OnOk result (Follows (WriteCase file at bytes.now) (medium self.old).now (medium self.new).now) }
         ensures during { Follows (WriteOrNot file at bytes.now) (medium self.old).now
             ((medium self.new).since (medium self.old).moment) }
@@ -65,6 +74,8 @@ pub trait Disk {
 
     /// Makes every write so far durable, in all files: afterwards a crash leaves what reads give.
     fn sync(&mut self) -> Result<(), DiskFailed>
+        // After a success nothing is pending; after a failure a crash leaves nothing that it would not have left
+        // before.
         ensures quiet { OnOk result (Quiet (medium self.new)) }
         ensures failed { OnErr result (OnlyReads (medium self.old) (medium self.new)) }
         // No byte changes. A crash meanwhile leaves what one before or one after does. Faults rise just on a failure.
@@ -73,7 +84,7 @@ pub trait Disk {
         ensures cause { OnErr result (Rose (medium self.old).faults (medium self.new).faults) }
         ensures passes { OnOk result ((medium self.new).faults ≡ (medium self.old).faults) };
 
-    /// This moment counts among those since an earlier one, since now there is no other, and what reads give is what
-    /// some crash leaves.
+    /// Of each disk: this moment counts among those since an earlier one, since now there is no other, and what reads
+    /// give is what some crash leaves.
     ghost lawful: { (disk : Self) → IsLawful told (medium disk) };
 }

@@ -51,7 +51,8 @@ pub fn begun(start: Option<WrittenFiles>, files: WrittenFiles) -> WrittenFiles
     }
 }
 
-/// Copies what is from `at` on, as much as there is and as there is room for, and says how much that is.
+/// Copies the bytes from the byte `at` on to the start of `out`, as many as there are and as it has room for, and says
+/// how many.
 pub fn read_from(bytes: &[u8], at: u64, out: &mut [u8]) -> usize
     ensures count { result ≡ min (length out.old) (length bytes.now - at) }
     ensures bytes { take result out.new ≡ take result (drop at bytes.now) }
@@ -67,7 +68,7 @@ pub fn read_from(bytes: &[u8], at: u64, out: &mut [u8]) -> usize
     count
 }
 
-/// Writes into the files; what fails changes nothing.
+/// Writes the bytes into a file from the byte `at` on, whole; what fails changes nothing.
 pub fn put(
     alloc: Global,
     files: &mut WrittenFiles,
@@ -110,7 +111,7 @@ pub fn grow(
     }
 }
 
-/// Sets one byte, if the file has it.
+/// Sets the byte at the place `at` of a file, if the file is that long, and says whether it is.
 pub fn set_byte(files: &mut WrittenFiles, file: u32, at: u64, byte: u8) -> bool
     ensures within { IsTrue result ↔ (at < length (image_of files.old file)) }
     ensures set { OnTrue result ((f : ℕ) → image_of files.new f

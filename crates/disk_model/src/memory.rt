@@ -46,6 +46,7 @@ impl MemDisk {
     /// A disk whose files are all empty.
     pub fn new(alloc: Global) -> MemDisk
         ensures empty { (f : ℕ) → length ((mem_medium result).image f) ≡ 0 }
+        // Nothing waits for a sync, the counts are 0, and no call is to fail.
         ensures fresh { IsFresh result }
     {
         MemDisk::holding(alloc, BTreeMap::new(alloc))
@@ -53,6 +54,7 @@ impl MemDisk {
 
     /// Makes the calls with these numbers fail, counted from 0 from now on. It replaces an earlier plan; a stop stays.
     pub fn fail_calls(&mut self, calls: Vec<u64>)
+        // Which of the calls to come are to fail (call 0 is the next one), by the plan and by the stop.
         ensures planned { (k : ℕ) → is_planned self.new k ≡ named_in calls.items k }
         ensures stopped { (k : ℕ) → is_stopped self.new k ≡ is_stopped self.old k }
         ensures unchanged { IsUnchanged (mem_medium self.old) (mem_medium self.new) }
@@ -63,6 +65,7 @@ impl MemDisk {
 
     /// Lets `k` more calls pass, and makes every call after them fail. It replaces an earlier stop; a plan stays.
     pub fn stop_after(&mut self, k: u64)
+        // Which of the calls to come are to fail (call 0 is the next one), by the plan and by the stop.
         ensures planned { (n : ℕ) → is_planned self.new n ≡ is_planned self.old n }
         ensures stopped { (n : ℕ) → is_stopped self.new n ≡ nat_le k n }
         ensures unchanged { IsUnchanged (mem_medium self.old) (mem_medium self.new) }
@@ -71,8 +74,8 @@ impl MemDisk {
         self.orders.stop(k);
     }
 
-    /// Sets one byte, where nothing waits for a sync, as damage that is in every case from then on. Gives `false`, and
-    /// changes nothing, where the file is not that long. The record of calls starts over.
+    /// Sets the byte at the place `at` of a file, where nothing waits for a sync, as damage that is in every case from
+    /// then on. Gives `false`, and changes nothing, where the file is not that long. The record of calls starts over.
     pub fn spoil(&mut self, file: u32, at: u64, byte: u8) -> bool
         requires { Quiet (mem_medium self.old) }
         ensures within { IsTrue result ↔ (at < length ((mem_medium self.old).image file)) }
@@ -100,6 +103,7 @@ impl MemDisk {
     pub fn crash(self, keep: bool) -> Result<MemDisk, AllocError>
         ensures bytes { IfOk result (λ disk. (mem_medium disk).image
             ≡ (if keep then (mem_medium self).image else synced_image self)) }
+        // This is one of the cases that the disk named, and the new disk has no plan, no stop, and counts of 0.
         ensures outcome { IfOk result (λ disk. IsOutcome (mem_medium self) (mem_medium disk).image) }
         ensures fresh { IfOk result IsFresh }
     {
@@ -119,10 +123,12 @@ impl MemDisk {
     }
 
     /// The disk after a crash that tears: each file is as long as all writes since the last sync make it, and the i-th
-    /// of these writes, from 0, stands where bit `i mod 64` of the pattern is 1. Past the old end, bytes that no
-    /// standing write gave are zeros.
+    /// of these writes, from 0, stands, which is to be kept whole, where bit `i mod 64` of the pattern is 1. Past the
+    /// old end, bytes that no standing write gave are zeros.
     pub fn crash_torn(self, pattern: u64) -> Result<MemDisk, AllocError>
         ensures bytes { IfOk result (λ disk. (mem_medium disk).image ≡ torn_image self pattern) }
+        // Each file f is as long as reads gave it. This is one of the cases that the disk named, and the new disk has
+        // no plan, no stop, and counts of 0.
         ensures long { IfOk result (λ disk. (f : ℕ) → length ((mem_medium disk).image f)
             ≡ length ((mem_medium self).image f)) }
         ensures outcome { IfOk result (λ disk. IsOutcome (mem_medium self) (mem_medium disk).image) }
@@ -276,6 +282,7 @@ impl Disk for MemDisk {
         disk.faults disk.written disk.tied };
 
     fn read(&mut self, file: u32, at: u64, out: &mut [u8]) -> Result<usize, DiskFailed>
+        // What every disk says (`Disk::read`).
         ensures count { IfOk result (λ n. n ≤ length out.old) }
         ensures bytes { IfOk result (λ n.
             (n ≡ min (length out.old) (length ((mem_medium self.old).image file) - at))
@@ -295,6 +302,7 @@ impl Disk for MemDisk {
     }
 
     fn write_at(&mut self, file: u32, at: u64, bytes: &[u8]) -> Result<(), DiskFailed>
+        // What every disk says (`Disk::write_at`).
         ensures image { OnOk result ((mem_medium self.new).image
             ≡ put_image (mem_medium self.old).image file at bytes.now) }
         ensures torn { OnErr result (TornImage file at (length bytes.now) (mem_medium self.old).image
@@ -327,6 +335,7 @@ impl Disk for MemDisk {
     }
 
     fn size(&mut self, file: u32) -> Result<u64, DiskFailed>
+        // What every disk says (`Disk::size`).
         ensures size { IfOk result (λ n. n ≡ length ((mem_medium self.old).image file)) }
         ensures reads { OnlyReads (mem_medium self.old) (mem_medium self.new) }
         ensures time { Elapses (mem_medium self.old) (mem_medium self.new) }
@@ -343,6 +352,7 @@ impl Disk for MemDisk {
     }
 
     fn sync(&mut self) -> Result<(), DiskFailed>
+        // What every disk says (`Disk::sync`).
         ensures quiet { OnOk result (Quiet (mem_medium self.new)) }
         ensures failed { OnErr result (OnlyReads (mem_medium self.old) (mem_medium self.new)) }
         ensures writes_nothing { WritesNothing (mem_medium self.old) (mem_medium self.new) }

@@ -84,6 +84,7 @@ numbered-read slot g body bytes v =
     joined (drop 32 slot) (little_bytes 8 g) (little_bytes 4 (length body)) body (length_in slot) generation number
     its_body
 
+-- a slot that verifies begins with the text that seals what it verifies as
 pub verified-sealed : (slot : List ℕ) (g : ℕ) (body : List ℕ) → ((i : ℕ) → slice_index slot i < 256)
     → VerifiesAs slot g body
     → take (header + length body) slot ≡ sealed g body

@@ -24,6 +24,7 @@ length-numbered generation body =
     length-three (little_bytes 8 generation) (little_bytes 4 (length body)) body (length body)
     (length-bytes_low_first 0 8 generation) (length-bytes_low_first 0 4 (length body)) refl
 
+-- a sealed text has 44 bytes more than its body
 pub length-sealed : (generation : ℕ) (body : List ℕ) → length (sealed generation body) ≡ header + length body
 unfolding sealed
 length-sealed generation body =
@@ -63,6 +64,7 @@ parts h a b body rest lh la lb =
       long = ap length regrouped ∙ simp length-append (omega arith);
     }
 
+-- what is sealed verifies as what was sealed, whatever follows it
 pub sealed_verifies : (generation : ℕ) (body rest : List ℕ) → 1 ≤ generation → generation < 2 ^ 64
     → length body ≤ max_body → VerifiesAs (sealed generation body ++ rest) generation body
 unfolding sealed numbered generation_in length_in
@@ -116,6 +118,7 @@ text_within slot g body v = omega (arith, v.front.whole, length-body slot g body
 
 -- ---- what never verifies
 
+-- neither zeros at the start, nor a slot shorter than a header, nor one that states too long a body
 pub blank_never : (rest : List ℕ) (g : ℕ) (body : List ℕ) → VerifiesAs (replicate 44 0 ++ rest) g body → ⊥
 unfolding generation_in
 blank_never rest g body v =
@@ -241,6 +244,7 @@ sealed-is_sealed slot e =
       hash = (bytes_eq-Decides (take 32 slot) (sha256 (take (12 + length_in slot) (drop 32 slot)))).0 hash.1;
     }
 
+-- as what a slot verifies, `verified` gives, and the other way round
 pub verifies-verified : (slot : List ℕ) (g : ℕ) (body : List ℕ) → VerifiesAs slot g body
     → verified slot ≡ Some (g, body)
 unfolding verified

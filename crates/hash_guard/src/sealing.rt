@@ -6,11 +6,12 @@ use crate::layout::{HASH, HEADER, LENGTH_AT};
 use byteorder::{ByteOrder, LittleEndian};
 use std::alloc::{AllocError, Global};
 
-/// The sealed text of this generation and body, of 44 bytes more than the body.
+/// The sealed text of this generation and body, of 44 bytes more than the body: the hash of what follows, the
+/// generation, the body's length, and the body.
 ///
 /// # Errors
 ///
-/// Only `OutOfMemory`.
+/// Only where memory runs out.
 pub fn seal(alloc: Global, generation: u64, body: &[u8]) -> Result<Vec<u8>, AllocError>
     requires positive { 1 ≤ generation }
     requires short { length body.now ≤ max_body }
@@ -31,6 +32,7 @@ pub fn seal_into(text: &mut [u8], generation: u64, body: &[u8])
     requires short { length body.now ≤ max_body }
     requires room { length text.old ≡ header + length body.now }
     ensures text { text.new ≡ sealed generation body.now }
+    // The text verifies as what was sealed, whatever follows it.
     ensures verifies { (rest : List ℕ) → VerifiesAs (text.new ++ rest) generation body.now }
 {
     let (stated, rest) = text.split_at_mut(HASH);

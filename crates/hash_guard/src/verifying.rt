@@ -18,6 +18,7 @@ pub struct Sealed<'a> {
 /// The generation and the body of the sealed text at the slot's start; `None` exactly where there is no such text. Does
 /// not allocate, and reads nothing after the text.
 pub fn verify(slot: &[u8]) -> Option<Sealed<'_>>
+    // What is found is that as which the slot verifies; where nothing is, it verifies as no generation and body.
     ensures some { IfSome result (λ found. VerifiesAs slot.now found.generation found.body.now) }
     ensures none { IfNone result ((generation : ℕ) (body : List ℕ)
         → VerifiesAs slot.now generation body → ⊥) }

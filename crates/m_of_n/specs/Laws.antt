@@ -9,11 +9,13 @@ use Rattle.std.specs.Str.{bytes_eq}
 use Rattle.std.proofs.lemmas.Slice.Eq.{bytes_eq-Decides}
 use Rattle.m_of_n.specs.Vote.{holders, is_text, voted}
 
+-- the text of each copy, None where it is missing or unreadable
 abbrev pub Copies : Type 0
 Copies = List (Option (List ℕ))
 
 -- ---- the count of a text's copies
 
+-- one copy more counts where it is the text
 pub holders-cons : (copy : Option (List ℕ)) (copies : Copies) (text : List ℕ)
     → holders (copy ∷ copies) text ≡ cond {A = ℕ} (is_text text copy) 1 0 + holders copies text
 holders-cons copy copies text = sum_by-cons (λ other. cond (is_text text other) 1 0) copy copies

@@ -5,11 +5,11 @@ use Rattle.std.specs.List.{filter_map}
 use Rattle.std.specs.Str.{bytes_eq}
 use Rattle.std.specs.declared.alloc.Global.{Global}
 
--- the copies as texts
+-- the copies as texts, each the list of its bytes; None is a copy that is missing or unreadable
 abbrev pub texts_of : List (Option (Vec ℕ Global)) → List (Option (List ℕ))
 texts_of copies = map (λ copy. option_map (λ text. text.items) copy) copies
 
--- whether a copy is this text
+-- whether a copy is this text; a missing one is no text
 abbrev pub is_text : List ℕ → Option (List ℕ) → Bool
 is_text text None = false
 is_text text (Some other) = bytes_eq other text
@@ -18,10 +18,10 @@ is_text text (Some other) = bytes_eq other text
 abbrev pub holders : List (Option (List ℕ)) → List ℕ → ℕ
 holders copies text = count_by (is_text text) copies
 
--- the first text among some of the copies that at least m of all the copies are
+-- the first text among some of the copies that at least m of all the copies are (arguments: m, all, some)
 abbrev pub first_agreed : ℕ → List (Option (List ℕ)) → List (Option (List ℕ)) → Option (List ℕ)
 first_agreed m copies some = find (λ text. nat_le m (holders copies text)) (filter_map (λ copy. copy) some)
 
--- the first text, in order of copies, that at least m copies are
+-- the first text, in order of copies, that at least m copies are; none where no text has so many
 unfoldable pub voted : ℕ → List (Option (List ℕ)) → Option (List ℕ)
 voted m copies = first_agreed m copies copies

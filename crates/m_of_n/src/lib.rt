@@ -12,10 +12,12 @@ ghost use Rattle.std.specs.Prelude.{◌≡◌, ◌≤◌};
 ghost use Rattle.std.specs.Option.{option_copied};
 ghost use Rattle.m_of_n.specs.Vote.{holders, texts_of, voted};
 
-/// The first text, in order of copies, that at least `m` copies equal; `None` exactly where there is none.
+/// The first text, in order of copies, that at least `m` copies equal; `None` exactly where there is none. `copies` has
+/// the text that was read of each copy, and `None` for one that is missing or unreadable.
 #[tactic(auto, unfolding(crate::specs::Vote::voted))]
 pub fn vote(m: u32, copies: &[Option<Vec<u8>>]) -> Option<&[u8]>
     requires { 1 ≤ m }
+    // The answer is the text that the vote gives, as its bytes, and none where the vote gives none.
     ensures { option_copied result ≡ voted m (texts_of copies.now) }
 {
     for copy in copies {

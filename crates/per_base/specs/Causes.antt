@@ -5,16 +5,17 @@ use Rattle.std.specs.Prelude.{◌≡◌, ◌≤◌, ℕ, ◌+◌, ◌-◌, ◌^�
 abbrev pub raised : ℕ → ℕ
 raised count = min (count + 1) (2 ^ 64 - 1)
 
--- the count rose, or stands at its greatest
+-- the count was `before` and is `now`: it rose between, or stands at the greatest u64, where it can rise no more
 abbrev pub Rose : ℕ → ℕ → Type 0
 Rose before now = raised before ≤ now
 
--- the count never falls, and an error comes only where it rose
+-- Why a call failed, by the count of faults before it and now, and its result: the count never falls, and an error
+-- comes only where it rose.
 pub record HasCause {T E : Type 0} (before now : ℕ) (result : Result T E) : Type 0 where
   pub later : before ≤ now
   pub failed : OnErr result (Rose before now)
 
--- the count stays where the call succeeds, rises where it fails, and never falls
+-- the same, and a call that succeeds leaves the count as it was
 pub record CountsFaults {T E : Type 0} (before now : ℕ) (result : Result T E) : Type 0 where
   pub later : before ≤ now
   pub failed : OnErr result (Rose before now)

@@ -5,17 +5,17 @@ use Rattle.per_base.specs.declared.elements.Change.{Change}
 use Rattle.per_base.specs.declared.elements.Change.TheVariants.{Put, Remove, Touch}
 use Rattle.per_base.specs.declared.elements.Element.{Element}
 
--- the element that a change is of
+-- the name of the element that a change is of
 abbrev pub changed_name : Change → List ℕ
 changed_name (Put f) = f.name
 changed_name (Remove name) = name
 changed_name (Touch name info) = name
 
--- the change of this name
+-- the first of the changes that is of the element with this name, if one is
 abbrev pub change_at : List ℕ → List Change → Option Change
 change_at name changes = find (λ change. bytes_eq (changed_name change) name) changes
 
--- an element that is there goes
+-- the change that takes away the element of this name: none where there is no such element
 abbrev pub removal : List ℕ → Option Element → Option Change
 removal name None = None
 removal name (Some old) = Some (Remove name)

@@ -12,6 +12,7 @@ use Rattle.std.proofs.lemmas.Nat.{le_bytes_2, le_bytes_4, le_bytes_8, from_le_by
 use Rattle.std.proofs.lemmas.Nat.{from_le_bytes-to_le_bytes_4, from_le_bytes-to_le_bytes_8}
 use Rattle.per_base.specs.Fields.{◌>>=◌, byte_at, bytes_at, number_at, only_if, many, AreBytes}
 
+-- what is left of bytes, or taken of them, are bytes
 pub AreBytes-drop : (n : ℕ) (bytes : List ℕ) → AreBytes bytes → AreBytes (drop n bytes)
 AreBytes-drop n bytes fits i = rw get_or-drop (fits (n + i))
 
@@ -22,7 +23,7 @@ AreBytes-take n bytes fits i =
       | inr le ↦ rw (get_or_past (take n bytes) i 0 (omega (arith, length-take n bytes))) (omega arith)
     ]
 
--- the bytes are a text and the bytes after it
+-- the bytes are this text and the rest after it, and each number of the rest is a byte
 pub record Takes (bytes text rest : List ℕ) : Type 0 where
   pub parts : bytes ≡ text ++ rest
   pub rest_fits : AreBytes rest
@@ -34,7 +35,8 @@ Takes-then {x = x} {y = y} {c = c} p q = record {
   rest_fits = q.rest_fits;
 }
 
--- the reader takes exactly the texts of what fits
+-- `read` takes exactly the texts of what fits: what it gives fits, and the bytes began with its text; and the text of a
+-- thing that fits is read as that thing, whatever follows
 pub record IsReader {A : Type 0} (read : List ℕ → Option (A × List ℕ)) (text : A → List ℕ) (Fits : A → Type 0) : Type 0
   where
     pub takes : (bytes : List ℕ) (x : A) (rest : List ℕ) → AreBytes bytes → read bytes ≡ Some (x, rest)
@@ -80,6 +82,7 @@ byte_takes (c ∷ bytes) b rest fits e =
     subst (λ (x : ℕ × List ℕ). Takes (c ∷ bytes) (x.0 ∷ []) x.1 × (x.0 < 256)) same
     (record { parts = refl; rest_fits = λ i. fits (suc i) }, fits 0)
 
+-- one byte, a number below 256
 pub byte_reader : IsReader byte_at (λ b. b ∷ []) (λ b. b < 256)
 byte_reader = record { takes = byte_takes; again = λ b rest fits. refl }
 
@@ -100,12 +103,13 @@ bytes_again n x rest len =
     let long : ltb (length (x ++ rest)) n ≡ false = le-ltb _ _ (omega (arith, length-append x rest)) in
     rw (long, take_at x rest n len, drop_at x rest n len) refl
 
+-- n bytes
 pub bytes_reader : (n : ℕ) → IsReader (bytes_at n) (λ x. x) (λ x. length x ≡ n)
 bytes_reader n = record { takes = bytes_take n; again = bytes_again n }
 
 -- ---- numbers
 
--- numbers below the limit have as many bytes as the width, and are read back
+-- a width, and the limit below which numbers fit in it: they have as many bytes as the width, and are read back
 pub record IsWide (w : Width) (limit : ℕ) : Type 0 where
   pub len : (n : ℕ) → length (to_le_bytes w n) ≡ byte_len w
   pub back : (bytes : List ℕ) → length bytes ≡ byte_len w → AreBytes bytes
@@ -171,6 +175,7 @@ number_again w limit wide n rest lt =
       wide.again n lt,
     ) refl
 
+-- a number below the limit, in as many bytes as its width, the lowest first
 pub number_reader : (w : Width) (limit : ℕ) → IsWide w limit → IsReader (number_at w) (to_le_bytes w) (λ n. n < limit)
 number_reader w limit wide = record { takes = number_takes w limit wide; again = number_again w limit wide }
 

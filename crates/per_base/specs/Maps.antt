@@ -8,31 +8,35 @@ use Rattle.std.specs.Map.{lookup, remove_entry}
 use Rattle.per_base.specs.declared.elements.Element.{Element}
 use Rattle.per_base.specs.Names.{name_cmp}
 
+-- pairs of a name, which is its bytes, and the element of that name
 abbrev pub Map : Type 0
 Map = List (List ℕ × Element)
 
--- what a table gives for this word
+-- what a table, a list of words each with a value, has in its first row with this word
 abbrev pub first_row : {A : Type 0} → List (List ℕ × A) → List ℕ → Option A
 first_row [] word = None
 first_row (row ∷ rows) word = if bytes_eq word row.0 then Some row.1 else first_row rows word
 
--- the element of this name
+-- the element of this name, if there is one
 abbrev pub element_at : Map → List ℕ → Option Element
 element_at m name = lookup (is_at (name_cmp name)) m
 
+-- whether there is an element of this name
 abbrev pub has : Map → List ℕ → Bool
 has m name = is_some (element_at m name)
 
--- the map with this element at this name, and with none there
+-- the map with this element put at this name, in place of an earlier one
 abbrev pub with_element : Map → List ℕ → Element → Map
 with_element m name element = insert_entry name_cmp m name element
 
+-- the map with the element of this name taken out, if there was one
 abbrev pub without : Map → List ℕ → Map
 without m name = remove_entry (is_at (name_cmp name)) m
 
+-- the names, in the order of the map
 abbrev pub names_of : Map → List (List ℕ)
 names_of m = map (λ e. e.0) m
 
--- names and contents, readable or not, in bytes
+-- the bytes of all elements: of each its name and its encoding or content, which counts readable or not
 abbrev pub size_of : Map → ℕ
 size_of m = sum_by (λ e. length e.0 + e.1.len) m

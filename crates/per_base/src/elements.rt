@@ -15,7 +15,7 @@ pub enum StoreKind {
     Files,
 }
 
-/// What must agree in M copies: each element by itself, or the whole storage.
+/// What must agree in M of the copies that are kept of a storage: each element by itself, or the whole storage.
 #[derive(Clone, Copy, Debug, PartialEq, Eq)]
 pub enum Scope {
     Element,
@@ -32,7 +32,8 @@ pub enum Cause {
     Application,
 }
 
-/// What is known of a file besides its content: three moments in seconds, and the causes of its making and last change.
+/// What is known of a file besides its content: when it was made, last changed and last opened, in seconds, and the
+/// causes of its making and of its last change.
 #[derive(Clone, Copy, Debug, PartialEq, Eq)]
 pub struct FileInfo {
     pub created: u64,
@@ -72,7 +73,7 @@ pub struct Entry {
     pub lacking: Numbers,
 }
 
-/// An element that is to be written.
+/// An element that is to be written: its name, its info (files alone), and the bytes of its encoding or content.
 #[derive(Debug, Drop)]
 pub struct Fresh {
     pub name: Name,
@@ -160,13 +161,13 @@ impl Fresh {
     }
 }
 
-/// The bytes of a block of an area, in which contents are.
+/// How many bytes a block has. The area of a copy, the file that keeps contents, is divided into blocks.
 pub const BLOCK: usize = 256;
 
-/// No element is larger, in bytes: 255 for the name and what a `u32` counts.
+/// The greatest size of an element in bytes: 255 for the name, and the greatest `u32` for the encoding or content.
 pub const ENTRY_SIZE: u64 = 255 + 4_294_967_295;
 
-/// The size in bytes of an element with this name and this length.
+/// The size in bytes of an element with this name, whose encoding or content has `len` bytes.
 pub fn element_size(name: &Name, len: u32) -> u64
     ensures size { result ≡ length name.now + len }
     ensures bound { result ≤ ENTRY_SIZE }

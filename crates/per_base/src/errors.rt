@@ -58,7 +58,7 @@ pub enum PerError {
     PhysicalStorageFailure,
     /// 5: too few copies agree and verify.
     IntegrityCorrupted { unit: Unit },
-    /// 7: the stored and the asked type differ.
+    /// 7: the stored type and the type that was asked for differ.
     DataTypeMismatch { stored: ValueText, asked: ValueText },
     /// 8: the deployment has no initial value for the name.
     InitValueNotAvailable,
@@ -74,7 +74,7 @@ pub enum PerError {
     IsEof,
     /// 14: the flags of the opening contradict one another.
     InvalidOpenMode,
-    /// 15: the new size is above the size.
+    /// 15: the new size of a file is above its size.
     InvalidSize,
     /// 20: no deployment is installed.
     NotInstalled,

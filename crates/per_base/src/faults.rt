@@ -1,6 +1,6 @@
 //! How a call fails that takes over what it works on.
 
-/// Why a call was not done to which a register or a storage was given away.
+/// Why a call failed that took over a thing of the type `T`, such as an open storage.
 #[derive(Debug, Drop)]
 pub enum Fault<T> {
     /// The disk failed, and its count of faults rose: what was given is closed.

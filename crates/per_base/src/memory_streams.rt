@@ -40,7 +40,8 @@ impl Model for MemSource {
 }
 
 impl MemSource {
-    /// A source of these bytes. The calls of these numbers fail, counted from 0. Does not allocate.
+    /// A source of these bytes, of which a call gives at most `piece`. The calls whose numbers are in `failing`,
+    /// counted from 0, fail. Does not allocate.
     pub fn new(bytes: Vec<u8>, piece: u64, failing: Vec<u64>) -> MemSource
         requires { 1 ≤ piece }
         ensures left { result.left ≡ bytes.items }
@@ -64,6 +65,7 @@ impl Source for MemSource {
     ghost faults = { λ s. s.faults };
 
     fn read(&mut self, out: &mut [u8]) -> Result<usize, Failed>
+        // What every source says (`Source::read`).
         ensures bound { IfOk result (λ n. n ≤ length out.new) }
         ensures bytes { ReadConsumes (Some self.old.left) (Some self.new.left) result out.new }
         ensures told { is_some (Some self.new.left) ≡ is_some (Some self.old.left) }
@@ -129,7 +131,8 @@ impl Model for MemSink {
 }
 
 impl MemSink {
-    /// An empty sink. The calls of these numbers fail, counted from 0. Does not allocate.
+    /// An empty sink, of which a call takes at most `piece` bytes. The calls whose numbers are in `failing`, counted
+    /// from 0, fail. Does not allocate.
     pub fn new(alloc: Global, piece: u64, failing: Vec<u64>) -> MemSink
         ensures written { result.written ≡ [] }
         ensures plan { (result.piece ≡ piece) × (result.failing ≡ failing.items) }
@@ -152,7 +155,7 @@ impl MemSink {
         self.bytes.as_slice()
     }
 
-    /// How often memory ran out for the bytes. Does not allocate.
+    /// How many calls failed because memory ran out for the bytes, up to the greatest `u64`. Does not allocate.
     pub fn starved(&self) -> u64
         ensures { result ≡ self.now.starved }
     {
@@ -166,6 +169,7 @@ impl Sink for MemSink {
     ghost faults = { λ s. s.faults };
 
     fn write(&mut self, bytes: &[u8]) -> Result<usize, Failed>
+        // What every sink says (`Sink::write`).
         ensures bound { IfOk result (λ n. n ≤ length bytes.now) }
         ensures bytes { WriteAppends (Some self.old.written) (Some self.new.written) result bytes.now }
         ensures told { is_some (Some self.new.written) ≡ is_some (Some self.old.written) }

@@ -30,7 +30,7 @@ impl Model for Name {
 pub const NAME_BYTES: usize = 255;
 
 impl Name {
-    /// A name with this text.
+    /// A name with this text, whose bytes are what contracts see of it.
     ///
     /// # Errors
     ///

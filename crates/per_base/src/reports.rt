@@ -6,7 +6,8 @@ use crate::lists::Numbers;
 use crate::names::Name;
 use std::alloc::AllocError;
 
-/// What an opening found of a storage or an element.
+/// What an opening found of a storage (of keys: Kvs, of files: Files) or of an element of one (Key, File). *Recovered*:
+/// it can be read, though some copies lack it. *Failed*: too few copies agree on it, or its content is no value.
 #[derive(Clone, Copy, Debug, PartialEq, Eq)]
 pub enum ReportKind {
     KvsRecovered,
@@ -19,7 +20,8 @@ pub enum ReportKind {
     FileFailed,
 }
 
-/// One report: the storage, the element where it speaks of one, and exactly the lacking copies, ascending from 1.
+/// One report: the storage, the element where it speaks of one, and exactly the copies that lack what it speaks of,
+/// counted from 1 and ascending.
 #[derive(Debug, Drop)]
 pub struct Report {
     pub kind: ReportKind,

@@ -7,6 +7,7 @@ use Rattle.std.proofs.lemmas.Slice.Eq.{bytes_eq-Decides}
 use Rattle.std.specs.Str.{bytes_eq}
 use Rattle.changed_runs.specs.Changed.{run_of, run_cost}
 
+-- a run has 256 bytes, or what is left of the bytes
 pub length-run : (bytes : List ℕ) (j : ℕ) → length (run_of bytes j) ≡ min 256 (length bytes - 256 * j)
 length-run bytes j = length-take 256 (drop (256 * j) bytes) ∙ ap (min 256) (length-drop (256 * j) bytes)
 
@@ -20,6 +21,7 @@ pub other_costs : (old run : List ℕ) (p : ℕ) → bytes_eq (take (length run)
     → run_cost old p run ≡ length run
 other_costs old run p differs = subst (λ (b : Bool). cond b 0 (length run) ≡ length run) (sym differs) refl
 
+-- a run costs at most its length
 pub cost_within : (old run : List ℕ) (p : ℕ) → run_cost old p run ≤ length run
 cost_within old run p = ⊎_elim
     (λ same. subst (λ (b : Bool). cond b 0 (length run) ≤ length run) (sym same) zero-le)

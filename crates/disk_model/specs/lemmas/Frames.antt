@@ -105,6 +105,7 @@ apart_block spared apart file block n short files blocks = record {
       ⊎_elim (λ below. inl (omega arith)) (λ above. inr (omega arith)) (cases_lt k block);
 }
 
+-- what a whole write apart leaves alone, and one that was cut short
 pub keeps_put : {spared apart : ℕ → Type 0} (image : Image) (file at : ℕ) (bytes : List ℕ)
     → IsWriteApart spared apart file at (length bytes)
     → Keeps spared apart image (put_image image file at bytes)
@@ -139,6 +140,7 @@ tears_torn old new file at n is torn = record {
       (cases_eq f file);
 }
 
+-- the same from case to case, of a write, and of one that failed
 pub case_write : {spared apart : ℕ → Type 0} {old new : Case} (file at : ℕ) (bytes : List ℕ)
     → IsWriteApart spared apart file at (length bytes)
     → WriteCase file at bytes old new → KeepsCase spared apart old new
@@ -156,6 +158,7 @@ case_or_not {spared} {apart} old new file at bytes is step =
 
 -- ---- files in which nothing is pending
 
+-- a disk with nothing pending has nothing pending in any of its files
 pub settled_on : (files : ℕ → Type 0) {image : Image} {c : Case} → IsSettledAt image c → IsSettledOn files image c
 settled_on files settled = record {
   base = λ f is. ap (λ i. i f) settled.base;
@@ -172,6 +175,7 @@ settled_before same settled = record {
   left = λ f is. settled.left f is ∙ same f is;
 }
 
+-- and so it is in fewer files
 pub settled_less : {files fewer : ℕ → Type 0} {image : Image} {c : Case} → ((f : ℕ) → fewer f → files f)
     → IsSettledOn files image c → IsSettledOn fewer image c
 settled_less less settled = record {
