@@ -29,7 +29,8 @@ abbrev pub FailsToRead : {Y : Type 0} → LineError → Option Y → Type 0
 FailsToRead error.NotALine read = read ≡ None
 FailsToRead error.OutOfMemory read = ⊤
 
--- what a function returned, seen by view, is what reading gives
+-- what a function returned, seen by view, is what reading gives; its error says that reading gives none, or that memory
+-- ran out
 abbrev pub ReadsLine : {X Y : Type 0} → (X → Y) → Result X LineError → Option Y → Type 0
 ReadsLine view (Ok x) read = read ≡ Some (view x)
 ReadsLine view (Err e) read = FailsToRead e read
@@ -41,13 +42,14 @@ abbrev pub split : List ℕ → Option (List ℕ × List ℕ)
 split [] = None
 split (b ∷ bytes) = if nat_eq b 32 then Some ([], bytes) else with_front (b ∷ []) (split bytes)
 
--- what the row of the word gives, or else the other
+-- what the row of the word in this table gives, or else the other
 abbrev pub pick : {A : Type 0} → List (List ℕ × A) → List ℕ → (A → Option Call) → Option Call → Option Call
 pick [] word use_row other = other
 pick (row ∷ rows) word use_row other = if bytes_eq word row.0 then use_row row.1 else pick rows word use_row other
 
 -- ---- arguments, each the whole of its text
 
+-- a name; one byte of two digits; the text of a manifest, some without a line feed; each none where the text is no such
 abbrev pub name_in : List ℕ → Option (List ℕ)
 name_in text = if is_name text then Some text else None
 
@@ -315,6 +317,7 @@ parts_in text = do
   call ← split words.1
   Some (application, call.0, call.1)
 
+-- the event that a text spells: a moment after the word `now`, or an application's digit and a call
 unfoldable pub event_in : List ℕ → Option Event
 event_in text = do
   words ← split text
@@ -323,6 +326,7 @@ event_in text = do
     c ← call_in words.1
     Some (event.App a c))
 
+-- what a text says: nothing where it is empty or begins with `#` (35), the end, or an event
 unfoldable pub line_in : List ℕ → Option Line
 line_in [] = Some line.Nothing
 line_in (b ∷ rest) =
