@@ -150,7 +150,8 @@ HasText other = ⊤
 
 -- ---- reports
 
--- the word of a report: what was read, and whether it was recovered from the other copies or failed
+-- the word of a report: a storage, or an element of one, was read although copies lack it (recovered), or could not be
+-- read (failed)
 abbrev pub report_word : ReportKind → List ℕ
 report_word report.KvsRecovered = codes "kvs-recovered"
 report_word report.KvsFailed = codes "kvs-failed"
@@ -171,7 +172,7 @@ abbrev pub copies_text : List ℕ → List ℕ
 copies_text [] = codes "-"
 copies_text (c ∷ copies) = decimal c ++ flat_map (λ d. 44 ∷ decimal d) copies
 
--- the line of a report: its word, what it is of, and the copies that it is about
+-- the line of a report: its word, what it is of, and the copies that lack it
 abbrev pub report_line : Report → List ℕ
 report_line r = codes "report " ++ report_word r.kind ++ codes " " ++ reported_text r.storage r.element ++ codes " "
     ++ copies_text r.copies ++ codes "\n"

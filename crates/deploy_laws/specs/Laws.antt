@@ -1,6 +1,9 @@
 -- What an image says of an application, and what a stop at each moment of a call, and then damage, leave of it: the
--- statements of the laws. `g` is a generation, `start` the image at which a call began, `c` a case of a crash, `image`
--- what reads give after a crash and damage, and `after` what the application was on its way to.
+-- statements of the laws. `g` is a generation, `start` the image at which a call began, `c` a case of a crash, and
+-- `after` what the application was on its way to. `image` is any image, hostile ones included, or in the laws of stops
+-- what reads give after a crash and damage.
+-- A text is held alone where each copy of the root holds it and no copy another one (`IsAlone`). Files that are spared
+-- do not change (`Spares`), and with a case that settles them nothing in them is pending (`IsSettledOn`).
 use Rattle.std.specs.Prelude.{◌≡◌, ℕ, ◌+◌, ◌<◌, ◌≤◌, List, [], map, Contains, Option, Some, slice_get, slice_set}
 use Rattle.disk_model.specs.Image.{Image}
 use Rattle.disk_model.specs.Case.{Case}

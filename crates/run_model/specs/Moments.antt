@@ -38,7 +38,7 @@ IsDecided app (Some d) = Between app d.before d.after d.case
 
 -- ---- before a run
 
--- so it is of this case, or it might have come before these calls
+-- so it is of this case of a crash, or it is one that a crash before these calls, at `old`, might have left
 abbrev pub OrBefore : Medium → (Case → Type 0) → Case → Type 0
 OrBefore old P c = old.now c ⊎ P c
 
@@ -88,10 +88,12 @@ abbrev pub IsPast : ℕ → (w : World) → List World → Case → Type 0
 IsPast app w [] c = ⊥
 IsPast app w (v ∷ vs) c = AtMoment app (disks w) (disks v) v.doubt c ⊎ IsPast app v vs c
 
+-- the last of the worlds after w, or w where there is none
 abbrev pub last_of : World → List World → World
 last_of w [] = w
 last_of w (v ∷ vs) = last_of v vs
 
+-- so it is of the doubt of each world: nothing passes its hash by chance; and, below, it stands between its sides
 abbrev pub AreSoundDoubts : ℕ → List World → Type 0
 AreSoundDoubts app worlds = AllByRecursion (λ (w : World). IsSoundDoubt app w.doubt) worlds
 
@@ -104,6 +106,7 @@ AreDecided app worlds = AllByRecursion (λ (w : World). IsDecided app w.doubt) w
 abbrev pub IsImaged : ℕ → Disks → Type 0
 IsImaged app ds = (start : Image) × (disk_at ds app ≡ app_at start app)
 
+-- what was on the disk before the command that left the doubt is what some image denotes
 abbrev pub IsSideImaged : ℕ → Option Doubt → Type 0
 IsSideImaged app None = Unit {0}
 IsSideImaged app (Some d) = IsImaged app d.before
@@ -112,6 +115,7 @@ IsSideImaged app (Some d) = IsImaged app d.before
 abbrev pub IsWorldImaged : ℕ → World → Type 0
 IsWorldImaged app w = IsImaged app (disks w) × IsSideImaged app w.doubt
 
+-- so it is of each of these worlds
 abbrev pub AreImaged : ℕ → List World → Type 0
 AreImaged app worlds = AllByRecursion (λ (w : World). IsWorldImaged app w) worlds
 

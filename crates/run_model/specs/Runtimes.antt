@@ -48,6 +48,7 @@ pub record Memory : Type 0 where
 
 -- ---- the world
 
+-- the applications from number `app` on: of each what is on the disk, and what is kept in memory
 abbrev pub with_disk : (ℕ → App) → ℕ → List Running → List Application
 with_disk disk app [] = []
 with_disk disk app (r ∷ rs) = record { disk = disk app; stage = r.stage; sessions = r.sessions }
@@ -58,7 +59,7 @@ with_disk disk app (r ∷ rs) = record { disk = disk app; stage = r.stage; sessi
 abbrev pub world_of : Image → Memory → Option Doubt → World
 world_of image memory doubt = record { now = memory.now; apps = with_disk (app_at image) 0 memory.apps; doubt = doubt }
 
--- there is one where the memory says so
+-- there is a doubt exactly where the memory says so
 abbrev pub IsDoubt : Memory → Option Doubt → Type 0
 IsDoubt memory doubt = is_some doubt ≡ memory.in_doubt
 
@@ -81,7 +82,8 @@ pub record StartKeeps (old new : Medium) : Type 0 where
   -- only slots of roots change
   pub roots : Spares IsNoRoot old.image new.image
 
--- a start that ended well
+-- A start that ended well: eight applications in memory, no doubt, the world of the disk with each root mended, nothing
+-- pending, and clean places where they were clean.
 pub record Starts (memory : Memory) (old new : Medium) : Type 0 where
   pub eight : length memory.apps ≡ 8
   pub sure : memory.in_doubt ≡ false

@@ -18,6 +18,7 @@ pub record DiskBytes : Type 0 where
   pub image : Image
   pub written : ℕ
 
+-- the bytes of a disk as the model knows it now
 abbrev pub bytes_now : Medium → DiskBytes
 bytes_now m = record { image = m.image; written = m.written }
 
@@ -35,6 +36,7 @@ pub record Turn : Type 0 where
 abbrev pub turn : Event → Reply → Medium → World → Turn
 turn e reply m w = record { event = e; reply = reply; faults = m.faults; bytes = bytes_now m; world = w }
 
+-- of turns, in order: the commands, the replies, and the worlds after them
 abbrev pub events_of : List Turn → List Event
 events_of turns = map (λ (t : Turn). t.event) turns
 

@@ -65,6 +65,7 @@ disks w = map (λ (a : Application). a.disk) w.apps
 abbrev pub no_app : App
 no_app = record { says = nothing; lacking = []; states = [] }
 
+-- an application, or one of which the disk says nothing
 abbrev pub or_none : Option App → App
 or_none None = no_app
 or_none (Some a) = a
@@ -77,10 +78,12 @@ disk_at ds app = or_none (slice_get ds app)
 abbrev pub resting : App → Application
 resting a = record { disk = a; stage = at_rest; sessions = none_open }
 
+-- an application, or one of which the disk says nothing and nothing is open
 abbrev pub or_idle : Option Application → Application
 or_idle None = resting no_app
 or_idle (Some a) = a
 
+-- the application of this number in a world; the world with another one in its place; and the world with no doubt
 abbrev pub app_of : World → ℕ → Application
 app_of w app = or_idle (slice_get w.apps app)
 
@@ -92,7 +95,7 @@ without_doubt w = record w { doubt = None }
 
 -- ---- where worlds begin and end
 
--- that many applications, from this number on
+-- that many applications, from this number on, each with what is on its disk and nothing open
 abbrev pub all_resting : (ℕ → App) → (app count : ℕ) → List Application
 all_resting disk app zero = []
 all_resting disk app (suc count) = resting (disk app) ∷ all_resting disk (app + 1) count
