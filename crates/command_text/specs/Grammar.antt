@@ -26,12 +26,13 @@ use Rattle.command_text.specs.declared.lines.Line.TheVariants as line
 
 -- ---- words of arguments
 
--- the words of how a file is opened, of where an offset counts from, and of a mode: its flags joined, or `none`
+-- the word of what a file is opened for: reading, writing, or both
 abbrev pub kind_text : OpenKind → List ℕ
 kind_text kind.Read = codes "r"
 kind_text kind.Write = codes "w"
 kind_text kind.ReadWrite = codes "rw"
 
+-- the word of where an offset counts from
 abbrev pub origin_text : Origin → List ℕ
 origin_text origin.Beginning = codes "begin"
 origin_text origin.Current = codes "current"
@@ -47,6 +48,7 @@ abbrev pub joined_words : List (List ℕ) → List ℕ
 joined_words [] = codes "none"
 joined_words (w ∷ ws) = join_with_byte 43 (w ∷ ws)
 
+-- the word of a mode: its flags joined, or `none`
 abbrev pub mode_text : OpenMode → List ℕ
 mode_text mode = joined_words (flag (at_beginning mode) (codes "begin") ++ flag (at_end mode) (codes "end")
     ++ flag (truncates mode) (codes "truncate") ++ flag (appends mode) (codes "append"))

@@ -49,7 +49,7 @@ pick (row ∷ rows) word use_row other = if bytes_eq word row.0 then use_row row
 
 -- ---- arguments, each the whole of its text
 
--- a name; one byte of two digits; the text of a manifest, some without a line feed; each none where the text is no such
+-- the name that a text is, if it is one
 abbrev pub name_in : List ℕ → Option (List ℕ)
 name_in text = if is_name text then Some text else None
 
@@ -58,28 +58,33 @@ abbrev pub the_one : List ℕ → Option ℕ
 the_one (b ∷ []) = Some b
 the_one other = None
 
+-- the one byte that two digits spell
 abbrev pub octet_in : List ℕ → Option ℕ
 octet_in text = bytes_in text >>= the_one
 
+-- the text of a manifest: some text without a line feed
 abbrev pub manifest_in : List ℕ → Option (List ℕ)
 manifest_in text = if nat_eq (length text) 0 then None else (if has_feed text then None else Some text)
 
+-- the words of what a file is opened for
 abbrev pub kind_words : List (List ℕ × OpenKind)
 kind_words = (codes "r", kind.Read) ∷ (codes "w", kind.Write) ∷ (codes "rw", kind.ReadWrite) ∷ []
 
 unfoldable pub kind_word_in : List ℕ → Option OpenKind
 kind_word_in text = first_row kind_words text
 
+-- the words of where an offset counts from
 abbrev pub origin_words : List (List ℕ × Origin)
 origin_words = (codes "begin", origin.Beginning) ∷ (codes "current", origin.Current) ∷ (codes "end", origin.End) ∷ []
 
 unfoldable pub origin_in : List ℕ → Option Origin
 origin_in text = first_row origin_words text
 
+-- the mode with these flags
 abbrev pub mode_of : ℕ → OpenMode
 mode_of bits = record { 0 = bits }
 
--- the flags of a mode: begin 1, end 2, truncate 4, append 8
+-- the words of the modes that append, by the bits of their flags: begin 1, end 2, truncate 4, append 8
 abbrev pub appending_modes : List (List ℕ × OpenMode)
 appending_modes = (codes "append", mode_of 8)
     ∷ (codes "begin+append", mode_of 9)
@@ -93,6 +98,7 @@ appending_modes = (codes "append", mode_of 8)
 unfoldable pub mode_end_in : List ℕ → Option OpenMode
 mode_end_in text = first_row appending_modes text
 
+-- the words of the modes that do not append
 abbrev pub other_modes : List (List ℕ × OpenMode)
 other_modes = (codes "none", mode_of 0)
     ∷ (codes "begin", mode_of 1)
@@ -106,7 +112,7 @@ other_modes = (codes "none", mode_of 0)
 unfoldable pub mode_in : List ℕ → Option OpenMode
 mode_in text = branch (first_row other_modes text) (λ mode. Some mode) (mode_end_in text)
 
--- two names; a name and a handle; and the same with what follows them
+-- two names: a storage's, and a key's or a file's
 unfoldable pub element_in : List ℕ → Option (List ℕ × List ℕ)
 element_in text = do
   words ← split text
@@ -114,6 +120,7 @@ element_in text = do
   name ← name_in words.1
   Some (storage, name)
 
+-- the name of a storage, and the number of a handle, of 32 bits
 unfoldable pub handle_in : List ℕ → Option (List ℕ × ℕ)
 handle_in text = do
   words ← split text
@@ -121,6 +128,7 @@ handle_in text = do
   handle ← unsigned_in (2 ^ 32) words.1
   Some (storage, handle)
 
+-- two names, and what follows them
 unfoldable pub element_front : List ℕ → Option (List ℕ × List ℕ × List ℕ)
 element_front text = do
   words ← split text
@@ -129,6 +137,7 @@ element_front text = do
   name ← name_in more.0
   Some (storage, name, more.1)
 
+-- the name of a storage, the number of a handle, and what follows them
 unfoldable pub handle_front : List ℕ → Option (List ℕ × ℕ × List ℕ)
 handle_front text = do
   words ← split text
@@ -137,7 +146,7 @@ handle_front text = do
   handle ← unsigned_in (2 ^ 32) more.0
   Some (storage, handle, more.1)
 
--- how a file is opened; and from where and how far a position moves
+-- how a file is opened: its kind and its mode
 unfoldable pub opening_in : List ℕ → Option (OpenKind × OpenMode)
 opening_in text = do
   words ← split text
@@ -145,6 +154,7 @@ opening_in text = do
   mode ← mode_in words.1
   Some (kind, mode)
 
+-- from where a position moves, and how far
 unfoldable pub distance_in : List ℕ → Option (Origin × ℤ)
 distance_in text = do
   words ← split text

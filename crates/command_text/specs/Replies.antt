@@ -43,7 +43,7 @@ holder_text (holder.Storage s) = codes "storage " ++ s
 holder_text (holder.Handle h) = codes "handle " ++ decimal h
 holder_text (holder.Update v) = codes "update " ++ decimal v
 
--- the word of a limit, and below it the name of an error
+-- the word of a limit
 abbrev pub limit_text : Limit → List ℕ
 limit_text limit.Elements = codes "elements"
 limit_text limit.Handles = codes "handles"
@@ -52,6 +52,7 @@ limit_text limit.ValueBytes = codes "value-bytes"
 limit_text limit.ValueDepth = codes "value-depth"
 limit_text limit.Generations = codes "generations"
 
+-- the name of an error
 abbrev pub error_name : PerError → List ℕ
 error_name error.StorageNotFound = codes "StorageNotFound"
 error_name error.KeyNotFound = codes "KeyNotFound"

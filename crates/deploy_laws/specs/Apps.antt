@@ -47,14 +47,14 @@ says_generation (installed g active previous) = g
 abbrev pub named_in_bank : ℕ → Version → Named
 named_in_bank bank v = record { bank = bank; deployment = v.deployment }
 
--- what a root says whose text has this generation and is read as this; and what one does by the text that stands, if
--- one does
+-- what a root says whose text has this generation and is read as this; a text that is not a root's says nothing
 abbrev pub says_by : ℕ → Option Root → Says
 says_by g None = nothing
 says_by g (Some text.absent) = absent g
 says_by g (Some (text.installed bank active previous)) =
     installed g (named_in_bank bank active) (option_map (named_in_bank (1 - bank)) previous)
 
+-- what a root says by the text that stands, if one does
 abbrev pub says_in : Option Seen → Says
 says_in None = nothing
 says_in (Some seen) = says_by seen.generation (root_of seen.text)

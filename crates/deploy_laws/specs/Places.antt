@@ -10,9 +10,11 @@ use Rattle.deployment_model.specs.declared.configs.Deployment.{Deployment}
 
 -- A place has from 1 to 8 copies of 4 files each, and its files have numbers below 2^32: 32 files from 4294967263 on
 -- are the last. What goes beyond is cut off; nothing that a deployment gives does.
+-- the number of a first file, cut so that 32 files from it on have numbers below 2^32
 abbrev pub cut_first : ℕ → ℕ
 cut_first first = min first 4294967263
 
+-- a number of copies, cut to 1 to 8
 abbrev pub cut_copies : ℕ → ℕ
 cut_copies copies = min 8 (max 1 copies)
 
@@ -39,10 +41,11 @@ place_at first copies = record {
 abbrev pub first_file : ℕ → ℕ
 first_file app = 4096 * app
 
--- the copies of a root, and how many of them must agree
+-- the copies of a root
 abbrev pub copies_of_root : ℕ
 copies_of_root = 3
 
+-- how many copies of a root must agree
 abbrev pub agreeing_of_root : ℕ
 agreeing_of_root = 2
 
@@ -83,10 +86,11 @@ pub record Named : Type 0 where
 abbrev pub version_in_bank : (bank : ℕ) → Option Deployment → Option Named
 version_in_bank bank previous = option_map (λ d. record { bank = bank; deployment = deployment_data d }) previous
 
--- the shapes of all storages of an application's version, by their numbers; and the same where there may be no version
+-- the shapes of all storages of an application's version, by their numbers
 abbrev pub shapes_in : ℕ → Named → List Shape
 shapes_in app v = shapes_from app v.bank 0 v.deployment.storages
 
+-- the same where there may be no version: then there are none
 abbrev pub shapes_if : ℕ → Option Named → List Shape
 shapes_if app None = []
 shapes_if app (Some v) = shapes_in app v

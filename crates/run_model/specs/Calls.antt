@@ -136,11 +136,12 @@ flush_step app r name h = storage_in r.disk name (Some kinds.Files) >>= λ f. op
     may_flush s h >>= λ may. durable app r f s >>= λ after.
     Ok (answered answer.Done after)
 
--- the least number of an open handle, if one is open; with one a storage is busy, and is not closed
+-- the least number of an open handle, if one is open
 abbrev pub lowest_handle : Session → Option ℕ
 lowest_handle (keys s) = None
 lowest_handle (files s) = lowest s.working.handles
 
+-- the rest, or the refusal that this handle is open
 abbrev pub unless_busy : {A : Type 0} → Option ℕ → Result A PerError → Result A PerError
 unless_busy None rest = rest
 unless_busy (Some h) rest = Err (error.ResourceBusy (holder.Handle h))
@@ -250,23 +251,25 @@ progress_in nothing p = Err (error.IntegrityCorrupted unit.Root)
 progress_in (absent g) p = Err error.NotInstalled
 progress_in (installed g active previous) p = found_or p error.NoUpdateInProgress
 
--- the update in progress of an application; and how many storages of one are not built yet
+-- the update in progress of an application, or the refusal
 abbrev pub progress_of : Application → Result InProgress PerError
 progress_of r = progress_in r.disk.says (update_in r.stage)
 
+-- how many storages of an update are not built yet
 abbrev pub remaining : InProgress → ℕ
 remaining p = length p.contents - p.built
 
--- one storage more of the update is built, and the answer is how many remain; a commit makes the new version active;
--- an abort forgets the update
+-- one storage more of the update is built, and the answer is how many remain
 abbrev pub next_step : Application → Result Outcome PerError
 next_step r = progress_of r >>= λ p. Ok (answered (answer.Number (remaining (one_more p)))
     (record r { stage = updating (one_more p) }))
 
+-- the new version is active, and the old one the previous
 abbrev pub commit_step : Application → Result Outcome PerError
 commit_step r = progress_of r >>= λ p. Ok (answered answer.Done
     (record r { disk = updated_app p r.disk; stage = at_rest }))
 
+-- the update in progress is forgotten
 abbrev pub abort_step : Application → Result Outcome PerError
 abort_step r = progress_of r >>= λ p. Ok (answered answer.Done (record r { stage = at_rest }))
 
@@ -305,10 +308,11 @@ app_step app r now (call.RecoverStorage n) = rebuild_step r n (λ f. recovering 
 app_step app r now (call.ResetStorage n) = rebuild_step r n (λ f. resetting f.config now f.state)
 app_step app r now other = local_step r now (local_on other) other
 
--- an update in one call, and one that goes on in steps
+-- an update in one call: the new version is active
 abbrev pub with_update : Application → InProgress → Result Outcome PerError
 with_update r p = Ok (answered answer.Done (record r { disk = updated_app p r.disk }))
 
+-- an update that goes on in steps: it is in progress
 abbrev pub with_update_begun : Application → InProgress → Result Outcome PerError
 with_update_begun r p = Ok (answered answer.Done (record r { stage = updating p }))
 

@@ -93,10 +93,11 @@ abbrev pub last_of : World → List World → World
 last_of w [] = w
 last_of w (v ∷ vs) = last_of v vs
 
--- so it is of the doubt of each world: nothing passes its hash by chance; and, below, it stands between its sides
+-- so it is of the doubt of each of these worlds
 abbrev pub AreSoundDoubts : ℕ → List World → Type 0
 AreSoundDoubts app worlds = AllByRecursion (λ (w : World). IsSoundDoubt app w.doubt) worlds
 
+-- so it is of the doubt of each of these worlds
 abbrev pub AreDecided : ℕ → List World → Type 0
 AreDecided app worlds = AllByRecursion (λ (w : World). IsDecided app w.doubt) worlds
 

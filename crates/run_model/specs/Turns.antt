@@ -36,13 +36,15 @@ pub record Turn : Type 0 where
 abbrev pub turn : Event → Reply → Medium → World → Turn
 turn e reply m w = record { event = e; reply = reply; faults = m.faults; bytes = bytes_now m; world = w }
 
--- of turns, in order: the commands, the replies, and the worlds after them
+-- the commands of turns, in order
 abbrev pub events_of : List Turn → List Event
 events_of turns = map (λ (t : Turn). t.event) turns
 
+-- their replies
 abbrev pub replies_of : List Turn → List Reply
 replies_of turns = map (λ (t : Turn). t.reply) turns
 
+-- the worlds after them
 abbrev pub worlds_of : List Turn → List World
 worlds_of turns = map (λ (t : Turn). t.world) turns
 

@@ -83,13 +83,15 @@ abbrev pub or_idle : Option Application → Application
 or_idle None = resting no_app
 or_idle (Some a) = a
 
--- the application of this number in a world; the world with another one in its place; and the world with no doubt
+-- the application of this number in a world
 abbrev pub app_of : World → ℕ → Application
 app_of w app = or_idle (slice_get w.apps app)
 
+-- the world with this application under this number
 abbrev pub with_app : World → ℕ → Application → World
 with_app w app a = record w { apps = slice_set w.apps app a }
 
+-- the world with no doubt
 abbrev pub without_doubt : World → World
 without_doubt w = record w { doubt = None }
 

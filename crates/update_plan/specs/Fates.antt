@@ -33,13 +33,15 @@ pub data Fate : Type 0 where
   converted : Tree → List ℕ → Fate
   refused : PerError → Fate
 
--- of an element as it is configured, if it is: its own strategy, its initial bytes, and its type
+-- the own strategy of an element, where it is configured and has one
 abbrev pub strategy_of : Option ElementData → Option ElementStrategy
 strategy_of configured = option_and_then (λ (e : ElementData). e.strategy) configured
 
+-- the initial bytes of an element, where it is configured and has some
 abbrev pub initial_configured : Option ElementData → Option (List ℕ)
 initial_configured configured = option_and_then (λ (e : ElementData). e.initial) configured
 
+-- the type of an element, where it is configured and has one
 abbrev pub type_configured : Option ElementData → Option Kind
 type_configured configured = option_and_then (λ (e : ElementData). e.value_type) configured
 
@@ -120,10 +122,12 @@ Becomes answers name (refused e) new = ⊥
 abbrev pub RefusesAs : Fate → PerError → Type 0
 RefusesAs f e = e ≢ OutOfMemory → refusal f ≡ Some e
 
+-- a call gave what the name then has, or the refusal
 abbrev pub Renews : Answers → List ℕ → Fate → Result (Option Fresh) PerError → Type 0
 Renews answers name f (Ok new) = Becomes answers name f new
 Renews answers name f (Err e) = RefusesAs f e
 
+-- the same of a call that gave an element
 abbrev pub Retains : Answers → List ℕ → Fate → Result Fresh PerError → Type 0
 Retains answers name f (Ok x) = Becomes answers name f (Some x)
 Retains answers name f (Err e) = RefusesAs f e

@@ -12,6 +12,7 @@ pub record Item : Type 0 where
   pub stored : Option Entry
   pub configured : Option ElementData
 
+-- a name of which something is stored and nothing configured; the other way round; and of which both is so
 abbrev pub only_stored : Entry → Item
 only_stored e = record { name = e.name; stored = Some e; configured = None }
 
@@ -27,6 +28,7 @@ by_order Less first same after = first
 by_order Equal first same after = same
 by_order Greater first same after = after
 
+-- a stored entry among the configured elements, where `others` are the names of the further entries with these
 abbrev pub with_entry : Entry → (List ElementData → List Item) → List ElementData → List Item
 with_entry e others [] = only_stored e ∷ others []
 with_entry e others (c ∷ cs) = by_order (name_cmp e.name c.name) (only_stored e ∷ others (c ∷ cs))

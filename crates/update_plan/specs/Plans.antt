@@ -92,10 +92,11 @@ stored_for old contents s = if_kind s.kind (storage_named old s.name) (contents_
 
 -- ---- one storage
 
--- the first of the stored elements, and of those that are to be written, with this name
+-- the first of the stored elements with this name
 abbrev pub entry_named : List Entry → List ℕ → Option Entry
 entry_named es name = find (λ (e : Entry). bytes_eq e.name name) es
 
+-- the first of the elements that are to be written with this name
 abbrev pub fresh_named : List Fresh → List ℕ → Option Fresh
 fresh_named xs name = find (λ (x : Fresh). bytes_eq x.name name) xs
 
