@@ -31,7 +31,9 @@ use root_text::one_root;
 pub fn roots_say()
     ensures versions { VersionsLaw }
     ensures says { SaysFrameLaw }
+    // A storage's number is its place in its version's list.
     ensures numbers { NumberLaw }
+    // Of a text that is held alone, by each copy and with no other beside it.
     ensures alone { AloneLaw }
     ensures held { AloneFrameLaw }
     ensures clean { AloneCleanLaw }
@@ -123,6 +125,7 @@ pub fn outcomes_are_refused()
         → ¬ (before.says ≡ nothing) → ¬ (after.says ≡ nothing)
         → HasEnoughRoot app damaged before.lacking
         → says_at image app ≡ nothing → ¬ (Stands app image damaged before after) }
+    // It became another root than the next; and a root that was bad says what no call gave it.
     ensures other_root { OtherRoot }
     ensures root_raised { RootRaised }
 
@@ -132,7 +135,10 @@ pub fn outcomes_are_refused()
         → slice_get (shapes_named app before.says) number ≡ Some shape → slice_get before.states number ≡ Some state
         → ¬ (Kept shape damaged (store_at image shape) state state)
         → says_at image app ≡ before.says → ¬ (after.says ≡ before.says) → ¬ (Stands app image damaged before after) }
+    // With nothing damaged, a storage of the old version that opened is corrupt.
     ensures old_version_lost { OldVersionLost }
+    // The root says the next version, and a storage of that is not as it was made.
     ensures root_too_early { RootTooEarly }
+    // The root stayed, and a storage is neither as before nor as after.
     ensures storage_strays { StorageStrays }
 {}

@@ -112,7 +112,8 @@ pub record LooksOnly (old new : Medium) : Type 0 where
   pub written : new.written ≡ old.written
   pub during : EachCase (OrBefore old (IsSettledAt old.image)) old new
 
--- a run on a disk whose bytes are modelled
+-- a run on a disk whose bytes are modelled, with all that it promises of the disk (`DiskSide`), where what reads gave
+-- after each command that failed has nothing of the application that passes its hash by chance
 pub record Ran (rules : List Rule) (answers : Answers) (app : ℕ) (old new : Medium) : Type 0 where
   pub ending : Ending
   pub lines : List (List ℕ)

@@ -61,7 +61,9 @@ IsMoment app w after doubt old c = (IsInDoubt w.doubt × old.now c) ⊎ AtMoment
 
 -- A command that was answered, for an application with which all was well before it.
 pub record KeepsApplication (app : ℕ) (w w' : World) (old new : Medium) : Type 0 where
+  -- each crash since the command began leaves what one at some moment of it may leave (`IsMoment`)
   pub any_moment : EachCase (IsMoment app w (disks w') w'.doubt old) old new
+  -- its places are clean, unless what reads gave after a failure passes a hash by chance
   pub clean : IsSoundDoubt app w'.doubt → IsCleanApp app new.image
   -- after it, in a doubt: one that stays has no new crash, and in one that is new each stands between its two sides
   pub calm : IsInDoubt w'.doubt → (c : Case) → new.now c → ((w'.doubt ≡ w.doubt) × old.now c) ⊎ InDoubt app w'.doubt c

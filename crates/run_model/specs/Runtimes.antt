@@ -196,17 +196,24 @@ StepsOn rules answers w e reply w' old new = Step rules answers w e reply w'
 pub record Stepped (rules : List Rule) (answers : Answers) (e : Event) (reply : Reply) (old_memory new_memory : Memory)
     (doubt : Option Doubt) (old new : Medium) : Type 0 where
   pub eight : length new_memory.apps ≡ 8
+  -- the doubt after the command: there is one where the memory says so
   pub doubt' : Option Doubt
   pub is_doubt : IsDoubt new_memory doubt'
+  -- the command leads from the world before it to the one after it, in which all holds that holds of every world
   pub step : StepsOn rules answers (world_of old.image old_memory doubt) e reply (world_of new.image new_memory doubt')
       old new
   pub world : IsWorld (world_of new.image new_memory doubt')
+  -- each application is kept at each moment of the command
   pub keeps : (app : ℕ) → app < 8 → StepKeeps app (world_of old.image old_memory doubt)
       (world_of new.image new_memory doubt') old new
+  -- a doubt is the one from before, or its case is one of the disk now; without a doubt nothing is pending
   pub case : (d : Doubt) → doubt' ≡ Some d → (doubt ≡ Some d) ⊎ (new.now d.case × (d.case.left ≡ new.image))
   pub quiet : doubt' ≡ None → Quiet new
+  -- no file of another application changes, nor one beside those of the storage that the command names
   pub aside : StaysAside e doubt old new
   pub place : Spares (IsBesideNamed (world_of old.image old_memory doubt) e) old.image new.image
+  -- a command that only looks, or is refused with no root opened before it, writes no byte; and a sync, a flush or a
+  -- close writes no more than what differs may cost
   pub unwritten : writes_none (world_of old.image old_memory doubt) e reply ≡ true → IsUnwritten old new
   pub written : WrittenBy (world_of old.image old_memory doubt) e old new
   -- the reply that the device failed has its cause in this command
@@ -215,9 +222,12 @@ pub record Stepped (rules : List Rule) (answers : Answers) (e : Event) (reply : 
 -- A command for which memory ran out: it is in progress.
 pub record Stopped (rules : List Rule) (answers : Answers) (e : Event) (memory : Memory) (doubt : Option Doubt)
     (old new : Medium) : Type 0 where
+  -- what the command leads to on the disk of each application, or what was there before
   pub after : Disks
   pub leads : Leads rules answers (world_of old.image memory doubt) e after
+  -- at each moment each application stands between what was and that
   pub keeps : (app : ℕ) → app < 8 → StopKeeps app (world_of old.image memory doubt) after old new
+  -- which files it may touch, and how much it may write
   pub aside : StaysAside e doubt old new
   pub place : Spares (IsBesideNamed (world_of old.image memory doubt) e) old.image new.image
   pub unwritten : only_looks (world_of old.image memory doubt) e ≡ true → IsUnwritten old new
