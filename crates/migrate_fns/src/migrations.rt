@@ -14,7 +14,8 @@ use per_base::Name;
 use std::alloc::AllocError;
 use typed_value::{Value, ValueType};
 
-/// A converter as a function. It takes no allocator: it captures one where it needs one.
+/// A converter as a function. It takes no allocator: it captures one where it needs one. In clauses `Converter.pre`
+/// says on which values it may be called, and `Converter.post` what it may then return.
 pub type Converter = Box<dyn Fn(&Value) -> Result<Value, AllocError>>;
 
 /// A stored converter: the name of the element that it is for, or none for every one, the type that it takes and the
