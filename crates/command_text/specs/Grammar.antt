@@ -26,11 +26,13 @@ use Rattle.command_text.specs.declared.lines.Line.TheVariants as line
 
 -- ---- words of arguments
 
+-- the word of what a file is opened for: reading, writing, or both
 abbrev pub kind_text : OpenKind → List ℕ
 kind_text kind.Read = codes "r"
 kind_text kind.Write = codes "w"
 kind_text kind.ReadWrite = codes "rw"
 
+-- the word of where an offset counts from
 abbrev pub origin_text : Origin → List ℕ
 origin_text origin.Beginning = codes "begin"
 origin_text origin.Current = codes "current"
@@ -41,17 +43,19 @@ abbrev pub flag : Bool → List ℕ → List (List ℕ)
 flag true word = word ∷ []
 flag false word = []
 
--- the words joined by plus signs, or the word for none
+-- the words joined by plus signs (43), or the word for none
 abbrev pub joined_words : List (List ℕ) → List ℕ
 joined_words [] = codes "none"
 joined_words (w ∷ ws) = join_with_byte 43 (w ∷ ws)
 
+-- the word of a mode: its flags joined, or `none`
 abbrev pub mode_text : OpenMode → List ℕ
 mode_text mode = joined_words (flag (at_beginning mode) (codes "begin") ++ flag (at_end mode) (codes "end")
     ++ flag (truncates mode) (codes "truncate") ++ flag (appends mode) (codes "append"))
 
 -- ---- arguments
 
+-- an argument of a call, by what it is
 pub data Argument : Type 0 where
   -- of a storage, a key or a file
   name : List ℕ → Argument
@@ -69,7 +73,7 @@ pub data Argument : Type 0 where
   counted_from : Origin → Argument
   offset : ℤ → Argument
 
--- the text of an argument
+-- the text of an argument: numbers in decimal digits, bytes in two hexadecimal digits each
 abbrev pub spelling : Argument → List ℕ
 spelling (name text) = text
 spelling (handle h) = decimal h
@@ -84,10 +88,12 @@ spelling (open_mode m) = mode_text m
 spelling (counted_from o) = origin_text o
 spelling (offset z) = signed_decimal z
 
+-- whether a text has a line feed (10)
 abbrev pub has_feed : List ℕ → Bool
 has_feed text = list_any (λ byte. nat_eq byte 10) text
 
--- what an argument may be
+-- what an argument may be: a handle has 32 bits, a number 64, an offset is between -2^63 and 2^63, a mode has 4 flags,
+-- and a manifest is some text without a line feed
 abbrev pub IsArgument : Argument → Type 0
 IsArgument (name text) = IsName text
 IsArgument (handle h) = h < 2 ^ 32
@@ -158,7 +164,7 @@ form (call.ResetFile s f) = (codes "reset-file", name s ∷ name f ∷ [])
 form (call.Cat s f) = (codes "cat", name s ∷ name f ∷ [])
 form (call.Put s f b) = (codes "put", name s ∷ name f ∷ octets b ∷ [])
 
--- words with one space between them
+-- words with one space (32) between them
 abbrev pub spaced : List (List ℕ) → List ℕ
 spaced words = join_with_byte 32 words
 
@@ -168,7 +174,8 @@ form_text f = spaced (f.0 ∷ map spelling f.1)
 
 -- ---- lines
 
--- the one line that spells an event; an application is one digit
+-- the one line that spells an event, without its line feed; an application is one digit, whose code is 48 more than its
+-- number
 abbrev pub line_of : Event → List ℕ
 line_of (event.Now t) = spaced (codes "now" ∷ decimal t ∷ [])
 line_of (event.App a c) = spaced (((48 + a) ∷ []) ∷ form_text (form c) ∷ [])
@@ -178,20 +185,21 @@ abbrev pub IsEvent : Event → Type 0
 IsEvent (event.Now t) = t < 2 ^ 64
 IsEvent (event.App a c) = (a < 8) × AllByRecursion IsArgument (form c).1
 
--- an empty line, or one that begins with `#`; a line holds no line feed
+-- an empty line, or a comment, which begins with `#`; a line holds no line feed
 abbrev pub IsNothing : List ℕ → Type 0
 IsNothing text = (text ≡ []) ⊎ ((rest : List ℕ) × (text ≡ codes "#" ++ rest) × (has_feed rest ≡ false))
 
+-- the text spells the line: it is nothing, the word `end`, or the one line of an event whose parts are in their bounds
 abbrev pub Spells : List ℕ → Line → Type 0
 Spells text line.Nothing = IsNothing text
 Spells text line.End = text ≡ codes "end"
 Spells text (line.Event e) = (text ≡ line_of e) × IsEvent e
 
--- the text is this line, and not too long
+-- the text spells this line, and has at most 262,144 bytes, the most of a line
 pub record IsLine (text : List ℕ) (line : Line) : Type 0 where
   pub short : length text ≤ 262144
   pub spelled : Spells text line
 
--- the text is the line of an event
+-- the text is a line that spells an event
 abbrev pub IsEventLine : List ℕ → Type 0
 IsEventLine text = (e : Event) × IsLine text (line.Event e)

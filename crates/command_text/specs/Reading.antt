@@ -29,7 +29,8 @@ abbrev pub FailsToRead : {Y : Type 0} → LineError → Option Y → Type 0
 FailsToRead error.NotALine read = read ≡ None
 FailsToRead error.OutOfMemory read = ⊤
 
--- what a function returned, seen by view, is what reading gives
+-- what a function returned, seen by view, is what reading gives; its error says that reading gives none, or that memory
+-- ran out
 abbrev pub ReadsLine : {X Y : Type 0} → (X → Y) → Result X LineError → Option Y → Type 0
 ReadsLine view (Ok x) read = read ≡ Some (view x)
 ReadsLine view (Err e) read = FailsToRead e read
@@ -41,13 +42,14 @@ abbrev pub split : List ℕ → Option (List ℕ × List ℕ)
 split [] = None
 split (b ∷ bytes) = if nat_eq b 32 then Some ([], bytes) else with_front (b ∷ []) (split bytes)
 
--- what the row of the word gives, or else the other
+-- what the row of the word in this table gives, or else the other
 abbrev pub pick : {A : Type 0} → List (List ℕ × A) → List ℕ → (A → Option Call) → Option Call → Option Call
 pick [] word use_row other = other
 pick (row ∷ rows) word use_row other = if bytes_eq word row.0 then use_row row.1 else pick rows word use_row other
 
 -- ---- arguments, each the whole of its text
 
+-- the name that a text is, if it is one
 abbrev pub name_in : List ℕ → Option (List ℕ)
 name_in text = if is_name text then Some text else None
 
@@ -56,28 +58,33 @@ abbrev pub the_one : List ℕ → Option ℕ
 the_one (b ∷ []) = Some b
 the_one other = None
 
+-- the one byte that two digits spell
 abbrev pub octet_in : List ℕ → Option ℕ
 octet_in text = bytes_in text >>= the_one
 
+-- the text of a manifest: some text without a line feed
 abbrev pub manifest_in : List ℕ → Option (List ℕ)
 manifest_in text = if nat_eq (length text) 0 then None else (if has_feed text then None else Some text)
 
+-- the words of what a file is opened for
 abbrev pub kind_words : List (List ℕ × OpenKind)
 kind_words = (codes "r", kind.Read) ∷ (codes "w", kind.Write) ∷ (codes "rw", kind.ReadWrite) ∷ []
 
 unfoldable pub kind_word_in : List ℕ → Option OpenKind
 kind_word_in text = first_row kind_words text
 
+-- the words of where an offset counts from
 abbrev pub origin_words : List (List ℕ × Origin)
 origin_words = (codes "begin", origin.Beginning) ∷ (codes "current", origin.Current) ∷ (codes "end", origin.End) ∷ []
 
 unfoldable pub origin_in : List ℕ → Option Origin
 origin_in text = first_row origin_words text
 
+-- the mode with these flags
 abbrev pub mode_of : ℕ → OpenMode
 mode_of bits = record { 0 = bits }
 
--- the flags of a mode: begin 1, end 2, truncate 4, append 8
+-- the words of the modes that append, by the bits of their flags: begin 1, end 2, truncate 4, append 8
 abbrev pub appending_modes : List (List ℕ × OpenMode)
 appending_modes = (codes "append", mode_of 8)
     ∷ (codes "begin+append", mode_of 9)
@@ -91,6 +98,7 @@ appending_modes = (codes "append", mode_of 8)
 unfoldable pub mode_end_in : List ℕ → Option OpenMode
 mode_end_in text = first_row appending_modes text
 
+-- the words of the modes that do not append
 abbrev pub other_modes : List (List ℕ × OpenMode)
 other_modes = (codes "none", mode_of 0)
     ∷ (codes "begin", mode_of 1)
@@ -104,7 +112,7 @@ other_modes = (codes "none", mode_of 0)
 unfoldable pub mode_in : List ℕ → Option OpenMode
 mode_in text = branch (first_row other_modes text) (λ mode. Some mode) (mode_end_in text)
 
--- two names; a name and a handle; and the same with what follows them
+-- two names: a storage's, and a key's or a file's
 unfoldable pub element_in : List ℕ → Option (List ℕ × List ℕ)
 element_in text = do
   words ← split text
@@ -112,6 +120,7 @@ element_in text = do
   name ← name_in words.1
   Some (storage, name)
 
+-- the name of a storage, and the number of a handle, of 32 bits
 unfoldable pub handle_in : List ℕ → Option (List ℕ × ℕ)
 handle_in text = do
   words ← split text
@@ -119,6 +128,7 @@ handle_in text = do
   handle ← unsigned_in (2 ^ 32) words.1
   Some (storage, handle)
 
+-- two names, and what follows them
 unfoldable pub element_front : List ℕ → Option (List ℕ × List ℕ × List ℕ)
 element_front text = do
   words ← split text
@@ -127,6 +137,7 @@ element_front text = do
   name ← name_in more.0
   Some (storage, name, more.1)
 
+-- the name of a storage, the number of a handle, and what follows them
 unfoldable pub handle_front : List ℕ → Option (List ℕ × ℕ × List ℕ)
 handle_front text = do
   words ← split text
@@ -135,7 +146,7 @@ handle_front text = do
   handle ← unsigned_in (2 ^ 32) more.0
   Some (storage, handle, more.1)
 
--- how a file is opened; and from where and how far a position moves
+-- how a file is opened: its kind and its mode
 unfoldable pub opening_in : List ℕ → Option (OpenKind × OpenMode)
 opening_in text = do
   words ← split text
@@ -143,6 +154,7 @@ opening_in text = do
   mode ← mode_in words.1
   Some (kind, mode)
 
+-- from where a position moves, and how far
 unfoldable pub distance_in : List ℕ → Option (Origin × ℤ)
 distance_in text = do
   words ← split text
@@ -315,6 +327,7 @@ parts_in text = do
   call ← split words.1
   Some (application, call.0, call.1)
 
+-- the event that a text spells: a moment after the word `now`, or an application's digit and a call
 unfoldable pub event_in : List ℕ → Option Event
 event_in text = do
   words ← split text
@@ -323,6 +336,7 @@ event_in text = do
     c ← call_in words.1
     Some (event.App a c))
 
+-- what a text says: nothing where it is empty or begins with `#` (35), the end, or an event
 unfoldable pub line_in : List ℕ → Option Line
 line_in [] = Some line.Nothing
 line_in (b ∷ rest) =

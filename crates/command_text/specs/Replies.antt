@@ -31,16 +31,19 @@ number_or_dash (Some n) = decimal n
 
 -- ---- errors
 
+-- what is damaged: the word `root`, a storage by its name, or a storage and its element with a colon between them
 abbrev pub unit_text : Unit → List ℕ
 unit_text unit.Root = codes "root"
 unit_text (unit.Whole s) = s
 unit_text (unit.Part s e) = s ++ codes ":" ++ e
 
+-- what keeps a thing busy: a storage by its name, a handle by its number, or an update by its version
 abbrev pub holder_text : Holder → List ℕ
 holder_text (holder.Storage s) = codes "storage " ++ s
 holder_text (holder.Handle h) = codes "handle " ++ decimal h
 holder_text (holder.Update v) = codes "update " ++ decimal v
 
+-- the word of a limit
 abbrev pub limit_text : Limit → List ℕ
 limit_text limit.Elements = codes "elements"
 limit_text limit.Handles = codes "handles"
@@ -49,6 +52,7 @@ limit_text limit.ValueBytes = codes "value-bytes"
 limit_text limit.ValueDepth = codes "value-depth"
 limit_text limit.Generations = codes "generations"
 
+-- the name of an error
 abbrev pub error_name : PerError → List ℕ
 error_name error.StorageNotFound = codes "StorageNotFound"
 error_name error.KeyNotFound = codes "KeyNotFound"
@@ -78,11 +82,12 @@ error_name error.NoUpdateInProgress = codes "NoUpdateInProgress"
 error_name error.ExportRejected = codes "ExportRejected"
 error_name error.OutOfMemory = codes "OutOfMemory"
 
--- the number and the name of an error; OutOfMemory has no number
+-- a number, if there is one, and a name after a space
 abbrev pub numbered_error : Option ℕ → List ℕ → List ℕ
 numbered_error (Some number) name = decimal number ++ codes " " ++ name
 numbered_error None name = name
 
+-- the number and the name of an error; OutOfMemory has no number
 abbrev pub error_title : PerError → List ℕ
 error_title e = numbered_error (error_number e) (error_name e)
 
@@ -100,6 +105,7 @@ carried_text other = []
 
 -- ---- answers
 
+-- the word of a cause: by what a file was made or changed
 abbrev pub cause_text : Cause → List ℕ
 cause_text cause.Installation = codes "installation"
 cause_text cause.Update = codes "update"
@@ -107,21 +113,24 @@ cause_text cause.Reset = codes "reset"
 cause_text cause.Recovery = codes "recovery"
 cause_text cause.Application = codes "application"
 
+-- the moments of a file's making, last change and last access, in seconds, and the causes of the first two
 abbrev pub info_text : FileInfo → List ℕ
 info_text i = decimal i.created ++ codes " " ++ decimal i.modified ++ codes " " ++ decimal i.accessed ++ codes " "
     ++ cause_text i.creation ++ codes " " ++ cause_text i.modification
 
+-- the active version of an application, and the previous one where there is one
 abbrev pub status_text : AppStatus → List ℕ
 status_text status.Absent = codes "absent"
 status_text (status.Active version None) = codes "version " ++ decimal version
 status_text (status.Active version (Some previous)) = codes "version " ++ decimal version ++ codes " previous "
     ++ decimal previous
 
--- a space stands only before some bytes
+-- bytes in two hexadecimal digits each; a space stands only before some
 abbrev pub octets_text : List ℕ → List ℕ
 octets_text [] = codes "bytes"
 octets_text (b ∷ bytes) = codes "bytes " ++ hex_text (b ∷ bytes)
 
+-- an answer's line without its line feed; each name stands after a space (32)
 abbrev pub answer_text : Answer → List ℕ
 answer_text answer.Done = codes "ok"
 answer_text (answer.Val v) = codes "value " ++ value_text v
@@ -142,6 +151,8 @@ HasText other = ⊤
 
 -- ---- reports
 
+-- the word of a report: a storage, or an element of one, was read although copies lack it (recovered), or could not be
+-- read (failed)
 abbrev pub report_word : ReportKind → List ℕ
 report_word report.KvsRecovered = codes "kvs-recovered"
 report_word report.KvsFailed = codes "kvs-failed"
@@ -157,16 +168,18 @@ abbrev pub reported_text : List ℕ → Option (List ℕ) → List ℕ
 reported_text storage None = storage
 reported_text storage (Some element) = storage ++ codes ":" ++ element
 
--- the numbers joined by commas, or a hyphen where there are none
+-- the numbers of copies joined by commas (44), or a hyphen where there are none
 abbrev pub copies_text : List ℕ → List ℕ
 copies_text [] = codes "-"
 copies_text (c ∷ copies) = decimal c ++ flat_map (λ d. 44 ∷ decimal d) copies
 
+-- the line of a report: its word, what it is of, and the copies that lack it
 abbrev pub report_line : Report → List ℕ
 report_line r = codes "report " ++ report_word r.kind ++ codes " " ++ reported_text r.storage r.element ++ codes " "
     ++ copies_text r.copies ++ codes "\n"
 
 -- ---- replies
 
+-- the text of a reply: a line for each report, and the answer's line, each with its line feed
 abbrev pub reply_text : Reply → List ℕ
 reply_text r = flat_map report_line r.reports ++ answer_text r.answer ++ codes "\n"

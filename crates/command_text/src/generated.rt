@@ -32,6 +32,7 @@ pub fn next_number(x: u64) -> u64
 }
 
 /// The text of line `i` of `n`, counted from 1, as the number `x` of the sequence makes it; without the line feed.
+/// The one error is that memory ran out.
 pub fn generated_line(alloc: Global, n: u32, x: u64, i: u32) -> Result<Vec<u8>, AllocError>
     requires first { 1 ≤ i }
     requires last { i ≤ n }

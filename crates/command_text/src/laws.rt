@@ -10,7 +10,7 @@ ghost use Rattle.command_text.specs.declared.calls.Event.{Event};
 ghost use Rattle.command_text.specs.declared.lines.Line.{Line};
 ghost use Rattle.command_text.specs.declared.replies.Answer.{Answer};
 
-/// An event is spelled by one text alone, and two events by two texts.
+/// An event is spelled by one text alone, and two events, whose parts are in their bounds, by two texts.
 pub fn one_event()
     ensures text { (e : Event) (text other : List ℕ) → Spells text (Line.Event e) → Spells other (Line.Event e)
         → text ≡ other }
@@ -22,7 +22,7 @@ pub fn one_line()
     ensures { (text : List ℕ) (line other : Line) → IsLine text line → IsLine text other → line ≡ other }
 {}
 
-/// Each line that is generated spells an event, and so does each of a whole generated input.
+/// Line `i` that is generated of a number `x` spells an event, and so does each line of the whole input of `n` lines.
 pub fn generated_is_spelled()
     ensures line { (x i : ℕ) → x < 2 ^ 31 → IsEventLine (generated_line x i) }
     ensures whole { (n : ℕ) → n < 2 ^ 31 → AllByRecursion IsEventLine (generated n) }

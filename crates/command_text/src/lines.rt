@@ -20,6 +20,7 @@ pub enum Line {
     Nothing,
     /// The input ends here.
     End,
+    /// The moment is set, or a call is made.
     Event(Event),
 }
 
@@ -32,11 +33,11 @@ pub const LINE_BYTES: usize = 262_144;
 ///
 /// `NotALine` exactly where the bytes are outside the grammar or more than [`LINE_BYTES`]; `OutOfMemory`.
 pub fn parse_line(alloc: Global, line: &[u8]) -> Result<Line, LineError>
-    // the text spells the line that is answered; `NotALine` comes only where it spells none
+    // The text spells the line that is answered; `NotALine` comes only where it spells none.
     ensures line { IfOk result (IsLine line.now) }
     ensures none { IsErrOf result LineError.NotALine → (said : Line) → ¬ IsLine line.now said }
 
-    // memory runs out only at a line of at most `LINE_BYTES` that has an application, a word and arguments
+    // Memory runs out only at a line of at most `LINE_BYTES` that has an application, a word and arguments
     ensures memory { IsErrOf result LineError.OutOfMemory → Allocates line.now }
 {
     if line.len() > LINE_BYTES {

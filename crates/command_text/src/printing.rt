@@ -19,8 +19,10 @@ const REPLY_BYTES: usize = 64;
 /// How many bytes the word before the digits of bytes, its space and the line feed after them take.
 const WORD_BYTES: usize = 7;
 
-/// The text of a reply: a line for each report and the answer's line, each with its line feed.
+/// The text of a reply: a line for each report and the answer's line, each with its line feed. The one error is that
+/// memory ran out.
 pub fn print_reply(alloc: Global, reply: &Reply) -> Result<Vec<u8>, AllocError>
+    // Every answer has a text but the error `OutOfMemory`.
     requires { HasText reply.now.answer }
     ensures { IfOk result (λ text. text.items ≡ reply_text reply.now) }
 {
@@ -35,6 +37,7 @@ pub fn print_reply(alloc: Global, reply: &Reply) -> Result<Vec<u8>, AllocError>
 ///
 /// Memory ran out; what was appended before stays.
 pub fn push_reply(out: &mut String, reply: &Reply) -> Result<(), AllocError>
+    // Every answer has a text but the error `OutOfMemory`.
     requires { HasText reply.now.answer }
     ensures { OnOk result (string_bytes out.new ≡ string_bytes out.old ++ reply_text reply.now) }
 {

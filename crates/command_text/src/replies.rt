@@ -17,15 +17,23 @@ pub enum AppStatus {
 pub enum Answer {
     /// It is done.
     Done,
+    /// A value that was read.
     Val(Value),
+    /// Bytes that were read.
     Octets(Bytes),
+    /// One byte that was read.
     Byte(u8),
+    /// A number: a size or a position in bytes, or how many storages of an update remain to be built.
     Number(u64),
+    /// Yes or no.
     Truth(bool),
+    /// Names of keys or files, in their order.
     Names(Sequence<Name>),
     /// The number of a handle.
     Handle(u32),
+    /// The moments and causes of a file.
     Info(FileInfo),
+    /// What is installed.
     Status(AppStatus),
     /// It is refused.
     Error(PerError),

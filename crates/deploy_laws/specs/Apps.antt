@@ -21,7 +21,8 @@ pub data Says : Type 0 where
   absent : (generation : ℕ) → Says
   installed : (generation : ℕ) (active : Named) (previous : Option Named) → Says
 
--- the storages that it names: those of the active version by their numbers, and then those of the previous one
+-- the storages of an application that its root names, when it says this: those of the active version by their numbers,
+-- and then those of the previous one
 unfoldable pub shapes_named : ℕ → Says → List Shape
 shapes_named app nothing = []
 shapes_named app (absent g) = []
@@ -34,7 +35,7 @@ pub record App : Type 0 where
   pub lacking : List ℕ
   pub states : List State
 
--- a root that says nothing has none
+-- the generation that a root has; one that says nothing counts as 0
 abbrev pub says_generation : Says → ℕ
 says_generation nothing = 0
 says_generation (absent g) = g
@@ -42,24 +43,27 @@ says_generation (installed g active previous) = g
 
 -- ---- reading an image
 
+-- a version of a root's text, in this bank; the previous version is in the other bank than the active one
 abbrev pub named_in_bank : ℕ → Version → Named
 named_in_bank bank v = record { bank = bank; deployment = v.deployment }
 
+-- what a root says whose text has this generation and is read as this; a text that is not a root's says nothing
 abbrev pub says_by : ℕ → Option Root → Says
 says_by g None = nothing
 says_by g (Some text.absent) = absent g
 says_by g (Some (text.installed bank active previous)) =
     installed g (named_in_bank bank active) (option_map (named_in_bank (1 - bank)) previous)
 
+-- what a root says by the text that stands, if one does
 abbrev pub says_in : Option Seen → Says
 says_in None = nothing
 says_in (Some seen) = says_by seen.generation (root_of seen.text)
 
--- what two of the three copies of a root say
+-- what the root of an application says on an image: that on which two of its three copies agree, and nothing without
 unfoldable pub says_at : Image → ℕ → Says
 says_at image app = says_in (standing image (root_place app) agreeing_of_root)
 
--- the copies that lack the text that stands, of a root that says something
+-- the copies, counted from 1, that lack the text that stands, of a root that says something
 abbrev pub root_lacking : Image → ℕ → Says → Option Seen → List ℕ
 root_lacking image app nothing seen = []
 root_lacking image app (absent g) None = []
@@ -91,12 +95,13 @@ pub record IsInBank (v : Named) : Type 0 where
   pub in_bank : v.bank ≤ 1
   pub keeps : IsDeployment v.deployment
 
--- the version before it is in the other bank
+-- both versions are in a bank and obey the rules; the previous one is in the other bank than the active one
 pub record AreInTwoBanks (active previous : Named) : Type 0 where
   pub of_active : IsInBank active
   pub of_previous : IsInBank previous
   pub apart : previous.bank ≡ 1 - active.bank
 
+-- each version that a root names is in its bank and obeys the rules of deployments
 abbrev pub AreVersions : Says → Type 0
 AreVersions nothing = ⊤
 AreVersions (absent g) = ⊤
@@ -119,6 +124,7 @@ pub record IsCleanRoot (app : ℕ) (image : Image) : Type 0 where
       → Holds image (root_place app) copy generation text
       → (root : Root) × (root_of text ≡ Some root)
 
+-- the places of these storages are clean on the image
 abbrev pub AreClean : Image → List Shape → Type 0
 AreClean image shapes = AllByRecursion (λ shape. IsClean shape image) shapes
 

@@ -1,5 +1,9 @@
 -- What an image says of an application, and what a stop at each moment of a call, and then damage, leave of it: the
--- statements of the laws.
+-- statements of the laws. `g` is a generation, `start` the image at which a call began, `c` a case of a crash, and
+-- `after` what the application was on its way to. `image` is any image, hostile ones included, or in the laws of stops
+-- what reads give after a crash and damage.
+-- A text is held alone where each copy of the root holds it and no copy another one (`IsAlone`). Files that are spared
+-- do not change (`Spares`), and with a case that settles them nothing in them is pending (`IsSettledOn`).
 use Rattle.std.specs.Prelude.{◌≡◌, ℕ, ◌+◌, ◌<◌, ◌≤◌, List, [], map, Contains, Option, Some, slice_get, slice_set}
 use Rattle.disk_model.specs.Image.{Image}
 use Rattle.disk_model.specs.Case.{Case}
@@ -42,7 +46,7 @@ abbrev pub SaysFrameLaw : Type 0
 SaysFrameLaw = (app : ℕ) (old new : Image) → Spares (IsOfPlace (root_place app)) old new
     → says_at new app ≡ says_at old app
 
--- the storages of a version, by their numbers
+-- the storage at a place of a version's list has that place as its number
 abbrev pub NumberLaw : Type 0
 NumberLaw = (app number : ℕ) (v : Named) (s : StorageData) → slice_get v.deployment.storages number ≡ Some s
     → slice_get (shapes_in app v) number ≡ Some (storage_shape app v.bank number s)
@@ -60,12 +64,12 @@ AloneCleanLaw = (app g : ℕ) (text : List ℕ) (root : Root) (image : Image)
 
 -- ---- files
 
--- the root has twelve files
+-- the root's place has no file beyond the first 12 of its application
 abbrev pub RootFilesLaw : Type 0
 RootFilesLaw = (app file : ℕ) → app < 8 → IsOfPlace (root_place app) file
     → (first_file app ≤ file) × (file < first_file app + 12)
 
--- each storage of a bank has 32 files
+-- the place of a storage has no file beyond its 32; a bank has at most 16 storages
 abbrev pub StorageFilesLaw : Type 0
 StorageFilesLaw = (app bank number file : ℕ) (s : StorageData) → app < 8 → bank ≤ 1 → number < 16
     → IsOfPlace (storage_shape app bank number s).place file

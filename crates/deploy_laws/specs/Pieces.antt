@@ -20,10 +20,11 @@ pub data IsPlaceOn (app : ℕ) (image : Image) (place : Place) : Type 0 where
       → Contains (shapes_named app (says_by generation (root_of text))) shape → place ≡ shape.place
       → IsPlaceOn app image place
 
--- each of its places is sound, as base or full name them
+-- each place that the application has, as of the last sync or with all writes since done whole, is sound in this case
 abbrev pub IsSoundApp : ℕ → Case → Type 0
 IsSoundApp app c = (place : Place) → IsPlaceOn app c.base place ⊎ IsPlaceOn app c.full place → IsSound place c
 
--- damage to the files of a list makes no piece of a place of the application
+-- from the old image to the new one only these files are damaged, and the damage makes nothing that passes for a piece
+-- of a place of the application
 abbrev pub DecaysApp : ℕ → List ℕ → Image → Image → Type 0
 DecaysApp app damaged old new = (place : Place) → IsPlaceOn app old place → DecaysFor (IsPiece place) damaged old new

@@ -8,11 +8,13 @@ use Rattle.deployment_model.specs.declared.configs.Deployment.{Deployment}
 
 -- ---- places
 
--- A place has from 1 to 8 copies, and its files have numbers below 2^32. What goes beyond is cut off; nothing that a
--- deployment gives does.
+-- A place has from 1 to 8 copies of 4 files each, and its files have numbers below 2^32: 32 files from 4294967263 on
+-- are the last. What goes beyond is cut off; nothing that a deployment gives does.
+-- the number of a first file, cut so that 32 files from it on have numbers below 2^32
 abbrev pub cut_first : ℕ → ℕ
 cut_first first = min first 4294967263
 
+-- a number of copies, cut to 1 to 8
 abbrev pub cut_copies : ℕ → ℕ
 cut_copies copies = min 8 (max 1 copies)
 
@@ -25,6 +27,7 @@ few_copies copies = omega arith
 pub cut_has_room : (first copies : ℕ) → cut_first first + 4 * cut_copies copies ≤ 4294967295
 cut_has_room first copies = omega arith
 
+-- the place whose first file has this number, with this many copies
 abbrev pub place_at : (first copies : ℕ) → Place
 place_at first copies = record {
   first = cut_first first;
@@ -34,26 +37,31 @@ place_at first copies = record {
   room = cut_has_room first copies;
 }
 
--- the files of an application are 4096 from here on
+-- the first file of an application, by its number: it has 4096 from here on
 abbrev pub first_file : ℕ → ℕ
 first_file app = 4096 * app
 
--- the copies of a root, and how many of them must agree
+-- the copies of a root
 abbrev pub copies_of_root : ℕ
 copies_of_root = 3
 
+-- how many copies of a root must agree
 abbrev pub agreeing_of_root : ℕ
 agreeing_of_root = 2
 
+-- the place of an application's root: the first 12 files of the application
 abbrev pub root_place : ℕ → Place
 root_place app = place_at (first_file app) copies_of_root
 
--- the first file of storage `number` of a bank
+-- the first file of storage `number`, counted from 0, of a bank, 0 or 1: the banks begin 1024 files after the
+-- application's first, and have 512 each; each storage has 32
 abbrev pub storage_file : (app bank number : ℕ) → ℕ
 storage_file app bank number = first_file app + 1024 + 512 * bank + 32 * number
 
 -- ---- shapes
 
+-- the shape of storage `number` of a bank: its name, its files with a copy for each of the n of its redundancy, its
+-- kind, how many copies must agree on what, and the most bytes that it may have
 unfoldable pub storage_shape : (app bank number : ℕ) → StorageData → Shape
 storage_shape app bank number s = record {
   name = s.name;
@@ -64,11 +72,12 @@ storage_shape app bank number s = record {
   allowed = s.maximum;
 }
 
+-- the shapes of these storages, whose numbers are counted from `number`
 abbrev pub shapes_from : (app bank number : ℕ) → List StorageData → List Shape
 shapes_from app bank number [] = []
 shapes_from app bank number (s ∷ ss) = storage_shape app bank number s ∷ shapes_from app bank (suc number) ss
 
--- a version, in its bank
+-- a version that a root names: the bank that it is in, and its deployment, which is its storages and their elements
 pub record Named : Type 0 where
   pub bank : ℕ
   pub deployment : DeploymentData
@@ -77,9 +86,11 @@ pub record Named : Type 0 where
 abbrev pub version_in_bank : (bank : ℕ) → Option Deployment → Option Named
 version_in_bank bank previous = option_map (λ d. record { bank = bank; deployment = deployment_data d }) previous
 
+-- the shapes of all storages of an application's version, by their numbers
 abbrev pub shapes_in : ℕ → Named → List Shape
 shapes_in app v = shapes_from app v.bank 0 v.deployment.storages
 
+-- the same where there may be no version: then there are none
 abbrev pub shapes_if : ℕ → Option Named → List Shape
 shapes_if app None = []
 shapes_if app (Some v) = shapes_in app v

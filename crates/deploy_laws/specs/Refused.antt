@@ -1,4 +1,5 @@
--- What a stop may not leave of an application.
+-- What a stop on the way from `before` to `after`, and damage to files, may not leave of an application: on such an
+-- image it does not stand.
 use Rattle.std.specs.Prelude.{◌≡◌, ℕ, ◌≤◌, List, [], Option, Some, slice_get}
 use Rattle.disk_model.specs.Image.{Image}
 use Rattle.element_state.specs.declared.shapes.Shape.{Shape}

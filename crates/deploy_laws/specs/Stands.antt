@@ -19,7 +19,8 @@ pub record ChangesNothing (old new : Medium) : Type 0 where
   pub written : new.written ≡ old.written
   pub idle : Quiet old → IsIdle old new
 
--- each storage is kept, by its states before and after
+-- of each storage the image holds what a stop between its two states, and damage to these files, may leave; there is a
+-- state before and one after for each
 abbrev pub AreKept : Image → (damaged : List ℕ) → List Shape → (before after : List State) → Type 0
 AreKept image damaged [] before after = ⊤
 AreKept image damaged (shape ∷ shapes) [] after = ⊥
@@ -27,16 +28,18 @@ AreKept image damaged (shape ∷ shapes) (state ∷ before) [] = ⊥
 AreKept image damaged (shape ∷ shapes) (state ∷ before) (next ∷ after) =
     Kept shape damaged (store_at image shape) state next × AreKept image damaged shapes before after
 
--- the damage spares this copy of the root, counted from 0, and it did not lack it
+-- the damage to these files spares this copy of the root, counted from 0, and it is none of those that lacked the root,
+-- which are counted from 1
 abbrev pub IsRootSpared : ℕ → (damaged lacking : List ℕ) → ℕ → Type 0
 IsRootSpared app damaged lacking copy = IsUndamaged damaged (root_place app) copy
     × ¬ (Contains lacking (copy + 1))
 
--- as many of its copies are spared as must agree
+-- at least two of the three copies of the root had it and are spared by the damage
 abbrev pub HasEnoughRoot : (app : ℕ) (damaged lacking : List ℕ) → Type 0
 HasEnoughRoot app damaged lacking = AtLeast (IsRootSpared app damaged lacking) copies_of_root agreeing_of_root
 
--- What a stop and damage leave of an application that was on its way from one state to another.
+-- On this image is what a stop, and then damage to these files, may leave of an application that was on its way from
+-- `before` to `after`.
 pub record Stands (app : ℕ) (image : Image) (damaged : List ℕ) (before after : App) : Type 0 where
   -- a root that said nothing says nothing, or what it says after
   pub bad : before.says ≡ nothing → (says_at image app ≡ nothing) ⊎ (says_at image app ≡ after.says)
@@ -72,7 +75,7 @@ StandsThroughout app after old new = Quiet old → IsCleanApp app old.image
 
 -- ---- what may come of an application
 
--- under the same root it has as many storages, and another root has a greater generation
+-- `after` may come of `before`: under the same root it has as many storages, or its root has a greater generation
 pub data IsLater (before after : App) : Type 0 where
   same_root : after.says ≡ before.says → length after.states ≡ length before.states → IsLater before after
   next_root : says_generation before.says < says_generation after.says → IsLater before after

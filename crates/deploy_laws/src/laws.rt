@@ -1,4 +1,7 @@
 //! The laws, for the proofs of callers: none of these functions does anything when it runs.
+//!
+//! `app` is the number of an application, below 8, and a bank is 0 or 1. An image has the bytes of each file, by its
+//! number. `damaged` lists the numbers of files that damage may change after a stop.
 
 ghost use Rattle.std.specs.Prelude.{◌≡◌, ◌<◌, ◌≤◌, ℕ, List, Some, slice_get};
 ghost use Rattle.disk_model.specs.Frame.{Spares};
@@ -28,7 +31,9 @@ use root_text::one_root;
 pub fn roots_say()
     ensures versions { VersionsLaw }
     ensures says { SaysFrameLaw }
+    // A storage's number is its place in its version's list.
     ensures numbers { NumberLaw }
+    // Of a text that is held alone, by each copy and with no other beside it.
     ensures alone { AloneLaw }
     ensures held { AloneFrameLaw }
     ensures clean { AloneCleanLaw }
@@ -53,6 +58,7 @@ pub fn files_lie_apart()
 /// those of the root that of none.
 pub fn others_stand()
     ensures frame { AppFrameLaw }
+    // Where only files of a free bank change, the application stays as it was, and its places stay clean.
     ensures free_bank { (app bank : ℕ) (old new : Image) → app < 8 → bank ≤ 1 → IsFree bank (says_at old app)
         → Spares (IsOutsideBank app bank) old new
         → (app_at new app ≡ app_at old app) × (IsCleanApp app old → IsCleanApp app new) }
@@ -113,20 +119,26 @@ pub fn storing_stands()
 /// call gave, said by a root that was bad; an old version whose bank was touched; a root that says a version before its
 /// storages are made; a storage in a state that is neither before nor after.
 pub fn outcomes_are_refused()
+    // `image` is what a stop on the way from `before` to `after`, and then damage, would have left; `Stands` is false
+    // of it. First: a root that two spared copies held is gone.
     ensures root_gone { (app : ℕ) (image : Image) (damaged : List ℕ) (before after : App)
         → ¬ (before.says ≡ nothing) → ¬ (after.says ≡ nothing)
         → HasEnoughRoot app damaged before.lacking
         → says_at image app ≡ nothing → ¬ (Stands app image damaged before after) }
+    // It became another root than the next; and a root that was bad says what no call gave it.
     ensures other_root { OtherRoot }
     ensures root_raised { RootRaised }
 
-    // The root is as before, and a storage of the old version is not as it was.
+    // The root is as before, and the storage of this number, in the old version, is not as it was.
     ensures old_bank_touched { (app number : ℕ) (image : Image) (damaged : List ℕ) (before after : App) (shape : Shape)
         (state : State)
         → slice_get (shapes_named app before.says) number ≡ Some shape → slice_get before.states number ≡ Some state
         → ¬ (Kept shape damaged (store_at image shape) state state)
         → says_at image app ≡ before.says → ¬ (after.says ≡ before.says) → ¬ (Stands app image damaged before after) }
+    // With nothing damaged, a storage of the old version that opened is corrupt.
     ensures old_version_lost { OldVersionLost }
+    // The root says the next version, and a storage of that is not as it was made.
     ensures root_too_early { RootTooEarly }
+    // The root stayed, and a storage is neither as before nor as after.
     ensures storage_strays { StorageStrays }
 {}

@@ -5,7 +5,8 @@ ghost use Rattle.deploy_laws.specs.Places.{root_place};
 
 use disk_model::Place;
 
-/// The place of an application's root: its three copies, in the first of the application's 4096 files.
+/// The place of the root of application `app`: its three copies, of four files each, are the first 12 of the
+/// application's 4096 files.
 pub fn root_place(app: u32) -> Place
     requires { app < 8 }
     ensures { result ≡ root_place app }

@@ -28,7 +28,8 @@ rescued_as s now e bytes = record {
       bytes;
 }
 
--- what is readable stays; else its salvage, else what it starts with, else nothing
+-- what a recovery makes of an element of this content: what is readable stays; else its salvage, else what it starts
+-- with, else nothing
 abbrev pub rescued : StorageData → ℕ → Entry → Content → Option Fresh
 rescued s now e (Good bytes) = Some (record { name = e.name; info = e.info; bytes = bytes })
 rescued s now e (Bad (Some bytes)) = Some (rescued_as s now e bytes)
@@ -45,21 +46,24 @@ abbrev pub is_worn_out : Option View → Bool
 is_worn_out None = false
 is_worn_out (Some v) = is_worn v
 
--- these contents under the next generation, and a refusal where none is left
+-- a storage in this state is made anew of these contents, under the generation after the one that it had, and this is
+-- refused where none is left
 abbrev pub rebuilding : State → List Fresh → Result State PerError
 rebuilding state contents = cond (is_worn_out (salvage_of state)) (Err (error.LimitReached limit.Generations))
     (Ok (fresh_state (next_generation (salvage_of state)) (fresh_map contents)))
 
--- these contents, and a refusal where they are larger than the storage may be
+-- the same, after a refusal where names and contents are together more bytes than the storage may have
 abbrev pub if_contents_fit : StorageData → State → List Fresh → Result State PerError
 if_contents_fit s state contents = cond (nat_lt s.maximum (sum_by fresh_size contents))
     (Err (error.OutOfStorageSpace (sum_by fresh_size contents) s.maximum)) (rebuilding state contents)
 
--- a recovery at the moment now: all of the elements, or the initial contents where nothing is left
+-- what a recovery at the moment now makes of a storage in this state: all of the elements, or the initial contents
+-- where nothing is left
 unfoldable pub recovering : StorageData → ℕ → State → Result State PerError
 recovering s now state = if_contents_fit s state (recovered_contents s now (salvage_of state))
 
--- a reset at the moment now: the initial contents, and in the infos of files its cause and the moment
+-- what a reset at the moment now makes of a storage in this state: the initial contents, and in the infos of files its
+-- cause and the moment
 unfoldable pub resetting : StorageData → ℕ → State → Result State PerError
 resetting s now state = rebuilding state (initial_contents s cause.Reset now)
 

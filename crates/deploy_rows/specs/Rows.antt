@@ -21,6 +21,7 @@ use Rattle.update_plan.specs.Rows.{initial_contents}
 use Rattle.deploy_laws.specs.Places.{Named}
 use Rattle.deploy_laws.specs.Apps.{nothing, absent, installed, App}
 
+-- one step after another: a refusal ends a row, and else the next step goes on with what the first one gave
 infixl 10 ◌>>=◌
 abbrev pub ◌>>=◌ : {A B E : Type 0} → Result A E → (A → Result B E) → Result B E
 (Ok x) >>= f = f x
@@ -28,16 +29,17 @@ abbrev pub ◌>>=◌ : {A B E : Type 0} → Result A E → (A → Result B E) �
 
 -- ---- refusals
 
--- no storage is open
+-- this result, or the refusal that names the storage that is open, if one is
 abbrev pub not_busy : {A : Type 0} → Option (List ℕ) → Result A PerError → Result A PerError
 not_busy None x = x
 not_busy (Some name) x = Err (error.ResourceBusy (holder.Storage name))
 
--- a generation is left
+-- this result, or the refusal that no generation is left after this one
 abbrev pub not_worn : {A : Type 0} → ℕ → Result A PerError → Result A PerError
 not_worn g x = cond (nat_le greatest_generation g) (Err (error.LimitReached limit.Generations)) x
 
--- a text that says nothing breaks a rule, so that 0 never comes
+-- the deployment that a text says, or the refusal with the rule that it breaks; a text that says none breaks a rule, so
+-- that 0 never comes
 abbrev pub said_or_broken : Option DeploymentData → Option ℕ → Result DeploymentData PerError
 said_or_broken (Some d) rule = Ok d
 said_or_broken None None = Err (error.ManifestRejected 0)
@@ -49,6 +51,7 @@ deployment_of text = said_or_broken (deployment_in text) (broken_rule text)
 
 -- ---- states of storages that are made
 
+-- the state of each storage that is made with its contents: it opens, under generation 1
 abbrev pub made_states : List (List Fresh) → List State
 made_states contents = map (λ fs. fresh_state 1 (fresh_map fs)) contents
 
@@ -58,7 +61,8 @@ initial_all now d = map (λ (s : StorageData). initial_contents s cause.Installa
 
 -- ---- install
 
--- bank 0, with the initial contents of each storage
+-- what an install makes at the moment now, where the root had this generation: the deployment in bank 0, each storage
+-- with its initial contents
 unfoldable pub installed_app : (generation now : ℕ) → DeploymentData → App
 installed_app g now d = record {
   says = installed (g + 1) (record { bank = 0; deployment = d }) None;
@@ -76,10 +80,11 @@ installing now text a = elim a.says [
 
 -- ---- finish, rollback and wipe
 
+-- how many storages a version has
 abbrev pub storage_count : Named → ℕ
 storage_count v = length v.deployment.storages
 
--- the previous version is forgotten
+-- the previous version is forgotten, and so are the states of its storages, which come after those of the active one
 abbrev pub finish_with : App → ℕ → Named → Option Named → Result App PerError
 finish_with a g active None = Err error.NoPreviousVersion
 finish_with a g active (Some previous) = not_worn g (Ok (record {
@@ -96,7 +101,7 @@ finishing a = elim a.says [
   | installed g active previous ↦ finish_with a g active previous
 ]
 
--- the previous version is active again
+-- the previous version is active again, and the active one is forgotten with the states of its storages
 abbrev pub rollback_with : (busy : Option (List ℕ)) → App → ℕ → Named → Option Named → Result App PerError
 rollback_with busy a g active None = Err error.NoPreviousVersion
 rollback_with busy a g active (Some previous) = not_busy busy (not_worn g (Ok (record {
@@ -127,7 +132,7 @@ wiping busy a = not_busy busy (elim a.says [
 
 -- ---- update
 
--- what is stored in a storage
+-- what is stored in a storage in this state: its elements, or damage where it does not open
 abbrev pub contents_of : State → StorageContents
 contents_of (Opens v others) = Present v.entries
 contents_of (Corrupt salvage others) = Damaged

@@ -5,8 +5,8 @@ ghost use Rattle.deploy_rows.specs.Laws.{FinishLaterLaw, InstallLaterLaw, Refuse
 ghost use Rattle.deploy_rows.specs.Laws.{RollbackLaterLaw, SaysAlike, UpdateLaterLaw, WipeLaterLaw};
 ghost use Rattle.deploy_rows.specs.Rows.{finishing, installing, offered, rolling_back, wiping};
 
-/// What a call leads to comes later than what was: its root has a greater generation, or it says the same and names as
-/// many storages.
+/// What a call that is not refused makes of an application comes later than what was: its root has a greater
+/// generation, or says the same of as many storages.
 pub fn rows_lead_on()
     ensures install { InstallLaterLaw }
     ensures finish { FinishLaterLaw }

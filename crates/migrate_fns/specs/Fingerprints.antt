@@ -3,10 +3,11 @@ use Rattle.std.specs.Prelude.{ℕ, ◌+◌, ◌*◌, ◌%◌}
 use Rattle.value_model.specs.Kinds.{Kind, bool_kind, unsigned_kind, signed_kind, text_kind, bytes_kind, list_kind}
 use Rattle.value_model.specs.Kinds.{fields_kind, Kinds, no_kinds, kind_then, unsigned_code, signed_code}
 
--- 4,294,967,291 is the greatest prime below 2 ^ 32
+-- one number of two, below 4,294,967,291, the greatest prime below 2 ^ 32
 unfoldable pub mixed : ℕ → ℕ → ℕ
 mixed one other = (one * 31 + other) % 4294967291
 
+-- the number of a type: 1 to 11 of one with no members; 12 and 13 begin those of lists and of groups of fields
 abbrev mutual
   pub fingerprint : Kind → ℕ
   fingerprint bool_kind = 1

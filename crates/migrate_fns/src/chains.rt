@@ -18,6 +18,7 @@ use typed_value::{Value, ValueType};
 pub struct Chain<'a> {
     migrations: &'a Migrations,
     places: Numbers,
+    // Each takes the type that the one before gives, and there are 1 to 8.
     ghost linked: { IsTrue (is_some (last_type (rules_of migrations.now) places)) },
     ghost few: { length places ≤ 8 },
 }
@@ -26,15 +27,18 @@ impl Chain<'_> {
     /// The places of the converters, counted from 0, in the order in which they are called. Does not allocate.
     pub fn places(&self) -> &[u32]
         ensures places { result.now ≡ self.now.places }
+        // There is a converter at each place, and each takes the type that the one before gives.
         ensures linked { IsTrue (is_some (last_type (rules_of self.now.migrations.now) self.now.places)) }
         ensures few { length result.now ≤ 8 }
     {
         self.places.as_slice()
     }
 
-    /// What the stored functions, one after the other, answer on this value.
+    /// What the stored functions, one after the other, answer on this value. The one error is that memory ran out.
     pub fn convert(&self, value: &Value) -> Result<Value, AllocError>
+        // The value has the type that the first converter takes.
         requires { first_type (rules_of self.now.migrations.now) self.now.places ≡ Some (type_of value.now) }
+        // The answer `w` is one that the functions may give, and has the type that the last converter gives.
         ensures answer { IfOk result (λ w. ConvertsTo (answers_of self.now.migrations.now) self.now.places value.now
             w) }
         ensures to { IfOk result (λ w. last_type (rules_of self.now.migrations.now) self.now.places
@@ -79,6 +83,7 @@ fn convert_at(migrations: &Migrations, place: u32, value: &Value) -> Result<Valu
 impl Migrations {
     /// The shortest list of 1 to 8 converters that name this element or none and lead from the one type to the other,
     /// each taking what the one before gives; of several the least by places. None exactly where there is none.
+    /// The one error is that memory ran out.
     pub fn find_chain(
         &self,
         alloc: Global,
@@ -86,10 +91,12 @@ impl Migrations {
         from: &ValueType,
         to: &ValueType,
     ) -> Result<Option<Chain<'_>>, AllocError>
+        // The places of the chain, as a function of the converters and as the best of all lists that fit.
         ensures places { IfOk result (λ chain. option_map (λ c. c.places) chain
             ≡ chain_of (rules_of self.now) element.now (kind_of from.now) (kind_of to.now)) }
         ensures found { IfOk result (λ chain. IsShortestChain (rules_of self.now) element.now (kind_of from.now)
             (kind_of to.now) (option_map (λ c. c.places) chain)) }
+        // The chain borrows these converters; its first takes the type `from`, and its last gives the type `to`.
         ensures lent { IfOk result (λ chain. IfSome chain (λ c. c.migrations.now ≡ self.now)) }
         ensures first { IfOk result (λ chain. IfSome chain
             (λ c. first_type (rules_of self.now) c.places ≡ Some (kind_of from.now))) }

@@ -1,4 +1,5 @@
-//! The converters of numbers: each gives the same number in twice the bytes.
+//! The converters of numbers: each gives the same number in twice the bytes. The one error of
+//! each is that memory ran out for the value. Kinds of numbers are told by their bytes: `unsigned_kind two` is `u16`.
 
 ghost use Rattle.std.specs.Prelude.{◌≡◌, IfOk};
 ghost use Rattle.migrate_fns.specs.Widened.{widened};
@@ -45,7 +46,7 @@ pub fn u32_to_u64(value: &Value) -> Result<Value, AllocError>
     }
 }
 
-/// The number of a `i8`, as a `i16`.
+/// The number of an `i8`, as an `i16`.
 pub fn i8_to_i16(value: &Value) -> Result<Value, AllocError>
     requires { type_of value.now ≡ signed_kind one }
     ensures number { IfOk result (λ wider. wider ≡ widened value.now) }
@@ -57,7 +58,7 @@ pub fn i8_to_i16(value: &Value) -> Result<Value, AllocError>
     }
 }
 
-/// The number of a `i16`, as a `i32`.
+/// The number of an `i16`, as an `i32`.
 pub fn i16_to_i32(value: &Value) -> Result<Value, AllocError>
     requires { type_of value.now ≡ signed_kind two }
     ensures number { IfOk result (λ wider. wider ≡ widened value.now) }
@@ -69,7 +70,7 @@ pub fn i16_to_i32(value: &Value) -> Result<Value, AllocError>
     }
 }
 
-/// The number of a `i32`, as a `i64`.
+/// The number of an `i32`, as an `i64`.
 pub fn i32_to_i64(value: &Value) -> Result<Value, AllocError>
     requires { type_of value.now ≡ signed_kind four }
     ensures number { IfOk result (λ wider. wider ≡ widened value.now) }

@@ -14,17 +14,20 @@ use per_base::Name;
 use std::alloc::AllocError;
 use typed_value::{Value, ValueType};
 
-/// A converter as a function. It takes no allocator: it captures one where it needs one.
+/// A converter as a function. It takes no allocator: it captures one where it needs one. In clauses `Converter.pre`
+/// says on which values it may be called, and `Converter.post` what it may then return.
 pub type Converter = Box<dyn Fn(&Value) -> Result<Value, AllocError>>;
 
-/// A stored converter: the element that it is for, or none for every one, its two types, and the function beside its
-/// fact.
+/// A stored converter: the name of the element that it is for, or none for every one, the type that it takes and the
+/// one that it gives, and the function beside its fact.
 #[derive(Drop)]
 pub struct Migration {
     pub element: Option<Name>,
     pub from: ValueType,
     pub to: ValueType,
     convert: Converter,
+    // The fact: on a value `v` of the type `from` the function may be called, and a value that it returns has the type
+    // `to`.
     ghost callable: { (v : _) → type_of v.now ≡ kind_of from → Converter.pre convert v },
     ghost answers: { (v : _) (r : _) → type_of v.now ≡ kind_of from → Converter.post convert v r
         → ForOk r (λ w. type_of w ≡ kind_of to) } by { Prim.hlevel kinds_same-prop },
@@ -41,6 +44,8 @@ impl Migration {
         to: ValueType,
         convert: Converter,
     ) -> Migration
+        // The function may be called on each value `v` of the type `from`; where it then returns `r`, and `r` is a
+        // value `w`, this has the type `to`.
         requires callable { (v : _) → type_of v.now ≡ kind_of from → Converter.pre convert v }
         requires answers { (v : _) (r : _) → type_of v.now ≡ kind_of from → Converter.post convert v r
             → ForOk r (λ w. type_of w ≡ kind_of to) }
@@ -57,9 +62,10 @@ impl Migration {
         }
     }
 
-    /// What the stored function answers on this value.
+    /// What the stored function answers on this value. The one error is that memory ran out.
     pub fn convert(&self, value: &Value) -> Result<Value, AllocError>
         requires { type_of value.now ≡ kind_of self.now.from }
+        // The answer is one that a call of the stored function may give, and a value `w` of the type `to`.
         ensures answer { MayGive self.now value.now result }
         ensures to { IfOk result (λ w. type_of w ≡ kind_of self.now.to) }
     {
@@ -109,8 +115,8 @@ impl Migrations {
         Migrations { list }
     }
 
-    /// The first converter that has these types and names this element or none; none exactly where there is none. Does
-    /// not allocate.
+    /// The first converter `m` from the one type to the other that names this element or none; none exactly where there
+    /// is none. Does not allocate.
     pub fn find(&self, element: &Name, from: &ValueType, to: &ValueType) -> Option<&Migration>
         ensures first { option_copied result
             ≡ find (λ m. serves element.now (kind_of from.now) (kind_of to.now) (rule_of m)) (listed self.now) }

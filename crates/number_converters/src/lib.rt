@@ -14,16 +14,16 @@ use migrate_fns::{Converter, Migration, Migrations};
 use std::alloc::{AllocError, Global};
 use value_model::{Value, ValueType};
 
-/// Something that is done with the converters.
+/// Something that is done while the converters are there: a call that takes them, with what else it needs.
 pub trait WithConverters {
     /// What it answers.
     type Answer;
 
-    /// Does it.
+    /// Does it with these converters.
     fn with_converters(self, migrations: &Migrations) -> Self::Answer;
 }
 
-/// Makes the six converters, and does something with them. Running out of memory for them is the one error; then it is
+/// Makes the six converters, and does `what` with them. Running out of memory for them is the one error; then `what` is
 /// not done.
 pub fn with_converters<T: WithConverters + Drop>(
     alloc: Global,

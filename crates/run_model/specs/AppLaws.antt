@@ -13,11 +13,15 @@ use Rattle.run_model.specs.Worlds.{Disks, disk_at}
 
 -- the laws of applications that a run relies on
 pub record AppLaws : Type 0 where
+  -- one of which no file is touched stands as it was, also on its way to whatever may come of it
   pub untouched : UntouchedAppLaw
   pub still : StillAppLaw
+  -- one stays as it was where only another's files change, and where all but those are settled its own are
   pub others : OtherApplicationsLaw
   pub others_case : OthersCaseLaw
+  -- what stands with nothing damaged has clean places
   pub clean : StandsCleanLaw
+  -- copies that lack the root matter to nothing but whether two are left
   pub mend : RootMendLaw
 
 -- the image denotes what the world says of an application

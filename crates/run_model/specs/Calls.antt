@@ -38,11 +38,11 @@ use Rattle.run_model.specs.Worlds.{Application, Sessions, at_rest, updating, upd
 abbrev pub Outcome : Type 0
 Outcome = Reply × Application
 
--- without a report
+-- this answer without a report, and this application after it
 abbrev pub answered : Answer → Application → Outcome
 answered a r = (record { reports = []; answer = a }, r)
 
--- a refusal changes nothing
+-- the outcome of a call on application r: a refusal is answered as an error and changes nothing
 abbrev pub concluded : Application → Result Outcome PerError → Outcome
 concluded r (Ok outcome) = outcome
 concluded r (Err e) = answered (answer.Error e) r
@@ -54,6 +54,7 @@ found_or (Some x) e = Ok x
 
 -- ---- sessions
 
+-- a session at a place of the list, where one is open there
 abbrev pub if_open : Option (Option Session) → Option Session
 if_open None = None
 if_open (Some s) = s
@@ -74,6 +75,7 @@ without_session r number = record r { sessions = slice_set r.sessions number Non
 abbrev pub unless_open : {A : Type 0} → Application → FoundStorage → Result A PerError → Result A PerError
 unless_open r f rest = refuse (is_some (session_at r f.number)) (error.ResourceBusy (holder.Storage f.config.name)) rest
 
+-- the session of a storage, or the refusal that it is not open
 abbrev pub opened_session : Application → FoundStorage → Result Session PerError
 opened_session r f = found_or (session_at r f.number) error.NotOpen
 
@@ -96,6 +98,7 @@ storage_opened app r f (Corrupt salvage others) = (
   r,
 )
 
+-- an opening of the storage of this name and kind: refused where it is not found, and where it is open already
 unfoldable pub open_step : ℕ → Application → List ℕ → StoreKind → Result Outcome PerError
 open_step app r name kind = storage_in r.disk name (Some kind) >>= λ f. unless_open r f
     (Ok (storage_opened app r f f.state))
@@ -111,10 +114,12 @@ durable_state app f (Opens v others) s = refuse (not (same_map (synced_in_sessio
 -- no open storage is corrupt
 durable_state app f (Corrupt salvage others) s = Ok f.state
 
+-- the application once the session of a storage is on the disk, or the refusal that no generation is left
 unfoldable pub durable : ℕ → Application → FoundStorage → Session → Result Application PerError
 durable app r f s = durable_state app f f.state s >>= λ state.
     Ok (with_session (record r { disk = with_storage_state r.disk f state }) f.number (made_durable s))
 
+-- a sync of a storage of keys: what its calls see is on the disk after it
 abbrev pub sync_step : ℕ → Application → List ℕ → Result Outcome PerError
 sync_step app r name = storage_in r.disk name (Some kinds.Keys) >>= λ f. opened_session r f >>= λ s.
     durable app r f s >>= λ after. Ok (answered answer.Done after)
@@ -125,15 +130,18 @@ may_flush (keys s) h = Err error.StorageNotFound
 may_flush (files s) h = at_handle s.working h (λ handle file.
     refuse (not (writes handle.cursor.kind)) error.IllegalWriteAccess (Ok tt))
 
+-- a flush by a handle that may write: what the calls on its storage see is on the disk after it
 abbrev pub flush_step : ℕ → Application → List ℕ → (handle : ℕ) → Result Outcome PerError
 flush_step app r name h = storage_in r.disk name (Some kinds.Files) >>= λ f. opened_session r f >>= λ s.
     may_flush s h >>= λ may. durable app r f s >>= λ after.
     Ok (answered answer.Done after)
 
+-- the least number of an open handle, if one is open
 abbrev pub lowest_handle : Session → Option ℕ
 lowest_handle (keys s) = None
 lowest_handle (files s) = lowest s.working.handles
 
+-- the rest, or the refusal that this handle is open
 abbrev pub unless_busy : {A : Type 0} → Option ℕ → Result A PerError → Result A PerError
 unless_busy None rest = rest
 unless_busy (Some h) rest = Err (error.ResourceBusy (holder.Handle h))
@@ -143,6 +151,7 @@ abbrev pub closing : ℕ → Application → FoundStorage → Session → Result
 closing app r f (keys s) = Ok r
 closing app r f (files s) = durable app r f (files s)
 
+-- a close: refused where the storage is not open, and where one of its handles is
 abbrev pub close_step : ℕ → Application → List ℕ → Result Outcome PerError
 close_step app r name = storage_in r.disk name None >>= λ f. opened_session r f >>= λ s.
     unless_busy (lowest_handle s) (closing app r f s >>= λ after.
@@ -150,6 +159,7 @@ close_step app r name = storage_in r.disk name None >>= λ f. opened_session r f
 
 -- ---- a closed storage is rebuilt
 
+-- a closed storage gets another state, by the row of a recovery or a reset; refused where it is open
 abbrev pub rebuild_step : Application → List ℕ → (FoundStorage → Result State PerError) → Result Outcome PerError
 rebuild_step r name state_of = storage_in r.disk name None >>= λ f. unless_open r f (state_of f >>= λ state.
     Ok (answered answer.Done (record r { disk = with_storage_state r.disk f state })))
@@ -195,6 +205,7 @@ local_on (call.Put n f bytes) = Some (n, Some kinds.Files)
 -- the calls of deployment, and those that open, make durable, close, recover and reset
 local_on other = None
 
+-- a call on an open storage that touches no disk: refused where it is not found or not open, and else by its session
 abbrev pub local_step : Application → (now : ℕ) → Option (List ℕ × Option StoreKind) → Call → Result Outcome PerError
 local_step r now None c = Err error.StorageNotFound
 local_step r now (Some on) c = storage_in r.disk on.0 on.1 >>= λ f. opened_session r f >>= λ s.
@@ -203,6 +214,7 @@ local_step r now (Some on) c = storage_in r.disk on.0 on.1 >>= λ f. opened_sess
 
 -- ---- deployment
 
+-- the versions that the root says, or the refusal where it is bad
 abbrev pub status_step : Application → Says → Result Outcome PerError
 status_step r nothing = Err (error.IntegrityCorrupted unit.Root)
 status_step r (absent g) = Ok (answered (answer.Status status.Absent) r)
@@ -239,20 +251,25 @@ progress_in nothing p = Err (error.IntegrityCorrupted unit.Root)
 progress_in (absent g) p = Err error.NotInstalled
 progress_in (installed g active previous) p = found_or p error.NoUpdateInProgress
 
+-- the update in progress of an application, or the refusal
 abbrev pub progress_of : Application → Result InProgress PerError
 progress_of r = progress_in r.disk.says (update_in r.stage)
 
+-- how many storages of an update are not built yet
 abbrev pub remaining : InProgress → ℕ
 remaining p = length p.contents - p.built
 
+-- one storage more of the update is built, and the answer is how many remain
 abbrev pub next_step : Application → Result Outcome PerError
 next_step r = progress_of r >>= λ p. Ok (answered (answer.Number (remaining (one_more p)))
     (record r { stage = updating (one_more p) }))
 
+-- the new version is active, and the old one the previous
 abbrev pub commit_step : Application → Result Outcome PerError
 commit_step r = progress_of r >>= λ p. Ok (answered answer.Done
     (record r { disk = updated_app p r.disk; stage = at_rest }))
 
+-- the update in progress is forgotten
 abbrev pub abort_step : Application → Result Outcome PerError
 abort_step r = progress_of r >>= λ p. Ok (answered answer.Done (record r { stage = at_rest }))
 
@@ -265,6 +282,7 @@ goes_beside call.UpdateCommit = true
 goes_beside call.UpdateAbort = true
 goes_beside other = false
 
+-- the refusal of a call beside the update in progress, if one is in progress and the call does not go beside it
 abbrev pub beside_update : Option InProgress → Call → Option PerError
 beside_update None c = None
 beside_update (Some p) c = cond (goes_beside c) None (Some (error.ResourceBusy (holder.Update p.deployment.version)))
@@ -290,25 +308,28 @@ app_step app r now (call.RecoverStorage n) = rebuild_step r n (λ f. recovering 
 app_step app r now (call.ResetStorage n) = rebuild_step r n (λ f. resetting f.config now f.state)
 app_step app r now other = local_step r now (local_on other) other
 
--- an update in one call, and one that goes on in steps
+-- an update in one call: the new version is active
 abbrev pub with_update : Application → InProgress → Result Outcome PerError
 with_update r p = Ok (answered answer.Done (record r { disk = updated_app p r.disk }))
 
+-- an update that goes on in steps: it is in progress
 abbrev pub with_update_begun : Application → InProgress → Result Outcome PerError
 with_update_begun r p = Ok (answered answer.Done (record r { stage = updating p }))
 
--- an update begins by one plan, or is refused
+-- an update to the manifest `text` begins by one plan, from which the call goes on by `after`, or is refused
 abbrev pub BeginsBy : List Rule → Answers → (now : ℕ) → Application → (text : List ℕ)
     → (InProgress → Result Outcome PerError) → Outcome → Type 0
 BeginsBy rules answers now r text after outcome = (row : Result InProgress PerError)
     × BeginsUpdate rules answers now (least_open r) text r.disk row × (outcome ≡ concluded r (row >>= after))
 
+-- a call on application r at the moment now may have this outcome; updates may have several, by what converters answer
 abbrev pub CallStep : List Rule → Answers → (app now : ℕ) → Application → Call → Outcome → Type 0
 CallStep rules answers app now r (call.Update text) outcome = BeginsBy rules answers now r text (with_update r) outcome
 CallStep rules answers app now r (call.UpdateBegin text) outcome = BeginsBy rules answers now r text
     (with_update_begun r) outcome
 CallStep rules answers app now r other outcome = outcome ≡ concluded r (app_step app r now other)
 
+-- the same, after the refusal that an update in progress gives, if it gives one
 abbrev pub StepBeside : List Rule → Answers → (app now : ℕ) → Application → Call → Option PerError → Outcome → Type 0
 StepBeside rules answers app now r c (Some e) outcome = outcome ≡ answered (answer.Error e) r
 StepBeside rules answers app now r c None outcome = CallStep rules answers app now r c outcome

@@ -46,6 +46,7 @@ not_further_back app w next c sound calm something whole (inr doubt) = absurd (s
 
 -- ---- one storage, on its way in a doubt
 
+-- an application of one storage, in this state, in the one version that is installed in this bank
 abbrev pub one_storage : (g bank version : ℕ) → StorageData → State → App
 one_storage g bank version s state = record {
   says = installed g (record { bank = bank; deployment = record { version = version; storages = s ∷ [] } }) None;

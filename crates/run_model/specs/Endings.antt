@@ -21,7 +21,7 @@ pub data Ending : Type 0 where
   sink : Ending
   too_long : Ending
 
--- status 1 is that of invalid arguments
+-- the exit status of the process; 1 is that of invalid arguments
 abbrev pub ending_status : Ending → ℕ
 ending_status all_read = 0
 ending_status end_line = 0
@@ -115,7 +115,7 @@ pub record InReply (count : ℕ) (lines all : List (List ℕ)) (turns : List Tur
     pub short : count < length (reply_text last.reply)
     pub wrote : Appends before now (replies_text earlier ++ take count (reply_text last.reply))
 
--- that many of the answer to a line outside the grammar
+-- the sink took that many bytes of the answer to a line outside the grammar, and fewer than all
 pub record InBadLine (count : ℕ) (lines all : List (List ℕ)) (turns : List Turn) (before now : Option (List ℕ)) : Type 0
   where
     pub text : List ℕ
@@ -125,6 +125,7 @@ pub record InBadLine (count : ℕ) (lines all : List (List ℕ)) (turns : List T
     pub short : count < length (bad_line_text (length lines + 1))
     pub wrote : Appends before now (replies_text turns ++ take count (bad_line_text (length lines + 1)))
 
+-- by how a run ended: which of the lines `all` were handled, and what was then written
 abbrev pub EndsBy : Ending → (lines all : List (List ℕ)) → List Turn → (before now : Option (List ℕ)) → Type 0
 EndsBy all_read lines all turns before now = AtTheEnd lines all turns before now
 EndsBy end_line lines all turns before now = AtEndLine lines all turns before now
@@ -138,7 +139,8 @@ EndsBy sink lines all turns before now = (count : ℕ) × (InReply count lines a
     ⊎ InBadLine count lines all turns before now)
 EndsBy too_long lines all turns before now = AtTheEnd lines all turns before now
 
--- whether the end of the input was seen, and how many bytes were taken
+-- by how a run ended: whether the end of the input was seen, and how many bytes were taken, of which 67108864 (64 MiB)
+-- are allowed
 abbrev pub IsInput : Ending → (ended : Bool) → (count : ℕ) → Type 0
 IsInput all_read ended count = IsTrue ended
 IsInput device ended count = IsFalse ended × (count ≡ 0)

@@ -19,11 +19,12 @@ pub record FoundStorage : Type 0 where
   pub config : StorageData
   pub state : State
 
--- a call may need a storage of one kind
+-- a storage of this kind serves a call that needs one kind, or none in particular
 abbrev pub of_kind : Option StoreKind → StoreKind → Bool
 of_kind None kind = true
 of_kind (Some wanted) kind = is_kind wanted kind
 
+-- the storage with this configuration and state, where there is one and it is of the kind that is needed
 abbrev pub found_with : (bank number : ℕ) → Option StoreKind → Option StorageData → Option State
     → Result FoundStorage PerError
 found_with bank number kind (Some config) (Some state) = cond (of_kind kind config.kind)
@@ -31,11 +32,13 @@ found_with bank number kind (Some config) (Some state) = cond (of_kind kind conf
 found_with bank number kind (Some config) None = Err error.StorageNotFound
 found_with bank number kind None state = Err error.StorageNotFound
 
+-- the storage of this number in a version, where there is one
 abbrev pub found_at : Named → List State → Option StoreKind → Option ℕ → Result FoundStorage PerError
 found_at v states kind None = Err error.StorageNotFound
 found_at v states kind (Some number) = found_with v.bank number kind (slice_get v.deployment.storages number)
     (slice_get states number)
 
+-- the storage of this name in the active version that a root says, or the first refusal
 abbrev pub found_in : Says → List State → List ℕ → Option StoreKind → Result FoundStorage PerError
 found_in nothing states name kind = Err (error.IntegrityCorrupted unit.Root)
 found_in (absent g) states name kind = Err error.NotInstalled

@@ -105,6 +105,7 @@ pub unless_so : {A : Type 0} (Q : A → Type 0) (test : Bool) (e : PerError) (ro
 unless_so Q true e row has = tt
 unless_so Q false e row has = has refl
 
+-- what holds of an application in every world holds of the one after this outcome
 abbrev pub Lasts : Outcome → Type 0
 Lasts o = IsApplication o.1
 
@@ -198,12 +199,14 @@ open_is (Some s) e = refl
 
 -- ---- calls on an open storage that touch no disk
 
+-- two sessions of one kind, of which the same is on the disk
 abbrev pub SameSynced : Session → Session → Type 0
 SameSynced (keys s) (keys t) = t.synced ≡ s.synced
 SameSynced (files s) (files t) = t.synced ≡ s.synced
 SameSynced (keys s) (files t) = ⊥
 SameSynced (files s) (keys t) = ⊥
 
+-- a call leaves what is on the disk of a storage of keys
 abbrev pub KeysStay : TwoMaps → Answer × TwoMaps → Type 0
 KeysStay s a = a.1.synced ≡ s.synced
 
@@ -231,6 +234,7 @@ keys_stay c s (call.ResetKey n k) = changes_stays s (kvs.reset_key c s.visible k
 keys_stay c s (call.Discard n) = refl
 keys_stay c s other = tt
 
+-- the same of a session of either kind
 abbrev pub KeepsSynced : Session → Answer × Session → Type 0
 KeepsSynced s a = SameSynced s a.1
 

@@ -30,6 +30,7 @@ use Rattle.run_model.specs.Calls.{BeginsBy}
 
 -- ---- no storage is open
 
+-- no storage is open
 abbrev pub NoneOpen : Sessions → Type 0
 NoneOpen ss = AllByRecursion (λ (s : Option Session). s ≡ None) ss
 

@@ -1,4 +1,6 @@
--- The statements of the laws.
+-- The statements of the laws. `rules` and `answers` are the stored converters and what they may answer; `w` is a world
+-- before a command and `w'` the one after it; `old`, `now` and `new` are what the model knows of the disk at moments
+-- one after another; `ds` is what is on the disk of each application, `d` a doubt and `c` a call or a case of a crash.
 use Rattle.std.specs.Prelude.{◌≡◌, ◌≢◌, ◌⊎◌, ◌<◌, ◌+◌, ℕ, List, [], ◌∷◌, ◌++◌, length, true, false, Option, Some, None}
 use Rattle.std.specs.Prelude.{Ok}
 use Rattle.std.specs.Io.KnownBytes.{Appends}

@@ -6,6 +6,7 @@ use Rattle.command_text.specs.declared.lines.Line.{Line}
 use Rattle.command_text.specs.declared.lines.Line.TheVariants as line
 use Rattle.command_text.specs.Grammar.{IsLine}
 
+-- a byte in front of the first line, or of the rest where no line has ended
 abbrev pub onto_first : ℕ → List (List ℕ) × List ℕ → List (List ℕ) × List ℕ
 onto_first byte ([], rest) = ([], byte ∷ rest)
 onto_first byte ((l ∷ ls), rest) = ((byte ∷ l) ∷ ls, rest)
@@ -16,6 +17,7 @@ split_lines [] = ([], [])
 split_lines (byte ∷ bytes) = if byte == 10 then ([] ∷ (split_lines bytes).0, (split_lines bytes).1) else onto_first byte
     (split_lines bytes)
 
+-- what stands after the last line feed, as a line of its own where it is not empty
 abbrev pub last_line : List ℕ → List (List ℕ)
 last_line [] = []
 last_line (byte ∷ bytes) = (byte ∷ bytes) ∷ []
@@ -36,7 +38,7 @@ Give (text ∷ texts) events = (IsLine text line.Nothing × Give texts events)
     × Give texts rest)
 
 -- a whole input in the grammar: every line is, up to the end of the input or to `end`, and that comes before as many
--- bytes as are allowed
+-- bytes as are allowed, 67108864 (64 MiB)
 pub data IsWellFormed (left : List ℕ) : Type 0 where
   all_read : (events : List Event) → length left < 67108864 → Give (lines_of true left) events → IsWellFormed left
   end_last : (lines : List (List ℕ)) (events : List Event) → length left < 67108864

@@ -47,10 +47,11 @@ pub record Pair : Type 0 where
   pub after : App
   pub damaged : List ℕ
 
+-- a pair of which no file is damaged yet
 abbrev pub fresh_pair : (before after : App) → Pair
 fresh_pair before after = record { before = before; after = after; damaged = [] }
 
--- it is one of them
+-- the pair is one of the list
 abbrev pub IsAmong : List Pair → Pair → Type 0
 IsAmong [] q = ⊥
 IsAmong (p ∷ ps) q = (q ≡ p) ⊎ IsAmong ps q
@@ -59,6 +60,7 @@ IsAmong (p ∷ ps) q = (q ≡ p) ⊎ IsAmong ps q
 abbrev pub resting_pairs : Image → (app : ℕ) → List Pair
 resting_pairs image app = fresh_pair (app_at image app) (app_at image app) ∷ []
 
+-- the two sides of a doubt, as a pair of this application, where there is a doubt
 abbrev pub doubt_pairs : ℕ → Option Doubt → List Pair
 doubt_pairs app None = []
 doubt_pairs app (Some d) = fresh_pair (disk_at d.before app) (disk_at d.after app) ∷ []
@@ -78,6 +80,7 @@ pairs_after app entry (w ∷ ws) next earlier = last_pairs app (last_of w ws) ne
 abbrev pub aged : (damaged : List ℕ) → Pair → Pair
 aged damaged p = record { before = p.before; after = p.after; damaged = p.damaged ++ damaged }
 
+-- the same of each pair of a list
 abbrev pub all_aged : (damaged : List ℕ) → List Pair → List Pair
 all_aged damaged [] = []
 all_aged damaged (p ∷ ps) = aged damaged p ∷ all_aged damaged ps
@@ -96,6 +99,7 @@ abbrev pub HasRoot : ℕ → (damaged : List ℕ) → List Pair → Type 0
 HasRoot app damaged [] = ⊤
 HasRoot app damaged (p ∷ ps) = IsRooted app (aged damaged p) × HasRoot app damaged ps
 
+-- so it is of each pair of which some file is damaged
 abbrev pub AreRooted : ℕ → List Pair → Type 0
 AreRooted app [] = ⊤
 AreRooted app (p ∷ ps) = ((p.damaged ≡ []) ⊎ IsRooted app p) × AreRooted app ps
@@ -108,7 +112,8 @@ pub record LooksOnly (old new : Medium) : Type 0 where
   pub written : new.written ≡ old.written
   pub during : EachCase (OrBefore old (IsSettledAt old.image)) old new
 
--- a run on a disk whose bytes are modelled
+-- a run on a disk whose bytes are modelled, with all that it promises of the disk (`DiskSide`), where what reads gave
+-- after each command that failed has nothing of the application that passes its hash by chance
 pub record Ran (rules : List Rule) (answers : Answers) (app : ℕ) (old new : Medium) : Type 0 where
   pub ending : Ending
   pub lines : List (List ℕ)
@@ -138,6 +143,7 @@ ran_of told tells rules answers status left_before left_now before now source_be
       sound = sound;
     }
 
+-- the pairs after a run, from those before it
 abbrev pub pairs_of_run : {rules : List Rule} → {answers : Answers} → (app : ℕ) → (old new : Medium)
     → Ran rules answers app old new → (earlier : List Pair) → List Pair
 pairs_of_run app old new run earlier = pairs_after app (world_at old.image) run.disk.reached run.disk.next earlier
@@ -159,6 +165,7 @@ abbrev pub JobMayLeave : {rules : List Rule} → {answers : Answers} → {app : 
 JobMayLeave old new (runs run) c = new.now c
 JobMayLeave old new other c = new.since old.moment c
 
+-- the pairs after a job, from those before it, which a job that is no run may still have left
 abbrev pub pairs_of : {rules : List Rule} → {answers : Answers} → (app : ℕ) → (old new : Medium)
     → Job rules answers app old new → (earlier : List Pair) → List Pair
 pairs_of app old new (runs run) earlier = pairs_of_run app old new run earlier

@@ -38,7 +38,7 @@ IsDecided app (Some d) = Between app d.before d.after d.case
 
 -- ---- before a run
 
--- so it is of this case, or it might have come before these calls
+-- so it is of this case of a crash, or it is one that a crash before these calls, at `old`, might have left
 abbrev pub OrBefore : Medium → (Case → Type 0) → Case → Type 0
 OrBefore old P c = old.now c ⊎ P c
 
@@ -61,7 +61,9 @@ IsMoment app w after doubt old c = (IsInDoubt w.doubt × old.now c) ⊎ AtMoment
 
 -- A command that was answered, for an application with which all was well before it.
 pub record KeepsApplication (app : ℕ) (w w' : World) (old new : Medium) : Type 0 where
+  -- each crash since the command began leaves what one at some moment of it may leave (`IsMoment`)
   pub any_moment : EachCase (IsMoment app w (disks w') w'.doubt old) old new
+  -- its places are clean, unless what reads gave after a failure passes a hash by chance
   pub clean : IsSoundDoubt app w'.doubt → IsCleanApp app new.image
   -- after it, in a doubt: one that stays has no new crash, and in one that is new each stands between its two sides
   pub calm : IsInDoubt w'.doubt → (c : Case) → new.now c → ((w'.doubt ≡ w.doubt) × old.now c) ⊎ InDoubt app w'.doubt c
@@ -88,13 +90,16 @@ abbrev pub IsPast : ℕ → (w : World) → List World → Case → Type 0
 IsPast app w [] c = ⊥
 IsPast app w (v ∷ vs) c = AtMoment app (disks w) (disks v) v.doubt c ⊎ IsPast app v vs c
 
+-- the last of the worlds after w, or w where there is none
 abbrev pub last_of : World → List World → World
 last_of w [] = w
 last_of w (v ∷ vs) = last_of v vs
 
+-- so it is of the doubt of each of these worlds
 abbrev pub AreSoundDoubts : ℕ → List World → Type 0
 AreSoundDoubts app worlds = AllByRecursion (λ (w : World). IsSoundDoubt app w.doubt) worlds
 
+-- so it is of the doubt of each of these worlds
 abbrev pub AreDecided : ℕ → List World → Type 0
 AreDecided app worlds = AllByRecursion (λ (w : World). IsDecided app w.doubt) worlds
 
@@ -104,6 +109,7 @@ AreDecided app worlds = AllByRecursion (λ (w : World). IsDecided app w.doubt) w
 abbrev pub IsImaged : ℕ → Disks → Type 0
 IsImaged app ds = (start : Image) × (disk_at ds app ≡ app_at start app)
 
+-- what was on the disk before the command that left the doubt is what some image denotes
 abbrev pub IsSideImaged : ℕ → Option Doubt → Type 0
 IsSideImaged app None = Unit {0}
 IsSideImaged app (Some d) = IsImaged app d.before
@@ -112,6 +118,7 @@ IsSideImaged app (Some d) = IsImaged app d.before
 abbrev pub IsWorldImaged : ℕ → World → Type 0
 IsWorldImaged app w = IsImaged app (disks w) × IsSideImaged app w.doubt
 
+-- so it is of each of these worlds
 abbrev pub AreImaged : ℕ → List World → Type 0
 AreImaged app worlds = AllByRecursion (λ (w : World). IsWorldImaged app w) worlds
 

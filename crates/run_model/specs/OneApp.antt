@@ -36,6 +36,7 @@ get_set_other (y ∷ ys) (suc n) (suc k) x differs = get_set_other ys n k x (λ 
 
 -- ---- the memory of one application
 
+-- an application, of what is on the disk and what is kept in memory
 abbrev pub as_app : App → Running → Application
 as_app disk r = record { disk = disk; stage = r.stage; sessions = r.sessions }
 

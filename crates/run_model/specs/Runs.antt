@@ -26,6 +26,7 @@ abbrev pub IsCaseOfDoubt : (since : Case → Type 0) → Option Doubt → Type 0
 IsCaseOfDoubt since None = ⊤
 IsCaseOfDoubt since (Some d) = since d.case
 
+-- the case of the doubt of each world is one of these
 abbrev pub AreCases : (since : Case → Type 0) → List World → Type 0
 AreCases since worlds = AllByRecursion (λ (w : World). IsCaseOfDoubt since w.doubt) worlds
 
@@ -128,6 +129,7 @@ pub record Run (told : Bool) (rules : List Rule) (answers : Answers) (status : �
   -- end
   pub given : List ℕ
   pub taken : Consumes left_before left_now given
+  -- at most 64 MiB
   pub bound : length given ≤ 67108864
   pub ended : Bool
   pub end_seen : IsTrue ended → IsAtEnd left_now × (length given < 67108864)

@@ -48,6 +48,7 @@ pub record Memory : Type 0 where
 
 -- ---- the world
 
+-- the applications from number `app` on: of each what is on the disk, and what is kept in memory
 abbrev pub with_disk : (ℕ → App) → ℕ → List Running → List Application
 with_disk disk app [] = []
 with_disk disk app (r ∷ rs) = record { disk = disk app; stage = r.stage; sessions = r.sessions }
@@ -58,7 +59,7 @@ with_disk disk app (r ∷ rs) = record { disk = disk app; stage = r.stage; sessi
 abbrev pub world_of : Image → Memory → Option Doubt → World
 world_of image memory doubt = record { now = memory.now; apps = with_disk (app_at image) 0 memory.apps; doubt = doubt }
 
--- there is one where the memory says so
+-- there is a doubt exactly where the memory says so
 abbrev pub IsDoubt : Memory → Option Doubt → Type 0
 IsDoubt memory doubt = is_some doubt ≡ memory.in_doubt
 
@@ -81,7 +82,8 @@ pub record StartKeeps (old new : Medium) : Type 0 where
   -- only slots of roots change
   pub roots : Spares IsNoRoot old.image new.image
 
--- a start that ended well
+-- A start that ended well: eight applications in memory, no doubt, the world of the disk with each root mended, nothing
+-- pending, and clean places where they were clean.
 pub record Starts (memory : Memory) (old new : Medium) : Type 0 where
   pub eight : length memory.apps ≡ 8
   pub sure : memory.in_doubt ≡ false
@@ -194,17 +196,24 @@ StepsOn rules answers w e reply w' old new = Step rules answers w e reply w'
 pub record Stepped (rules : List Rule) (answers : Answers) (e : Event) (reply : Reply) (old_memory new_memory : Memory)
     (doubt : Option Doubt) (old new : Medium) : Type 0 where
   pub eight : length new_memory.apps ≡ 8
+  -- the doubt after the command: there is one where the memory says so
   pub doubt' : Option Doubt
   pub is_doubt : IsDoubt new_memory doubt'
+  -- the command leads from the world before it to the one after it, in which all holds that holds of every world
   pub step : StepsOn rules answers (world_of old.image old_memory doubt) e reply (world_of new.image new_memory doubt')
       old new
   pub world : IsWorld (world_of new.image new_memory doubt')
+  -- each application is kept at each moment of the command
   pub keeps : (app : ℕ) → app < 8 → StepKeeps app (world_of old.image old_memory doubt)
       (world_of new.image new_memory doubt') old new
+  -- a doubt is the one from before, or its case is one of the disk now; without a doubt nothing is pending
   pub case : (d : Doubt) → doubt' ≡ Some d → (doubt ≡ Some d) ⊎ (new.now d.case × (d.case.left ≡ new.image))
   pub quiet : doubt' ≡ None → Quiet new
+  -- no file of another application changes, nor one beside those of the storage that the command names
   pub aside : StaysAside e doubt old new
   pub place : Spares (IsBesideNamed (world_of old.image old_memory doubt) e) old.image new.image
+  -- a command that only looks, or is refused with no root opened before it, writes no byte; and a sync, a flush or a
+  -- close writes no more than what differs may cost
   pub unwritten : writes_none (world_of old.image old_memory doubt) e reply ≡ true → IsUnwritten old new
   pub written : WrittenBy (world_of old.image old_memory doubt) e old new
   -- the reply that the device failed has its cause in this command
@@ -213,9 +222,12 @@ pub record Stepped (rules : List Rule) (answers : Answers) (e : Event) (reply : 
 -- A command for which memory ran out: it is in progress.
 pub record Stopped (rules : List Rule) (answers : Answers) (e : Event) (memory : Memory) (doubt : Option Doubt)
     (old new : Medium) : Type 0 where
+  -- what the command leads to on the disk of each application, or what was there before
   pub after : Disks
   pub leads : Leads rules answers (world_of old.image memory doubt) e after
+  -- at each moment each application stands between what was and that
   pub keeps : (app : ℕ) → app < 8 → StopKeeps app (world_of old.image memory doubt) after old new
+  -- which files it may touch, and how much it may write
   pub aside : StaysAside e doubt old new
   pub place : Spares (IsBesideNamed (world_of old.image memory doubt) e) old.image new.image
   pub unwritten : only_looks (world_of old.image memory doubt) e ≡ true → IsUnwritten old new

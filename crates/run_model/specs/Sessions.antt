@@ -65,6 +65,7 @@ shows s {A} form row = row >>= λ x. Ok (form x, s)
 abbrev pub changes : TwoMaps → Result Map PerError → Answered TwoMaps
 changes s row = row >>= λ m. Ok (answer.Done, record s { visible = m })
 
+-- what a call answers in an open storage of keys with this configuration, and the session after it
 unfoldable pub on_keys : StorageData → TwoMaps → Call → Answered TwoMaps
 on_keys c s (call.Size n) = Ok (answer.Number (size_of s.visible), s)
 on_keys c s (call.Keys n) = Ok (answer.Names (names_of s.visible), s)
@@ -86,6 +87,7 @@ on_keys c s other = Err error.StorageNotFound
 abbrev pub storage_of : StorageData → Storage
 storage_of c = record { name = c.name; read_only = c.read_only; maximum = c.maximum }
 
+-- the working files of a session, with the handles on them
 abbrev pub Working : Type 0
 Working = handles.Session
 
@@ -97,9 +99,11 @@ sees w {A} form row = row >>= λ x. Ok (form x, w)
 abbrev pub moves : {A : Type 0} → (A → Answer) → Result (A × Working) PerError → Answered Working
 moves {A} form row = row >>= λ x. Ok (form x.0, x.1)
 
+-- a call done, with the working files after it
 abbrev pub works : Result Working PerError → Answered Working
 works row = row >>= λ w. Ok (answer.Done, w)
 
+-- what a call answers in an open storage of files at the moment now, and the working files after it
 unfoldable pub on_working : StorageData → (now : ℕ) → Working → Call → Answered Working
 on_working c now w (call.Size n) = Ok (answer.Number (size_of w.files), w)
 on_working c now w (call.Files n) = Ok (answer.Names (names_of w.files), w)

@@ -26,6 +26,8 @@ use Rattle.run_model.specs.Worlds.{world_at, after_run, disks, app_of, with_app,
 abbrev pub root_opened : Application → Application
 root_opened r = cond (is_to_open r.stage) (record r { disk = reopened r.disk; stage = at_rest }) r
 
+-- A call of application `app` at the moment now may have this outcome, a reply and the application after it, where no
+-- device fails: its root is opened first where it is to be, and beside an update in progress most calls are refused.
 abbrev pub AppStep : List Rule → Answers → (app now : ℕ) → Application → Call → Outcome → Type 0
 AppStep rules answers app now r c outcome = StepBeside rules answers app now (root_opened r) c
     (beside_update (update_in (root_opened r).stage) c) outcome
@@ -43,14 +45,15 @@ uses_device a other = is_none (local_on other)
 abbrev pub calls_device : Application → Call → Bool
 calls_device r c = is_to_open r.stage || uses_device r.disk c
 
--- in a doubt such a command begins with a sync, before every refusal, which ends the doubt
+-- the doubt after a command: one that calls the device begins in a doubt with a sync, before every refusal, which ends
+-- it
 abbrev pub doubt_after : (calls : Bool) → Option Doubt → Option Doubt
 doubt_after true doubt = None
 doubt_after false doubt = doubt
 
 -- ---- an ordinary step
 
--- The command takes the world w to w' with this reply; all other applications stay.
+-- The command may take the world w to w' with this reply, where no device fails; all other applications stay.
 abbrev pub Step : List Rule → Answers → World → Event → Reply → World → Type 0
 Step rules answers w (event.Now t) reply w' = (reply ≡ record { reports = []; answer = answer.Done })
     × (w' ≡ record w { now = t })
@@ -64,7 +67,7 @@ Step rules answers w (event.App app c) reply w' = (outcome : Outcome)
 abbrev pub failure : Reply
 failure = record { reports = []; answer = answer.Error error.PhysicalStorageFailure }
 
--- the device fails in the sync that was to end the doubt: nothing changes
+-- the device fails in the sync that was to end the doubt of w: nothing changes, so that w' is w
 abbrev pub SyncFails : World → Event → Reply → World → Type 0
 SyncFails w (event.Now t) reply w' = ⊥
 SyncFails w (event.App app c) reply w' = IsTrue (calls_device (app_of w app) c && is_some w.doubt) × (reply ≡ failure)
@@ -100,18 +103,19 @@ passes_refusals app r now (call.RecoverStorage n) = is_ok (storage_in r.disk n N
 passes_refusals app r now (call.ResetStorage n) = is_ok (storage_in r.disk n None >>= λ f. unless_open r f (Ok f))
 passes_refusals app r now other = is_ok (app_step app r now other)
 
--- it reaches the device by itself
+-- the call reaches the device by itself: it uses it, and is not refused before
 abbrev pub reaches_device : (app : ℕ) → Application → (now : ℕ) → Call → Bool
 reaches_device app r now c = uses_device r.disk c && is_none (beside_update (update_in r.stage) c)
     && passes_refusals app r now c
 
--- it fails in opening the root, or in the call itself
+-- the device fails in opening the root, or in the call itself: application r becomes r', with what reads then give on
+-- the disk, `a`
 abbrev pub FailsAs : (app now : ℕ) → App → Application → Call → Application → Type 0
 FailsAs app now a r c r' = (IsTrue (is_to_open r.stage) × (r' ≡ after_failure a r None))
     ⊎ (IsTrue (reaches_device app (root_opened r) now c)
     × (r' ≡ after_failure a (root_opened r) (found_named (root_opened r) c)))
 
--- what is on the disk after a command that is in progress: what it leads to, or what was there before
+-- `ds` may be what is on the disk once a command in progress has ended: what it leads to, or what was there before
 abbrev pub Leads : List Rule → Answers → World → Event → Disks → Type 0
 Leads rules answers w e ds = (ds ≡ disks w) ⊎ ((reply : Reply) × (w' : World)
     × Step rules answers (without_doubt w) e reply w' × (ds ≡ disks w'))

@@ -18,6 +18,7 @@ pub record DiskBytes : Type 0 where
   pub image : Image
   pub written : ℕ
 
+-- the bytes of a disk as the model knows it now
 abbrev pub bytes_now : Medium → DiskBytes
 bytes_now m = record { image = m.image; written = m.written }
 
@@ -35,12 +36,15 @@ pub record Turn : Type 0 where
 abbrev pub turn : Event → Reply → Medium → World → Turn
 turn e reply m w = record { event = e; reply = reply; faults = m.faults; bytes = bytes_now m; world = w }
 
+-- the commands of turns, in order
 abbrev pub events_of : List Turn → List Event
 events_of turns = map (λ (t : Turn). t.event) turns
 
+-- their replies
 abbrev pub replies_of : List Turn → List Reply
 replies_of turns = map (λ (t : Turn). t.reply) turns
 
+-- the worlds after them
 abbrev pub worlds_of : List Turn → List World
 worlds_of turns = map (λ (t : Turn). t.world) turns
 

@@ -65,6 +65,7 @@ disks w = map (λ (a : Application). a.disk) w.apps
 abbrev pub no_app : App
 no_app = record { says = nothing; lacking = []; states = [] }
 
+-- an application, or one of which the disk says nothing
 abbrev pub or_none : Option App → App
 or_none None = no_app
 or_none (Some a) = a
@@ -77,22 +78,26 @@ disk_at ds app = or_none (slice_get ds app)
 abbrev pub resting : App → Application
 resting a = record { disk = a; stage = at_rest; sessions = none_open }
 
+-- an application, or one of which the disk says nothing and nothing is open
 abbrev pub or_idle : Option Application → Application
 or_idle None = resting no_app
 or_idle (Some a) = a
 
+-- the application of this number in a world
 abbrev pub app_of : World → ℕ → Application
 app_of w app = or_idle (slice_get w.apps app)
 
+-- the world with this application under this number
 abbrev pub with_app : World → ℕ → Application → World
 with_app w app a = record w { apps = slice_set w.apps app a }
 
+-- the world with no doubt
 abbrev pub without_doubt : World → World
 without_doubt w = record w { doubt = None }
 
 -- ---- where worlds begin and end
 
--- that many applications, from this number on
+-- that many applications, from this number on, each with what is on its disk and nothing open
 abbrev pub all_resting : (ℕ → App) → (app count : ℕ) → List Application
 all_resting disk app zero = []
 all_resting disk app (suc count) = resting (disk app) ∷ all_resting disk (app + 1) count

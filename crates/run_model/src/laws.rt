@@ -1,4 +1,8 @@
 //! The laws, for the proofs of callers: none of these functions does anything when it runs.
+//!
+//! `migrations` are the stored converters, of which a law takes which they are (`rules_of`) and what they may answer
+//! (`answers_of`). `old`, `now` and `new` are a disk at moments one after another, of which a law takes what the model
+//! knows at each (`D.medium`).
 
 ghost use Rattle.std.specs.Prelude.{IsTrue};
 ghost use Rattle.migrate_fns.specs.Stored.{answers_of, rules_of};
@@ -124,7 +128,8 @@ pub fn a_run_begins<D: Disk>(migrations: &Migrations, old: &D, new: &D)
         (D.medium new.now) }
 {}
 
-/// A run from `old` to `now`, and then a command that is answered, from `now` to `new`, are a run of one turn more.
+/// A run from `old` to `now`, and then a command that is answered, from `now` to `new`, are a run of one turn more,
+/// over a disk whose bytes are modelled (`D.told`).
 pub fn a_run_goes_on<D: Disk>(migrations: &Migrations, old: &D, now: &D, new: &D)
     ensures { IsTrue D.told → RunGoesOnLaw (rules_of migrations.now) (answers_of migrations.now) (D.medium old.now)
         (D.medium now.now) (D.medium new.now) }

@@ -12,12 +12,15 @@ pub record Item : Type 0 where
   pub stored : Option Entry
   pub configured : Option ElementData
 
+-- a name of which something is stored and nothing configured
 abbrev pub only_stored : Entry → Item
 only_stored e = record { name = e.name; stored = Some e; configured = None }
 
+-- a name of which something is configured and nothing stored
 abbrev pub only_configured : ElementData → Item
 only_configured c = record { name = c.name; stored = None; configured = Some c }
 
+-- a name of which something is stored and something configured
 abbrev pub both : Entry → ElementData → Item
 both e c = record { name = e.name; stored = Some e; configured = Some c }
 
@@ -27,6 +30,7 @@ by_order Less first same after = first
 by_order Equal first same after = same
 by_order Greater first same after = after
 
+-- a stored entry merged with the configured elements; `others` merges the entries after it with those that are left
 abbrev pub with_entry : Entry → (List ElementData → List Item) → List ElementData → List Item
 with_entry e others [] = only_stored e ∷ others []
 with_entry e others (c ∷ cs) = by_order (name_cmp e.name c.name) (only_stored e ∷ others (c ∷ cs))

@@ -29,7 +29,7 @@ use Rattle.index_text.specs.Contents.{AreContents, fresh_size}
 
 -- ---- what is stored
 
--- the bytes of a readable content are within what its kind allows
+-- the bytes of a readable content are no more than an element of its kind may have
 abbrev pub IsSmall : StoreKind → Content → Type 0
 IsSmall kind (Good bytes) = length bytes ≤ max_len kind
 IsSmall kind (Bad salvage) = ⊤
@@ -50,12 +50,12 @@ ArePresent kind Missing = ⊤
 ArePresent kind Damaged = ⊤
 ArePresent kind (Present es) = AreStored kind es
 
--- the contents of a storage of the old version are those of its kind
+-- where the old version has this storage, the contents are as one of its kind is read
 abbrev pub AreContentsOf : Option StorageData → StorageContents → Type 0
 AreContentsOf None contents = ⊤
 AreContentsOf (Some s) contents = ArePresent s.kind contents
 
--- what is stored under this name is what a storage of the old version's kind has
+-- where the old version has a storage of this name, what is stored is as one of its kind is read
 abbrev pub IsStoredOf : DeploymentData → Stored → Type 0
 IsStoredOf old x = AreContentsOf (storage_named old x.name) x.contents
 
@@ -64,47 +64,56 @@ abbrev pub or_missing : Option (Bor StorageContents) → StorageContents
 or_missing None = Missing
 or_missing (Some contents) = contents.now
 
+-- what was found to be stored of a storage; where nothing was, it is missing
 abbrev pub contents_in : Option Stored → StorageContents
 contents_in None = Missing
 contents_in (Some x) = x.contents
 
+-- what is stored of the storage of this name; of two with one name the first counts
 abbrev pub contents_named : List Stored → List ℕ → StorageContents
 contents_named contents name = contents_in (find (λ (x : Stored). bytes_eq x.name name) contents)
 
+-- whether two kinds are the same
 abbrev pub is_kind : StoreKind → StoreKind → Bool
 is_kind Keys Keys = true
 is_kind Keys Files = false
 is_kind Files Keys = false
 is_kind Files Files = true
 
+-- these contents, where the old storage has this kind, and else none: the storage is missing
 abbrev pub if_kind : StoreKind → Option StorageData → StorageContents → StorageContents
 if_kind kind None contents = Missing
 if_kind kind (Some s) contents = cond (is_kind s.kind kind) contents Missing
 
--- what a storage of the new version starts from: what is stored of the storage of the same name and kind
+-- what a storage of the new version starts from, by the old version and all that is stored: what is stored of the
+-- storage of the same name and kind
 abbrev pub stored_for : DeploymentData → List Stored → StorageData → StorageContents
 stored_for old contents s = if_kind s.kind (storage_named old s.name) (contents_named contents s.name)
 
 -- ---- one storage
 
+-- the first of the stored elements with this name
 abbrev pub entry_named : List Entry → List ℕ → Option Entry
 entry_named es name = find (λ (e : Entry). bytes_eq e.name name) es
 
+-- the first of the elements that are to be written with this name
 abbrev pub fresh_named : List Fresh → List ℕ → Option Fresh
 fresh_named xs name = find (λ (x : Fresh). bytes_eq x.name name) xs
 
--- these are the contents of the storage in the new version: names that ascend, and each name has what the update makes
--- of it
+-- `new` is what the storage `s` has after an update at the moment `now` over the stored elements `old`: names that
+-- ascend, and each name has what the update makes of it, where the converters answer as `answers` allows
 pub record Updated (rules : List Rule) (answers : Answers) (now : ℕ) (s : StorageData) (old : List Entry)
     (new : List Fresh) : Type 0 where
   pub names_ascend : IsStrictlySortedBy name_cmp (map (λ (x : Fresh). x.name) new)
   pub each : (name : List ℕ) → Becomes answers name (fate rules now s name (element_named s name)
       (entry_named old name)) (fresh_named new name)
 
+-- the first of a list, if there is one
 abbrev pub first_or_none : {A : Type 0} → List A → Option A
 first_or_none [] = None
 first_or_none (x ∷ xs) = Some x
 
+-- why the update at the moment `now` cannot keep a stored element, where it is to be kept and cannot be
 abbrev pub entry_refusal : List Rule → ℕ → StorageData → Entry → Option PerError
 entry_refusal rules now s e = refusal (fate rules now s e.name (element_named s e.name) (Some e))
 
@@ -112,7 +121,8 @@ entry_refusal rules now s e = refusal (fate rules now s e.name (element_named s 
 abbrev pub first_refusal : List Rule → ℕ → StorageData → List Entry → Option PerError
 first_refusal rules now s old = first_or_none (filter_map (entry_refusal rules now s) old)
 
--- too many elements, and then too many bytes
+-- these elements; or the refusal of more than 1,024 of them, and then of names and contents that are together more
+-- bytes than the maximum
 abbrev pub within_limits : ℕ → List Fresh → Result (List Fresh) PerError
 within_limits maximum new = cond (nat_lt 1024 (length new)) (Err (LimitReached limit.Elements))
     (cond (nat_lt maximum (sum_by fresh_size new)) (Err (OutOfStorageSpace (sum_by fresh_size new) maximum)) (Ok new))
@@ -132,25 +142,28 @@ PlansFor rules answers now s (Present old) plan = PlansOver rules answers now s 
 
 -- ---- all storages
 
+-- an item in front of the others, where these are no refusal
 abbrev pub with_first : {A : Type 0} → A → Result (List A) PerError → Result (List A) PerError
 with_first x (Ok xs) = Ok (x ∷ xs)
 with_first x (Err e) = Err e
 
--- the first refusal ends a plan
+-- a plan of one storage, and then of the others: the first refusal ends it
 abbrev pub Continues : Result (List Fresh) PerError → (Result (List (List Fresh)) PerError → Type 0)
     → Result (List (List Fresh)) PerError → Type 0
 Continues (Err e) others plan = plan ≡ Err e
 Continues (Ok new) others plan = (rest : Result (List (List Fresh)) PerError) × others rest
     × (plan ≡ with_first new rest)
 
--- the plan of all storages, in their order: what each has after the update, or the first refusal
+-- the plan of all storages, in their order, by what is stored for each: what each has after the update, or the first
+-- refusal
 abbrev pub PlansAll : List Rule → Answers → ℕ → (StorageData → StorageContents) → List StorageData
     → Result (List (List Fresh)) PerError → Type 0
 PlansAll rules answers now stored [] plan = plan ≡ Ok []
 PlansAll rules answers now stored (s ∷ ss) plan = (first : Result (List Fresh) PerError)
     × PlansFor rules answers now s (stored s) first × Continues first (PlansAll rules answers now stored ss) plan
 
--- the contents of each storage can be made a storage
+-- there is a list of contents for each storage, which can be stored in it: names that ascend, at most 1,024 elements of
+-- its kind, and no more bytes than its maximum
 abbrev pub AllFit : List StorageData → List (List Fresh) → Type 0
 AllFit [] [] = ⊤
 AllFit [] (x ∷ xs) = ⊥
@@ -159,6 +172,7 @@ AllFit (s ∷ ss) (x ∷ xs) = AreContents s.kind s.maximum x × AllFit ss xs
 
 -- ---- what a call answers, where memory did not run out
 
+-- a result passes the test, or it is the error OutOfMemory
 abbrev pub UnlessOutOfMemory : {A : Type 0} → Result A PerError → (Result A PerError → Type 0) → Type 0
 UnlessOutOfMemory (Ok x) P = P (Ok x)
 UnlessOutOfMemory (Err e) P = e ≢ OutOfMemory → P (Err e)

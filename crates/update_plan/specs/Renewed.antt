@@ -11,6 +11,7 @@ use Rattle.update_plan.specs.Limits.{IfMade}
 use Rattle.update_plan.specs.Merging.{Item}
 use Rattle.update_plan.specs.Plans.{first_or_none}
 
+-- what an update at this moment makes of a name, by what is stored and configured of it
 abbrev pub item_fate : List Rule → ℕ → StorageData → Item → Fate
 item_fate rules now s p = fate rules now s p.name p.configured p.stored
 
@@ -21,9 +22,11 @@ BecomeAll rules answers now s (p ∷ ps) new = (first : Option Fresh) × (others
     × Becomes answers p.name (item_fate rules now s p) first × IfMade s.kind p.name first
     × BecomeAll rules answers now s ps others × (new ≡ cons_option first others)
 
+-- why the update is refused, name by name
 abbrev pub refusals : List Rule → ℕ → StorageData → List Item → List PerError
 refusals rules now s ps = filter_map (λ (p : Item). refusal (item_fate rules now s p)) ps
 
+-- a call gave what all the names become, where none is refused, or the first refusal, or memory ran out
 abbrev pub RenewAll : List Rule → Answers → ℕ → StorageData → List Item → Result (List Fresh) PerError → Type 0
 RenewAll rules answers now s ps (Ok new) = (refusals rules now s ps ≡ []) × BecomeAll rules answers now s ps new
 RenewAll rules answers now s ps (Err e) = e ≢ OutOfMemory → first_or_none (refusals rules now s ps) ≡ Some e

@@ -19,7 +19,7 @@ pub enum StorageContents {
     Present(Sequence<Entry>),
 }
 
-/// A storage by its name, and what is stored of it.
+/// The name of a storage of the old version, and what is stored of it.
 #[derive(Debug, Drop)]
 pub struct Stored {
     pub name: Name,

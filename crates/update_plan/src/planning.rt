@@ -31,7 +31,7 @@ const MAX_ELEMENTS: usize = 1024;
 /// Errors, storage by storage: `IntegrityCorrupted` with the storage where what is stored is damaged; then element by
 /// element `IntegrityCorrupted` with the element where it is to be kept and is unreadable, or `DataTypeMismatch` where
 /// it is to be converted and no chain of converters does; then `LimitReached` with `Elements` above 1,024; then
-/// `OutOfStorageSpace` above the maximum. `OutOfMemory`.
+/// `OutOfStorageSpace` above the storage's maximum, in bytes of names and contents. `OutOfMemory`.
 pub fn plan(
     alloc: Global,
     old: &Deployment,
@@ -40,12 +40,17 @@ pub fn plan(
     migrations: &Migrations,
     now: u64,
 ) -> Result<Vec<Sequence<Fresh>>, PerError>
+    // Both versions obey the rules of deployments, and what is stored is as storages of `old` are read: names that
+    // ascend, an info exactly for files, and no content over the most bytes of its kind.
     requires old { IsDeployment (deployment_data old.now) }
     requires new { IsDeployment (deployment_data new.now) }
     requires contents { AllByRecursion (IsStoredOf (deployment_data old.now)) contents.now }
+    // Unless memory ran out: of each new storage, what it has after the update from what was stored of the one of its
+    // name and kind, or the first refusal. A conversion gives any value that the stored functions may answer.
     ensures plan { UnlessOutOfMemory (viewed_items (λ x. x.items) result)
         (PlansAll (rules_of migrations.now) (answers_of migrations.now) now
         (plans.stored_for (deployment_data old.now) contents.now) (map storage_data new.now.storages)) }
+    // What is `made` for each storage can be stored in it as it is: names ascend, and no bound is passed.
     ensures fits { IfOk result (λ made. AllFit (map storage_data new.now.storages) made.items) }
 {
     let mut plans = Vec::new(alloc);

@@ -11,8 +11,8 @@ use file_core::made;
 use per_base::{Bytes, Cause, FileInfo, Fresh, Name, StoreKind};
 use std::alloc::{AllocError, Global};
 
-/// What a storage has at the start: each element that is not to be deleted and has an initial content, with this cause
-/// and this moment in seconds in the info of a file.
+/// What a storage of this configuration has at the start: each element that is not to be deleted and has an initial
+/// content. A file's info has this cause, and the moment `now` in seconds. The one error is that memory ran out.
 pub fn initial_of(
     alloc: Global,
     config: &StorageConfig,
@@ -20,6 +20,7 @@ pub fn initial_of(
     now: u64,
 ) -> Result<Vec<Fresh>, AllocError>
     requires { IsStorage (storage_data config.now) }
+    // What is `made` is these elements, in the order of their names, and can be stored as it is: no bound is passed.
     ensures contents { IfOk result (λ made. made.items ≡ initial_contents (storage_data config.now) cause now) }
     ensures limits { IfOk result (λ made. AreContents config.now.kind config.now.maximum made.items) }
 {
