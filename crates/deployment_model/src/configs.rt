@@ -39,22 +39,25 @@ pub struct ElementConfig {
     pub strategy: Option<ElementStrategy>,
 }
 
-/// A storage.
+/// A storage, as it is configured.
 #[derive(Debug, Drop)]
 pub struct StorageConfig {
     pub name: Name,
+    /// Whether its elements are keys or files.
     pub kind: StoreKind,
     /// The bytes that the storage needs at least; it is never above the maximum.
     pub minimum: u64,
     /// The most bytes that its names and contents may have together.
     pub maximum: u64,
+    /// What an update does with the elements that have no strategy of their own.
     pub strategy: CollectionStrategy,
+    /// Whether the application may only read it.
     pub read_only: bool,
     /// How many of the `n` copies must agree.
     pub m: u32,
     /// How many copies the storage has.
     pub n: u32,
-    /// What must agree in `m` copies.
+    /// What must agree in `m` copies: each element by itself, or the whole storage.
     pub scope: Scope,
     /// The configured elements, ascending by name.
     pub elements: Sequence<ElementConfig>,

@@ -8,6 +8,7 @@ use Rattle.manifest.specs.Parts.{ListedThing}
 abbrev pub listed_view : Part → ListedThing
 listed_view p = (p.kind, view p.value.now)
 
+-- what several denote, in order
 abbrev pub listed_views : List Part → List ListedThing
 listed_views ps = map listed_view ps
 

@@ -6,7 +6,7 @@ ghost use Rattle.root_text.specs.RootText.{IsRoot, Root, root_of, root_text};
 
 use manifest::said_is_kept;
 
-/// A text says one root, and a root has one text.
+/// A text says at most one root `r`, and a root has one text; `root_of` reads a text, and `root_text` writes it.
 pub fn one_root()
     // bytes that say a root are its text, and a root is said by its text
     ensures taken { (text : List ℕ) (r : Root) → AreBytes text → root_of text ≡ Some r → text ≡ root_text r }
