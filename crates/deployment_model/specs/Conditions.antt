@@ -35,12 +35,12 @@ IsInitial Keys None bytes = ⊥
 IsInitial Keys (Some k) bytes = IsEncodingOf k bytes
 IsInitial Files value_type bytes = length bytes ≤ 1048576
 
--- the initial content, where the element has one, is such
+-- what an element of this kind and type starts with is nothing, or an initial content that it may have
 abbrev pub StartsAs : StoreKind → Option Kind → Option (List ℕ) → Type 0
 StartsAs kind value_type None = ⊤
 StartsAs kind value_type (Some bytes) = IsInitial kind value_type bytes
 
--- an update gives the element its initial content, whatever is stored
+-- the element's update strategy, where it has one, is that an update gives it its initial content, whatever is stored
 abbrev pub overwrites : Option ElementStrategy → Bool
 overwrites None = false
 overwrites (Some KeepExisting) = false
@@ -64,7 +64,7 @@ abbrev pub start_size : List ℕ → Option (List ℕ) → ℕ
 start_size name None = 0
 start_size name (Some bytes) = length name + length bytes
 
--- the same of a configured element
+-- the bytes that a configured element takes in its storage at the start
 abbrev pub initial_size : ElementData → ℕ
 initial_size e = start_size e.name e.initial
 

@@ -66,6 +66,7 @@ pub struct StorageConfig {
 /// The storages of an application, at one version.
 #[derive(Debug, Drop)]
 pub struct Deployment {
+    /// The version, which the rules ask to be at least 1.
     pub version: u32,
     /// The storages, ascending by name. The number of a storage is its place in this list, from 0.
     pub storages: Sequence<StorageConfig>,

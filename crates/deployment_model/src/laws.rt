@@ -11,8 +11,8 @@ pub fn names_are_apart()
         → (storage_named d s.name ≡ Some s) × (storage_number d s.name ≡ Some i) }
 {}
 
-/// A storage `s` or an element `e` that is found by a name obeys the rules of a storage or of an element, and the number
-/// `i` of a name is the place of the storage that has this name.
+/// A storage `s` or an element `e` that is found by a name obeys the rules of a storage or of an element, and the
+/// number `i` of a name is the place of the storage that has this name.
 pub fn found_is_kept()
     ensures storage { (d : DeploymentData) (name : List ℕ) (s : StorageData) → IsDeployment d
         → storage_named d name ≡ Some s → IsStorage s }

@@ -56,19 +56,19 @@ all_elements ss = flat_map elements ss
 unfoldable pub name_in : Data → List ℕ
 name_in d = unwrap_or (text_in (get (codes "name") d)) []
 
--- things by their names, in the order of the names
+-- storages or elements by their names, in the order of the names
 abbrev pub NamedParts : Type 0
 NamedParts = List (List ℕ × ListedThing)
 
--- with this one put in by its name, in the place of an earlier one with the same name
+-- with this storage or element put in by its name, in the place of an earlier one with the same name
 abbrev pub with_named : NamedParts → ListedThing → NamedParts
 with_named found l = insert_entry name_cmp found (name_in l.1) l
 
--- all of these by their names; of those with one name the last
+-- storages or elements by their names, in the order of the names; of those with one name the last
 unfoldable pub named : List ListedThing → NamedParts
 named ls = fold with_named [] ls
 
--- these in the order of their names
+-- storages or elements in the order of their names; of those with one name the last
 abbrev pub by_name : List ListedThing → List ListedThing
 by_name ls = map (λ (e : List ℕ × ListedThing). e.1) (named ls)
 

@@ -29,7 +29,7 @@ unfoldable pub lists_storages : Data → Bool
 lists_storages d = may_be is_list_of_objects (get (codes "keyValueStorages") d)
     && may_be is_list_of_objects (get (codes "fileStorages") d)
 
--- rule 6: it has no other member
+-- rule 6: the manifest has no members but its version and the two lists of storages
 unfoldable pub has_known_members : Data → Bool
 has_known_members d = has_only (codes "version" ∷ codes "keyValueStorages" ∷ codes "fileStorages" ∷ []) d
 
@@ -44,7 +44,7 @@ abbrev pub storage_words : StoreKind → List (List ℕ)
 storage_words kind = codes "name" ∷ codes "minimumSustainedSize" ∷ codes "maximumAllowedSize" ∷ codes "updateStrategy"
     ∷ codes "readOnly" ∷ codes "redundancy" ∷ elements_word kind ∷ []
 
--- the storage has no other member
+-- the storage has no members but those that one of its kind may have
 unfoldable pub has_storage_members : ListedThing → Bool
 has_storage_members s = has_only (storage_words s.0) s.1
 
@@ -56,7 +56,7 @@ storages_have_known_members ss = list_all has_storage_members ss
 unfoldable pub is_named : ListedThing → Bool
 is_named l = is_name (name_in l.1)
 
--- rule 9, of storages: each has a name
+-- each has a name; of the storages this is rule 9
 unfoldable pub are_named : List ListedThing → Bool
 are_named ls = list_all is_named ls
 
@@ -65,7 +65,7 @@ abbrev pub all_differ : List (List ℕ) → Bool
 all_differ [] = true
 all_differ (name ∷ names) = not (list_any (bytes_eq name) names) && all_differ names
 
--- rule 10, of storages: no two have the same name
+-- no two have the same name; of the storages this is rule 10
 unfoldable pub names_differ : List ListedThing → Bool
 names_differ ls = all_differ (map (λ (l : ListedThing). name_in l.1) ls)
 
@@ -86,7 +86,7 @@ sizes_are_in_range ss = list_all has_sizes ss
 unfoldable pub has_minimum_below : ListedThing → Bool
 has_minimum_below s = nat_le (minimum_in s.1) (maximum_in s.1)
 
--- rule 12: so it is in each storage
+-- rule 12: the minimum of each storage is at most its maximum
 unfoldable pub minimums_are_below : List ListedThing → Bool
 minimums_are_below ss = list_all has_minimum_below ss
 
@@ -94,15 +94,15 @@ minimums_are_below ss = list_all has_minimum_below ss
 unfoldable pub maximums_fit_together : List ListedThing → Bool
 maximums_fit_together ss = nat_le (sum_by (λ (s : ListedThing). maximum_in s.1) ss) 16777216
 
--- the value is the word of an update strategy of storages
+-- the value is a string, `keepExisting` or `delete`: the words of the update strategies of storages
 abbrev pub says_collection : Data → Bool
 says_collection d = is_some (option_and_then collection_said (as_str d))
 
--- the update strategy of the storage, where it is said, is such a word
+-- the update strategy of the storage, where it is said, is `keepExisting` or `delete`
 unfoldable pub has_collection_strategy : ListedThing → Bool
 has_collection_strategy s = may_be says_collection (get (codes "updateStrategy") s.1)
 
--- rule 14: so it is in each storage
+-- rule 14: the update strategy of each storage, where it is said, is `keepExisting` or `delete`
 unfoldable pub collections_have_strategies : List ListedThing → Bool
 collections_have_strategies ss = list_all has_collection_strategy ss
 
@@ -114,24 +114,27 @@ is_bool d = is_some (as_bool d)
 unfoldable pub says_read_only : ListedThing → Bool
 says_read_only s = may_be is_bool (get (codes "readOnly") s.1)
 
--- rule 15: so it is in each storage
+-- rule 15: whether each storage is read-only is said by true or false, where it is said
 unfoldable pub read_only_is_said : List ListedThing → Bool
 read_only_is_said ss = list_all says_read_only ss
 
--- the value is the word of a scope
+-- the value is a string, `element` or `storage`: the words of the scopes
 abbrev pub says_scope : Data → Bool
 says_scope d = is_some (option_and_then scope_said (as_str d))
 
--- the value is an object with no members but `m`, `n` and `scope`, and its scope, where it is said, is a word of one
+-- the value is an object with no members but `m`, `n` and `scope`, and its scope, where it is said, is one of the two
+-- words
 abbrev pub is_redundancy : Data → Bool
 is_redundancy r = is_object r && has_only (codes "m" ∷ codes "n" ∷ codes "scope" ∷ []) r
     && may_be says_scope (get (codes "scope") r)
 
--- the redundancy of the storage, where it is said, is such an object
+-- the redundancy of the storage, where it is said, is an object with no members but `m`, `n` and `scope`, and its scope
+-- one of the two words
 unfoldable pub has_redundancy : ListedThing → Bool
 has_redundancy s = may_be is_redundancy (redundancy_in s.1)
 
--- rule 16: so it is in each storage
+-- rule 16: the redundancy of each storage, where it is said, is an object with no members but `m`, `n` and `scope`, and
+-- its scope one of the two words
 unfoldable pub redundancies_are_objects : List ListedThing → Bool
 redundancies_are_objects ss = list_all has_redundancy ss
 
@@ -140,15 +143,15 @@ abbrev pub are_counts : Option ℕ → Option ℕ → Bool
 are_counts (Some m) (Some n) = nat_le 1 m && nat_le m n && nat_le n 7
 are_counts m n = false
 
--- the redundancy says both
+-- the redundancy says how many copies there are and how many have to agree, both in their ranges
 abbrev pub says_counts : Data → Bool
 says_counts r = are_counts (agreeing_in r) (copies_in r)
 
--- so does the redundancy of the storage, where it is said
+-- the redundancy of the storage, where it is said, says both numbers, in their ranges
 unfoldable pub has_counts : ListedThing → Bool
 has_counts s = may_be says_counts (redundancy_in s.1)
 
--- rule 17: so it is in each storage
+-- rule 17: the redundancy of each storage, where it is said, says both numbers, in their ranges
 unfoldable pub redundancies_have_counts : List ListedThing → Bool
 redundancies_have_counts ss = list_all has_counts ss
 
@@ -158,7 +161,7 @@ redundancies_have_counts ss = list_all has_counts ss
 unfoldable pub has_few_elements : ListedThing → Bool
 has_few_elements s = may_be is_list_of_objects (get (elements_word s.0) s.1) && nat_le (length (elements s)) 1024
 
--- rule 18: so it is in each storage
+-- rule 18: the list of elements of each storage, where it is there, is an array of at most 1,024 objects
 unfoldable pub elements_are_few : List ListedThing → Bool
 elements_are_few ss = list_all has_few_elements ss
 
@@ -167,7 +170,7 @@ abbrev pub element_words : StoreKind → List (List ℕ)
 element_words Keys = codes "name" ∷ codes "type" ∷ codes "initial" ∷ codes "updateStrategy" ∷ []
 element_words Files = codes "name" ∷ codes "initial" ∷ codes "updateStrategy" ∷ []
 
--- the element has no other member
+-- the element has no members but those that one in a storage of its kind may have
 unfoldable pub has_element_members : ListedThing → Bool
 has_element_members e = has_only (element_words e.0) e.1
 
@@ -179,7 +182,7 @@ elements_have_known_members es = list_all has_element_members es
 unfoldable pub has_different_elements : ListedThing → Bool
 has_different_elements s = names_differ (elements s)
 
--- so it is in each storage
+-- in each storage no two elements have the same name
 unfoldable pub elements_differ : List ListedThing → Bool
 elements_differ ss = list_all has_different_elements ss
 
@@ -201,21 +204,22 @@ keys_have_types es = list_all has_type es
 unfoldable pub may_start : ListedThing → Bool
 may_start e = is_none (get (codes "initial") e.1) || is_some (initial_in e)
 
--- rule 22: so it is with each element
+-- rule 22: the initial content of each element, where it is said, can be read
 unfoldable pub initials_are_read : List ListedThing → Bool
 initials_are_read es = list_all may_start es
 
--- the value is the word of an update strategy of elements
+-- the value is a string, `keepExisting`, `overwrite` or `delete`: the words of the update strategies of elements
 abbrev pub says_strategy : Data → Bool
 says_strategy d = is_some (option_and_then strategy_said (as_str d))
 
--- the update strategy of the element, where it is said, is such a word, and an element that an update overwrites says
--- an initial content
+-- the update strategy of the element, where it is said, is one of its three words, and an element that an update
+-- overwrites says an initial content
 unfoldable pub has_strategy : ListedThing → Bool
 has_strategy e = may_be says_strategy (get (codes "updateStrategy") e.1)
     && (not (overwrites (strategy_in e.1)) || is_some (get (codes "initial") e.1))
 
--- rule 23: so it is with each element
+-- rule 23: the update strategy of each element, where it is said, is one of its three words, and an element that an
+-- update overwrites says an initial content
 unfoldable pub elements_have_strategies : List ListedThing → Bool
 elements_have_strategies es = list_all has_strategy es
 
@@ -228,7 +232,7 @@ initial_size e = start_size (name_in e.1) (initial_in e)
 unfoldable pub has_room : ListedThing → Bool
 has_room s = nat_le (sum_by initial_size (elements s)) (maximum_in s.1)
 
--- rule 24: so it is in each storage
+-- rule 24: the elements of each storage that have an initial content fit its maximum together, names and contents
 unfoldable pub initials_fit : List ListedThing → Bool
 initials_fit ss = list_all has_room ss
 

@@ -11,7 +11,8 @@ use crate::conversion::PerValue;
 use std::alloc::{AllocError, Global};
 use value_model::Node;
 
-/// The first of these members of a group, as a thing of the type `T`, and the others. The error: memory ran out.
+/// The first of these members of a group, as a thing of the type `T`, and the others. The error says that memory ran
+/// out.
 pub fn first_member<T: PerValue>(
     alloc: Global,
     members: &[Node],
@@ -36,7 +37,7 @@ pub fn first_member<T: PerValue>(
     }
 }
 
-/// The one member that is left of a group, as a thing of the type `T`. The error: memory ran out.
+/// The one member that is left of a group, as a thing of the type `T`. The error says that memory ran out.
 pub fn last_member<T: PerValue>(alloc: Global, members: &[Node]) -> Result<T, AllocError>
     // there is one member, it has `T`'s value type, and it is well typed
     requires of_type { types_of (trees_view members.now) ≡ kind_then T.kind no_kinds }

@@ -25,7 +25,7 @@ pub record Parts : Type 0 where
   pub active : List ℕ
   pub previous : Option (List ℕ)
 
--- the text of its manifest
+-- the text of a version's manifest
 abbrev pub version_text : Version → List ℕ
 version_text v = v.text
 
@@ -92,7 +92,7 @@ text_at bytes = do
   len ← number_at w32 bytes
   bytes_at len.0 len.1
 
--- the same, as the text of a previous version that is there
+-- a length as a number of four bytes and that many bytes, as the text of a previous version that is there
 unfoldable pub some_text_at : List ℕ → Option (Option (List ℕ) × List ℕ)
 some_text_at bytes = do
   text ← text_at bytes

@@ -15,7 +15,8 @@ pub fn one_root()
     // what is said is in bank 0 or 1, and its texts are manifests
     ensures is_root { (text : List ℕ) (r : Root) → root_of text ≡ Some r → IsRoot r }
 
-    // and a text is short enough for a register: two manifests of at most 65,536 bytes, their lengths, and four bytes
+    // a text has at most 131,084 bytes: two manifests of at most 65,536, four bytes of length before each, and four in
+    // front of all
     ensures short { (r : Root) → IsRoot r → length (root_text r) ≤ 131084 }
 {
     said_is_kept();

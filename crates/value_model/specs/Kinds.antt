@@ -72,6 +72,7 @@ abbrev mutual
   kind_fits (list_kind k) = kind_fits k
   kind_fits (fields_kind ks) = is_group (count_kinds ks) && kinds_fit ks
 
+  -- every group of fields in each of these types has 1 to 32 members
   pub kinds_fit : Kinds → Bool
   kinds_fit no_kinds = true
   kinds_fit (kind_then k ks) = kind_fits k && kinds_fit ks
@@ -102,12 +103,14 @@ abbrev mutual
   type_code (list_kind k) = 12 ∷ type_code k
   type_code (fields_kind ks) = 13 ∷ count_kinds ks ∷ type_codes ks
 
+  -- the codes of these types, one after another
   pub type_codes : Kinds → List ℕ
   type_codes no_kinds = []
   type_codes (kind_then k ks) = type_code k ++ type_codes ks
 
 -- ---- whether two types are the same, as a test
 
+-- the two sizes are the same
 abbrev pub same_size : Size → Size → Bool
 same_size one one = true
 same_size two two = true
@@ -116,6 +119,7 @@ same_size eight eight = true
 same_size _ _ = false
 
 abbrev mutual
+  -- the two types are the same
   pub same_kind : Kind → Kind → Bool
   same_kind bool_kind bool_kind = true
   same_kind (unsigned_kind s) (unsigned_kind r) = same_size s r
@@ -126,6 +130,7 @@ abbrev mutual
   same_kind (fields_kind js) (fields_kind ks) = same_kinds js ks
   same_kind _ _ = false
 
+  -- the two lists of types are the same, type by type
   pub same_kinds : Kinds → Kinds → Bool
   same_kinds no_kinds no_kinds = true
   same_kinds (kind_then j js) (kind_then k ks) = same_kind j k && same_kinds js ks

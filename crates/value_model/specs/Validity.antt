@@ -24,6 +24,7 @@ abbrev mutual
   IsTyped (list_tree k ts) = IsTrue (kind_fits k) × (AllOf k ts × AllTyped ts)
   IsTyped (fields_tree ts) = (1 ≤ count_trees ts) × ((count_trees ts ≤ 32) × AllTyped ts)
 
+  -- each of these trees is well typed
   pub AllTyped : Trees → Type 0
   AllTyped no_trees = Unit {0}
   AllTyped (tree_then t ts) = IsTyped t × AllTyped ts
@@ -46,6 +47,7 @@ abbrev mutual
   InRange (list_tree k ts) = AllInRange ts
   InRange (fields_tree ts) = AllInRange ts
 
+  -- in each of these trees numbers fit their size, texts are UTF-8, and bytes are below 256
   pub AllInRange : Trees → Type 0
   AllInRange no_trees = Unit {0}
   AllInRange (tree_then t ts) = InRange t × AllInRange ts

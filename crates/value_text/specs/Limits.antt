@@ -22,12 +22,12 @@ abbrev mutual
   is_typed (list_tree k ts) = kind_fits k && (have_kind k ts && are_typed ts)
   is_typed (fields_tree ts) = nat_le 1 (count_trees ts) && (nat_le (count_trees ts) 32 && are_typed ts)
 
-  -- and so for each of these
+  -- each of these trees is well typed
   pub are_typed : Trees → Bool
   are_typed no_trees = true
   are_typed (tree_then t ts) = is_typed t && are_typed ts
 
--- it is well typed, and keeps to the limits of depth and length
+-- the tree is well typed, its type nests at most 8 deep, and its encoding has at most 65,536 bytes
 unfoldable pub keeps_limits : Tree → Bool
 keeps_limits t = is_typed t && (nat_le (kind_depth (type_of t)) max_depth && nat_le (length (encoding t)) max_length)
 

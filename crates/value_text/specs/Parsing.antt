@@ -58,7 +58,7 @@ kind_at (suc depth) bytes = kind_here (kind_at depth) bytes
 unfoldable pub kind_in : List ℕ → Option Kind
 kind_in text = kind_at max_depth text >>= λ k. if nat_eq (length k.1) 0 then Some k.0 else None
 
--- a signed integer of this size is below it, and not below minus it
+-- the bound of signed integers of this size: each is below it, and not below minus it
 abbrev pub signed_limit : Size → ℕ
 signed_limit one = 2 ^ 7
 signed_limit two = 2 ^ 15

@@ -38,11 +38,11 @@ unfoldable pub number_of : List ℕ → Option ℕ
 number_of ds = if is_canonical ds then (if nat_lt (digits_value 10 ds) (2 ^ 64) then Some (digits_value 10 ds) else
     None) else None
 
--- the number at the start, as far as digits go
+-- the decimal number at the start, as far as digits go, and what follows it
 unfoldable pub number_at : List ℕ → Option (ℕ × List ℕ)
 number_at bytes = number_of (take (digit_count bytes) bytes) >>= λ n. Some (n, drop (digit_count bytes) bytes)
 
--- a number below the limit
+-- a decimal number below the limit (the first argument), and what follows it
 unfoldable pub unsigned_at : ℕ → List ℕ → Option (ℕ × List ℕ)
 unsigned_at limit bytes = number_at bytes >>= λ n. if nat_lt n.0 limit then Some n else None
 
@@ -51,7 +51,7 @@ abbrev pub negative : ℕ → ℕ → Option ℤ
 negative limit zero = None
 negative limit (suc n) = if nat_lt n limit then Some (negsuc n) else None
 
--- a number from minus the limit on, and below it
+-- a decimal number from minus the limit (the first argument) on, and below it, and what follows it
 unfoldable pub signed_at : ℕ → List ℕ → Option (ℤ × List ℕ)
 signed_at limit bytes = branch (literal_at (codes "-") bytes)
     (λ rest. number_at rest >>= λ n. negative limit n.0 >>= λ z. Some (z, n.1))

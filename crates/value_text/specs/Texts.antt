@@ -32,7 +32,7 @@ abbrev mutual
   types_text no_kinds = []
   types_text (kind_then k ks) = type_text k ++ further_types_text ks
 
-  -- of the members after the first, each with its comma in front
+  -- the texts of the members after the first, each with its comma in front
   pub further_types_text : Kinds → List ℕ
   further_types_text no_kinds = []
   further_types_text (kind_then k ks) = codes "," ++ type_text k ++ further_types_text ks
@@ -79,7 +79,7 @@ abbrev mutual
   values_text no_trees = []
   values_text (tree_then t ts) = value_text t ++ further_values_text ts
 
-  -- of those after the first, each with its comma in front
+  -- the texts of the items or members after the first, each with its comma in front
   pub further_values_text : Trees → List ℕ
   further_values_text no_trees = []
   further_values_text (tree_then t ts) = codes "," ++ value_text t ++ further_values_text ts
