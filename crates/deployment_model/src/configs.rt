@@ -73,7 +73,7 @@ pub struct Deployment {
 }
 
 impl ElementConfig {
-    /// An equal copy.
+    /// An equal copy; the error says that memory ran out.
     pub fn copy(&self, alloc: Global) -> Result<ElementConfig, AllocError>
         ensures { IfOk result (λ copy. element_data copy ≡ element_data self.now) }
     {
@@ -96,7 +96,7 @@ impl ElementConfig {
 }
 
 impl StorageConfig {
-    /// An equal copy.
+    /// An equal copy; the error says that memory ran out.
     pub fn copy(&self, alloc: Global) -> Result<StorageConfig, AllocError>
         ensures { IfOk result (λ copy. storage_data copy ≡ storage_data self.now) }
     {
@@ -118,7 +118,7 @@ impl StorageConfig {
 }
 
 impl Deployment {
-    /// An equal copy.
+    /// An equal copy; the error says that memory ran out.
     pub fn copy(&self, alloc: Global) -> Result<Deployment, AllocError>
         ensures { IfOk result (λ copy. deployment_data copy ≡ deployment_data self.now) }
     {

@@ -28,11 +28,15 @@ pub trait PerValue: Sized {
     /// The value type of all things of this type. Does not allocate for a truth value or a number.
     fn type_of(alloc: Global) -> Result<ValueType, AllocError>
         ensures of_kind { IfOk result (λ t. kind_of t ≡ kind) }
+
+        // memory runs out only where the type is no truth value and no number
         ensures memory { OnErr result (Allocates kind) };
 
     /// The node that this thing is. Does not allocate for a truth value or a number.
     fn to_node(&self, alloc: Global) -> Result<Node, AllocError>
         ensures node { IfOk result (λ node. tree_of node ≡ tree self.now) }
+
+        // memory runs out only where the type is no truth value and no number
         ensures memory { OnErr result (Allocates kind) };
 
     /// The thing that this node is; the node must be well typed and have this type. Does not allocate for a truth value
@@ -41,6 +45,8 @@ pub trait PerValue: Sized {
         requires of_type { type_of (tree_of node.now) ≡ kind }
         requires typed { IsTyped (tree_of node.now) }
         ensures thing { IfOk result (λ thing. tree thing ≡ tree_of node.now) }
+
+        // memory runs out only where the type is no truth value and no number
         ensures memory { OnErr result (Allocates kind) };
 
     /// The value that this thing is.
@@ -71,6 +77,8 @@ pub trait PerValue: Sized {
 
         // whichever thing (`origin`) has this value, the thing returned is the same one
         ensures back { IfOk result (λ thing. (origin : Self) → tree origin ≡ value.now → same origin thing) }
+
+        // memory runs out only where the type is no truth value and no number
         ensures memory { OnErr result (Allocates kind) }
     {
         Self::from_node(alloc, value.node())

@@ -41,8 +41,8 @@ abbrev mutual
 abbrev pub mismatch : Kind → Kind → PerError
 mismatch stored asked = DataTypeMismatch (type_text stored) (type_text asked)
 
--- how a byte stands in a text value: a quote (34) and a backslash (92) after a backslash, a line feed (10) as \n, and
--- every other byte as it is
+-- how a byte stands in a text value: a quote (34) and a backslash (92) after a backslash, a line feed (10) as a
+-- backslash and an n, and every other byte as it is
 abbrev pub escaped_byte : ℕ → List ℕ
 escaped_byte b = if b == 34 then codes "\\\"" else (if b == 92 then codes "\\\\" else
     (if b == 10 then codes "\\n" else (b ∷ [])))
@@ -64,7 +64,8 @@ abbrev pub hex_text : List ℕ → List ℕ
 hex_text b = flat_map hex_byte_text b
 
 abbrev mutual
-  -- the text of a value, such as `u16:513`, `text:"a"`, `bytes:00ff`, `list<u8>[u8:1,u8:2]` or `{u8:7,bool:true}`
+  -- the text of a value, such as `u16:513`, `bytes:00ff`, `list<u8>[u8:1,u8:2]` or `{u8:7,bool:true}`; a text stands in
+  -- quotes after its word and a colon
   pub value_text : Tree → List ℕ
   value_text (bool_tree b) = codes "bool:" ++ (if b then codes "true" else codes "false")
   value_text (unsigned_tree s n) = codes "u" ++ size_text s ++ codes ":" ++ decimal n
