@@ -29,7 +29,7 @@ abbrev mutual
   AllTyped no_trees = Unit {0}
   AllTyped (tree_then t ts) = IsTyped t × AllTyped ts
 
--- the greatest unsigned integer of this size is one less
+-- how many unsigned integers of this size there are: the greatest is one less
 abbrev pub unsigned_limit : Size → ℕ
 unsigned_limit one = 2 ^ 8
 unsigned_limit two = 2 ^ 16

@@ -34,7 +34,7 @@ kind_step (ValueType-F.Fields v) = fields_kind (kinds_of v.items)
 abbrev pub kind_of : ValueType → Kind
 kind_of = fold-ValueType Kind kind_step
 
--- the kinds of several, in order
+-- the kinds that these types denote, in order
 abbrev pub kinds_view : List ValueType → Kinds
 kinds_view ts = kinds_of (map kind_of ts)
 
@@ -63,6 +63,6 @@ tree_step (Node-F.Fields v) = fields_tree (trees_of v.items)
 abbrev pub tree_of : Node → Tree
 tree_of = fold-Node Tree tree_step
 
--- the trees of several, in order
+-- the trees that these nodes denote, in order
 abbrev pub trees_view : List Node → Trees
 trees_view ns = trees_of (map tree_of ns)

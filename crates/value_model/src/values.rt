@@ -80,7 +80,7 @@ impl Value {
         Ok(Value { node })
     }
 
-    /// The value's type, newly allocated; the error says that memory ran out.
+    /// The value's type, as a new `ValueType`; the error says that memory ran out.
     pub fn value_type(&self, alloc: Global) -> Result<ValueType, AllocError>
         ensures { IfOk result (λ t. kind_of t ≡ type_of self.now) }
     {

@@ -37,7 +37,7 @@ abbrev mutual
   further_types_text no_kinds = []
   further_types_text (kind_then k ks) = codes "," ++ type_text k ++ further_types_text ks
 
--- the error where the stored value has another type than was asked for: it carries the texts of both
+-- the error where the stored value (its type first) has another type than was asked for: it carries both texts
 abbrev pub mismatch : Kind → Kind → PerError
 mismatch stored asked = DataTypeMismatch (type_text stored) (type_text asked)
 
