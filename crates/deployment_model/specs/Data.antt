@@ -10,12 +10,15 @@ use Rattle.deployment_model.specs.declared.configs.ElementConfig.{ElementConfig}
 use Rattle.deployment_model.specs.declared.configs.StorageConfig.{StorageConfig}
 use Rattle.deployment_model.specs.declared.configs.Deployment.{Deployment}
 
+-- a configured key or file, with the fields of `ElementConfig`; a name and an initial content are lists of bytes
 pub record ElementData : Type 0 where
   pub name : List ℕ
   pub value_type : Option Kind
   pub initial : Option (List ℕ)
   pub strategy : Option ElementStrategy
 
+-- a configured storage, with the fields of `StorageConfig`: sizes in bytes, elements ascending by name, and how many
+-- (m) of how many copies (n) must agree
 pub record StorageData : Type 0 where
   pub name : List ℕ
   pub kind : StoreKind
@@ -28,10 +31,12 @@ pub record StorageData : Type 0 where
   pub scope : Scope
   pub elements : List ElementData
 
+-- the storages of one version of an application, ascending by name
 pub record DeploymentData : Type 0 where
   pub version : ℕ
   pub storages : List StorageData
 
+-- what a configured element of the code says
 abbrev pub element_data : ElementConfig → ElementData
 element_data e = record {
   name = e.name;
@@ -41,6 +46,7 @@ element_data e = record {
       e.strategy;
 }
 
+-- what a configured storage of the code says
 abbrev pub storage_data : StorageConfig → StorageData
 storage_data s = record {
   name = s.name;
@@ -55,5 +61,6 @@ storage_data s = record {
   elements = map element_data s.elements;
 }
 
+-- what a deployment of the code says
 abbrev pub deployment_data : Deployment → DeploymentData
 deployment_data d = record { version = d.version; storages = map storage_data d.storages }

@@ -39,22 +39,25 @@ pub struct ElementConfig {
     pub strategy: Option<ElementStrategy>,
 }
 
-/// A storage.
+/// A storage, as it is configured.
 #[derive(Debug, Drop)]
 pub struct StorageConfig {
     pub name: Name,
+    /// Whether its elements are keys or files.
     pub kind: StoreKind,
     /// The bytes that the storage needs at least; it is never above the maximum.
     pub minimum: u64,
     /// The most bytes that its names and contents may have together.
     pub maximum: u64,
+    /// What an update does with the elements that have no strategy of their own.
     pub strategy: CollectionStrategy,
+    /// Whether the application may only read it.
     pub read_only: bool,
     /// How many of the `n` copies must agree.
     pub m: u32,
     /// How many copies the storage has.
     pub n: u32,
-    /// What must agree in `m` copies.
+    /// What must agree in `m` copies: each element by itself, or the whole storage.
     pub scope: Scope,
     /// The configured elements, ascending by name.
     pub elements: Sequence<ElementConfig>,
@@ -63,13 +66,14 @@ pub struct StorageConfig {
 /// The storages of an application, at one version.
 #[derive(Debug, Drop)]
 pub struct Deployment {
+    /// The version, which the rules ask to be at least 1.
     pub version: u32,
     /// The storages, ascending by name. The number of a storage is its place in this list, from 0.
     pub storages: Sequence<StorageConfig>,
 }
 
 impl ElementConfig {
-    /// An equal copy.
+    /// An equal copy; the error says that memory ran out.
     pub fn copy(&self, alloc: Global) -> Result<ElementConfig, AllocError>
         ensures { IfOk result (λ copy. element_data copy ≡ element_data self.now) }
     {
@@ -92,7 +96,7 @@ impl ElementConfig {
 }
 
 impl StorageConfig {
-    /// An equal copy.
+    /// An equal copy; the error says that memory ran out.
     pub fn copy(&self, alloc: Global) -> Result<StorageConfig, AllocError>
         ensures { IfOk result (λ copy. storage_data copy ≡ storage_data self.now) }
     {
@@ -114,7 +118,7 @@ impl StorageConfig {
 }
 
 impl Deployment {
-    /// An equal copy.
+    /// An equal copy; the error says that memory ran out.
     pub fn copy(&self, alloc: Global) -> Result<Deployment, AllocError>
         ensures { IfOk result (λ copy. deployment_data copy ≡ deployment_data self.now) }
     {

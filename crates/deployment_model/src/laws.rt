@@ -5,13 +5,14 @@ ghost use Rattle.deployment_model.specs.Conditions.{IsDeployment, IsElement, IsS
 ghost use Rattle.deployment_model.specs.Data.{DeploymentData, ElementData, StorageData};
 ghost use Rattle.deployment_model.specs.Lookups.{element_named, storage_named, storage_number};
 
-/// Each storage is found by its own name, and so is its number.
+/// Each storage `s` of a deployment `d`, at place `i` of its list, is found by its own name, and its number is `i`.
 pub fn names_are_apart()
     ensures { (d : DeploymentData) (i : ℕ) (s : StorageData) → IsDeployment d → slice_get d.storages i ≡ Some s
         → (storage_named d s.name ≡ Some s) × (storage_number d s.name ≡ Some i) }
 {}
 
-/// What is found by a name obeys the rules of its kind, and a number leads to the storage that the name leads to.
+/// A storage `s` or an element `e` that is found by a name obeys the rules of a storage or of an element, and the
+/// number `i` of a name is the place of the storage that has this name.
 pub fn found_is_kept()
     ensures storage { (d : DeploymentData) (name : List ℕ) (s : StorageData) → IsDeployment d
         → storage_named d name ≡ Some s → IsStorage s }

@@ -14,9 +14,10 @@ use crate::configs::{Deployment, ElementConfig, StorageConfig};
 use per_base::{Bytes, Name};
 
 impl StorageConfig {
-    /// What is configured for the element of this name.
+    /// What is configured for the element of this name; none where the storage configures no such element.
     pub fn element(&self, name: &Name) -> Option<&ElementConfig>
         requires { IsStorage (storage_data self.now) }
+        // it is the configured element of this name, and obeys the rules of an element of this kind of storage
         ensures found { option_map (λ e. element_data e.now) result ≡ element_named (storage_data self.now) name.now }
         ensures keeps { IfSome result (λ e. IsElement (storage_data self.now).kind (element_data e.now)) }
     {
@@ -27,7 +28,7 @@ impl StorageConfig {
         }
     }
 
-    /// What the element of this name starts with.
+    /// What the element of this name starts with; none where it is not configured or has no initial content.
     pub fn initial(&self, name: &Name) -> Option<&Bytes>
         requires { IsStorage (storage_data self.now) }
         ensures { option_map (λ bytes. bytes.now) result ≡ initial_content (storage_data self.now) name.now }
@@ -40,7 +41,7 @@ impl StorageConfig {
 }
 
 impl Deployment {
-    /// The number of the storage of this name.
+    /// The number of the storage of this name, its place in the list of storages, from 0; none where there is none.
     pub fn number(&self, name: &Name) -> Option<usize>
         requires { IsDeployment (deployment_data self.now) }
         ensures found { result ≡ storage_number (deployment_data self.now) name.now }
@@ -57,7 +58,7 @@ impl Deployment {
         }
     }
 
-    /// The storage of this name.
+    /// The storage of this name; none where the deployment has no such storage.
     pub fn storage(&self, name: &Name) -> Option<&StorageConfig>
         requires { IsDeployment (deployment_data self.now) }
         ensures found { option_map (λ s. storage_data s.now) result

@@ -9,6 +9,7 @@ use Rattle.manifest.specs.Parts.{collection_in}
 use Rattle.manifest.specs.Parts.{read_only_in, redundancy_in, agreeing_in, copies_in, scope_in, version_in, strategy_in}
 use Rattle.manifest.specs.Parts.{type_for, initial_in}
 
+-- the configured element that this one says
 unfoldable pub element_said : ListedThing → ElementData
 element_said e = record {
   name = name_in e.1;
@@ -18,6 +19,8 @@ element_said e = record {
       strategy_in e.1;
 }
 
+-- the configured storage that this one says, its elements by name. What is not said: stored elements stay in an update,
+-- the storage may be written, and it has one copy, which has to agree, element by element
 unfoldable pub storage_said : ListedThing → StorageData
 storage_said s = record {
   name = name_in s.1;
@@ -32,5 +35,6 @@ storage_said s = record {
   elements = map element_said (by_name (elements s));
 }
 
+-- the deployment that this manifest says, its storages by name
 unfoldable pub deployment_said : Data → DeploymentData
 deployment_said d = record { version = unwrap_or (version_in d) 0; storages = map storage_said (by_name (storages d)) }

@@ -5,9 +5,11 @@ use Rattle.serde_json.specs.View.{view}
 use Rattle.manifest.specs.declared.parts.ListedThing.{ListedThing as Part}
 use Rattle.manifest.specs.Parts.{ListedThing}
 
+-- what the code has of a storage or an element, as the kind and the JSON value that it is
 abbrev pub listed_view : Part → ListedThing
 listed_view p = (p.kind, view p.value.now)
 
+-- the same of several storages or elements, in order
 abbrev pub listed_views : List Part → List ListedThing
 listed_views ps = map listed_view ps
 

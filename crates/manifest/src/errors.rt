@@ -9,7 +9,7 @@ use thiserror::Error;
 /// Why a text was not read as a manifest.
 #[derive(Clone, Copy, Debug, PartialEq, Eq, Error)]
 pub enum ManifestError {
-    /// The text breaks this rule and none of a lower number.
+    /// The text breaks the rule of this number, 1 to 24, and none of a lower number.
     #[error("the manifest breaks rule {0}")]
     Rejected(u32),
     /// Memory ran out.

@@ -21,7 +21,7 @@ use value_text::parse_type;
 /// The greatest size of a storage, in bytes, where the manifest says none.
 const DEFAULT_MAXIMUM: u64 = 1_048_576;
 
-/// A storage as it is listed, or one of its elements.
+/// A storage as the manifest lists it, or one of its elements: whether it is of keys or files, and its JSON value.
 #[derive(Clone, Copy)]
 pub(crate) struct ListedThing<'a> {
     pub kind: StoreKind,
@@ -116,6 +116,7 @@ pub(crate) fn name_of(value: &Value) -> &str
     text(value, "name").unwrap_or("")
 }
 
+/// The version, where it is a whole number that 32 bits hold.
 #[tactic(auto, unfolding(crate::specs::Parts::version_in))]
 pub(crate) fn version_of(manifest: &Value) -> Option<u32>
     ensures { result ≡ version_in (view manifest.now) }
@@ -123,6 +124,7 @@ pub(crate) fn version_of(manifest: &Value) -> Option<u32>
     small_number(manifest, "version")
 }
 
+/// The bytes that a storage needs at least; 0 where the manifest says nothing.
 #[tactic(auto, unfolding(crate::specs::Parts::minimum_in))]
 pub(crate) fn minimum_of(storage: &Value) -> u64
     ensures { result ≡ minimum_in (view storage.now) }
@@ -130,6 +132,7 @@ pub(crate) fn minimum_of(storage: &Value) -> u64
     whole_number(storage, "minimumSustainedSize").unwrap_or(0)
 }
 
+/// The most bytes of a storage; 1 MiB where the manifest says nothing.
 #[tactic(auto, unfolding(crate::specs::Parts::maximum_in))]
 pub(crate) fn maximum_of(storage: &Value) -> u64
     ensures { result ≡ maximum_in (view storage.now) }
@@ -151,6 +154,7 @@ pub(crate) fn collection_said(word: &str) -> Option<CollectionStrategy>
     None
 }
 
+/// The update strategy of a storage, where one is said.
 #[tactic(auto, unfolding(crate::specs::Parts::collection_in))]
 pub(crate) fn collection_of(storage: &Value) -> Option<CollectionStrategy>
     ensures { result ≡ collection_in (view storage.now) }
@@ -161,6 +165,7 @@ pub(crate) fn collection_of(storage: &Value) -> Option<CollectionStrategy>
     }
 }
 
+/// Whether a storage is read-only, where it is said.
 #[tactic(auto, unfolding(crate::specs::Parts::read_only_in))]
 pub(crate) fn read_only_of(storage: &Value) -> Option<bool>
     ensures { result ≡ read_only_in (view storage.now) }
@@ -168,12 +173,14 @@ pub(crate) fn read_only_of(storage: &Value) -> Option<bool>
     storage.get("readOnly").and_then(Value::as_bool)
 }
 
+/// The member that says how many of how many copies of a storage must agree.
 pub(crate) fn redundancy_of(storage: &Value) -> Option<&Value>
     ensures { option_map (λ r. view r.now) result ≡ redundancy_in (view storage.now) }
 {
     storage.get("redundancy")
 }
 
+/// How many copies must agree, where it is said.
 #[tactic(auto, unfolding(crate::specs::Parts::agreeing_in))]
 pub(crate) fn agreeing_of(redundancy: &Value) -> Option<u32>
     ensures { result ≡ agreeing_in (view redundancy.now) }
@@ -181,6 +188,7 @@ pub(crate) fn agreeing_of(redundancy: &Value) -> Option<u32>
     small_number(redundancy, "m")
 }
 
+/// How many copies there are, where it is said.
 #[tactic(auto, unfolding(crate::specs::Parts::copies_in))]
 pub(crate) fn copies_of(redundancy: &Value) -> Option<u32>
     ensures { result ≡ copies_in (view redundancy.now) }
@@ -202,6 +210,7 @@ pub(crate) fn scope_said(word: &str) -> Option<Scope>
     None
 }
 
+/// What must agree, where it is said.
 #[tactic(auto, unfolding(crate::specs::Parts::scope_in))]
 pub(crate) fn scope_of(redundancy: &Value) -> Option<Scope>
     ensures { result ≡ scope_in (view redundancy.now) }
@@ -229,6 +238,7 @@ pub(crate) fn strategy_said(word: &str) -> Option<ElementStrategy>
     None
 }
 
+/// The update strategy of an element, where one is said.
 #[tactic(auto, unfolding(crate::specs::Parts::strategy_in))]
 pub(crate) fn strategy_of(element: &Value) -> Option<ElementStrategy>
     ensures { result ≡ strategy_in (view element.now) }
@@ -239,7 +249,7 @@ pub(crate) fn strategy_of(element: &Value) -> Option<ElementStrategy>
     }
 }
 
-/// The type of a key.
+/// The type of a key; none where it is not said or is no type text.
 #[tactic(auto, unfolding(crate::specs::Parts::type_in))]
 pub(crate) fn type_of(alloc: Global, key: &Value) -> Result<Option<ValueType>, AllocError>
     ensures { IfOk result (λ t. option_map kind_of t ≡ type_in (view key.now)) }

@@ -22,13 +22,14 @@ use std::alloc::Global;
 /// The most bytes of a manifest.
 const MAX_BYTES: usize = 65_536;
 
-/// The deployment that the text of a manifest says.
+/// The deployment that the text of a manifest, `bytes`, says, with its storages and elements ascending by name.
 ///
 /// # Errors
 ///
 /// `Rejected` with the first rule that the text violates, exactly where it violates one; `OutOfMemory`.
 pub fn read_manifest(alloc: Global, bytes: &[u8]) -> Result<Deployment, ManifestError>
-    // the text decides: which rule is the first violated, and which deployment it says where none is
+    // the text decides: `broken_rule` is the first rule that it violates, `deployment_in` the deployment that it says
+    // where it violates none; a rejection names that rule, and memory that ran out says nothing of it
     ensures rejected { IfErr result (RefusesManifest (broken_rule bytes.now)) }
     ensures accepted { OnOk result (broken_rule bytes.now ≡ None) }
     ensures read { IfOk result (λ d. deployment_in bytes.now ≡ Some (deployment_data d)) }

@@ -6,7 +6,7 @@ use per_base::ValueText;
 use std::alloc::{AllocError, Global};
 use value_model::{Node, ValueType};
 
-/// A place that somebody likes.
+/// A place that somebody likes: its latitude, its longitude, in units of the caller's choice, and a label.
 #[derive(Debug, Drop)]
 pub struct Favourite {
     pub lat: i32,

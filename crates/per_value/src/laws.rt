@@ -1,4 +1,7 @@
 //! Which kind and which tree each type has. The functions do nothing: their contracts are the table.
+//!
+//! In a clause `⟦<T as PerValue>⟧.kind` is the value type that the implementation for `T` gives, and `.tree` says which
+//! tree each thing of `T` is.
 
 ghost use Rattle.std.specs.Prelude.{◌≡◌, [], ◌∷◌};
 ghost use Rattle.per_value.specs.Items.{trees_each};

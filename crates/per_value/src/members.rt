@@ -11,16 +11,19 @@ use crate::conversion::PerValue;
 use std::alloc::{AllocError, Global};
 use value_model::Node;
 
-/// The first of these members, which has the type of a `T`, and the others.
+/// The first of these members of a group, as a thing of the type `T`, and the others. The error says that memory ran
+/// out.
 pub fn first_member<T: PerValue>(
     alloc: Global,
     members: &[Node],
 ) -> Result<(T, &[Node]), AllocError>
+    // there is a first member and it has `T`'s value type; all are well typed
     requires of_type { first_kind (types_of (trees_view members.now)) ≡ Some T.kind }
     requires typed { AllTyped (trees_view members.now) }
+    // the thing (`x.0`) and the others (`x.1`) are the members, in this order
     ensures parts { IfOk result (λ x. tree_then (T.tree x.0) (trees_view x.1.now) ≡ trees_view members.now) }
 
-    // what is known of the others
+    // the others have the types that follow the first, and are well typed
     ensures of_type { IfOk result (λ x. types_of (trees_view x.1.now)
         ≡ other_kinds (types_of (trees_view members.now))) }
     ensures typed { IfOk result (λ x. AllTyped (trees_view x.1.now)) }
@@ -34,8 +37,9 @@ pub fn first_member<T: PerValue>(
     }
 }
 
-/// The one member that is left, which has the type of a `T`.
+/// The one member that is left of a group, as a thing of the type `T`. The error says that memory ran out.
 pub fn last_member<T: PerValue>(alloc: Global, members: &[Node]) -> Result<T, AllocError>
+    // there is one member, it has `T`'s value type, and it is well typed
     requires of_type { types_of (trees_view members.now) ≡ kind_then T.kind no_kinds }
     requires typed { AllTyped (trees_view members.now) }
     ensures { IfOk result (λ thing. tree_then (T.tree thing) no_trees ≡ trees_view members.now) }

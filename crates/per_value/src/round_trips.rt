@@ -10,7 +10,7 @@ use crate::conversion::PerValue;
 use std::alloc::Global;
 use value_model::{Value, ValueError};
 
-/// The thing by way of its value: the same thing.
+/// The thing made into its value and back: the same thing.
 ///
 /// # Errors
 ///
@@ -28,7 +28,8 @@ pub fn there_and_back<T: PerValue>(alloc: Global, thing: &T) -> Result<T, ValueE
     Ok(T::from_value(alloc, &value)?)
 }
 
-/// The value by way of the thing that it is: the same value. It refuses nothing.
+/// The value by way of the thing that it is: the same value. The value must have the type of `T`; nothing but memory
+/// that ran out is an error.
 pub fn back_and_forth<T: PerValue + Drop>(alloc: Global, value: &Value) -> Result<Value, ValueError>
     requires of_type { type_of value.now ≡ T.kind }
     ensures value { IfOk result (λ again. again ≡ value.now) }

@@ -11,7 +11,8 @@ pub record Version : Type 0 where
   pub text : List ℕ
   pub deployment : DeploymentData
 
--- nothing is installed; or the active version in its bank, and the previous one, which is in the other bank
+-- what is installed of an application: nothing; or the active version, the bank (0 or 1) in which its storages are, and
+-- the previous version, if any, which is in the other bank. A bank is one of two places for the storages of a version
 pub data Root : Type 0 where
   absent : Root
   installed : (bank : ℕ) (active : Version) (previous : Option Version) → Root
@@ -24,9 +25,11 @@ pub record Parts : Type 0 where
   pub active : List ℕ
   pub previous : Option (List ℕ)
 
+-- the text of a version's manifest
 abbrev pub version_text : Version → List ℕ
 version_text v = v.text
 
+-- the parts of a root with this bank, this active version and this previous one
 abbrev pub parts_of : ℕ → Version → Option Version → Parts
 parts_of bank active previous = record {
   bank = bank;
@@ -34,7 +37,7 @@ parts_of bank active previous = record {
   previous = option_map version_text previous;
 }
 
--- four bytes of length, lowest first, and the text
+-- a text with its length in front, four bytes with the lowest first
 abbrev pub long_text : List ℕ → List ℕ
 long_text text = to_le_bytes w32 (length text) ++ text
 
@@ -43,21 +46,24 @@ abbrev pub flag_of : Option (List ℕ) → ℕ
 flag_of None = 0
 flag_of (Some text) = 1
 
+-- the text of the previous version with its length in front, or nothing
 abbrev pub previous_text : Option (List ℕ) → List ℕ
 previous_text None = []
 previous_text (Some text) = long_text text
 
+-- the bank, whether there is a previous version, the active text and the previous one
 abbrev pub parts_text : Parts → List ℕ
 parts_text p = p.bank ∷ flag_of p.previous ∷ long_text p.active ++ previous_text p.previous
 
--- the format is 1, and then 0 means absent and 1 installed
+-- the one text of a root: a byte 1, which is the version of this format, then 0 for absent, or 1 for installed and its
+-- parts
 unfoldable pub root_text : Root → List ℕ
 root_text absent = 1 ∷ 0 ∷ []
 root_text (installed bank active previous) = 1 ∷ 1 ∷ parts_text (parts_of bank active previous)
 
 -- ---- what has a text
 
--- the text is a manifest, and says this
+-- the text is a manifest, and says this deployment
 abbrev pub IsVersion : Version → Type 0
 IsVersion v = deployment_in v.text ≡ Some v.deployment
 
@@ -66,6 +72,7 @@ abbrev pub IfVersion : Option Version → Type 0
 IfVersion None = ⊤
 IfVersion (Some v) = IsVersion v
 
+-- the bank is 0 or 1, and the text of each version is a manifest that says its deployment
 pub record IsInstalled (bank : ℕ) (active : Version) (previous : Option Version) : Type 0 where
   pub in_bank : bank ≤ 1
   pub of_active : IsVersion active
@@ -76,13 +83,16 @@ abbrev pub IsRoot : Root → Type 0
 IsRoot absent = ⊤
 IsRoot (installed bank active previous) = IsInstalled bank active previous
 
--- ---- the parts of a text, each read from the start of what is left
+-- ---- the parts of a text, each read from the start of what is left, and what is left after it; `None` where it does
+-- not stand there
 
+-- a length as a number of four bytes, and that many bytes
 unfoldable pub text_at : List ℕ → Option (List ℕ × List ℕ)
 text_at bytes = do
   len ← number_at w32 bytes
   bytes_at len.0 len.1
 
+-- a length as a number of four bytes and that many bytes, as the text of a previous version that is there
 unfoldable pub some_text_at : List ℕ → Option (Option (List ℕ) × List ℕ)
 some_text_at bytes = do
   text ← text_at bytes
@@ -92,6 +102,7 @@ some_text_at bytes = do
 unfoldable pub previous_at : (flag : ℕ) → List ℕ → Option (Option (List ℕ) × List ℕ)
 previous_at flag bytes = if flag == 0 then Some (None, bytes) else (if flag == 1 then some_text_at bytes else None)
 
+-- the bank, which is 0 or 1, the flag of a previous version, the active text and the previous one
 unfoldable pub parts_at : List ℕ → Option (Parts × List ℕ)
 parts_at bytes = do
   bank ← byte_at bytes
@@ -100,12 +111,13 @@ parts_at bytes = do
   previous ← previous_at flag.0 active.1
   only_if (nat_le bank.0 1) (record { bank = bank.0; active = active.0; previous = previous.0 }, previous.1)
 
--- nothing may follow them
+-- the parts that all of the bytes are: nothing may follow them
 unfoldable pub parts_in : List ℕ → Option Parts
 parts_in bytes = do
   parts ← parts_at bytes
   only_if (length parts.1 == 0) parts.0
 
+-- the parts after the byte `kind`, which says that something is installed (1)
 unfoldable pub parts_by : (kind : ℕ) → List ℕ → Option Parts
 parts_by kind bytes = if kind == 1 then parts_in bytes else None
 
@@ -118,29 +130,33 @@ parts_of_text text = do
 
 -- ---- the root that a text says
 
--- the text of a manifest
+-- the version with this text, where it is the text of a manifest
 unfoldable pub version_of_text : List ℕ → Option Version
 version_of_text text = do
   deployment ← deployment_in text
   Some (record { text = text; deployment = deployment })
 
+-- the previous version with this text, or none where there is no text
 unfoldable pub previous_in : Option (List ℕ) → Option (Option Version)
 previous_in None = Some None
 previous_in (Some text) = do
   version ← version_of_text text
   Some (Some version)
 
+-- the root with these parts, where each text is a manifest
 unfoldable pub installed_in : Parts → Option Root
 installed_in parts = do
   active ← version_of_text parts.active
   previous ← previous_in parts.previous
   Some (installed parts.bank active previous)
 
+-- the root with something installed that all of the bytes say
 unfoldable pub some_root_in : List ℕ → Option Root
 some_root_in bytes = do
   parts ← parts_in bytes
   installed_in parts
 
+-- the root after the byte `kind`: 0 is absent, after which nothing may stand, and 1 installed
 unfoldable pub root_in : (kind : ℕ) → List ℕ → Option Root
 root_in kind bytes = if kind == 0 then only_if (length bytes == 0) absent else
     (if kind == 1 then some_root_in bytes else None)

@@ -10,16 +10,20 @@ use Rattle.root_text.specs.declared.versions.VersionText.{VersionText}
 use Rattle.root_text.specs.declared.versions.RootSays.{RootSays}
 use Rattle.root_text.specs.declared.versions.RootSays.TheVariants.{Absent, Installed}
 
+-- what a version of the code says
 abbrev pub version_said : VersionText → Version
 version_said v = record { text = v.text; deployment = deployment_data v.deployment }
 
+-- what a root of the code says
 abbrev pub root_said : RootSays → Root
 root_said Absent = absent
 root_said (Installed bank active previous) = installed bank (version_said active) (option_map version_said previous)
 
+-- the bytes of a borrowed slice
 abbrev pub borrowed_bytes : Bor (List ℕ) → List ℕ
 borrowed_bytes bytes = bytes.now
 
+-- the parts that were found in a text, by the fields of the code
 abbrev pub parts_seen : Fields → Parts
 parts_seen fields = record {
   bank = fields.bank;
@@ -28,12 +32,14 @@ parts_seen fields = record {
       option_map borrowed_bytes fields.previous;
 }
 
--- what an error says of a reading: memory that ran out says nothing
+-- what an error says of `read`, the answer that the specification gives: `NotARoot` that it is none; memory that ran
+-- out says nothing
 abbrev pub FailsToRead : {Y : Type 0} → RootError → Option Y → Type 0
 FailsToRead errors.NotARoot read = read ≡ None
 FailsToRead errors.OutOfMemory read = ⊤
 
--- what a function returned, seen by view, is what reading gives, unless memory ran out
+-- a reader of the code agrees with the specification: its result, seen as plain data by `view`, is the `Some` that
+-- `read` is; its error `NotARoot` means that `read` is `None`, and `OutOfMemory` says nothing
 abbrev pub Gives : {X Y : Type 0} → (X → Y) → Result X RootError → Option Y → Type 0
 Gives view (Ok x) read = read ≡ Some (view x)
 Gives view (Err e) read = FailsToRead e read

@@ -14,7 +14,7 @@ use manifest::{ManifestError, read_manifest};
 use per_base::{Bytes, byte_of, bytes_of, u32_of};
 use std::alloc::Global;
 
-/// The root that the bytes say.
+/// The root that the bytes `text` say, from the first to the last.
 ///
 /// # Errors
 ///
@@ -24,7 +24,7 @@ pub fn read_root(alloc: Global, text: &[u8]) -> Result<RootSays, RootError>
     ensures rules { IfOk result (λ says. IsRoot (root_said says)) }
     ensures spelled { IfOk result (λ says. text.now ≡ root_text (root_said says)) }
 
-    // What is refused is the text of no root.
+    // What is refused is the text of no root `r`.
     ensures refused { IsErrOf result RootError.NotARoot → (r : Root) → IsRoot r → text.now ≢ root_text r }
 
     // Which root it is, as a function of the bytes.

@@ -8,11 +8,11 @@ use per_base::Bytes;
 pub struct VersionText {
     /// The manifest, as it was handed in.
     pub text: Bytes,
-    /// What it says.
+    /// What the manifest says.
     pub deployment: Deployment,
 }
 
-/// What a root says.
+/// What a root says is installed of an application. A bank is one of two places for the storages of a version.
 #[derive(Debug, Drop)]
 pub enum RootSays {
     /// Nothing is installed.

@@ -9,7 +9,7 @@ use crate::versions::VersionText;
 use manifest::said_is_kept;
 use std::alloc::{AllocError, Global};
 
-/// The one text of a root with nothing installed.
+/// The one text of a root with nothing installed. The error says that memory ran out.
 #[tactic(auto, unfolding(crate::specs::RootText::root_text))]
 pub fn write_absent(alloc: Global) -> Result<Vec<u8>, AllocError>
     ensures text { IfOk result (λ text. text.items ≡ root_text absent) }
@@ -20,7 +20,8 @@ pub fn write_absent(alloc: Global) -> Result<Vec<u8>, AllocError>
     Ok(text)
 }
 
-/// The one text of a root with an active version in this bank, and a previous one in the other where there is one.
+/// The one text of a root with an active version in this bank, 0 or 1, and a previous one in the other where there is
+/// one. The error says that memory ran out.
 #[tactic(auto, unfolding(crate::specs::RootText::root_text))]
 pub fn write_installed(
     alloc: Global,
@@ -29,6 +30,7 @@ pub fn write_installed(
     previous: Option<&VersionText>,
 ) -> Result<Vec<u8>, AllocError>
     requires bank { bank ≤ 1 }
+    // the text of each version is a manifest that says its deployment
     requires active { IsVersion (version_said active.now) }
     requires previous { ForSome previous (λ v. IsVersion (version_said v.now)) }
     ensures text { IfOk result (λ text. text.items

@@ -13,23 +13,23 @@ use crate::types::type_at;
 use std::alloc::{AllocError, Global};
 use value_model::{DecodeError, MAX_DEPTH, MAX_LENGTH, Node, Value};
 
-/// The value that the bytes encode, all of the bytes.
+/// The value whose encoding is `bytes`, from the first to the last.
 ///
 /// # Errors
 ///
 /// `NotAValue` exactly where no value encodes to the bytes; `OutOfMemory`.
 pub fn decode(alloc: Global, bytes: &[u8]) -> Result<Value, DecodeError>
-    // what is read is encoded so, and what is encoded so is read
+    // a value that is found has this encoding, and bytes that are refused are the encoding of no value `t`
     ensures found { IfOk result (λ v. IsValue v × (bytes.now ≡ encoding v)) }
     ensures only { IsErrOf result DecodeError.NotAValue → (t : Tree) → IsValue t → bytes.now ≢ encoding t }
 
-    // the bytes alone decide
+    // the bytes alone decide: which value, or that there is none, is what `decoded` gives for them
     ensures exact { Gives (λ v. v) result (decoded bytes.now) }
 {
     value_of(alloc, bytes)
 }
 
-/// Whether some value encodes to the bytes, all of the bytes.
+/// Whether `bytes`, from the first to the last, are the encoding of some value; the error says that memory ran out.
 pub fn encodes(alloc: Global, bytes: &[u8]) -> Result<bool, AllocError>
     ensures { IfOk result (λ answer. answer ≡ is_encoding bytes.now) }
 {

@@ -8,7 +8,8 @@ use crate::types::put_type;
 use std::alloc::{AllocError, Global};
 use value_model::Value;
 
-/// The encoding of a value: the code of its type, and then its payload.
+/// The encoding of a value: the code of its type, and then its payload, the content. The error says that memory ran
+/// out.
 pub fn encode(alloc: Global, value: &Value) -> Result<Vec<u8>, AllocError>
     ensures { IfOk result (λ bytes. bytes.items ≡ encoding value.now) }
 {

@@ -8,6 +8,7 @@ ghost use Rattle.value_code.specs.Reading.{counted_at, number_at, text_of};
 
 use value_model::DecodeError;
 
+/// The byte at the start, and what follows it.
 pub(crate) fn byte_at(bytes: &[u8]) -> Result<(u8, &[u8]), DecodeError>
     ensures { Gives (λ x. (x.0, x.1.now)) result (byte_at bytes.now) }
 {
@@ -17,6 +18,7 @@ pub(crate) fn byte_at(bytes: &[u8]) -> Result<(u8, &[u8]), DecodeError>
     }
 }
 
+/// The number of one byte at the start, and what follows it.
 pub(crate) fn u8_at(bytes: &[u8]) -> Result<(u8, &[u8]), DecodeError>
     ensures { Gives (λ x. (x.0, x.1.now)) result (number_at w8 bytes.now) }
 {
@@ -27,6 +29,7 @@ pub(crate) fn u8_at(bytes: &[u8]) -> Result<(u8, &[u8]), DecodeError>
     Ok((u8::from_le_bytes([front[0]]), rest))
 }
 
+/// The number of two bytes at the start, and what follows it.
 pub(crate) fn u16_at(bytes: &[u8]) -> Result<(u16, &[u8]), DecodeError>
     ensures { Gives (λ x. (x.0, x.1.now)) result (number_at w16 bytes.now) }
 {
@@ -37,6 +40,7 @@ pub(crate) fn u16_at(bytes: &[u8]) -> Result<(u16, &[u8]), DecodeError>
     Ok((u16::from_le_bytes([front[0], front[1]]), rest))
 }
 
+/// The number of four bytes at the start, and what follows it.
 pub(crate) fn u32_at(bytes: &[u8]) -> Result<(u32, &[u8]), DecodeError>
     ensures { Gives (λ x. (x.0, x.1.now)) result (number_at w32 bytes.now) }
 {
@@ -48,6 +52,7 @@ pub(crate) fn u32_at(bytes: &[u8]) -> Result<(u32, &[u8]), DecodeError>
     Ok((number, rest))
 }
 
+/// The number of eight bytes at the start, and what follows it.
 pub(crate) fn u64_at(bytes: &[u8]) -> Result<(u64, &[u8]), DecodeError>
     ensures { Gives (λ x. (x.0, x.1.now)) result (number_at w64 bytes.now) }
 {
@@ -61,7 +66,7 @@ pub(crate) fn u64_at(bytes: &[u8]) -> Result<(u64, &[u8]), DecodeError>
     Ok((number, rest))
 }
 
-/// The bytes after a length, as many as it says.
+/// A length as a number of four bytes at the start: the bytes after it, as many as it says, and what follows those.
 #[tactic(auto, unfolding(crate::specs::Reading::counted_at))]
 pub(crate) fn counted_at(bytes: &[u8]) -> Result<(&[u8], &[u8]), DecodeError>
     ensures { Gives (λ x. (x.0.now, x.1.now)) result (counted_at bytes.now) }

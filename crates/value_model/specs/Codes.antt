@@ -8,7 +8,7 @@ use Rattle.value_model.specs.Kinds.{bytes_kind, list_kind, fields_kind, Kinds, n
 use Rattle.value_model.specs.Trees.{Tree, bool_tree, unsigned_tree, signed_tree, text_tree, bytes_tree, list_tree}
 use Rattle.value_model.specs.Trees.{fields_tree, Trees, no_trees, tree_then}
 
--- what to build, with a number, an integer and a list to build it from
+-- what to build, as a tag (1 to 9 for kinds, 10 to 18 for trees), with a number, an integer and a list to build it from
 abbrev Token : Type 0
 Token = ℕ × (ℕ × (ℤ × List ℕ))
 
@@ -172,10 +172,12 @@ first_tree _ = bool_tree false
 abbrev tokens_code : Coded (List Token)
 tokens_code = coded_list (coded× coded_ℕ (coded× coded_ℕ (coded× coded_ℤ (coded_list coded_ℕ))))
 
+-- the code of kinds, which gives each kind back
 abbrev pub kind_code : Coded Kind
 kind_code = code_by (List Token) tokens_code (λ k. kind_tokens k []) (λ ts. first_kind (run ts []))
     (λ k. ap first_kind (run_kind k [] []))
 
+-- the code of trees, which gives each tree back
 abbrev pub tree_code : Coded Tree
 tree_code = code_by (List Token) tokens_code (λ t. tree_tokens t []) (λ ts. first_tree (run ts []))
     (λ t. ap first_tree (run_tree t [] []))

@@ -8,7 +8,7 @@ use Rattle.value_model.specs.Trees.{Tree, bool_tree, unsigned_tree, signed_tree,
 use Rattle.value_model.specs.Trees.{fields_tree, Trees, no_trees, tree_then, count_trees, type_of}
 use Rattle.value_model.specs.Encoding.{encoding}
 
--- each of these trees has this kind
+-- each of these trees has this type
 abbrev pub AllOf : Kind → Trees → Type 0
 AllOf k no_trees = Unit {0}
 AllOf k (tree_then t ts) = (type_of t ≡ k) × AllOf k ts
@@ -24,18 +24,19 @@ abbrev mutual
   IsTyped (list_tree k ts) = IsTrue (kind_fits k) × (AllOf k ts × AllTyped ts)
   IsTyped (fields_tree ts) = (1 ≤ count_trees ts) × ((count_trees ts ≤ 32) × AllTyped ts)
 
+  -- each of these trees is well typed
   pub AllTyped : Trees → Type 0
   AllTyped no_trees = Unit {0}
   AllTyped (tree_then t ts) = IsTyped t × AllTyped ts
 
--- the greatest number of this size is one less
+-- how many unsigned integers of this size there are: the greatest is one less
 abbrev pub unsigned_limit : Size → ℕ
 unsigned_limit one = 2 ^ 8
 unsigned_limit two = 2 ^ 16
 unsigned_limit four = 2 ^ 32
 unsigned_limit eight = 2 ^ 64
 
--- numbers fit their size, texts are UTF-8, and bytes are bytes
+-- numbers fit their size, texts are UTF-8, and each of the bytes is below 256
 abbrev mutual
   pub InRange : Tree → Type 0
   InRange (bool_tree b) = Unit {0}
@@ -46,17 +47,21 @@ abbrev mutual
   InRange (list_tree k ts) = AllInRange ts
   InRange (fields_tree ts) = AllInRange ts
 
+  -- in each of these trees numbers fit their size, texts are UTF-8, and bytes are below 256
   pub AllInRange : Trees → Type 0
   AllInRange no_trees = Unit {0}
   AllInRange (tree_then t ts) = InRange t × AllInRange ts
 
--- the greatest depth of a value's type, and the greatest number of bytes of its encoding
+-- the greatest depth of a value's type
 abbrev pub max_depth : ℕ
 max_depth = 8
 
+-- the greatest number of bytes of a value's encoding
 abbrev pub max_length : ℕ
 max_length = 65536
 
+-- the tree is a value: it is well typed, what it contains is in range, its type nests at most 8 deep, and its encoding
+-- has at most 65,536 bytes
 pub record IsValue (t : Tree) : Type 0 where
   pub typed : IsTyped t
   pub in_range : InRange t

@@ -9,6 +9,7 @@ use Rattle.value_model.specs.Kinds.{bytes_kind, list_kind, fields_kind, Kinds, n
 use Rattle.value_model.specs.Trees.{Tree, bool_tree, unsigned_tree, signed_tree, text_tree, bytes_tree, list_tree}
 use Rattle.value_model.specs.Trees.{fields_tree, Trees, no_trees, tree_then}
 
+-- a list of types as the types of the members of a group
 abbrev pub kinds_of : List Kind → Kinds
 kinds_of [] = no_kinds
 kinds_of (k ∷ ks) = kind_then k (kinds_of ks)
@@ -29,12 +30,15 @@ kind_step ValueType-F.Bytes = bytes_kind
 kind_step (ValueType-F.List b) = list_kind b.value
 kind_step (ValueType-F.Fields v) = fields_kind (kinds_of v.items)
 
+-- the kind that a `ValueType` of the code denotes
 abbrev pub kind_of : ValueType → Kind
 kind_of = fold-ValueType Kind kind_step
 
+-- the kinds that these types denote, in order
 abbrev pub kinds_view : List ValueType → Kinds
 kinds_view ts = kinds_of (map kind_of ts)
 
+-- a list of trees as the items of a list or the members of a group
 abbrev pub trees_of : List Tree → Trees
 trees_of [] = no_trees
 trees_of (t ∷ ts) = tree_then t (trees_of ts)
@@ -55,8 +59,10 @@ tree_step (Node-F.Bytes b) = bytes_tree b
 tree_step (Node-F.List k v) = list_tree (kind_of k) (trees_of v.items)
 tree_step (Node-F.Fields v) = fields_tree (trees_of v.items)
 
+-- the tree that a `Node` of the code denotes
 abbrev pub tree_of : Node → Tree
 tree_of = fold-Node Tree tree_step
 
+-- the trees that these nodes denote, in order
 abbrev pub trees_view : List Node → Trees
 trees_view ns = trees_of (map tree_of ns)

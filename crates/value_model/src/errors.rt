@@ -6,10 +6,13 @@ use thiserror::Error;
 /// Why a node is no value, or that there was no memory.
 #[derive(Clone, Copy, Debug, PartialEq, Eq, Error)]
 pub enum ValueError {
+    /// A list item has another type than the list names, or a group of fields has not 1 to 32 members.
     #[error("an item has another type than its list, or a group of fields has not 1 to 32 members")]
     IllTyped,
+    /// The node's type nests more than 8 deep.
     #[error("the type nests more than 8 deep")]
     TooDeep,
+    /// The node's encoding has more than 65,536 bytes.
     #[error("the encoding has more than 65,536 bytes")]
     TooLong,
     #[error("out of memory")]
@@ -19,6 +22,7 @@ pub enum ValueError {
 /// Why bytes or a text give no value, or no type.
 #[derive(Clone, Copy, Debug, PartialEq, Eq, Error)]
 pub enum DecodeError {
+    /// No value, or no type, has these bytes or this text.
     #[error("not a value")]
     NotAValue,
     #[error("out of memory")]

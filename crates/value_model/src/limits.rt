@@ -6,7 +6,7 @@ ghost use Rattle.value_model.specs.Kinds.{is_group};
 /// The greatest number of members of a group of fields; the least is 1.
 pub const MAX_MEMBERS: usize = 32;
 
-/// The greatest depth of a value's type.
+/// The greatest depth of a value's type. A scalar has depth 1; a list or a group has one more than its deepest part.
 pub const MAX_DEPTH: u32 = 8;
 
 /// The greatest number of bytes of a value's encoding.

@@ -23,12 +23,12 @@ pub enum Node {
     Bytes(Bytes),
     /// A list: the type of its items, and the items.
     List(ValueType, Vec<Node>),
-    /// A group of fields.
+    /// A group of fields: its members, in order. They have no names.
     Fields(Vec<Node>),
 }
 
 impl Node {
-    /// A copy of the node.
+    /// A copy of the node; the error says that memory ran out.
     #[cycle(copies)]
     pub fn copy(&self, alloc: Global) -> Result<Node, AllocError>
         ensures { IfOk result (λ copy. tree_of copy ≡ tree_of self.now) }

@@ -28,7 +28,7 @@ pub enum ValueType {
 }
 
 impl ValueType {
-    /// Whether every group of fields in the type has 1 to 32 members.
+    /// Whether every group of fields, at whatever depth of the type, has 1 to 32 members.
     #[cycle(fits)]
     pub fn fits(&self) -> bool
         ensures { result ≡ kind_fits (kind_of self.now) }
@@ -73,7 +73,7 @@ impl ValueType {
         }
     }
 
-    /// A copy of the type.
+    /// A copy of the type; the error says that memory ran out.
     #[cycle(copies)]
     pub fn copy(&self, alloc: Global) -> Result<ValueType, AllocError>
         ensures { IfOk result (λ copy. kind_of copy ≡ kind_of self.now) }

@@ -47,6 +47,7 @@ impl Value {
     /// item types nest, as dropping them does, since a fault deep inside comes before `TooDeep`: limit the depth of
     /// what comes from outside.
     pub fn new(node: Node) -> Result<Value, ValueError>
+        // the value is the node's tree, and obeys the four rules
         ensures value { IfOk result (λ v. (v ≡ tree_of node) × IsValue (tree_of node)) }
 
         // each refusal comes where its rule fails and those before it hold
@@ -55,6 +56,8 @@ impl Value {
             → IsTyped (tree_of node) × (8 < kind_depth (type_of (tree_of node))) }
         ensures too_long { IsErrOf result ValueError.TooLong → IsTyped (tree_of node)
             × ((kind_depth (type_of (tree_of node)) ≤ 8) × (65536 < length (encoding (tree_of node)))) }
+
+        // it needs no memory
         ensures no_memory { result ≢ Err ValueError.OutOfMemory }
     {
         if !is_typed(&node) {
@@ -69,7 +72,7 @@ impl Value {
         Ok(Value { node })
     }
 
-    /// A copy of the value.
+    /// A copy of the value; the error says that memory ran out.
     pub fn copy(&self, alloc: Global) -> Result<Value, AllocError>
         ensures { IfOk result (λ copy. copy ≡ self.now) }
     {
@@ -77,7 +80,7 @@ impl Value {
         Ok(Value { node })
     }
 
-    /// The value's type.
+    /// The value's type, as a new `ValueType`; the error says that memory ran out.
     pub fn value_type(&self, alloc: Global) -> Result<ValueType, AllocError>
         ensures { IfOk result (λ t. kind_of t ≡ type_of self.now) }
     {
@@ -91,7 +94,7 @@ impl Value {
         has_type(&self.node, value_type)
     }
 
-    /// The node itself, borrowed.
+    /// The node itself, borrowed. Its tree is the value, of which the rules hold.
     pub fn node(&self) -> &Node
         ensures tree { tree_of result.now ≡ self.now }
         ensures valid { IsValue self.now }
@@ -99,7 +102,7 @@ impl Value {
         &self.node
     }
 
-    /// The node itself, handed back. Does not allocate.
+    /// The node itself, handed back. Its tree is the value, of which the rules hold. Does not allocate.
     pub fn into_node(self) -> Node
         ensures tree { tree_of result ≡ self }
         ensures valid { IsValue self }

@@ -89,7 +89,7 @@ fn push_hex_byte(out: &mut String, byte: u8) -> Result<(), AllocError>
     write!(out, "{byte:02x}")
 }
 
-/// Appends bytes in two lower-case hexadecimal digits each.
+/// Appends `bytes` to `out` in two lower-case hexadecimal digits each; the error says that memory ran out.
 pub fn push_hex(out: &mut String, bytes: &[u8]) -> Result<(), AllocError>
     ensures { OnOk result (string_bytes out.new ≡ string_bytes out.old ++ hex_text bytes.now) }
 {
@@ -155,7 +155,7 @@ fn push_nodes(out: &mut String, nodes: &[Node]) -> Result<(), AllocError>
     Ok(())
 }
 
-/// The text of a type; each group of fields in it must have 1 to 32 members.
+/// The text of a type; each group of fields in it must have 1 to 32 members. The error says that memory ran out.
 pub fn print_type(alloc: Global, value_type: &ValueType) -> Result<String, AllocError>
     requires { IsTrue (kind_fits (kind_of value_type.now)) }
     ensures { IfOk result (λ text. string_bytes text ≡ type_text (kind_of value_type.now)) }
@@ -165,14 +165,14 @@ pub fn print_type(alloc: Global, value_type: &ValueType) -> Result<String, Alloc
     Ok(text)
 }
 
-/// Appends the text of a value.
+/// Appends the text of a value to `out`; the error says that memory ran out.
 pub fn push_value(out: &mut String, value: &Value) -> Result<(), AllocError>
     ensures { OnOk result (string_bytes out.new ≡ string_bytes out.old ++ value_text value.now) }
 {
     push_node(out, value.node())
 }
 
-/// The text of a value.
+/// The text of a value; the error says that memory ran out.
 pub fn print_value(alloc: Global, value: &Value) -> Result<String, AllocError>
     ensures { IfOk result (λ text. string_bytes text ≡ value_text value.now) }
 {

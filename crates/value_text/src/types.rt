@@ -132,7 +132,7 @@ fn type_in(alloc: Global, text: &[u8]) -> Result<ValueType, DecodeError>
 ///
 /// `NotAValue` exactly where the text is not that of a type of depth at most 8; `OutOfMemory`.
 pub fn parse_type(alloc: Global, text: &[u8]) -> Result<ValueType, DecodeError>
-    // the text is that of the type found, and no text of a type is refused
+    // the text is that of the type found, and a text that is refused is that of no type `k`
     ensures found { IfOk result (λ t. IsType (kind_of t) × (text.now ≡ type_text (kind_of t))) }
     ensures only { IsErrOf result DecodeError.NotAValue → (k : Kind) → IsType k → text.now ≢ type_text k }
 

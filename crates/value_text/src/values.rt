@@ -211,13 +211,13 @@ fn value_in(alloc: Global, text: &[u8]) -> Result<Value, DecodeError>
     value_of(node)
 }
 
-/// The value that the text spells, all of the text.
+/// The value whose text is `text`, from the first byte to the last.
 ///
 /// # Errors
 ///
 /// `NotAValue` exactly where the text is that of no value; `OutOfMemory`.
 pub fn parse_value(alloc: Global, text: &[u8]) -> Result<Value, DecodeError>
-    // what is read is spelled so, and what is spelled so is read
+    // the text is that of the value found, and a text that is refused is that of no value `t`
     ensures found { IfOk result (λ v. IsValue v × (text.now ≡ value_text v)) }
     ensures only { IsErrOf result DecodeError.NotAValue → (t : Tree) → IsValue t → text.now ≢ value_text t }
 

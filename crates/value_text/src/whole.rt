@@ -32,10 +32,11 @@ fn unsigned_in(max: u64, text: &[u8]) -> Result<u64, DecodeError>
 ///
 /// `NotAValue` exactly where the text is no such number. Does not allocate.
 pub fn parse_unsigned(max: u64, text: &[u8]) -> Result<u64, DecodeError>
+    // the text is the decimal digits of the number found, and a text that is refused is those of no number up to `max`
     ensures found { IfOk result (λ n. (n ≤ max) × (text.now ≡ decimal n)) }
     ensures only { IsErrOf result DecodeError.NotAValue → (n : ℕ) → n ≤ max → text.now ≢ decimal n }
 
-    // What it gives depends on the text and the bound alone.
+    // what it gives depends on the text and the bound alone, and it needs no memory
     ensures exact { Gives (λ n. n) result (unsigned_in (max + 1) text.now) }
     ensures memory { result ≢ Err DecodeError.OutOfMemory }
 {
@@ -92,6 +93,7 @@ fn bytes_in(alloc: Global, text: &[u8]) -> Result<Bytes, DecodeError>
 ///
 /// `NotAValue` exactly where the text is not of this form; `OutOfMemory`.
 pub fn parse_hex(alloc: Global, text: &[u8]) -> Result<Bytes, DecodeError>
+    // the text is the digits of the bytes found, and a text that is refused is those of no bytes `b`
     ensures found { IfOk result (λ b. text.now ≡ hex_text b) }
     ensures only { IsErrOf result DecodeError.NotAValue → (b : List ℕ) → ((i : ℕ) → slice_index b i < 256)
         → text.now ≢ hex_text b }
