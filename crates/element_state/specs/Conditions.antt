@@ -29,7 +29,7 @@ pub record IsShape (shape : Shape) : Type 0 where
   pub enough : shape.m ≤ shape.place.copies
   pub small : shape.allowed ≤ 4194304
 
--- names and contents, in bytes
+-- the size of a storage with these elements: names and contents, in bytes
 abbrev pub size_of : List Entry → ℕ
 size_of entries = sum_by (λ (e : Entry). length e.name + e.len) entries
 
@@ -45,7 +45,7 @@ IsChange kind entries (Put f) = SuitsKind kind f
 IsChange kind entries (Remove name) = ⊤
 IsChange kind entries (Touch name info) = (kind ≡ Files) × IsGoodEntry (entry_by_name name entries)
 
--- the changes of a commit: each name once, and what comes of them within the limits
+-- the changes of a commit: each name once, what comes of them within the limits, and a generation left for it
 pub record AreCommittable (shape : Shape) (v : View) (changes : List Change) : Type 0 where
   pub each : AllByRecursion (IsChange shape.kind v.entries) changes
   pub names_apart : IsDistinct bytes_eq (map changed_name changes)

@@ -61,6 +61,7 @@ abbrev pub opened_if : Bool → View → Option View
 opened_if true v = Some v
 opened_if false v = None
 
+-- the view at which the storage opens by what was found
 abbrev pub opened_view : Option Found → Option View
 opened_view None = None
 opened_view (Some found) = opened_if found.opens found.view
