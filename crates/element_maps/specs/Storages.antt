@@ -22,7 +22,8 @@ use Rattle.element_maps.specs.Sessions.{same_map, synchronised}
 
 -- ---- how it is configured
 
--- a storage of this kind is where the shape says, as it is configured: by its name, with its copies, and no larger
+-- the shape is that of a storage of this kind as it is configured: its name, `m` of `n` copies that must agree, on what
+-- they must, and its greatest size in bytes
 pub record IsConfigured (of : StoreKind) (config : StorageData) (shape : Shape) : Type 0 where
   pub of_kind : config.kind ≡ of
   pub kind : shape.kind ≡ of

@@ -72,8 +72,8 @@ pub fn survey<D: Disk>(
     ensures found { IfOk result (λ found. IfSome found (IsFoundView shape.now)) }
     ensures states { IfOk result (λ found. IfSome found HasStates) }
 
-    // Afterwards nothing is pending; no byte changes, and none is written. On a disk that was quiet a crash meanwhile
-    // leaves what reads gave.
+    // On success nothing is pending afterwards. However it ends, no byte changes and none is written; on a disk that
+    // was quiet a crash meanwhile leaves what reads gave.
     ensures quiet { OnOk result (Quiet (D.medium disk.new)) }
     ensures image { (D.medium disk.new).image ≡ (D.medium disk.old).image }
     ensures idle { Quiet (D.medium disk.old) → IsIdle (D.medium disk.old) (D.medium disk.new) }
@@ -109,8 +109,8 @@ pub fn inspect<D: Disk>(alloc: Global, disk: &mut D, shape: &Shape) -> Result<Vi
     // Whether the disk's bytes are modelled or not: names ascend, and lengths are right.
     ensures read { IfOk result (IsView shape.now) }
 
-    // Afterwards nothing is pending; no byte changes, and none is written. On a disk that was quiet a crash meanwhile
-    // leaves what reads gave.
+    // On success, and where the answer is `Corrupt`, nothing is pending afterwards. However it ends, no byte changes
+    // and none is written; on a disk that was quiet a crash meanwhile leaves what reads gave.
     ensures quiet { OnOk result (Quiet (D.medium disk.new)) }
     ensures settled { IsErrOf result StoreError.Corrupt → Quiet (D.medium disk.new) }
     ensures image { (D.medium disk.new).image ≡ (D.medium disk.old).image }
@@ -154,8 +154,8 @@ pub fn salvage<D: Disk>(
     // Whether the disk's bytes are modelled or not: names ascend, and lengths are right.
     ensures read { IfOk result (λ view. IfSome view (IsView shape.now)) }
 
-    // Afterwards nothing is pending; no byte changes, and none is written. On a disk that was quiet a crash meanwhile
-    // leaves what reads gave.
+    // On success nothing is pending afterwards. However it ends, no byte changes and none is written; on a disk that
+    // was quiet a crash meanwhile leaves what reads gave.
     ensures quiet { OnOk result (Quiet (D.medium disk.new)) }
     ensures image { (D.medium disk.new).image ≡ (D.medium disk.old).image }
     ensures idle { Quiet (D.medium disk.old) → IsIdle (D.medium disk.old) (D.medium disk.new) }

@@ -31,11 +31,11 @@ entries_of store = store.entries.items
 abbrev pub store_generation : Store → ℕ
 store_generation store = generation_of store.cell
 
--- the view that a storage in use shows
+-- the view that a storage in use shows: its elements under the generation of its index, with its text in every copy
 abbrev pub view_in : Store → View
 view_in store = whole_view store.shape (generation_of store.cell) store.entries.items
 
--- a set of that many blocks has exactly those of these entries, so all others are free
+-- a set of that many blocks, with true for each that is taken, has exactly those of these entries: all others are free
 pub record AreTaken (blocks : ℕ) (entries : List IndexEntry) (set : List Bool) : Type 0 where
   pub capacity : length set ≡ blocks
   pub exact : (b : ℕ) → contains set b ≡ named_in (blocks_of entries) b
