@@ -56,8 +56,9 @@ pub record IsOpened (told : Bool) (image : Image) (shape : Shape) (test : List �
 
 -- ---- what a call leaves of the disk
 
--- However a call on a storage ends: no file outside the place changes, at the end and at any moment, and a stop at any
--- moment leaves the storage as before or as after. It is said of openings too, which may mend contents in place.
+-- However a call on a storage, on its way to the state `after`, ends: no file outside the place changes, at the end and
+-- at any moment, and a stop at any moment leaves the storage as before or as after. It is said of openings too, which
+-- may mend contents in place.
 pub record IsStoring (told : Bool) (shape : Shape) (after : State) (old new : Medium) : Type 0 where
   pub elsewhere : IsTrue told → Spares (IsOutside shape.place) old.image new.image
   pub outside : IsTrue told → Quiet old → EachCase (IsSettledOn (IsOutside shape.place)

@@ -57,8 +57,8 @@ abbrev pub IsPiece : Place → Image → Piece → Type 0
 IsPiece place image (in_slot piece) = IsSlotPiece place image piece
 IsPiece place image (in_blocks piece) = IsBlockPiece place image piece
 
--- no two texts of one generation are held, each text that is held fits, and copies that count under one entry hold the
--- same bytes
+-- a clean place: no two texts of one generation are held, each text that is held fits, and copies that count under one
+-- entry hold the same bytes
 pub record IsClean (shape : Shape) (image : Image) : Type 0 where
   pub one_each : IsOneEach image shape.place
   pub fit : (copy generation : ℕ) (text : List ℕ) → copy < shape.place.copies

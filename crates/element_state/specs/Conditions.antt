@@ -23,7 +23,8 @@ use Rattle.element_state.specs.Views.{entry_view}
 use Rattle.element_state.specs.States.{Opens, store_at, greatest_generation}
 use Rattle.element_state.specs.Changes.{entry_by_name, after_changes}
 
--- from one copy to all must agree, and at most 4 MiB are allowed
+-- a shape that a storage may have: of its copies at least one and at most all must agree, and names and contents may
+-- take at most 4 MiB
 pub record IsShape (shape : Shape) : Type 0 where
   pub some : 1 ≤ shape.m
   pub enough : shape.m ≤ shape.place.copies

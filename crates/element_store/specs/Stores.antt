@@ -52,7 +52,8 @@ pub record IsStore (store : Store) : Type 0 where
   pub taken : AreTaken (area_blocks store.shape.allowed) store.index.entries store.used
   pub kept : All (AreOfElement store.entries.items) store.kept.items
 
--- the storage is in use on a disk: where the disk's bytes are modelled, these are its own
+-- the storage is in use on a disk with this image: what it keeps in memory is in order, and, where the disk's bytes are
+-- modelled, is what the copies hold
 pub record IsUsed (told : Bool) (image : Image) (store : Store) : Type 0 where
   pub memory : IsStore store
   pub disk : IsTrue told → IsInUse store.shape image store.index (view_in store)

@@ -12,7 +12,7 @@ pub record SuitsKind (kind : StoreKind) (f : Fresh) : Type 0 where
   pub info : IsTrue (has_info kind f.info)
   pub small : length f.bytes ≤ max_len kind
 
--- how many bytes the name and the content of an element are together
+-- how many bytes the name and the content of an element to be made are together
 abbrev pub fresh_size : Fresh → ℕ
 fresh_size f = length f.name + length f.bytes
 
