@@ -165,8 +165,8 @@ pub record IsContentWritten (shape : Shape) (now : Image) (e : IndexEntry) (f : 
   pub good : f.content ≡ Good value
   pub whole : AllWhole shape now e value
 
--- an entry and its element, whose content stays where the earlier index has it, as it was; one that was good lacked
--- nothing
+-- an entry and its element, whose content stays where the earlier index has it, as it was; no copy lacked one that was
+-- good
 pub record IsCarried (shape : Shape) (start : Image) (earlier : Index) (e : IndexEntry) (f : Entry) : Type 0 where
   pub headed : IsHeaded e f
   pub named : Contains (map where_of earlier.entries) (where_of e)

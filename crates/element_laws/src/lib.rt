@@ -13,8 +13,8 @@
 //! [`places_are_clean`] and [`use_is_adopted`] say where the laws begin and end, and [`outcomes_are_refused`] what they
 //! exclude.
 //!
-//! Words of the contracts: a text is *adopted* once every copy holds it and no slot another, and all other texts are
-//! *given up* once they are taken from the copies of a corrupt storage; a content is *carried* that the next index
+//! Words of the contracts: a text is *adopted* once every copy holds it and no slot another, and the texts of a corrupt
+//! storage but that of its salvage are *given up* once no copy holds them; a content is *carried* that the next index
 //! leaves in the blocks in which the earlier one has it, and *mended* where it is written again in copies that lack it.
 //! A *case* is one way that a crash may go, and a *piece* is a text in a slot or a content in blocks, with its hash.
 //!

@@ -1,6 +1,6 @@
 //! Maps of elements over a storage: sessions hold maps, a storage holds entries. A map lists elements by name, each
-//! with its info, length and content; *synchronised* is the map that the storage holds, as a session sees it, which has
-//! a *test* for the bytes that it takes as a value.
+//! with its info, length and content; a session's *test* says which bytes it takes as a value, and *synchronised* is
+//! the map that the storage holds, in which a value that fails the test cannot be read.
 //!
 //! The definitions in `specs/` say which changes make one map into another, and which maps a session may hand down to
 //! be committed. The laws are contracts of functions with nothing to do, which a caller calls to cite them.

@@ -56,14 +56,14 @@ pub record AreCommittable (shape : Shape) (v : View) (changes : List Change) : T
 
 -- ---- a storage in use
 
--- an element that is good lacks nothing
+-- an element, by its content and by the copies that lack it: none lacks one that is good
 abbrev pub IsMended : Content → List ℕ → Type 0
 IsMended (Good value) lacking = lacking ≡ []
 IsMended (Bad salvage) lacking = ⊤
 
 -- A storage in use on this image, with this index and this view: every copy holds the text of the index and no other
--- slot holds any; the storage opens at this view, with no other text; and only elements that cannot be read lack
--- copies.
+-- slot holds any; the storage opens at this view, with no other text; and copies lack only elements that cannot be
+-- read.
 pub record IsInUse (shape : Shape) (image : Image) (index : Index) (v : View) : Type 0 where
   pub alone : IsAlone image shape.place v.generation (index_text index)
   pub fit : fit_index shape (index_text index) ≡ Some index

@@ -89,12 +89,12 @@ whole_view shape generation entries = record {
   entries = entries;
 }
 
--- an element by its content: one that is good lacks nothing any more, and a bad one stays
+-- an element by its content: no copy lacks one that is good any more, and a bad one stays as it is
 abbrev pub mended_by : Content → Entry → Entry
 mended_by (Good value) e = record e { lacking = [] }
 mended_by (Bad salvage) e = e
 
--- an element on which enough copies agree lacks nothing any more
+-- an element after an opening: where enough copies agree on it, no copy lacks it any more
 abbrev pub mended_entry : Entry → Entry
 mended_entry e = mended_by e.content e
 

@@ -58,7 +58,8 @@ abbrev pub given : Image → Place → IndexEntry → List (Option (List ℕ))
 given image place e = contents place e.blocks e.len e.hash image
 
 -- the element of an entry, by what an image has at a place: the value on which m copies agree, or else the salvage, and
--- the copies that lack it
+-- the copies that lack it: they do not give this value, or not from bytes all within their file; where there is no
+-- value, they give nothing
 unfoldable pub entry_view : Image → Place → ℕ → IndexEntry → Entry
 entry_view image place m e = record {
   name = e.name;

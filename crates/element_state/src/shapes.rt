@@ -44,7 +44,8 @@ impl Shape {
 pub struct View {
     /// The generation of its index, at least 1.
     pub generation: u64,
-    /// The copies that lack the storage, counted from 1 and ascending.
+    /// The copies that lack the storage, counted from 1 and ascending: those that do not hold its text, and with
+    /// storage scope also those that lack one of its elements.
     pub lacking: Numbers,
     /// Whether no second text is held that could be this storage's.
     pub sole: bool,

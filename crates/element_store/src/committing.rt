@@ -91,7 +91,8 @@ impl Store {
         ensures clean { IsTrue D.told → IsClean (store_shape self) (D.medium disk.old).image
             → OnOk result (IsClean (store_shape self) (D.medium disk.new).image) }
 
-        // What no change names keeps its entry: the same blocks, length, hash, info and number of its last change.
+        // What no change names keeps its entry: the same blocks, length, hash, info and number of its last change. The
+        // new index is of format 2, of whichever the old one was.
         ensures carried { IfOk result (λ store. KeepsOthers changes.items (index_in self).entries
             (index_in store).entries) }
         ensures format { IfOk result (λ store. (index_in store).format ≡ 2) }
@@ -125,13 +126,16 @@ impl Store {
             + texts_cost (store_shape self).place (own (store_generation self + 1))
             (sealed (store_generation self + 1) (index_text (index_in store))) (D.medium disk.old).image
             (store_shape self).place.copies) }
+        // The length of its text follows from the elements.
         ensures text { IfOk result (λ store. length (index_text (index_in store))
             ≡ index_length (store_shape self).kind (entries_of store)) }
+        // However it ends, no more than the contents and that text cost.
         ensures at_most { IsWithin (store_shape self).place.copies
             (commit_cost (store_shape self).kind (entries_of self) changes.items)
             (index_length (store_shape self).kind
             (committed_by (store_shape self) (view_in self) changes.items).entries)
             (D.medium disk.old).written (D.medium disk.new).written }
+        // The clock and the counts of the disk only go on.
         ensures time { Elapses (D.medium disk.old) (D.medium disk.new) }
     {
         use_is_adopted();

@@ -1,7 +1,7 @@
 //! The elements of one storage: keys or files with their contents, in the copies of a place.
 //!
 //! A [`Store`] is a storage in use: every copy holds its index and no other text, its entries are what the copies hold,
-//! only elements that cannot be read lack copies, and the storage opens at just this view.
+//! copies lack only elements that cannot be read, and the storage opens at just this view.
 //!
 //! [`create`] creates one, under generation 1. [`open_store`] opens one: it brings every copy to the text at which
 //! the storage opens, writes each element again in the copies that lack it, and reports what was lacking or could not
