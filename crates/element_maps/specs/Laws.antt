@@ -62,7 +62,7 @@ abbrev pub IsUntested : StoreKind → (List ℕ → Bool) → Type 0
 IsUntested Keys test = ⊤
 IsUntested Files test = (bytes : List ℕ) → IsTrue (test bytes)
 
--- they cost just that, where no content of a file can fail the test
+-- they cost just that for keys, and for files where no content can fail the test
 abbrev pub ExactCostLaw : Type 0
 ExactCostLaw = (shape : Shape) (test : List ℕ → Bool) (v : View) (synced new : Map) (changes : List Change)
     → IsSync shape test v synced new changes
@@ -86,7 +86,7 @@ UnchangedNamesLaw = (synced new : Map) (changes : List Change) → MakeInto chan
 abbrev pub UntestedLaw : Type 0
 UntestedLaw = (v : View) → synchronised (λ bytes. true) v ≡ map_of v
 
--- what is synchronised may be handed down as it is: in order, within the limits, each element as its kind asks
+-- what is synchronised may be the next map, as it is: in order, within the limits, each element as its kind asks
 abbrev pub SynchronisedLaw : Type 0
 SynchronisedLaw = (shape : Shape) (test : List ℕ → Bool) (v : View) → IsView shape v
     → IsNext shape (synchronised test v) (synchronised test v)

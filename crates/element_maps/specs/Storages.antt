@@ -76,7 +76,7 @@ pub record IsDurable (told : Bool) (shape : Shape) (synced next : Map) (index : 
   pub written : IsWithin shape.place.copies (map_cost shape.kind synced next) index old.written new.written
   pub passes : new.faults ≡ old.faults
 
--- an element that both maps have alike keeps its entry: the same blocks, length, hash, info and number of its last
+-- an element that both maps have alike keeps its entry: the same blocks, length, hash, info and generation of its last
 -- change
 abbrev pub KeepsEqual : (synced next : Map) → (old later : List IndexEntry) → Type 0
 KeepsEqual synced next old later = (name : List ℕ) → element_at synced name ≡ element_at next name

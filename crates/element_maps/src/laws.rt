@@ -21,8 +21,8 @@ pub fn changes_make_maps()
     ensures others { UnchangedNamesLaw }
 {}
 
-/// With no test of contents the map of a view is the view's own (`untested`); with any it may be handed down to be
-/// committed (`synchronised`). Elements that the test of two elements finds the same are equal (`same`).
+/// With no test of contents the map of a view is the view's own (`untested`); with any it may be the next that the
+/// storage is to hold (`synchronised`). Elements that the test of two elements finds the same are equal (`same`).
 pub fn views_are_maps()
     ensures untested { UntestedLaw }
     ensures synchronised { SynchronisedLaw }

@@ -22,11 +22,11 @@ use Rattle.element_state.specs.Chosen.{chosen}
 
 -- ---- views beside one another
 
--- all that is known of an element but its content: name, info, length and number of the last change
+-- all that is known of an element but its content: name, info, length and generation of the last change
 abbrev pub heading : Entry → List ℕ × Option FileInfo × ℕ × ℕ
 heading e = (e.name, e.info, e.len, e.changed)
 
--- the entry and the element have the same name, info, length and number of the last change
+-- the entry and the element have the same name, info, length and generation of the last change
 abbrev pub IsHeaded : IndexEntry → Entry → Type 0
 IsHeaded e f = (e.name, e.info, e.len, e.changed) ≡ heading f
 

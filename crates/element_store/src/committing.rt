@@ -91,8 +91,8 @@ impl Store {
         ensures clean { IsTrue D.told → IsClean (store_shape self) (D.medium disk.old).image
             → OnOk result (IsClean (store_shape self) (D.medium disk.new).image) }
 
-        // What no change names keeps its entry: the same blocks, length, hash, info and number of its last change. The
-        // new index is of format 2, of whichever the old one was.
+        // What no change names keeps its entry: the same blocks, length, hash, info and generation of its last change.
+        // The new index is of format 2, of whichever the old one was.
         ensures carried { IfOk result (λ store. KeepsOthers changes.items (index_in self).entries
             (index_in store).entries) }
         ensures format { IfOk result (λ store. (index_in store).format ≡ 2) }

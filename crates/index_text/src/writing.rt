@@ -17,7 +17,7 @@ use std::alloc::{AllocError, Global};
 const ENTRY_ROOM: usize = 80;
 
 /// The one text of an index that keeps the rules: format 1 or 2, at most 1,024 entries with ascending names, contents
-/// within the limit of their kind, an info exactly for files, numbers of the last change in format 2 alone, and no
+/// within the limit of their kind, an info exactly for files, generations of last changes in format 2 alone, and no
 /// block twice.
 ///
 /// # Errors
