@@ -104,7 +104,7 @@ view_of image shape text = record {
 abbrev pub element_of : Entry → List ℕ × Element
 element_of e = (e.name, record { info = e.info; len = e.len; content = e.content })
 
--- the elements of a view as a session holds them, ascending by name
+-- the elements of a view as a session holds them, in the order of the view
 abbrev pub map_of : View → Map
 map_of v = map element_of v.entries
 
