@@ -28,7 +28,7 @@ FrameLaw = (shape : Shape) (old new : Image) → Spares (IsOfPlace shape.place) 
 
 -- ---- places apart
 
--- one ends before the other begins
+-- one ends before the other begins; each copy has four numbers of files
 abbrev pub LieApart : Place → Place → Type 0
 LieApart one other = (one.first + 4 * one.copies ≤ other.first) ⊎ (other.first + 4 * other.copies ≤ one.first)
 

@@ -1,4 +1,9 @@
 -- What a stop in each phase of a call leaves of a storage: the statements of the laws.
+--
+-- In each `start` is the image when the call began; `now` the one after the index was adopted, or all texts but that of
+-- the salvage were given up; `then` the one after contents were made durable; `after` the state that the call leads to;
+-- `old` and `c` cases of a crash; `taken` says which blocks no write touches; `index` is what the text
+-- spells that the copies hold, and `new_index` what the next text spells.
 use Rattle.std.specs.Prelude.{◌≡◌, ◌⊎◌, ℕ, ◌+◌, ◌*◌, ◌<◌, ◌≤◌, List, [], length, slice_index, map, Bool, true, false}
 use Rattle.std.specs.Prelude.{Option, Some, find, None}
 use Rattle.std.specs.List.{AllByRecursion, AllZip, Contains}
@@ -35,7 +40,7 @@ use Rattle.element_state.specs.Kept.{Kept, IsKeptCase, IsKeptMending, IsHeaded}
 
 -- ---- what nobody touched
 
--- the file is a slot or an area of the place
+-- the file is a slot (kind 0 or 1) or the area (kind 2) of a copy of the place, each of which has four numbers
 pub record IsOfPlace (place : Place) (file : ℕ) : Type 0 where
   pub copy : ℕ
   pub kind : ℕ
@@ -153,14 +158,15 @@ AllWhole shape image e value = (copy : ℕ) → copy < shape.place.copies
     → (counting_at image shape.place copy (where_of e) ≡ Some value)
     × (has_all_bytes (image (area shape.place copy)) e.blocks e.len ≡ true)
 
--- a content that was written, in every copy
+-- an entry and its element, whose content was written in every copy
 pub record IsContentWritten (shape : Shape) (now : Image) (e : IndexEntry) (f : Entry) : Type 0 where
   pub headed : IsHeaded e f
   pub value : List ℕ
   pub good : f.content ≡ Good value
   pub whole : AllWhole shape now e value
 
--- a content that stays where the earlier index has it, as it was; one that was good lacked nothing
+-- an entry and its element, whose content stays where the earlier index has it, as it was; no copy lacked one that was
+-- good
 pub record IsCarried (shape : Shape) (start : Image) (earlier : Index) (e : IndexEntry) (f : Entry) : Type 0 where
   pub headed : IsHeaded e f
   pub named : Contains (map where_of earlier.entries) (where_of e)
@@ -168,8 +174,8 @@ pub record IsCarried (shape : Shape) (start : Image) (earlier : Index) (e : Inde
   pub mended : IsMended (entry_view start shape.place shape.m e).content
       (entry_view start shape.place shape.m e).lacking
 
--- writing the index of a storage under the next generation, after its contents: each new one is whole in every copy,
--- and the others stay
+-- a stop while the index is written under the next generation, after its contents, keeps a storage: each new content is
+-- whole in every copy, and the others stay
 abbrev pub IndexLaw : Type 0
 IndexLaw = (shape : Shape) (start now then : Image) (generation : ℕ) (text : List ℕ) (index : Index) (taken : ℕ → Bool)
     (next : List ℕ) (new_index : Index)
@@ -240,7 +246,7 @@ AreAgreed shape image e = (a b : ℕ) (s t : List ℕ) → a < shape.place.copie
     → counting_at image shape.place a (where_of e) ≡ Some s → counting_at image shape.place b (where_of e) ≡ Some t
     → s ≡ t
 
--- a text that fits is held alone, and copies agree on each content of its index
+-- a place is clean where a text that fits is held alone, and copies agree on each content of its index
 abbrev pub CleanLaw : Type 0
 CleanLaw = (shape : Shape) (image : Image) (generation : ℕ) (text : List ℕ) (index : Index)
     → IsAlone image shape.place generation text → fit_index shape text ≡ Some index
@@ -270,7 +276,7 @@ pub record KeepsBlockBytes (blocks : List ℕ) (old new : List ℕ) : Type 0 whe
       → slice_index new (256 * slice_index blocks i + j) ≡ slice_index old (256 * slice_index blocks i + j)
   pub no_shorter : length old ≤ length new
 
--- after whole writes, past its old end too
+-- the same after whole writes, and past its old end too, where zeros are read
 pub record KeepsBlocksWhole (blocks : List ℕ) (old new : List ℕ) : Type 0 where
   pub bytes : (i j : ℕ) → i < length blocks → j < 256
       → slice_index new (256 * slice_index blocks i + j) ≡ slice_index old (256 * slice_index blocks i + j)
@@ -341,7 +347,8 @@ InUseLaw = (shape : Shape) (image : Image) (index : Index) (v : View) → IsClea
     → IsInUse shape image index v
     → IsAdopted shape image image v.generation (index_text index) index
 
--- an entry that keeps its blocks, length and hash, beside an element that keeps its content
+-- in a storage in use an entry that keeps the blocks, length and hash of an old one, beside an element that keeps its
+-- content, is carried
 abbrev pub CarriedLaw : Type 0
 CarriedLaw = (shape : Shape) (image : Image) (index : Index) (v : View) (old e : IndexEntry) (f : Entry)
     → IsInUse shape image index v → Contains index.entries old

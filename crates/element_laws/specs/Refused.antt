@@ -1,4 +1,5 @@
--- What a stop may not leave, by small states that nothing may lead to: one element, in every copy.
+-- What a stop may not leave, by small states that nothing may lead to: one element, in every copy, and no damage. `g`
+-- and `h` are generations, `was` is the value that stands, and `is` the one that a call is to put in its place.
 use Rattle.std.specs.Prelude.{◌≢◌, ℕ, ◌+◌, ◌<◌, ◌≤◌, List, [], ◌∷◌, true, Option, Some, None}
 use Rattle.per_base.specs.declared.elements.Entry.{Entry}
 use Rattle.per_base.specs.declared.elements.Content.{Content}
@@ -8,7 +9,7 @@ use Rattle.element_state.specs.declared.shapes.View.{View}
 use Rattle.element_state.specs.States.{Opens, Corrupt}
 use Rattle.element_state.specs.Kept.{Kept}
 
--- an element of one byte, which these copies lack
+-- an element `a` of one byte, which these copies, counted from 1, lack
 abbrev pub element : Content → (lacking : List ℕ) → Entry
 element content lacking = record {
   name = 97 ∷ [];
@@ -30,6 +31,7 @@ one generation content = record {
       element content [] ∷ [];
 }
 
+-- a view of this element alone, which one copy, counted from 0, lacks
 abbrev pub lacking_one : (generation copy : ℕ) → Content → View
 lacking_one generation copy content = record {
   generation = generation;

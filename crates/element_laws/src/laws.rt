@@ -50,7 +50,10 @@ pub fn index_keeps()
     contents_stand_aside();
 }
 
-/// A stop while a corrupt storage is rebuilt beside the text of its salvage leaves it corrupt or with what it is given.
+/// A stop while a corrupt storage is rebuilt beside the text of its salvage leaves it corrupt or with what it is given:
+/// while contents are written (`contents`), once they are durable (`done`), and while the index is written (`index`).
+/// These ask that all texts but that of the salvage were taken away (`given_up`), and that the contents which held
+/// indexes name are in blocks that are taken (`taken`).
 pub fn rebuilding_keeps()
     ensures given_up { GivenUpLaw }
     ensures taken { TakenBlocksLaw }
@@ -72,6 +75,8 @@ pub fn places_are_clean()
 
 /// A stop while contents are mended in copies that lack them, when each copy holds the text alone, keeps a storage. It
 /// may leave a copy half mended: where no two contents have the same hash, that copy gives the value or nothing.
+/// A mending is under way at its beginning (`start`), after each content that is written again (`step`) and after the
+/// sync (`sync`); and while it is under way a stop keeps the storage (`mend`).
 pub fn mending_keeps()
     ensures start { MendStartLaw }
     ensures step { MendStepLaw }

@@ -20,22 +20,24 @@ same_value (Good old) (Good new) = bytes_eq old new
 same_value (Good old) (Bad salvage) = false
 same_value (Bad salvage) new = false
 
+-- both can be read, and have the same bytes under the same length
 abbrev pub same_bytes : Element → Element → Bool
 same_bytes old new = nat_eq old.len new.len && same_value old.content new.content
 
--- all of an element
+-- the change that puts an element under a name: its info and its bytes
 abbrev pub put : List ℕ → Element → Change
 put name new = Put (record { name = name; info = new.info; bytes = readable_bytes new.content })
 
--- its info, where it has one
+-- the change that gives an element under a name its info alone; one that has none is put
 abbrev pub touch : List ℕ → Element → Option FileInfo → Change
 touch name new None = put name new
 touch name new (Some info) = Touch name info
 
--- for one that stands and differs: the info where the bytes are the same
+-- the change at a name where an element stands and another shall: its info alone where the bytes are the same
 abbrev pub replacement : List ℕ → Element → Element → Change
 replacement name old new = cond (same_bytes old new) (touch name new new.info) (put name new)
 
+-- the change at a name where an element shall stand: none where the same stands there
 abbrev pub arrival : List ℕ → Option Element → Element → Option Change
 arrival name None new = Some (put name new)
 arrival name (Some old) new = cond (same_element old new) None (Some (replacement name old new))

@@ -1,4 +1,5 @@
--- What comes of the changes that make one map into another.
+-- What comes of the changes that make one map into another. In each law `synced` is the map that the storage holds at
+-- the view `v`, `new` the one that it is to hold, and `test` says which bytes a session takes as a value.
 use Rattle.std.specs.Prelude.{◌≡◌, ◌≢◌, ◌↔◌, ◌≤◌, ◌<◌, ◌+◌, ℕ, List, [], Bool, true, IsTrue, ⊤}
 use Rattle.std.specs.List.{All, AllByRecursion}
 use Rattle.per_base.specs.declared.elements.StoreKind.{StoreKind}
@@ -50,17 +51,18 @@ SizeLaw = (shape : Shape) (test : List ℕ → Bool) (v : View) (synced new : Ma
     → IsSync shape test v synced new changes
     → size_of (after_changes (v.generation + 1) v.entries changes) ≡ maps.size_of new
 
--- no more is paid for than what differs
+-- the contents of the changes cost no more bytes in each copy than what differs between the maps
 abbrev pub CostLaw : Type 0
 CostLaw = (shape : Shape) (test : List ℕ → Bool) (v : View) (synced new : Map) (changes : List Change)
     → IsSync shape test v synced new changes
     → commit_cost shape.kind v.entries changes ≤ map_cost shape.kind synced new
 
--- and just that, where no content of a file fails the test
+-- keys, or files of which no content fails the test
 abbrev pub IsUntested : StoreKind → (List ℕ → Bool) → Type 0
 IsUntested Keys test = ⊤
 IsUntested Files test = (bytes : List ℕ) → IsTrue (test bytes)
 
+-- they cost just that for keys, and for files where no content can fail the test
 abbrev pub ExactCostLaw : Type 0
 ExactCostLaw = (shape : Shape) (test : List ℕ → Bool) (v : View) (synced new : Map) (changes : List Change)
     → IsSync shape test v synced new changes
@@ -84,7 +86,7 @@ UnchangedNamesLaw = (synced new : Map) (changes : List Change) → MakeInto chan
 abbrev pub UntestedLaw : Type 0
 UntestedLaw = (v : View) → synchronised (λ bytes. true) v ≡ map_of v
 
--- what is synchronised may be handed down as it is: in order, within the limits, each element as its kind asks
+-- what is synchronised may be the next map, as it is: in order, within the limits, each element as its kind asks
 abbrev pub SynchronisedLaw : Type 0
 SynchronisedLaw = (shape : Shape) (test : List ℕ → Bool) (v : View) → IsView shape v
     → IsNext shape (synchronised test v) (synchronised test v)

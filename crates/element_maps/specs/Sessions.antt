@@ -25,13 +25,14 @@ synchronised test v = map_of (judged_view test v)
 
 -- ---- what it is to hold
 
--- a value of an element is as its kind asks
+-- the bytes of an element are as a storage of this kind asks
 pub record IsWritable (kind : StoreKind) (new : Element) (bytes : List ℕ) : Type 0 where
   pub info : IsTrue (has_info kind new.info)
   pub length : length bytes ≡ new.len
   pub small : new.len ≤ max_len kind
 
--- an element that cannot be read is the very one that is synchronised
+-- an element, by its content: one that can be read is as the kind asks, and one that cannot is the very one that is
+-- synchronised under its name
 abbrev pub IsHeldElement : StoreKind → Option Element → Element → Content → Type 0
 IsHeldElement kind synced new (Good bytes) = IsWritable kind new bytes
 IsHeldElement kind synced new (Bad salvage) = synced ≡ Some new

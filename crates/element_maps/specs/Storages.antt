@@ -22,7 +22,8 @@ use Rattle.element_maps.specs.Sessions.{same_map, synchronised}
 
 -- ---- how it is configured
 
--- a storage of this kind is where the shape says, as it is configured: by its name, with its copies, and no larger
+-- the shape is that of a storage of this kind as it is configured: its name, `m` of `n` copies that must agree, on what
+-- they must, and its greatest size in bytes
 pub record IsConfigured (of : StoreKind) (config : StorageData) (shape : Shape) : Type 0 where
   pub of_kind : config.kind ≡ of
   pub kind : shape.kind ≡ of
@@ -55,8 +56,9 @@ pub record IsOpened (told : Bool) (image : Image) (shape : Shape) (test : List �
 
 -- ---- what a call leaves of the disk
 
--- However a call on a storage ends: no file outside the place changes, at the end and at any moment, and a stop at any
--- moment leaves the storage as before or as after. It is said of openings too, which may mend contents in place.
+-- However a call on a storage, on its way to the state `after`, ends: no file outside the place changes, at the end and
+-- at any moment, and a stop at any moment leaves the storage as before or as after. It is said of openings too, which
+-- may mend contents in place.
 pub record IsStoring (told : Bool) (shape : Shape) (after : State) (old new : Medium) : Type 0 where
   pub elsewhere : IsTrue told → Spares (IsOutside shape.place) old.image new.image
   pub outside : IsTrue told → Quiet old → EachCase (IsSettledOn (IsOutside shape.place)
@@ -74,7 +76,7 @@ pub record IsDurable (told : Bool) (shape : Shape) (synced next : Map) (index : 
   pub written : IsWithin shape.place.copies (map_cost shape.kind synced next) index old.written new.written
   pub passes : new.faults ≡ old.faults
 
--- an element that both maps have alike keeps its entry: the same blocks, length, hash, info and number of its last
+-- an element that both maps have alike keeps its entry: the same blocks, length, hash, info and generation of its last
 -- change
 abbrev pub KeepsEqual : (synced next : Map) → (old later : List IndexEntry) → Type 0
 KeepsEqual synced next old later = (name : List ℕ) → element_at synced name ≡ element_at next name

@@ -5,8 +5,10 @@ ghost use Rattle.element_maps.specs.Laws.{NothingLaw, ReadLaw, SameLaw, SizeLaw,
 ghost use Rattle.element_maps.specs.Laws.{UnchangedNamesLaw};
 ghost use Rattle.element_maps.specs.Laws.{CommittableLaw, UntestedLaw};
 
-/// Changes that make the map a storage holds into another may be committed; it then holds the other, and only what
-/// differs is written: nothing where both are equal, and no change names an element that both have alike.
+/// Changes that make the map a storage holds into another may be committed (`taken`). The storage is then the one that
+/// both maps say (`committed`) and holds the other (`held`), as a view within its limits (`read`) and with the other's
+/// size (`size`). Only what differs is written (`cost`, `exact_cost`): nothing where both are equal (`nothing`), and no
+/// change names an element that both have alike (`others`).
 pub fn changes_make_maps()
     ensures taken { CommittableLaw }
     ensures committed { CommittedLaw }
@@ -19,8 +21,8 @@ pub fn changes_make_maps()
     ensures others { UnchangedNamesLaw }
 {}
 
-/// With no test of contents the map of a view is the view's own (`untested`); with any it may be handed down to be
-/// committed (`synchronised`). Elements that the test of two elements finds the same are equal (`same`).
+/// With no test of contents the map of a view is the view's own (`untested`); with any it may be the next that the
+/// storage is to hold (`synchronised`). Elements that the test of two elements finds the same are equal (`same`).
 pub fn views_are_maps()
     ensures untested { UntestedLaw }
     ensures synchronised { SynchronisedLaw }

@@ -26,6 +26,7 @@ abbrev pub first_fit : List FitText → Option (Bool × FitText)
 first_fit [] = None
 first_fit (text ∷ texts) = Some (false, text)
 
+-- the text that qualifies, with true, or else the first of all, with false
 abbrev pub or_first : List FitText → Option FitText → Option (Bool × FitText)
 or_first texts None = first_fit texts
 or_first texts (Some text) = Some (true, text)
@@ -41,7 +42,8 @@ opened_of (Corrupt salvage others) = None
 
 -- ---- what holds of all that is read, whether or not the disk is modelled
 
--- an element that was read by an entry of an index
+-- an element that was read by an entry of an index, from so many copies: a content as long as the entry says, and the
+-- copies that lack it, counted from 1 and ascending
 pub record IsReadBy (copies : ℕ) (e : IndexEntry) (f : Entry) : Type 0 where
   pub name : f.name ≡ e.name
   pub info : f.info ≡ e.info

@@ -16,7 +16,7 @@ use Rattle.index_text.specs.Reading.{index_of}
 use Rattle.element_state.specs.declared.shapes.Shape.{Shape}
 use Rattle.element_state.specs.Fit.{fit_index}
 
--- where the content of an entry is
+-- where the content of an entry is: its blocks, with its length and hash
 abbrev pub where_of : IndexEntry → Where
 where_of e = record { blocks = e.blocks; len = e.len; hash = e.hash }
 
@@ -31,7 +31,7 @@ pub record IsNamed (place : Place) (image : Image) (at : Where) : Type 0 where
   pub spelled : index_of text ≡ Some index
   pub named : Contains (map where_of index.entries) at
 
--- what a copy gives there
+-- what a copy, counted from 0, gives there: its bytes, if they have the hash
 abbrev pub counting_at : Image → Place → ℕ → Where → Option (List ℕ)
 counting_at image place copy at = counting (image (area place copy)) at.blocks at.len at.hash
 
@@ -47,6 +47,7 @@ pub record IsBlockPiece (place : Place) (image : Image) (piece : BlockText) : Ty
   pub named : IsNamed place image piece.at
   pub counts : counting_at image place piece.copy piece.at ≡ Some piece.bytes
 
+-- a text in a slot, or a content in blocks
 pub data Piece : Type 0 where
   in_slot : SlotText → Piece
   in_blocks : BlockText → Piece
@@ -56,8 +57,8 @@ abbrev pub IsPiece : Place → Image → Piece → Type 0
 IsPiece place image (in_slot piece) = IsSlotPiece place image piece
 IsPiece place image (in_blocks piece) = IsBlockPiece place image piece
 
--- no two texts of one generation are held, each text that is held fits, and copies that count under one entry hold the
--- same bytes
+-- a clean place: no two texts of one generation are held, each text that is held fits, and copies that count under one
+-- entry hold the same bytes
 pub record IsClean (shape : Shape) (image : Image) : Type 0 where
   pub one_each : IsOneEach image shape.place
   pub fit : (copy generation : ℕ) (text : List ℕ) → copy < shape.place.copies

@@ -23,13 +23,14 @@ use Rattle.element_state.specs.Views.{entry_view}
 use Rattle.element_state.specs.States.{Opens, store_at, greatest_generation}
 use Rattle.element_state.specs.Changes.{entry_by_name, after_changes}
 
--- from one copy to all must agree, and at most 4 MiB are allowed
+-- a shape that a storage may have: of its copies at least one and at most all must agree, and names and contents may
+-- take at most 4 MiB
 pub record IsShape (shape : Shape) : Type 0 where
   pub some : 1 ≤ shape.m
   pub enough : shape.m ≤ shape.place.copies
   pub small : shape.allowed ≤ 4194304
 
--- names and contents, in bytes
+-- the size of a storage with these elements: names and contents, in bytes
 abbrev pub size_of : List Entry → ℕ
 size_of entries = sum_by (λ (e : Entry). length e.name + e.len) entries
 
@@ -45,7 +46,7 @@ IsChange kind entries (Put f) = SuitsKind kind f
 IsChange kind entries (Remove name) = ⊤
 IsChange kind entries (Touch name info) = (kind ≡ Files) × IsGoodEntry (entry_by_name name entries)
 
--- the changes of a commit: each name once, and what comes of them within the limits
+-- the changes of a commit: each name once, what comes of them within the limits, and a generation left for it
 pub record AreCommittable (shape : Shape) (v : View) (changes : List Change) : Type 0 where
   pub each : AllByRecursion (IsChange shape.kind v.entries) changes
   pub names_apart : IsDistinct bytes_eq (map changed_name changes)
@@ -55,14 +56,14 @@ pub record AreCommittable (shape : Shape) (v : View) (changes : List Change) : T
 
 -- ---- a storage in use
 
--- an element that is good lacks nothing
+-- an element, by its content and by the copies that lack it: none lacks one that is good
 abbrev pub IsMended : Content → List ℕ → Type 0
 IsMended (Good value) lacking = lacking ≡ []
 IsMended (Bad salvage) lacking = ⊤
 
 -- A storage in use on this image, with this index and this view: every copy holds the text of the index and no other
--- slot holds any; the storage opens at this view, with no other text; and only elements that cannot be read lack
--- copies.
+-- slot holds any; the storage opens at this view, with no other text; and copies lack only elements that cannot be
+-- read.
 pub record IsInUse (shape : Shape) (image : Image) (index : Index) (v : View) : Type 0 where
   pub alone : IsAlone image shape.place v.generation (index_text index)
   pub fit : fit_index shape (index_text index) ≡ Some index

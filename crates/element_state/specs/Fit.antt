@@ -8,10 +8,11 @@ use Rattle.disk_model.specs.Image.{Image}
 use Rattle.guarded_cell.specs.Held.{held}
 use Rattle.element_state.specs.declared.shapes.Shape.{Shape}
 
--- a text with the copies that hold it, and the index that it spells
+-- a text as it was seen, with its generation and the copies that hold it; and the index that it spells
 abbrev pub FitText : Type 0
 FitText = Seen × Index
 
+-- an index, where there is one that fits the shape
 abbrev pub if_fits : Shape → Option Index → Option Index
 if_fits shape None = None
 if_fits shape (Some index) = cond (fits shape.kind shape.allowed index) (Some index) None
@@ -20,6 +21,7 @@ if_fits shape (Some index) = cond (fits shape.kind shape.allowed index) (Some in
 unfoldable pub fit_index : Shape → List ℕ → Option Index
 fit_index shape text = if_fits shape (index_of text)
 
+-- a text with its index, where it has one
 abbrev pub with_index : Seen → Option Index → Option FitText
 with_index seen None = None
 with_index seen (Some index) = Some (seen, index)

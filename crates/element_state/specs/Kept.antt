@@ -22,11 +22,11 @@ use Rattle.element_state.specs.Chosen.{chosen}
 
 -- ---- views beside one another
 
--- all that is known of an element but its content: name, info, length and number of the last change
+-- all that is known of an element but its content: name, info, length and generation of the last change
 abbrev pub heading : Entry → List ℕ × Option FileInfo × ℕ × ℕ
 heading e = (e.name, e.info, e.len, e.changed)
 
--- the same name, info, length and number
+-- the entry and the element have the same name, info, length and generation of the last change
 abbrev pub IsHeaded : IndexEntry → Entry → Type 0
 IsHeaded e f = (e.name, e.info, e.len, e.changed) ≡ heading f
 
@@ -46,17 +46,19 @@ pub record IsFrom (left there : View) : Type 0 where
   pub same : SameHeadings left there
   pub contents : AllZip (λ e f. IsLeftOf e.content f.content) left.entries there.entries
 
+-- a view that may be left of one of these
 abbrev pub IsFromOneOf : View → List View → Type 0
 IsFromOneOf left [] = ⊥
 IsFromOneOf left (there ∷ views) = IsFrom left there ⊎ IsFromOneOf left views
 
 -- ---- copies that are left
 
--- the damage spares the copy, counted from 0, and it did not lack what the list speaks of
+-- the damage, to files of these numbers, spares the copy, counted from 0; and the copy is not among those, counted from
+-- 1, that lacked the thing
 abbrev pub IsSpared : Shape → (damaged lacking : List ℕ) → (copy : ℕ) → Type 0
 IsSpared shape damaged lacking copy = IsUndamaged damaged shape.place copy × ¬ (Contains lacking (copy + 1))
 
--- that many copies as must agree are spared and did not lack it
+-- as many copies as must agree are spared and did not lack it
 abbrev pub HasEnough : Shape → (damaged lacking : List ℕ) → Type 0
 HasEnough shape damaged lacking = AtLeast (IsSpared shape damaged lacking) shape.place.copies shape.m
 
@@ -75,6 +77,7 @@ CostsNoCopy shape damaged left there = AllZip (λ e f. (value : List ℕ) (copy 
 
 -- ---- what is left of a storage
 
+-- a view, where there is one
 abbrev pub views_in : Option View → List View
 views_in None = []
 views_in (Some v) = v ∷ []
@@ -140,7 +143,8 @@ SalvageStays shape damaged left (Corrupt None others) after = ⊤
 SalvageStays shape damaged left (Corrupt (Some v) others) after = HasOne shape damaged v.lacking
     → (w : View) × (salvage_of left ≡ Some w) × (IsLeftAs shape damaged w v ⊎ IsLeftAfter shape damaged w after)
 
--- What a stop and damage leave of a storage that was in one state and on its way to another.
+-- What a stop, and then damage to files of these numbers, leave of a storage that was in one state and on its way to
+-- another.
 pub record Kept (shape : Shape) (damaged : List ℕ) (left before after : State) : Type 0 where
   -- every text that fits, and not only the one that it opens at, denotes something known: later damage may bring it
   -- up

@@ -24,6 +24,7 @@ pub data State : Type 0 where
 
 -- ---- the state on an image
 
+-- an item that did not pass goes to the others, where one was found
 abbrev pub beside : {A : Type 0} → A → Option (A × List A) → Option (A × List A)
 beside x None = None
 beside x (Some found) = Some (found.0, x ∷ found.1)
@@ -33,10 +34,13 @@ abbrev pub first_picked : {A : Type 0} → (A → Bool) → List A → Option (A
 first_picked test [] = None
 first_picked test (x ∷ xs) = cond (test x) (Some (x, xs)) (beside x (first_picked test xs))
 
+-- corrupt, with the first of the views as salvage
 abbrev pub corrupt_state : List View → State
 corrupt_state [] = Corrupt None []
 corrupt_state (v ∷ views) = Corrupt (Some v) views
 
+-- the state by the view of each text, by the texts that fit, and by the first that qualifies with the others, where
+-- one does
 abbrev pub state_of : (FitText → View) → List FitText → Option (FitText × List FitText) → State
 state_of view texts None = corrupt_state (map view texts)
 state_of view texts (Some found) = Opens (view found.0) (map view found.1)
@@ -54,15 +58,17 @@ abbrev pub salvage_of : State → Option View
 salvage_of (Opens v others) = Some v
 salvage_of (Corrupt salvage others) = salvage
 
+-- the views of the other texts that fit
 abbrev pub others_of : State → List View
 others_of (Opens v others) = others
 others_of (Corrupt salvage others) = others
 
+-- a view, where there is one, with a test of contents
 abbrev pub judged_option : (List ℕ → Bool) → Option View → Option View
 judged_option test None = None
 judged_option test (Some v) = Some (judged_view test v)
 
--- with a test of contents
+-- a state as it is with a test of contents: what fails it cannot be read
 abbrev pub judged : (List ℕ → Bool) → State → State
 judged test (Opens v others) = Opens (judged_view test v) (map (judged_view test) others)
 judged test (Corrupt salvage others) = Corrupt (judged_option test salvage) (map (judged_view test) others)
@@ -83,19 +89,20 @@ whole_view shape generation entries = record {
   entries = entries;
 }
 
+-- an element by its content: no copy lacks one that is good any more, and a bad one stays as it is
 abbrev pub mended_by : Content → Entry → Entry
 mended_by (Good value) e = record e { lacking = [] }
 mended_by (Bad salvage) e = e
 
--- an element on which enough copies agree lacks nothing any more
+-- an element after an opening: where enough copies agree on it, no copy lacks it any more
 abbrev pub mended_entry : Entry → Entry
 mended_entry e = mended_by e.content e
 
--- the view after an opening
+-- the view after an opening that found this one: every copy holds its text and each good element
 unfoldable pub mended_view : Shape → View → View
 mended_view shape v = whole_view shape v.generation (map mended_entry v.entries)
 
--- an element that this generation wrote
+-- an element, of a name and what a session holds under it, that this generation wrote: no copy lacks it
 abbrev pub fresh_entry : (generation : ℕ) → List ℕ × Element → Entry
 fresh_entry generation e = record {
   name = e.0;
@@ -107,10 +114,11 @@ fresh_entry generation e = record {
   lacking = [];
 }
 
--- what is to be written, as a map
+-- a content to be written, as an element under its name
 abbrev pub fresh_element : Fresh → List ℕ × Element
 fresh_element f = (f.name, record { info = f.info; len = length f.bytes; content = Good f.bytes })
 
+-- contents to be written, as a map of elements by their names
 abbrev pub fresh_map : List Fresh → Map
 fresh_map contents = map fresh_element contents
 
@@ -124,14 +132,17 @@ fresh_view generation m = record {
       map (fresh_entry generation) m;
 }
 
+-- the state of a storage that opens at that view, and holds no other text that fits
 unfoldable pub fresh_state : (generation : ℕ) → Map → State
 fresh_state generation m = Opens (fresh_view generation m) []
 
--- the generation of a rebuilt storage: the next after that of the view that it opens at or has as salvage
+-- the generation of a rebuilt storage: the next after that of the view that it opens at or has as salvage,
+-- and 1 where it has none
 abbrev pub next_generation : Option View → ℕ
 next_generation None = 1
 next_generation (Some v) = v.generation + 1
 
+-- generations are numbers of 64 bits
 abbrev pub greatest_generation : ℕ
 greatest_generation = 2 ^ 64 - 1
 

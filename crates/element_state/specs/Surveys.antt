@@ -1,4 +1,4 @@
--- What a survey of a storage hands up.
+-- What a survey of a storage answers.
 use Rattle.std.specs.Prelude.{◌≡◌, ◌<◌, ◌+◌, ℕ, List, length, slice_index_or, Bool, true, false, not, Option, Some}
 use Rattle.std.specs.Prelude.{None, find}
 use Rattle.std.specs.Prelude.{Vec}
@@ -61,13 +61,14 @@ abbrev pub opened_if : Bool → View → Option View
 opened_if true v = Some v
 opened_if false v = None
 
+-- the view at which the storage opens by what was found
 abbrev pub opened_view : Option Found → Option View
 opened_view None = None
 opened_view (Some found) = opened_if found.opens found.view
 
 -- ---- one text, and one after the other
 
--- a text that qualifies is read, and one that does not is not handed up
+-- a text that qualifies is answered with its elements, and one that does not is not
 abbrev pub IsTried : Image → Shape → FitText → Option ReadEntries → Type 0
 IsTried image shape text None = qualifies image shape text ≡ false
 IsTried image shape text (Some read) = (qualifies image shape text ≡ true)

@@ -28,7 +28,7 @@ use Rattle.element_state.specs.Fit.{FitText, fit_texts, is_sole}
 abbrev pub holds_text : Image → Place → FitText → ℕ → Bool
 holds_text image place text copy = holds image place copy (text.0.generation, text.0.text)
 
--- the content of an entry counts in the copy
+-- the content of an entry counts in the copy: the bytes of its blocks there have its hash
 abbrev pub counts : Image → Place → IndexEntry → ℕ → Bool
 counts image place e copy = is_some (counting (image (area place copy)) e.blocks e.len e.hash)
 
@@ -37,7 +37,7 @@ abbrev pub holds_all : Image → Place → FitText → ℕ → Bool
 holds_all image place text copy = holds_text image place text copy
     && list_all (λ e. counts image place e copy) text.1.entries
 
--- the copies that support a text: those that hold it, with storage scope those that hold all of it
+-- the copies that support a text: with element scope those that hold it, with storage scope those that hold all of it
 abbrev pub supporters : Scope → Image → Place → FitText → List ℕ
 supporters scope.Element image place text = text.0.copies
 supporters scope.Storage image place text = copies_that (holds_all image place text) place.copies
@@ -48,15 +48,18 @@ qualifies image shape text = nat_le shape.m (length (supporters shape.scope imag
 
 -- ---- the view of a text
 
+-- a content: good with the value, where there is one, and else bad with the salvage, if any
 abbrev pub content_of : (value salvage : Option (List ℕ)) → Content
 content_of (Some value) salvage = Good value
 content_of None salvage = Bad salvage
 
--- what each copy gives of the content of an entry
+-- what each copy, in order, gives of the content of an entry: its bytes, where it counts there
 abbrev pub given : Image → Place → IndexEntry → List (Option (List ℕ))
 given image place e = contents place e.blocks e.len e.hash image
 
--- an element: the value on which m copies agree, or else the salvage, and the copies that lack it
+-- the element of an entry, by what an image has at a place: the value on which m copies agree, or else the salvage, and
+-- the copies that lack it: they do not give this value, or not from bytes all within their file; where there is no
+-- value, they give nothing
 unfoldable pub entry_view : Image → Place → ℕ → IndexEntry → Entry
 entry_view image place m e = record {
   name = e.name;
@@ -76,13 +79,16 @@ abbrev pub lacks_number : Scope → (lacks_text : Bool) → List Entry → (numb
 lacks_number scope.Element lacks_text entries number = lacks_text
 lacks_number scope.Storage lacks_text entries number = lacks_text || lacks_one entries number
 
+-- the copies, counted from 1, that lack a storage with these elements; `lacks_text` is asked of copies counted from 0
 abbrev pub store_lacking : Scope → (lacks_text : ℕ → Bool) → List Entry → (copies : ℕ) → List ℕ
 store_lacking scope lacks_text entries copies = copies_that
     (λ copy. lacks_number scope (lacks_text copy) entries (copy + 1)) copies
 
+-- the elements of a text, in the order of its index
 abbrev pub entries_seen : Image → Shape → FitText → List Entry
 entries_seen image shape text = map (entry_view image shape.place shape.m) text.1.entries
 
+-- the view of a text that fits: what the storage is where it opens at this text
 unfoldable pub view_of : Image → Shape → FitText → View
 view_of image shape text = record {
   generation = text.0.generation;
@@ -94,10 +100,11 @@ view_of image shape text = record {
 
 -- ---- a view as a map, and with a test of contents, as whether the bytes of a key encode a value
 
--- what a session holds of an element
+-- what a session holds of an element: its name, and under it info, length and content
 abbrev pub element_of : Entry → List ℕ × Element
 element_of e = (e.name, record { info = e.info; len = e.len; content = e.content })
 
+-- the elements of a view as a session holds them, in the order of the view
 abbrev pub map_of : View → Map
 map_of v = map element_of v.entries
 
@@ -107,8 +114,10 @@ judged_content test (Good value) = cond (test value) (Good value) (Bad None)
 judged_content test (Bad None) = Bad None
 judged_content test (Bad (Some salvage)) = cond (test salvage) (Bad (Some salvage)) (Bad None)
 
+-- an element with a test of contents
 abbrev pub judged_entry : (List ℕ → Bool) → Entry → Entry
 judged_entry test e = record e { content = judged_content test e.content }
 
+-- a view with a test of contents: each of its elements is judged by it
 abbrev pub judged_view : (List ℕ → Bool) → View → View
 judged_view test v = record v { entries = map (judged_entry test) v.entries }

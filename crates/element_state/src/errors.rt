@@ -11,7 +11,7 @@ use std::alloc::{AllocError, AllocFailed};
 pub enum StoreError {
     /// The disk failed, and its count of faults rose.
     Device,
-    /// No text qualifies.
+    /// No text qualifies: too few copies support each that fits.
     Corrupt,
     /// Memory ran out.
     OutOfMemory,

@@ -11,6 +11,13 @@
 //! after an opening, a commit, a creation and a rebuild, the reports, what a stop and damage may leave, and how many
 //! bytes a commit may write.
 //!
+//! Words of the contracts: a *place* is the files of the copies. Each copy has two slot files, one for texts of even
+//! generation and one for those of odd generation, and an area file, whose blocks of 256 bytes hold contents. A content
+//! *counts* in a copy where the bytes of its blocks there have its hash. `told` says that the bytes of a disk of this
+//! type are modelled, `D.medium` is all that is said of a disk at a moment: its `image` is the files as reads give
+//! them, `written` counts the bytes written, and `faults` the calls that failed. A disk is *quiet* where nothing is
+//! pending: a crash would leave what reads give.
+//!
 //! Limits: at most 1,024 elements, 8 copies, of which a manifest can ask for 7, and 4,194,304 bytes of names and
 //! contents.
 #![tactic(auto)]

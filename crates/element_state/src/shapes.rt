@@ -15,7 +15,7 @@ pub struct Shape {
     pub place: Place,
     /// Keys or files.
     pub kind: StoreKind,
-    /// That many copies must agree.
+    /// How many copies must agree.
     pub m: u32,
     /// On what they must agree.
     pub scope: Scope,
@@ -42,9 +42,10 @@ impl Shape {
 /// What the copies of a storage denote.
 #[derive(Debug, Drop)]
 pub struct View {
-    /// That of its index, at least 1.
+    /// The generation of its index, at least 1.
     pub generation: u64,
-    /// The copies that lack the storage, counted from 1 and ascending.
+    /// The copies that lack the storage, counted from 1 and ascending: those that do not hold its text, and with
+    /// storage scope also those that lack one of its elements.
     pub lacking: Numbers,
     /// Whether no second text is held that could be this storage's.
     pub sole: bool,

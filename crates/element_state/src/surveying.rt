@@ -52,7 +52,8 @@ pub fn survey<D: Disk>(
 ) -> Result<Option<Found>, StoreError>
     requires { IsShape shape.now }
 
-    // Which text it is.
+    // Which text it is, and whether the storage opens at it. Its view and its copies are what the bytes of the disk
+    // give: at this view the storage opens, or it is the salvage.
     ensures chosen { IsTrue D.told → IfOk result (λ found. option_map found_text found
         ≡ chosen (D.medium disk.old).image shape.now) }
     ensures viewed { IsTrue D.told → IfOk result (λ found.
@@ -62,21 +63,27 @@ pub fn survey<D: Disk>(
     ensures salvaged { IsTrue D.told → IfOk result (λ found. salvage_of (store_at (D.medium disk.old).image shape.now)
         ≡ option_map (λ f. f.view) found) }
 
+    // Which slots hold a text.
     ensures slots { IsTrue D.told → IfOk result (λ found. IfSome found (λ f.
         IsSlotsOf (D.medium disk.old).image shape.now.place f.slots)) }
 
-    // Whether the disk's bytes are modelled or not.
+    // Whether the disk's bytes are modelled or not: the text fits, the view has an element for each of its entries, and
+    // the states of the hasher are those of the contents in the view.
     ensures found { IfOk result (λ found. IfSome found (IsFoundView shape.now)) }
     ensures states { IfOk result (λ found. IfSome found HasStates) }
 
+    // On success nothing is pending afterwards. However it ends, no byte changes and none is written; on a disk that
+    // was quiet a crash meanwhile leaves what reads gave.
     ensures quiet { OnOk result (Quiet (D.medium disk.new)) }
     ensures image { (D.medium disk.new).image ≡ (D.medium disk.old).image }
     ensures idle { Quiet (D.medium disk.old) → IsIdle (D.medium disk.old) (D.medium disk.new) }
     ensures written { (D.medium disk.new).written ≡ (D.medium disk.old).written }
+    // The disk's count of faults rose where the answer is `Device`, and stayed with any other answer.
     ensures never_corrupt { ¬ (IsErrOf result StoreError.Corrupt) }
     ensures cause { IsErrOf result StoreError.Device → Rose (D.medium disk.old).faults (D.medium disk.new).faults }
     ensures passes { OnOk result ((D.medium disk.new).faults ≡ (D.medium disk.old).faults) }
     ensures fed { IsErrOf result StoreError.OutOfMemory → (D.medium disk.new).faults ≡ (D.medium disk.old).faults }
+    // The clock and the counts of the disk only go on.
     ensures time { Elapses (D.medium disk.old) (D.medium disk.new) }
 {
     let Looked { seens, slots } = look(alloc, disk, shape.place)?;
@@ -92,23 +99,29 @@ pub fn survey<D: Disk>(
 /// `Corrupt` exactly where no text qualifies, `Device` where the disk fails, and `OutOfMemory`.
 pub fn inspect<D: Disk>(alloc: Global, disk: &mut D, shape: &Shape) -> Result<View, StoreError>
     requires { IsShape shape.now }
+
+    // Where the disk's bytes are modelled: the view at which the storage opens, and `Corrupt` where it does not.
     ensures view { IsTrue D.told → IfOk result (λ view. opened_of (store_at (D.medium disk.old).image shape.now)
         ≡ Some view) }
     ensures corrupt { IsTrue D.told → IsErrOf result StoreError.Corrupt
         → opened_of (store_at (D.medium disk.old).image shape.now) ≡ None }
 
-    // Whether the disk's bytes are modelled or not.
+    // Whether the disk's bytes are modelled or not: names ascend, and lengths are right.
     ensures read { IfOk result (IsView shape.now) }
 
+    // On success, and where the answer is `Corrupt`, nothing is pending afterwards. However it ends, no byte changes
+    // and none is written; on a disk that was quiet a crash meanwhile leaves what reads gave.
     ensures quiet { OnOk result (Quiet (D.medium disk.new)) }
     ensures settled { IsErrOf result StoreError.Corrupt → Quiet (D.medium disk.new) }
     ensures image { (D.medium disk.new).image ≡ (D.medium disk.old).image }
     ensures idle { Quiet (D.medium disk.old) → IsIdle (D.medium disk.old) (D.medium disk.new) }
     ensures written { (D.medium disk.new).written ≡ (D.medium disk.old).written }
+    // The disk's count of faults rose where the answer is `Device`, and stayed with any other answer.
     ensures cause { IsErrOf result StoreError.Device → Rose (D.medium disk.old).faults (D.medium disk.new).faults }
     ensures passes { OnOk result ((D.medium disk.new).faults ≡ (D.medium disk.old).faults) }
     ensures fed { IsErrOf result StoreError.OutOfMemory → (D.medium disk.new).faults ≡ (D.medium disk.old).faults }
     ensures unfailed { IsErrOf result StoreError.Corrupt → (D.medium disk.new).faults ≡ (D.medium disk.old).faults }
+    // The clock and the counts of the disk only go on.
     ensures time { Elapses (D.medium disk.old) (D.medium disk.new) }
 {
     match survey(alloc, disk, shape)? {
@@ -138,17 +151,21 @@ pub fn salvage<D: Disk>(
     ensures view { IsTrue D.told → IfOk result (λ view. view
         ≡ salvage_of (store_at (D.medium disk.old).image shape.now)) }
 
-    // Whether the disk's bytes are modelled or not.
+    // Whether the disk's bytes are modelled or not: names ascend, and lengths are right.
     ensures read { IfOk result (λ view. IfSome view (IsView shape.now)) }
 
+    // On success nothing is pending afterwards. However it ends, no byte changes and none is written; on a disk that
+    // was quiet a crash meanwhile leaves what reads gave.
     ensures quiet { OnOk result (Quiet (D.medium disk.new)) }
     ensures image { (D.medium disk.new).image ≡ (D.medium disk.old).image }
     ensures idle { Quiet (D.medium disk.old) → IsIdle (D.medium disk.old) (D.medium disk.new) }
     ensures written { (D.medium disk.new).written ≡ (D.medium disk.old).written }
+    // The disk's count of faults rose where the answer is `Device`, and stayed with any other answer.
     ensures never_corrupt { ¬ (IsErrOf result StoreError.Corrupt) }
     ensures cause { IsErrOf result StoreError.Device → Rose (D.medium disk.old).faults (D.medium disk.new).faults }
     ensures passes { OnOk result ((D.medium disk.new).faults ≡ (D.medium disk.old).faults) }
     ensures fed { IsErrOf result StoreError.OutOfMemory → (D.medium disk.new).faults ≡ (D.medium disk.old).faults }
+    // The clock and the counts of the disk only go on.
     ensures time { Elapses (D.medium disk.old) (D.medium disk.new) }
 {
     match survey(alloc, disk, shape)? {

@@ -30,7 +30,8 @@ pub record AreBeside {X Y : Type 0} (xs : List X) (ys : List Y) (x : X) (y : Y) 
   pub one : slice_index_or xs at x ≡ x
   pub two : slice_index_or ys at y ≡ y
 
--- an element keeps its content where one of these entries has it; one that is good may come to lack nothing
+-- an element keeps its content where one of these entries has it; where it is good, it may be that no copy lacks it any
+-- more
 pub record IsCarriedFrom (standing : List IndexEntry) (views : List Entry) (e : IndexEntry) (f : Entry) : Type 0 where
   pub was : IndexEntry
   pub seen : Entry

@@ -22,12 +22,12 @@ use Rattle.element_store.specs.Stores.{view_in}
 abbrev pub index_in : Store → Index
 index_in store = store.index
 
--- how many bytes an element takes in the text of an index: 45 for its numbers and its hash, its info, its name, and 4
--- for each of its blocks
+-- how many bytes an element takes in the text of an index of format 2: 45 for the lengths of its name (1) and content
+-- (4), its last change (8) and its hash (32); its info, its name, and 4 for each of its blocks
 abbrev pub listed_length : StoreKind → Entry → ℕ
 listed_length kind f = 45 + info_length kind + length f.name + 4 * blocks_for f.len
 
--- how long the text of an index of these elements is, with the 4 bytes before them
+-- how long the text of an index of these elements is in format 2, with the 4 bytes before them
 abbrev pub index_length : StoreKind → List Entry → ℕ
 index_length kind entries = 4 + sum_by (listed_length kind) entries
 

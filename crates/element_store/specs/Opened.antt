@@ -44,8 +44,8 @@ pub record OpensBy (image : Image) (shape : Shape) (index : Index) : Type 0 wher
   pub seen : Seen
   pub first : find (qualifies image shape) (fit_texts shape image) ≡ Some (seen, index)
 
--- the storage is in use as it is: every copy holds its text and no slot another, and no element that is good lacks a
--- copy
+-- the storage is in use as it is: every copy holds its text and no slot another, and no copy lacks an element that is
+-- good
 pub record LacksNothing (shape : Shape) (image : Image) : Type 0 where
   pub index : Index
   pub view : View

@@ -31,11 +31,11 @@ entries_of store = store.entries.items
 abbrev pub store_generation : Store → ℕ
 store_generation store = generation_of store.cell
 
--- the view that a storage in use shows
+-- the view that a storage in use shows: its elements under the generation of its index, with its text in every copy
 abbrev pub view_in : Store → View
 view_in store = whole_view store.shape (generation_of store.cell) store.entries.items
 
--- a set of that many blocks has exactly those of these entries, so all others are free
+-- a set of that many blocks, with true for each that is taken, has exactly those of these entries: all others are free
 pub record AreTaken (blocks : ℕ) (entries : List IndexEntry) (set : List Bool) : Type 0 where
   pub capacity : length set ≡ blocks
   pub exact : (b : ℕ) → contains set b ≡ named_in (blocks_of entries) b
@@ -52,7 +52,8 @@ pub record IsStore (store : Store) : Type 0 where
   pub taken : AreTaken (area_blocks store.shape.allowed) store.index.entries store.used
   pub kept : All (AreOfElement store.entries.items) store.kept.items
 
--- the storage is in use on a disk: where the disk's bytes are modelled, these are its own
+-- the storage is in use on a disk with this image: what it keeps in memory is in order, and, where the disk's bytes are
+-- modelled, is what the copies hold
 pub record IsUsed (told : Bool) (image : Image) (store : Store) : Type 0 where
   pub memory : IsStore store
   pub disk : IsTrue told → IsInUse store.shape image store.index (view_in store)

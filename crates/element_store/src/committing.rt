@@ -77,18 +77,22 @@ impl Store {
     /// `OutOfMemory` hands the storage back before any call of the disk. `Device` closes it.
     #[tactic(none)]
     pub fn commit<D: Disk>(self, disk: &mut D, changes: Vec<Change>) -> Result<Store, Fault<Store>>
+        // The storage is in use on this disk; the changes name each element once, and lead to a view within the limits.
         requires used { IsUsed D.told (D.medium disk.old).image self }
         requires changes { AreCommittable (store_shape self) (view_in self) changes.items }
 
+        // It stays in use, in the same shape, and its view is the old one with the changes, under the next generation.
         ensures used { IfOk result (IsUsed D.told (D.medium disk.new).image) }
         ensures shape { IfOk result (λ store. store_shape store ≡ store_shape self) }
         ensures view { IfOk result (λ store. view_in store
             ≡ committed_by (store_shape self) (view_in self) changes.items) }
+        // Nothing is pending, and a clean place stays clean.
         ensures quiet { OnOk result (Quiet (D.medium disk.new)) }
         ensures clean { IsTrue D.told → IsClean (store_shape self) (D.medium disk.old).image
             → OnOk result (IsClean (store_shape self) (D.medium disk.new).image) }
 
-        // What no change names keeps its entry: the same blocks, length, hash, info and number of its last change.
+        // What no change names keeps its entry: the same blocks, length, hash, info and generation of its last change.
+        // The new index is of format 2, of whichever the old one was.
         ensures carried { IfOk result (λ store. KeepsOthers changes.items (index_in self).entries
             (index_in store).entries) }
         ensures format { IfOk result (λ store. (index_in store).format ≡ 2) }
@@ -114,20 +118,24 @@ impl Store {
         ensures written { IfOk result (λ store. IsWithin (store_shape self).place.copies
             (commit_cost (store_shape self).kind (entries_of self) changes.items) (length (index_text (index_in store)))
             (D.medium disk.old).written (D.medium disk.new).written) }
-        // Where the slots' starts are blank, only the runs of the index that differ from what stands there.
+        // Where the slots' starts are blank, of the index only the runs of 256 bytes that differ from what stands
+        // there, and in each copy the 44 bytes that blank the head of the old one.
         ensures differing { IsTrue D.told → IfOk result (λ store. (D.medium disk.new).written
             ≤ (D.medium disk.old).written + (store_shape self).place.copies
             * (commit_cost (store_shape self).kind (entries_of self) changes.items + 44)
             + texts_cost (store_shape self).place (own (store_generation self + 1))
             (sealed (store_generation self + 1) (index_text (index_in store))) (D.medium disk.old).image
             (store_shape self).place.copies) }
+        // The length of its text follows from the elements.
         ensures text { IfOk result (λ store. length (index_text (index_in store))
             ≡ index_length (store_shape self).kind (entries_of store)) }
+        // However it ends, no more than the contents and that text cost.
         ensures at_most { IsWithin (store_shape self).place.copies
             (commit_cost (store_shape self).kind (entries_of self) changes.items)
             (index_length (store_shape self).kind
             (committed_by (store_shape self) (view_in self) changes.items).entries)
             (D.medium disk.old).written (D.medium disk.new).written }
+        // The clock and the counts of the disk only go on.
         ensures time { Elapses (D.medium disk.old) (D.medium disk.new) }
     {
         use_is_adopted();

@@ -44,7 +44,8 @@ pub fn create<D: Disk>(
     requires shape { IsShape shape }
     requires contents { AreContents shape.kind shape.allowed contents.items }
 
-    // Just these contents stand there, under generation 1, with no other text; and the storage is in use.
+    // Just these contents stand there, under generation 1, with no other text; and the storage is in use, by an index
+    // of format 2.
     ensures opens { IsTrue D.told → OnOk result (store_at (D.medium disk.new).image shape
         ≡ fresh_state 1 (fresh_map contents.items)) }
     ensures used { IfOk result (IsUsed D.told (D.medium disk.new).image) }

@@ -1,7 +1,7 @@
 //! The elements of one storage: keys or files with their contents, in the copies of a place.
 //!
 //! A [`Store`] is a storage in use: every copy holds its index and no other text, its entries are what the copies hold,
-//! only elements that cannot be read lack copies, and the storage opens at just this view.
+//! copies lack only elements that cannot be read, and the storage opens at just this view.
 //!
 //! [`create`] creates one, under generation 1. [`open_store`] opens one: it brings every copy to the text at which
 //! the storage opens, writes each element again in the copies that lack it, and reports what was lacking or could not
@@ -25,13 +25,17 @@
 //! files, in blocks of 256 bytes. A text *fits* that spells an index within the limits, and *qualifies* where enough
 //! copies support it; a storage opens at the first that does, and the *salvage* of a corrupt one is the view of the
 //! first text that fits. A *shape* is a storage as it is configured, its *place* the files of its copies. `told` says
-//! that the bytes of a disk of this type are modelled. A disk is *quiet* where nothing is pending, and a place *clean*
-//! where nothing on it contradicts anything. A storage is *kept* where a stop, and damage after it, leaves it as before
-//! or as after, with each element of which enough copies are left, if no torn piece passes its hash by chance and,
-//! where an opening mends, no two contents have one hash. Clauses named alike say the same of each call: `cause`, that
-//! the disk's count of faults rose; `passes` and `fed`, that it stayed, on success and where memory ran out;
-//! `elsewhere` and `outside`, that no file outside the place changed, at the end and at any moment; `time`, that the
-//! disk's clock and counts only go on.
+//! that the bytes of a disk of this type are modelled; `D.medium` is all that is said of a disk at a moment, with the
+//! files as reads give them (`image`), the count of bytes written (`written`) and that of failed calls (`faults`). A
+//! disk is *quiet* where nothing is pending, and a place *clean* where no two texts on it have one generation, each of
+//! them fits, and the copies in which a content has its hash have the same bytes of it. A *case* is one way that a
+//! crash may go, a *piece* a text in a slot or a content in blocks, each with its hash. The *head* of a text is the 44
+//! bytes before it in a slot: its hash, generation and length. A storage is *kept* where a stop, and damage after it,
+//! leaves it as before or as after, with each element of which enough copies are left, if no torn piece passes its hash
+//! by chance and, where an opening mends, no two contents have one hash. Clauses named alike say the same of each call:
+//! `cause`, that the disk's count of faults rose; `passes` and `fed`, that it stayed, on success and where memory ran
+//! out; `elsewhere` and `outside`, that no file outside the place changed, at the end and at any moment; `time`, that
+//! the disk's clock and counts only go on.
 //!
 //! Limits: at most 1,024 elements, 8 copies (a manifest allows 7), and 4,194,304 bytes of names and contents; one
 //! caller at a time. A creation gives up what its place held before it writes anything else, and a stop in it may

@@ -37,7 +37,7 @@ pub(crate) fn mend_durably<D: Disk>(
         (D.medium disk.new).image) }
     ensures quiet { OnOk result (Quiet (D.medium disk.new)) }
 
-    // Where no good element lacks a copy, nothing is written.
+    // Where no copy lacks a good element, nothing is written.
     ensures idle { IsTrue D.told → AllByRecursion (λ e. IsMended e.content e.lacking) views.now
         → IsAsBefore (D.medium disk.old) (D.medium disk.new) }
 
@@ -114,7 +114,7 @@ pub(crate) fn mended_entries(alloc: Global, views: &[Entry]) -> Result<Vec<Entry
     Ok(mended)
 }
 
-// A good element lacks nothing any more.
+// No copy lacks a good element any more.
 fn mended_entry(alloc: Global, view: &Entry) -> Result<Entry, AllocError>
     ensures { IfOk result (λ mended. mended ≡ mended_entry view.now) }
 {

@@ -59,8 +59,8 @@ pub fn open_store<D: Disk>(
 ) -> Result<OpenedStore, StoreError>
     requires { IsShape shape }
 
-    // `before` is the view at which the storage opens, and the storage then shows it mended: no readable element lacks
-    // a copy. Both are views within the limits, on any disk.
+    // `before` is the view at which the storage opens, and the storage then shows it mended: no copy lacks a readable
+    // element. Both are views within the limits, on any disk.
     ensures before { IsTrue D.told → IfOk result (λ o. opened_of (store_at (D.medium disk.old).image shape)
         ≡ Some o.before) }
     ensures view { IfOk result (λ o. view_in o.store ≡ mended_view shape o.before) }
@@ -71,7 +71,7 @@ pub fn open_store<D: Disk>(
 
     // Its index is that of the first text that qualifies, at which the storage opens.
     ensures adopted { IsTrue D.told → IfOk result (λ o. OpensBy (D.medium disk.old).image shape (index_in o.store)) }
-    // What is reported is what `before` lacks or cannot read; any bytes pass as a content, so none is decoded.
+    // What is reported is what copies lack of `before`, or what of it cannot be read; any bytes pass as a content.
     ensures reports { IfOk result (λ o. o.reports.items ≡ reports (λ bytes. true) shape o.before) }
     // A clean place stays clean, and nothing is pending.
     ensures clean { IsTrue D.told → IsClean shape (D.medium disk.old).image

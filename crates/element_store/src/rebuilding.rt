@@ -43,7 +43,8 @@ pub fn rebuild<D: Disk>(
     // The generation of what the place holds, if it holds anything, is not the greatest.
     requires not_worn { IsTrue D.told → HasNext (salvage_of (store_at (D.medium disk.old).image shape.now)) }
 
-    // Just these contents stand there, under the next generation, with no other text; and the storage could be used.
+    // Just these contents stand there, under the next generation, with no other text; and the storage could be used, by
+    // an index of format 2.
     ensures opens { IsTrue D.told → OnOk result (store_at (D.medium disk.new).image shape.now
         ≡ fresh_state (next_generation (salvage_of (store_at (D.medium disk.old).image shape.now)))
         (fresh_map contents.items)) }

@@ -79,7 +79,7 @@ impl Store {
         self.entries.as_slice()
     }
 
-    /// The element of this name. Does not allocate.
+    /// The element of this name, where there is one. Does not allocate.
     pub fn entry(&self, name: &Name) -> Option<&Entry>
         requires { IsStore self.now }
         ensures { option_copied result ≡ entry_by_name name.now (entries_of self.now) }
@@ -99,7 +99,7 @@ impl Store {
         storage_size(&self.entries)
     }
 
-    /// The generation of the index. Does not allocate.
+    /// The generation of the index, which each commit raises by one. Does not allocate.
     pub fn generation(&self) -> u64
         ensures { result ≡ store_generation self.now }
     {

@@ -31,26 +31,35 @@ Gives view (Err e) read = FailsToRead e read
 
 -- ---- the fields of an entry
 
+-- A reader takes bytes, and gives what stands at their start with the bytes after it; or None where no such thing
+-- stands there.
+
+-- one byte of length, and a name of that many bytes
 unfoldable pub name_at : List ℕ → Option (List ℕ × List ℕ)
 name_at bytes = do
   len ← byte_at bytes
   name ← bytes_at len.0 len.1
   only_if (is_name name.0) name
 
+-- the kind of storage for which a byte stands
 abbrev pub coded_kind : ℕ → Option StoreKind
 coded_kind code = if code == 1 then Some Keys else (if code == 2 then Some Files else None)
 
+-- the cause for which a byte stands, of the creation or last change of a file
 abbrev pub coded_cause : ℕ → Option Cause
 coded_cause code = if code == 1 then Some Installation else
     (if code == 2 then Some Update else (if code == 3 then Some Reset else
     (if code == 4 then Some Recovery else (if code == 5 then Some Application else None))))
 
+-- a cause, in one byte
 unfoldable pub cause_at : List ℕ → Option (Cause × List ℕ)
 cause_at bytes = do
   code ← byte_at bytes
   cause ← coded_cause code.0
   Some (cause, code.1)
 
+-- when a file was created, last modified and last accessed, in eight bytes each; then what caused its creation and
+-- its last modification, in one byte each
 unfoldable pub file_info_at : List ℕ → Option (FileInfo × List ℕ)
 file_info_at bytes = do
   created ← number_at w64 bytes
@@ -70,20 +79,25 @@ file_info_at bytes = do
     modification.1,
   )
 
+-- the info of a file; a key has none, and no bytes for it
 unfoldable pub info_at : StoreKind → List ℕ → Option (Option FileInfo × List ℕ)
 info_at Keys bytes = Some (None, bytes)
 info_at Files bytes = do
   info ← file_info_at bytes
   Some (Some info.0, info.1)
 
+-- the generation of an element's last change, in eight bytes; format 1 has none, which is read as 0
 unfoldable pub changed_at : ℕ → List ℕ → Option (ℕ × List ℕ)
 changed_at format bytes = if format == 2 then number_at w64 bytes else Some (0, bytes)
 
+-- the length of a content in bytes, in four bytes: no more than the kind allows
 unfoldable pub len_at : StoreKind → List ℕ → Option (ℕ × List ℕ)
 len_at kind bytes = do
   len ← number_at w32 bytes
   only_if (nat_le len.0 (max_len kind)) len
 
+-- an entry, in an index of this format and kind: name, info, last change, length, SHA-256 of 32 bytes, and the numbers
+-- of its blocks in four bytes each
 unfoldable pub entry_at : ℕ → StoreKind → List ℕ → Option (IndexEntry × List ℕ)
 entry_at format kind bytes = do
   name ← name_at bytes
@@ -99,6 +113,8 @@ entry_at format kind bytes = do
 
 -- ---- the whole text
 
+-- what stands before the entries: format and kind in one byte each, and in two bytes how many entries follow, at most
+-- 1024
 unfoldable pub header_at : List ℕ → Option (Header × List ℕ)
 header_at bytes = do
   format ← byte_at bytes
@@ -116,7 +132,7 @@ ascends [] = true
 ascends (a ∷ []) = true
 ascends (a ∷ b ∷ names) = is_lt (name_cmp a b) && ascends (b ∷ names)
 
--- as many different numbers as numbers
+-- no number occurs twice: there are as many different numbers as numbers
 abbrev pub are_distinct : List ℕ → Bool
 are_distinct xs = distinct_count nat_eq xs == length xs
 

@@ -20,6 +20,7 @@ pub(crate) const HASH_BYTES: usize = 32;
 /// One element of a storage.
 #[derive(Debug, Drop)]
 pub struct IndexEntry {
+    /// By which it is found: no two entries of an index have one name.
     pub name: Name,
     /// What is known of a file; none for a key.
     pub info: Option<FileInfo>,
@@ -29,7 +30,7 @@ pub struct IndexEntry {
     pub len: u32,
     /// The SHA-256 of the content.
     pub hash: [u8; 32],
-    /// The blocks of the area that hold the content, in order.
+    /// The blocks of the area that hold the content, in its order: block k has the 256 bytes from 256 * k on.
     pub blocks: Numbers,
 }
 
@@ -38,6 +39,7 @@ pub struct IndexEntry {
 pub struct Index {
     /// 1 or 2.
     pub format: u8,
+    /// Keys or files: of which all elements are.
     pub kind: StoreKind,
     pub entries: Sequence<IndexEntry>,
 }

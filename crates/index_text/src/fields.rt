@@ -1,4 +1,5 @@
-//! The fields of an entry, each read from the start of what is left of a text.
+//! The fields of an entry, each read from the start of what is left of a text. The answer is the field and the bytes
+//! after it, or `NotAnIndex` where no such field stands there.
 
 ghost use Rattle.std.specs.Prelude.{◌≡◌};
 ghost use Rattle.std.specs.Int.{w32};
@@ -17,6 +18,7 @@ use per_base::{
 use std::alloc::Global;
 use std::str;
 
+/// A name, after one byte of length.
 #[tactic(auto, unfolding(crate::specs::Reading::name_at))]
 pub fn name_of(alloc: Global, bytes: &[u8]) -> Result<(Name, &[u8]), IndexError>
     ensures { Gives (λ x. (x.0, x.1.now)) result (name_at bytes.now) }
@@ -40,6 +42,7 @@ fn name_from(alloc: Global, bytes: &[u8]) -> Result<Name, IndexError>
     }
 }
 
+/// The kind of storage for which this byte stands.
 pub fn kind_from(code: u8) -> Result<StoreKind, IndexError>
     ensures { Gives (λ kind. kind) result (coded_kind code) }
 {
@@ -126,6 +129,7 @@ fn max_len_of(kind: StoreKind) -> u32
     }
 }
 
+/// The length of a content in bytes, no more than the kind allows.
 #[tactic(auto, unfolding(crate::specs::Reading::len_at))]
 pub fn len_of(kind: StoreKind, bytes: &[u8]) -> Result<(u32, &[u8]), IndexError>
     ensures { Gives (λ x. (x.0, x.1.now)) result (len_at kind bytes.now) }
@@ -137,6 +141,7 @@ pub fn len_of(kind: StoreKind, bytes: &[u8]) -> Result<(u32, &[u8]), IndexError>
     Ok((len, rest))
 }
 
+/// A hash, of 32 bytes.
 pub fn hash_of(bytes: &[u8]) -> Result<([u8; 32], &[u8]), IndexError>
     ensures { Gives (λ x. (x.0, x.1.now)) result (bytes_at 32 bytes.now) }
 {
@@ -146,7 +151,7 @@ pub fn hash_of(bytes: &[u8]) -> Result<([u8; 32], &[u8]), IndexError>
     Ok((hash, rest))
 }
 
-/// The block numbers of a content of `len` bytes.
+/// The block numbers of a content of `len` bytes, in four bytes each.
 pub fn blocks_of(alloc: Global, len: u32, bytes: &[u8]) -> Result<(Numbers, &[u8]), IndexError>
     ensures { Gives (λ x. (x.0, x.1.now)) result (many (number_at w32) (blocks_for len) bytes.now) }
 {

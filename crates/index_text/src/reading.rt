@@ -20,7 +20,7 @@ use std::alloc::Global;
 ///
 /// `NotAnIndex` exactly where the bytes are the text of no index; `OutOfMemory`.
 pub fn read_index(alloc: Global, bytes: &[u8]) -> Result<Index, IndexError>
-    // What is read keeps the rules, and is spelled so.
+    // What is read keeps the rules, with numbers within their types, and these bytes are its text.
     ensures rules { IfOk result (λ index. IsIndex index × EntriesInRange index) }
     ensures spelled { IfOk result (λ index. bytes.now ≡ index_text index) }
 
@@ -28,7 +28,7 @@ pub fn read_index(alloc: Global, bytes: &[u8]) -> Result<Index, IndexError>
     ensures refused { IsErrOf result IndexError.NotAnIndex
         → (index : Index) → IsIndex index → EntriesInRange index → bytes.now ≢ index_text index }
 
-    // Which index it is, as a function of the bytes.
+    // Which index it is, as a function of the bytes, unless memory ran out.
     ensures read { Gives (λ index. index) result (index_of bytes.now) }
 {
     read_whole(alloc, bytes)

@@ -17,8 +17,12 @@ use std::alloc::{AllocError, Global};
 const ENTRY_ROOM: usize = 80;
 
 /// The one text of an index that keeps the rules: format 1 or 2, at most 1,024 entries with ascending names, contents
-/// within the limit of their kind, an info exactly for files, numbers of the last change in format 2 alone, and no
+/// within the limit of their kind, an info exactly for files, generations of last changes in format 2 alone, and no
 /// block twice.
+///
+/// # Errors
+///
+/// Memory ran out.
 pub fn write_index(alloc: Global, index: &Index) -> Result<Vec<u8>, AllocError>
     requires { IsIndex index.now }
     ensures text { IfOk result (λ text. text.items ≡ index_text index.now) }
@@ -38,7 +42,7 @@ pub fn write_index(alloc: Global, index: &Index) -> Result<Vec<u8>, AllocError>
     Ok(text)
 }
 
-/// The byte of a kind of storage.
+/// The byte that stands for a kind of storage in a text: 1 for keys, 2 for files.
 pub fn kind_byte(kind: StoreKind) -> u8
     ensures { result ≡ store_kind_code kind }
 {
@@ -74,7 +78,7 @@ fn put_entry(text: &mut Vec<u8>, format: u8, entry: &IndexEntry) -> Result<(), A
     Ok(())
 }
 
-/// Appends a name under its length.
+/// Appends a name of at most 255 bytes, after one byte with its length.
 ///
 /// # Errors
 ///
@@ -95,6 +99,7 @@ pub fn put_name(text: &mut Vec<u8>, name: &str) -> Result<(), AllocError>
 /// Memory ran out; what was appended before stays.
 pub fn put_info(text: &mut Vec<u8>, info: &Option<FileInfo>) -> Result<(), AllocError>
     ensures text { OnOk result (text.new.items ≡ text.old.items ++ info_text info.now) }
+    // Its moments are numbers of 64 bits.
     ensures in_range { OnOk result (InfoIsInRange info.now) }
 {
     match info {
