@@ -40,8 +40,10 @@ pub fn nothing_known<'a>() -> HashedParts<'a>
     }
 }
 
-/// The hash of bytes, taken from the last state on that is one of theirs too.
+/// The SHA-256 of the bytes, taken from the last state of a known content on that is one of theirs too, that is, up to
+/// which both begin with the same bytes. Where memory is short, fewer states are kept.
 pub fn hash_beside(alloc: Global, bytes: &[u8], known: HashedParts<'_>) -> Hashed
+    // The known states are those of the known bytes.
     requires { AreStatesOf known.bytes.now known.states.now }
     ensures hash { result.hash ≡ sha256 bytes.now }
     ensures states { AreStatesOf bytes.now result.states.items }

@@ -55,6 +55,7 @@ impl<S: System> Model for Opened<S> {
 }
 
 impl<S: System> Opened<S> {
+    /// The system, with no file open yet.
     pub(crate) fn new(alloc: Global, system: S) -> Opened<S>
         ensures { result ≡ system }
     {
@@ -71,6 +72,7 @@ impl<S: System> Opened<S> {
         }
     }
 
+    /// The system alone.
     pub(crate) fn into_system(self) -> S
         ensures { result ≡ self }
     {
@@ -217,6 +219,7 @@ impl<S: System> Opened<S> {
         let _ = self.uses.insert(file, self.questions);
     }
 
+    /// The numbers of the files that the folder has.
     pub(crate) fn list(&mut self, alloc: Global) -> io::Result<Vec<u32>>
         ensures others { IsTrue S.told → IfOk result (λ files. (f : ℕ) → ¬ (Contains files.items f)
             → IsAbsent (S.medium self.new) f) }
@@ -227,6 +230,7 @@ impl<S: System> Opened<S> {
         Ok(files)
     }
 
+    /// Reads some bytes of an open file from `at` on, as the system does.
     pub(crate) fn read(&mut self, file: u32, at: u64, out: &mut [u8]) -> io::Result<Reading>
         ensures count { IfOk result (λ reading. read_count reading ≤ length out.old) }
         ensures gives { IsTrue S.told → IsWhole (S.medium self.old) file → IfOk result (λ reading.
@@ -239,6 +243,7 @@ impl<S: System> Opened<S> {
         }
     }
 
+    /// How many bytes an open file has.
     pub(crate) fn length(&mut self, file: u32) -> io::Result<u64>
         ensures length { IsTrue S.told → IfOk result (λ n. n ≡ length ((S.medium self.old).disk.image file)) }
         ensures looks { Looks (S.medium self.old) (S.medium self.new) }
@@ -249,6 +254,7 @@ impl<S: System> Opened<S> {
         }
     }
 
+    /// Writes the bytes into an open file from `at` on, or some of the first of them, as the system does.
     pub(crate) fn write(&mut self, file: u32, at: u64, bytes: &[u8]) -> io::Result<usize>
         ensures count { IfOk result (λ n. n ≤ length bytes.now) }
         ensures image { IsTrue S.told → IfOk result (λ n. (S.medium self.new).disk.image
@@ -275,6 +281,7 @@ impl<S: System> Opened<S> {
         }
     }
 
+    /// Syncs an open file, as the system does.
     pub(crate) fn sync_file(&mut self, file: u32) -> io::Result<()>
         ensures safe { IsTrue S.told → OnOk result (IsWhole (S.medium self.old) file
             → (S.medium self.old).named file → IsSafe (S.medium self.new).disk file) }
@@ -299,6 +306,7 @@ impl<S: System> Opened<S> {
         }
     }
 
+    /// Makes the names of all files durable, as the system does.
     pub(crate) fn sync_folder(&mut self) -> io::Result<()>
         ensures names { OnOk result ((f : ℕ) → (S.medium self.new).named f) }
         ensures looks { OnOk result (Looks (S.medium self.old) (S.medium self.new)) }
@@ -310,6 +318,7 @@ impl<S: System> Opened<S> {
         self.system.sync_folder()
     }
 
+    /// Notes that the writes to come serve this one, as the system does.
     pub(crate) fn announce(&mut self, file: u32, at: u64, bytes: &[u8]) -> io::Result<()>
         ensures image { (S.medium self.new).disk.image ≡ (S.medium self.old).disk.image }
         ensures now { OnOk result (Follows (AnnounceCase file at bytes.now) (S.medium self.old).disk.now
@@ -325,6 +334,7 @@ impl<S: System> Opened<S> {
         self.system.announce(file, at, bytes)
     }
 
+    /// Notes that all that was announced is durable, as the system does.
     pub(crate) fn settle(&mut self) -> io::Result<()>
         requires { IsTrue S.told → (f : ℕ) → IsSafe (S.medium self.old).disk f }
         ensures quiet { OnOk result (Quiet (S.medium self.new).disk) }

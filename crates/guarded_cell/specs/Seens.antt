@@ -6,7 +6,7 @@ use Rattle.disk_model.specs.declared.place.Place.{Place}
 use Rattle.guarded_cell.specs.declared.looking.Seen.{Seen}
 use Rattle.guarded_cell.specs.Held.{Text, is_seen, holds, copies_that}
 
--- a text that was seen can be sealed again
+-- a text that was seen can be sealed again: its generation is positive, and it is not too long
 pub record IsSealable (seen : Seen) : Type 0 where
   pub positive : 1 ≤ seen.generation
   pub short : length seen.text ≤ max_body
@@ -23,7 +23,7 @@ pub record IsPlaceOf (t : Text) (seens : List Seen) (at : ℕ) : Type 0 where
   pub here : at < length seens → (d : Seen) → (is_seen t (slice_index_or seens at d) ≡ true)
       ⊎ ((slice_index_or seens at d).generation < t.0)
 
--- just these copies hold it
+-- just the copies that are listed with it hold the text that was seen
 abbrev pub IsSeenOn : Image → Place → Seen → Type 0
 IsSeenOn image place seen = seen.copies
     ≡ copies_that (λ copy. holds image place copy (seen.generation, seen.text)) place.copies

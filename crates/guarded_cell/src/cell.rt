@@ -40,7 +40,7 @@ impl Cell {
         self.generation
     }
 
-    /// A buffer in which [`Cell::write_in`] writes a text of `len` bytes later.
+    /// A buffer in which [`Cell::write_in`] seals a text of `len` bytes later: as long as a header and the text.
     pub fn room(alloc: Global, len: usize) -> Result<Vec<u8>, AllocError>
         requires { len ≤ max_body }
         ensures { IfOk result (λ room. length room.items ≡ header + len) }
@@ -61,6 +61,8 @@ impl Cell {
         disk: &mut D,
         text: &[u8],
     ) -> Result<Cell, Fault<Cell>>
+        // A next generation is left in a u64, and every copy holds some text t alone, as the last call on the cell left
+        // it.
         requires short { length text.now ≤ max_body }
         requires generation { generation_of self + 1 < 2 ^ 64 }
         requires held { IsTrue D.told → (t : List ℕ) × CellAt (D.medium disk.old).image self t }
@@ -99,6 +101,8 @@ impl Cell {
         text: &[u8],
         room: &mut [u8],
     ) -> Result<Cell, DiskFailed>
+        // A next generation is left in a u64, and every copy holds some text t alone, as the last call on the cell left
+        // it.
         requires short { length text.now ≤ max_body }
         requires room { length room.old ≡ header + length text.now }
         requires generation { generation_of self + 1 < 2 ^ 64 }

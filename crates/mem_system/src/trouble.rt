@@ -4,6 +4,7 @@
 /// settling do not count.
 #[derive(Clone, Copy, Debug, PartialEq, Eq)]
 pub enum Trouble {
+    /// No call fails.
     Nothing,
     /// The call of this number fails. Where it syncs a file, what was to be written is dropped.
     Call(u64),
