@@ -15,8 +15,8 @@ pub record Where : Type 0 where
   pub hash : List ℕ
 
 -- a content in one area file, from a start at which nothing was pending, in one case of a crash (base, full, left):
--- where the file had all of its bytes, the crash leaves it as it was, and no bytes with its hash appear that were not
--- there
+-- where the file had all of its bytes, the crash leaves it as it was; and neither base nor full has bytes with its hash
+-- that the start had not
 pub record StandsAside (at : Where) (start base full left : List ℕ) : Type 0 where
   pub whole : has_all_bytes start at.blocks at.len ≡ true
       → (counting left at.blocks at.len at.hash ≡ counting start at.blocks at.len at.hash)

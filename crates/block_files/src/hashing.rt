@@ -40,8 +40,8 @@ pub fn nothing_known<'a>() -> HashedParts<'a>
     }
 }
 
-/// The SHA-256 of the bytes, taken from the last state of a known content on that is one of theirs too, that is, up to
-/// which both begin with the same bytes. Where memory is short, fewer states are kept.
+/// The SHA-256 of the bytes, and states of the hasher on the way. The hasher goes on from the last state of the known
+/// content up to which both begin with the same bytes. Where memory is short, fewer states are kept.
 pub fn hash_beside(alloc: Global, bytes: &[u8], known: HashedParts<'_>) -> Hashed
     // The known states are those of the known bytes.
     requires { AreStatesOf known.bytes.now known.states.now }

@@ -64,8 +64,8 @@ pub fn write_shared<D: Disk>(
     requires shared { IsTrue D.told → (c : ℕ) → c < place.copies
         → HoldsShared ((D.medium disk.old).image (area place c)) blocks.now bytes.now was.now }
 
-    // Every copy has the bytes, and only blocks of areas of the place whose parts differ were written, whole or in
-    // part.
+    // Every copy has the bytes; files that are no areas of the place, and blocks but those whose parts differ, read as
+    // before. So they do where the disk failed, but for what is past an old end.
     ensures whole { IsTrue D.told → OnOk result
         (AllFull place blocks.now bytes.now (D.medium disk.new).image) }
     ensures done { OnOk result (Wrote D.told (IsNoArea place)

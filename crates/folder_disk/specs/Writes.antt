@@ -1,5 +1,5 @@
 -- What a stretch of writes of the system does that serve one write of the disk: these bytes into the file, from the
--- place `at` on. `told`: the bytes of the system are modelled.
+-- byte `at` on. `told`: the bytes of the system are modelled.
 use Rattle.std.specs.Prelude.{◌≡◌, ◌⊎◌, ◌↔◌, ℕ, Bool, IsTrue, List, length, take}
 use Rattle.disk_model.specs.Image.{put_image, TornImage}
 use Rattle.disk_model.specs.Case.{Case, Follows, WriteOrNot}

@@ -100,7 +100,7 @@ impl<S: System> Folder<S> {
         }
     }
 
-    /// Reads from the place `at` on as many bytes as there are and as there is room for, and says how many.
+    /// Reads from the byte `at` on as many bytes as there are and as there is room for, and says how many.
     pub(crate) fn read(&mut self, file: u32, at: u64, out: &mut [u8]) -> Result<usize, DiskFailed>
         requires { Knows S.told (S.medium self.old.system) self.old.ranges.items self.old.is_fresh
             self.old.is_grown self.old.is_lost }
@@ -279,7 +279,7 @@ impl<S: System> Folder<S> {
         Ok(progress)
     }
 
-    /// Writes all the bytes from the place `at` on, into a file that it makes where it is not there.
+    /// Writes all the bytes from the byte `at` on, into a file that it makes where it is not there.
     pub(crate) fn write_at(&mut self, file: u32, at: u64, bytes: &[u8]) -> Result<(), DiskFailed>
         requires { Knows S.told (S.medium self.old.system) self.old.ranges.items self.old.is_fresh
             self.old.is_grown self.old.is_lost }

@@ -18,6 +18,6 @@ abbrev pub OpenStopsAt : Place → Option Seen → Image → Case → Type 0
 OpenStopsAt place None start c = IsSettledAt start c
 OpenStopsAt place (Some seen) start c = PutStops place seen.generation seen.text start c
 
--- a stop at any moment of an opening: what it leaves of the start, on which at least m copies must hold a text
+-- a stop at any moment of an opening, on a start on which a text stands where at least m copies hold it
 abbrev pub OpenStops : Place → (m : ℕ) → Image → Case → Type 0
 OpenStops place m start c = OpenStopsAt place (standing start place m) start c

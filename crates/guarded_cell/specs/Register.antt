@@ -1,5 +1,6 @@
 -- A register: a text with a generation, in the slots of several copies. Copies are counted from 0. Each copy has two
--- slots, one file each: that of parity 0 is for even generations, that of parity 1 for odd ones.
+-- slots, one file each: that of parity 0 is for even generations, that of parity 1 for odd ones. A slot verifies as a
+-- text where its start is this text, with its generation, under its own hash.
 use Rattle.std.specs.Prelude.{◌≡◌, ℕ, ◌-◌, ◌%◌, ◌<◌, ◌≤◌, List}
 use Rattle.hash_guard.specs.SealedText.{VerifiesAs}
 use Rattle.disk_model.specs.Image.{Image}
@@ -15,12 +16,11 @@ own generation = generation % 2
 abbrev pub other : ℕ → ℕ
 other generation = 1 - own generation
 
--- the slot with these bytes holds no text: its start has no hash that fits it
+-- the slot with these bytes holds no text: it verifies as none
 abbrev pub IsBlank : List ℕ → Type 0
 IsBlank bytes = (generation : ℕ) (text : List ℕ) → ¬ (VerifiesAs bytes generation text)
 
--- on this image the copy holds this text under this generation: its slot of the generation's parity has it under its
--- own hash
+-- on this image the copy holds this text under this generation: its slot of the generation's parity verifies as it
 abbrev pub Holds : Image → Place → (copy generation : ℕ) → List ℕ → Type 0
 Holds image place copy generation text = VerifiesAs (image (slot place copy (own generation))) generation text
 
@@ -33,7 +33,7 @@ pub record IsAlone (image : Image) (place : Place) (generation : ℕ) (text : Li
   pub held : (copy : ℕ) → copy < place.copies → Holds image place copy generation text
   pub blank : (copy : ℕ) → copy < place.copies → IsBlank (image (slot place copy (other generation)))
 
--- just the copies that held the text before hold it now, and no other text verifies in any slot
+-- just the copies that held the text on the old image hold it on the new one, and no other slot verifies
 pub record IsKeptAlone (place : Place) (generation : ℕ) (text : List ℕ) (old new : Image) : Type 0 where
   pub held : (copy : ℕ) → copy < place.copies → Holds old place copy generation text
       → Holds new place copy generation text

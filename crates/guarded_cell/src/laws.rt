@@ -26,8 +26,8 @@ ghost use Rattle.guarded_cell.specs.Register.{own};
 /// The laws of [`look`](crate::look) and [`open_cell`](crate::open_cell), for proofs. `g` is a generation, and `m` how
 /// many copies have to agree.
 pub fn held_is_lawful()
-    // The list of held texts is complete, and what stands in it is a text that at least m copies hold
-    // under the greatest generation of such texts.
+    // The list of held texts is complete, and what stands in it is a text that at least m copies hold, under
+    // the greatest generation of such texts.
     ensures held { (image : Image) (place : Place) → ShowsTexts image place (held image place) }
     ensures standing { (image : Image) (place : Place) (m : ℕ) → 1 ≤ m
         → Chooses image place m (standing image place m) }

@@ -1,5 +1,5 @@
--- What a folder in memory is at each moment, by its record of calls. A call that is made twice is twice in the record,
--- and what is said of a file goes by its number.
+-- What a folder in memory is at each moment, by its record of calls. Files go by their numbers, and bytes in them are
+-- counted from 0.
 use Rattle.std.specs.Prelude.{◌≡◌, ◌⊎◌, ℕ, suc, ◌≤◌, List, [], ◌∷◌, length, take, slice_index}
 use Rattle.disk_model.specs.Image.{Image, put_image}
 use Rattle.disk_model.specs.Case.{Case}
@@ -14,7 +14,7 @@ pub record FolderState : Type 1 where
   pub full : Image
   -- what reads give
   pub image : Image
-  -- by file and place: which bytes were written since the last sync that covered them, and which a failed sync dropped
+  -- by file and byte: which bytes were written since the last sync that covered them, and which a failed sync dropped
   pub free : ℕ → ℕ → Type 0
   pub lost : ℕ → ℕ → Type 0
   -- which names a power loss leaves
@@ -55,7 +55,7 @@ all_durable image = record {
   sure = λ f n. n ≤ length (image f);
 }
 
--- after these bytes were written into the file from the place `at` on: they are free, and not lost
+-- after these bytes were written into the file from the byte `at` on: they are free, and not lost
 abbrev pub bytes_written : FolderState → (file at : ℕ) → List ℕ → FolderState
 bytes_written s file at bytes = record s {
   image = put_image s.image file at bytes;

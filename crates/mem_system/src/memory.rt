@@ -69,7 +69,8 @@ impl MemSystem {
         self.calls.syncs()
     }
 
-    /// How many calls changed or noted something, since the folder was made or power was lost.
+    /// How many calls changed or noted something since the record began: when the folder was made, spoiled or started
+    /// again, or power was lost.
     pub fn changes(&self) -> usize {
         self.history.len()
     }
@@ -84,8 +85,7 @@ impl MemSystem {
         self.files == other.files
     }
 
-    /// Whether no write was lost by a failed sync: no sync of a file failed since the folder was made or power was
-    /// lost.
+    /// Whether no write was lost by a failed sync: no sync of a file failed since the record of changes began.
     pub fn is_whole(&self) -> bool
         ensures { IsTrue result → (f : ℕ) → IsWhole (mem_medium self.now) f }
     {

@@ -1,5 +1,5 @@
--- A folder of the operating system at one moment, and what calls do to it. Files go by their numbers, and places in
--- them are counted in bytes from 0.
+-- A folder of the operating system at one moment, and what calls do to it. Files go by their numbers, and bytes in
+-- them are counted from 0.
 use Rattle.std.specs.Prelude.{◌≡◌, ◌⊎◌, ◌↔◌, ℕ, ◌+◌, ◌-◌, ◌<◌, ◌≤◌, List, [], length, slice_index, take, drop}
 use Rattle.disk_model.specs.Image.{put_image, TornImage}
 use Rattle.disk_model.specs.Case.{Case}
@@ -14,10 +14,10 @@ pub record SystemMedium : Type 1 where
   pub disk : Medium
   -- the name of this file is durable: its entry in the folder outlasts a power loss, or there is none
   pub named : ℕ → Type 0
-  -- free, by file and place: this byte of this file was written since the last sync that covered it, in whatever
+  -- free, by file and byte: this byte of this file was written since the last sync that covered it, in whatever
   -- process: a power loss may leave anything there
   pub free : ℕ → ℕ → Type 0
-  -- lost, by file and place: a failed sync may have dropped what was written there: no later sync covers it, and reads
+  -- lost, by file and byte: a failed sync may have dropped what was written there: no later sync covers it, and reads
   -- may give anything, until it is written again
   pub lost : ℕ → ℕ → Type 0
 
@@ -25,7 +25,7 @@ pub record SystemMedium : Type 1 where
 abbrev pub IsSafe : Medium → ℕ → Type 0
 IsSafe m f = (c : Case) → m.now c → c.left f ≡ m.image f
 
--- the place i is one of the n places from `at` on
+-- the byte i is one of the n bytes from `at` on
 abbrev pub InRange : (at n i : ℕ) → Type 0
 InRange at n i = (at ≤ i) × (i < at + n)
 
@@ -43,7 +43,7 @@ pub record IsAbsent (m : SystemMedium) (f : ℕ) : Type 0 where
   pub safe : IsSafe m.disk f
   pub still : HasNothingFree m f
 
--- a file with these bytes has those from the place `at` on
+-- a file with these bytes has those from the byte `at` on
 pub record ShowsBytes (file : List ℕ) (at : ℕ) (bytes : List ℕ) : Type 0 where
   pub within : (j : ℕ) → j < length bytes → at + j < length file
   pub equal : (j : ℕ) → j < length bytes → slice_index file (at + j) ≡ slice_index bytes j

@@ -5,9 +5,9 @@ use std::{fmt, io};
 /// What was asked of the system.
 #[derive(Clone, Copy, Debug, PartialEq, Eq)]
 pub enum Asked {
-    /// To open a file or the folder.
+    /// To open a file, or the folder.
     Open,
-    /// To make a file or the folder.
+    /// To make a file.
     Make,
     /// To read a file.
     Read,
@@ -15,7 +15,7 @@ pub enum Asked {
     Write,
     /// How many bytes a file has.
     Size,
-    /// To sync a file or the folder: to make it durable.
+    /// To sync a file, or the folder: to make it durable.
     Sync,
     /// Which files the folder has.
     List,

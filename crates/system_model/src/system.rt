@@ -13,13 +13,15 @@ use crate::reading::Reading;
 use std::alloc::Global;
 use std::io;
 
-/// The files of one folder, named by numbers, as the operating system has them. Places in a file are counted in bytes
-/// from 0. In the clauses f is the number of a file, i a place in it, n a number of bytes, and c a case of a power
-/// loss. A byte is *free* while no sync since its last write covered it, and *lost* where a failed sync may have
-/// dropped it. A name is *durable* once a power loss leaves it. What is said of bytes and of power losses holds where
-/// the system models them (`told`). A call that fails may be interrupted, or find no descriptor left: then it did
-/// nothing, as any other that fails, but for syncs. `Looks` says of a call that it changed nothing, and that no power
-/// loss leaves anything new; `time`, that no count falls and that what a power loss might have left stays known.
+/// The files of one folder, named by numbers, as the operating system has them. Bytes of a file are counted from 0. A
+/// byte is *free* while no sync since its last write covered it, and *lost* where a failed sync may have dropped it. A
+/// name is *durable* once every power loss leaves it. What is said of bytes and of power losses holds where the system
+/// models them (`told`). A call that fails may be interrupted, or find no descriptor left: then it did nothing, as any
+/// other that fails, but for syncs.
+///
+/// In the clauses f is the number of a file, i that of a byte in it, n how many bytes, and c a case of a power loss.
+/// `Looks` says of a call that it changed no byte, and that no power loss leaves anything new; the clauses `time`, that
+/// the clock and the counts do not go back.
 pub trait System {
     /// A file that is open.
     type File: Drop;
@@ -119,7 +121,7 @@ pub trait System {
     /// it fails, what was free of it may be lost.
     fn sync_file(&mut self, file: &Self::File) -> io::Result<()>
         // A sync that succeeds: of a file of which nothing is lost nothing is free any more, and a power loss leaves
-        // it, where its name is durable. Nothing else becomes lost.
+        // it, where its name is durable. Nothing becomes lost, and of other files nothing becomes free.
         ensures safe { IsTrue told → OnOk result (IsWhole (medium self.old) (number file.now)
             → (medium self.old).named (number file.now) → IsSafe (medium self.new).disk (number file.now)) }
         ensures still { IsTrue told → OnOk result (IsWhole (medium self.old) (number file.now)
