@@ -27,7 +27,7 @@ impl Model for BlockSet {
 }
 
 impl BlockSet {
-    /// The empty set of blocks below the capacity.
+    /// The empty set of blocks below the capacity: all of them are free.
     ///
     /// # Errors
     ///

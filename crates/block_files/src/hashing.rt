@@ -24,9 +24,9 @@ pub struct Hashed {
 /// A content, and states of the hasher after its first parts of 32 KiB, in order.
 #[derive(Clone, Copy)]
 pub struct HashedParts<'a> {
-    /// The content.
+    /// The bytes of the content.
     pub bytes: &'a [u8],
-    /// The states.
+    /// The i-th one, from 0, is that after the first i + 1 parts; they may be fewer than the parts.
     pub states: &'a [Sha256],
 }
 

@@ -119,6 +119,7 @@ impl<S: System> FolderDisk<S> {
     }
 }
 
+/// What is left of a folder that is refused.
 fn refused<S: System>(folder: Folder<S>) -> FolderRefused<S> {
     let failure = folder.failure;
     FolderRefused {

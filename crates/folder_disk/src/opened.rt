@@ -148,6 +148,7 @@ impl<S: System> Opened<S> {
         self.note_answer(file, answer);
     }
 
+    /// Notes whether a file can be read.
     fn note_answer(&mut self, file: u32, answer: Answer)
         ensures { self.new ≡ self.old }
     {
@@ -170,6 +171,7 @@ impl<S: System> Opened<S> {
         self.keep(file, made)
     }
 
+    /// The file that is made, once what stands in its place is set aside.
     fn made(&mut self, file: u32) -> io::Result<S::File>
         requires { IsTrue S.told → (S.medium self.old).disk.image file ≡ [] }
         ensures number { IfOk result (λ it. S.number it ≡ file) }
@@ -198,6 +200,7 @@ impl<S: System> Opened<S> {
         }
     }
 
+    /// Keeps an open file under its number.
     fn keep(&mut self, number: u32, file: S::File) -> io::Result<()>
         requires { S.number file ≡ number }
         ensures { self.new ≡ self.old }
@@ -213,6 +216,7 @@ impl<S: System> Opened<S> {
         }
     }
 
+    /// Notes that the file was asked for now.
     fn note_use(&mut self, file: u32)
         ensures { self.new ≡ self.old }
     {
@@ -357,6 +361,7 @@ fn earlier(least: Option<(u32, u64)>, file: u32, used: u64) -> Option<(u32, u64)
     }
 }
 
+/// The error of a call on a file that is not open.
 fn not_open() -> io::Error {
     io::Error::from(io::ErrorKind::NotFound)
 }

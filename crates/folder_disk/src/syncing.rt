@@ -416,6 +416,7 @@ fn held_in<S: System>(system: &mut Opened<S>, alloc: Global, range: Range) -> io
     })
 }
 
+/// The error of a call for which memory ran out.
 fn no_memory() -> io::Error {
     io::Error::from(io::ErrorKind::OutOfMemory)
 }

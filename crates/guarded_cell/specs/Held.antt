@@ -69,7 +69,7 @@ held_in_first image place (suc copy) = with_slot (copy + 1) (text_held image pla
 abbrev pub held : Image → Place → List Seen
 held image place = held_in_first image place place.copies
 
--- the first of a list of texts that at least m copies hold
+-- the first of a list of texts that at least m copies hold, if any
 abbrev pub standing_in : (m : ℕ) → List Seen → Option Seen
 standing_in m seens = find (λ seen. nat_le m (length seen.copies)) seens
 

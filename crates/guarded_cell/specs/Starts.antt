@@ -7,7 +7,7 @@ use Rattle.disk_model.specs.Frame.{Spares}
 use Rattle.disk_model.specs.Place.{slot}
 use Rattle.disk_model.specs.declared.place.Place.{Place}
 
--- a file that is the chosen slot of a copy
+-- the file is the slot of this parity of a copy that is chosen
 pub record IsChosen (place : Place) (parity : ℕ) (chosen : List Bool) (file : ℕ) : Type 0 where
   pub copy : ℕ
   pub within : copy < place.copies
@@ -36,7 +36,7 @@ pub record StartsCase (place : Place) (parity : ℕ) (chosen : List Bool) (bytes
   pub full : PutsSome (IsChosen place parity chosen) bytes old.full new.full
   pub left : Spares (λ f. ¬ (IsChosen place parity chosen f)) old.left new.left
 
--- a case while the starts are written, or one after they were made durable
+-- a case of a crash while the bytes are written, or, where that is done, one that leaves just what reads give
 abbrev pub IsStartsCase : Place → (parity : ℕ) → List Bool → List ℕ → (old new : Medium) → (done : Type 0) → Case
     → Type 0
 IsStartsCase place parity chosen bytes old new done c =

@@ -17,7 +17,7 @@ pub record SlotText : Type 0 where
   pub generation : ℕ
   pub text : List ℕ
 
--- a piece of an image, in a slot of the place: the slot verifies as this text
+-- this text in a slot is a piece of the image: the slot is one of the place, and verifies as the text
 pub record IsSlotPiece (place : Place) (image : Image) (piece : SlotText) : Type 0 where
   pub copy : piece.copy < place.copies
   pub parity : piece.parity < 2
@@ -56,7 +56,8 @@ pub record IsOldOrNew (place : Place) (generation : ℕ) (text damaged : List �
       → Holds start place copy g t → Holds image place copy g t)
       ⊎ ((copy : ℕ) → copy < place.copies → IsUndamaged damaged place copy → Holds image place copy generation text)
 
--- the files of this place that are no slots, and all files elsewhere, hold in every case what they held
+-- the files of this place that are no slots, and all files elsewhere, are left by the crash c as they were at the
+-- start, and nothing is pending in them
 abbrev pub IsSettledElsewhere : Place → Image → Case → Type 0
 IsSettledElsewhere place start c = IsSettledOn (IsNoSlot place) start c
 

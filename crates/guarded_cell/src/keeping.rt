@@ -28,6 +28,7 @@ pub fn keep_only<D: Disk>(
     generation: u64,
     text: &[u8],
 ) -> Result<(), CellError>
+    // Just the copies that held the text hold it, no other slot verifies, and nothing is pending.
     ensures alone { IsTrue D.told → OnOk result
         (IsKeptAlone place generation text.now (D.medium disk.old).image (D.medium disk.new).image) }
     ensures quiet { OnOk result (Quiet (D.medium disk.new)) }

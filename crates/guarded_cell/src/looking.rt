@@ -43,6 +43,7 @@ pub struct Looked {
 ///
 /// `Device` where the disk fails, and `OutOfMemory`. Never `Corrupt`.
 pub fn look<D: Disk>(alloc: Global, disk: &mut D, place: Place) -> Result<Looked, CellError>
+    // All texts that are held, and all slots that hold one; each text could be sealed again.
     ensures held { IsTrue D.told → IfOk result (λ looked. looked.seens.items
         ≡ held (D.medium disk.old).image place) }
     ensures slots { IsTrue D.told → IfOk result (λ looked.
@@ -196,6 +197,7 @@ fn place_in(seens: &[Seen], generation: u64, text: &[u8]) -> usize
     seens.len()
 }
 
+// A text that one copy so far holds.
 fn first_seen(alloc: Global, copy: u32, generation: u64, text: &[u8]) -> Result<Seen, AllocError>
     ensures { IfOk result (λ seen. seen ≡ record { generation = generation; text = text.now; copies = copy ∷ [] }) }
 {
@@ -208,6 +210,7 @@ fn first_seen(alloc: Global, copy: u32, generation: u64, text: &[u8]) -> Result<
     })
 }
 
+// Adds a copy, by its number from 1, to those that hold a text.
 fn add_copy(alloc: Global, seen: &mut Seen, copy: u32) -> Result<(), AllocError>
     ensures { OnOk result (seen.new ≡ record seen.old { copies = seen.old.copies ++ copy ∷ [] }) }
 {

@@ -355,10 +355,12 @@ impl System for MemSystem {
 /// The number of the error of a device that cannot do what it is asked.
 const DEVICE_ERROR: i32 = 5;
 
+/// The error of a call that a trouble lets fail.
 fn device_error() -> io::Error {
     io::Error::from_raw_os_error(DEVICE_ERROR)
 }
 
+/// The error of a call for which memory ran out.
 fn no_memory() -> io::Error {
     io::Error::from(io::ErrorKind::OutOfMemory)
 }

@@ -41,10 +41,12 @@ impl Calls {
         }
     }
 
+    /// How many calls were made.
     pub(crate) fn calls(&self) -> u64 {
         self.calls
     }
 
+    /// How many of them were syncs.
     pub(crate) fn syncs(&self) -> u64 {
         self.syncs
     }

@@ -11,6 +11,7 @@ pub struct Stretch {
 }
 
 impl Stretch {
+    /// The byte after the last one.
     fn end(self) -> u64 {
         self.at.saturating_add(self.len)
     }
