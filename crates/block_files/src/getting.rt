@@ -49,7 +49,8 @@ pub fn get_blob<D: Disk>(
     m: u32,
 ) -> Result<Blob, BlobError>
     requires { 1 ≤ m }
-    // The value is the vote of the copies, the salvage is there where it is not, and who lacks the value is named.
+    // The value is the vote of the copies for m, the salvage is there only without a value, and the copies that lack
+    // the value are named.
     ensures value { IsTrue D.told → IfOk result (λ blob. blob.value
         ≡ voted m (contents place blocks.now len hash.now (D.medium disk.old).image)) }
     ensures salvage { IsTrue D.told → IfOk result (λ blob. blob.salvage

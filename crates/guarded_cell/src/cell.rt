@@ -54,15 +54,16 @@ impl Cell {
     ///
     /// # Errors
     ///
-    /// `OutOfMemory` hands the cell back before any call of the disk. `Device` closes the cell.
+    /// `OutOfMemory` hands the cell back before any call of the disk. `Device` closes the cell: it is to be opened
+    /// again.
     pub fn write<D: Disk>(
         self,
         alloc: Global,
         disk: &mut D,
         text: &[u8],
     ) -> Result<Cell, Fault<Cell>>
-        // A next generation is left in a u64, and every copy holds some text t alone, as the last call on the cell left
-        // it.
+        // The text is not too long, a next generation is left in a u64, and every copy holds some text t alone, as the
+        // last call on the cell left it.
         requires short { length text.now ≤ max_body }
         requires generation { generation_of self + 1 < 2 ^ 64 }
         requires held { IsTrue D.told → (t : List ℕ) × CellAt (D.medium disk.old).image self t }
@@ -103,8 +104,8 @@ impl Cell {
         text: &[u8],
         room: &mut [u8],
     ) -> Result<Cell, DiskFailed>
-        // A next generation is left in a u64, and every copy holds some text t alone, as the last call on the cell left
-        // it.
+        // The text is not too long, a next generation is left in a u64, and every copy holds some text t alone, as the
+        // last call on the cell left it.
         requires short { length text.now ≤ max_body }
         requires room { length room.old ≡ header + length text.now }
         requires generation { generation_of self + 1 < 2 ^ 64 }

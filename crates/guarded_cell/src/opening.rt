@@ -59,7 +59,8 @@ pub fn open_cell<D: Disk>(
     ensures held { IsTrue D.told → IfOk result (λ opened. CellAt (D.medium disk.new).image opened.cell opened.text) }
     ensures quiet { OnOk result (Quiet (D.medium disk.new)) }
 
-    // Where nothing stands, nothing is written; nor is it where memory runs out.
+    // `Corrupt` comes only where nothing stands, and then nothing is written, and nothing is pending; nor is anything
+    // written where memory runs out.
     ensures corrupt { IsTrue D.told → IsErrOf result CellError.Corrupt
         → standing (D.medium disk.old).image place m ≡ None }
     ensures not_written { IsErrOf result CellError.Corrupt → (D.medium disk.new).image ≡ (D.medium disk.old).image }

@@ -43,7 +43,7 @@ pub trait System {
         ensures looks { Looks (medium self.old) (medium self.new) };
 
     /// Whether the folder has a file of this number: `false` only where none stands in its place. What stands there
-    /// instead may hold up whoever opens it.
+    /// instead, as a pipe, may hold up whoever opens it.
     fn is_file(&mut self, file: u32) -> io::Result<bool>
         ensures absent { IsTrue told → IfOk result (λ is. IsFalse is → IsAbsent (medium self.new) file) }
         ensures looks { Looks (medium self.old) (medium self.new) };
