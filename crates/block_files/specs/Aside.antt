@@ -8,14 +8,15 @@ use Rattle.disk_model.specs.declared.place.Place.{Place}
 use Rattle.block_files.specs.Areas.{has_all_bytes}
 use Rattle.block_files.specs.Contents.{counting}
 
--- where a content is: its blocks, its length and its hash
+-- where a content is: its blocks, its length in bytes and its SHA-256
 pub record Where : Type 0 where
   pub blocks : List ℕ
   pub len : ℕ
   pub hash : List ℕ
 
--- a content in one area, from a start at which nothing was pending: where the area had all of its bytes, a crash leaves
--- it as it was, and none of its copies appears that was not there
+-- a content in one area file, from a start at which nothing was pending, in one case of a crash (base, full, left):
+-- where the file had all of its bytes, the crash leaves it as it was; and neither base nor full has bytes with its hash
+-- that the start had not
 pub record StandsAside (at : Where) (start base full left : List ℕ) : Type 0 where
   pub whole : has_all_bytes start at.blocks at.len ≡ true
       → (counting left at.blocks at.len at.hash ≡ counting start at.blocks at.len at.hash)
@@ -24,7 +25,8 @@ pub record StandsAside (at : Where) (start base full left : List ℕ) : Type 0 w
       → (counting base at.blocks at.len at.hash ≡ Some bytes) ⊎ (counting full at.blocks at.len at.hash ≡ Some bytes)
       → counting start at.blocks at.len at.hash ≡ Some bytes
 
--- writes to areas of a place that spare the blocks of a set leave every content in these blocks so
+-- from a start at which nothing was pending, writes to areas of a place that spare the blocks of a set (`taken`) leave
+-- every content in these blocks so, whatever file it is in
 abbrev pub AsideLaw : Type 0
 AsideLaw = (place : Place) (taken : ℕ → Bool) (start : Image) (old new : Case) → IsSettledAt start old
     → KeepsCase (IsNoArea place) (λ k. taken k ≡ true) old new

@@ -7,7 +7,7 @@ use Rattle.block_files.specs.Parts.{is_changed}
 abbrev pub contains : List Bool → ℕ → Bool
 contains set block = slice_index_or set block false
 
--- how many blocks below the capacity are free
+-- how many blocks below the capacity are free: not in the set
 abbrev pub free_of : List Bool → ℕ
 free_of set = count_by not set
 
@@ -17,6 +17,7 @@ free_from block [] = []
 free_from block (true ∷ flags) = free_from (block + 1) flags
 free_from block (false ∷ flags) = block ∷ free_from (block + 1) flags
 
+-- the blocks below the capacity that are not in the set, ascending
 abbrev pub free_blocks : List Bool → List ℕ
 free_blocks set = free_from 0 set
 
@@ -38,21 +39,21 @@ AreDistinct blocks = (i j : ℕ) → i < j → j < length blocks → slice_index
 abbrev pub IsNotAmong : List ℕ → ℕ → Type 0
 IsNotAmong blocks k = (i : ℕ) → i < length blocks → k ≢ slice_index blocks i
 
--- blocks that a set does not hold, each once
+-- these blocks are below the capacity and not in the set, ascending, so each once
 pub record AreFree (set : List Bool) (blocks : List ℕ) : Type 0 where
   pub below : (i : ℕ) → i < length blocks → slice_index blocks i < length set
   pub free : (i : ℕ) → i < length blocks → contains set (slice_index blocks i) ≡ false
   pub ascend : Ascend blocks
 
--- the new set holds these blocks, and is otherwise as the old one
+-- the new set has these blocks, and is otherwise as the old one: at most as many are free no longer
 pub record IsAdded (blocks : List ℕ) (old new : List Bool) : Type 0 where
   pub added : (i : ℕ) → i < length blocks → contains new (slice_index blocks i) ≡ true
   pub kept : (b : ℕ) → IsNotAmong blocks b → contains new b ≡ contains old b
   pub capacity : length new ≡ length old
   pub free : free_of old ≤ free_of new + length blocks
 
--- the blocks of a content beside an earlier one: the earlier block where the parts are equal, else one that the set
--- does not hold
+-- the blocks of a content `bytes` beside an earlier one, `was` in `old_blocks`: the earlier block where the parts of
+-- 256 bytes are equal, else one that is not in the set
 pub record SharesBlocks (bytes was old_blocks : List ℕ) (set : List Bool) (blocks : List ℕ) : Type 0 where
   pub equal : (i : ℕ) → i < length blocks → is_changed bytes was i ≡ false
       → slice_index blocks i ≡ slice_index old_blocks i

@@ -4,21 +4,21 @@ use Rattle.std.specs.Str.{bytes_eq}
 use Rattle.per_base.specs.Contents.{blocks_for}
 use Rattle.changed_runs.specs.Changed.{run_of}
 
--- whether the i-th blocks of two contents differ
+-- whether the i-th parts of two contents differ, counted from 0; a part past the end is empty
 unfoldable pub is_changed : List ℕ → List ℕ → ℕ → Bool
 is_changed bytes was i = not (bytes_eq (run_of bytes i) (run_of was i))
 
--- how many of the first n blocks differ
+-- how many of the first n parts differ
 abbrev pub changed_below : List ℕ → List ℕ → ℕ → ℕ
 changed_below bytes was zero = 0
 changed_below bytes was (suc n) = changed_below bytes was n + cond (is_changed bytes was n) 1 0
 
--- how many blocks of the new content differ from those of the old one
+-- how many parts of the new content `bytes` differ from those of the old one, `was`: so many blocks are written
 abbrev pub changed_blocks : List ℕ → List ℕ → ℕ
 changed_blocks bytes was = changed_below bytes was (blocks_for (length bytes))
 
--- the blocks of a content that shares with an earlier one: the earlier block where both are equal, else the next of the
--- fresh ones
+-- the blocks of a content `bytes` that shares with an earlier one, `was` in the blocks `old`: the earlier block where
+-- both parts are equal, else the next of the fresh ones
 pub record IsMerged (bytes was old fresh blocks : List ℕ) : Type 0 where
   pub count : length blocks ≡ blocks_for (length bytes)
   pub each : (i : ℕ) → i < length blocks

@@ -1,4 +1,6 @@
--- What calls that write blocks leave alone, at their end and where a crash or a failure stops them.
+-- What calls that write blocks leave alone, at their end and where a crash or a failure stops them. `told`: the bytes
+-- of the disk are modelled. `spared` says which files are left alone, and `apart` which blocks of every file, by
+-- number. `old` and `new` are the disk before the calls and after them.
 use Rattle.std.specs.Prelude.{◌≡◌, ◌≢◌, ℕ, ◌+◌, ◌-◌, ◌<◌, ◌≤◌, List, length, slice_index, Bool, true, IsTrue}
 use Rattle.per_base.specs.Causes.{Rose}
 use Rattle.per_base.specs.Contents.{blocks_for}
@@ -21,7 +23,8 @@ pub record Wrote (told : Bool) (spared apart : ℕ → Type 0) (n : ℕ) (old ne
   pub time : Elapses old new
   pub passes : new.faults ≡ old.faults
 
--- Writes of which one failed: spared files and blocks apart read as before, but for what is past an old end.
+-- Writes of at most n bytes of which one failed: spared files and blocks apart read as before, but for what is past an
+-- old end, at the end and in each case of a crash meanwhile. The count of faults rose.
 pub record Tore (told : Bool) (spared apart : ℕ → Type 0) (n : ℕ) (old new : Medium) : Type 0 where
   pub tears : IsTrue told → Tears spared apart old.image new.image
   pub during : Follows (KeepsCase spared apart) old.now (new.since old.moment)
@@ -37,11 +40,11 @@ IsNoneOf place copies file = (i : ℕ) → i < length copies → file ≢ area_o
 
 -- ---- blocks that are apart
 
--- the block was in the set
+-- the block is in the set
 abbrev pub IsTaken : List Bool → ℕ → Type 0
 IsTaken set k = contains set k ≡ true
 
--- the block is none of those whose part differs from that of an earlier content
+-- the block k is none of those whose part of `bytes` differs from that of the earlier content `was`
 abbrev pub IsApartFromChanged : (blocks bytes was : List ℕ) (k : ℕ) → Type 0
 IsApartFromChanged blocks bytes was k = (i : ℕ) → i < length blocks → is_changed bytes was i ≡ true
     → k ≢ slice_index blocks i

@@ -6,7 +6,8 @@ ghost use Rattle.block_files.specs.BlockSets.{contains, free_of, IsFirstFree};
 use std::alloc::{AllocError, Global};
 use std::marker::Model;
 
-/// A set of blocks of an area. Contracts see it as a list of flags, one for each block below the capacity.
+/// A set of blocks of an area: those that are taken. Contracts see it as a list of flags, one for each block below the
+/// capacity, true for each that is in the set. A block that is not in the set is free.
 #[derive(Debug, Drop)]
 pub struct BlockSet {
     flags: Vec<bool>,
@@ -26,7 +27,7 @@ impl Model for BlockSet {
 }
 
 impl BlockSet {
-    /// The empty set of blocks below the capacity.
+    /// The empty set of blocks below the capacity: all of them are free.
     ///
     /// # Errors
     ///

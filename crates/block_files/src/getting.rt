@@ -31,10 +31,10 @@ pub struct Blob {
     pub lacking: Numbers,
 }
 
-/// The content of these blocks: a copy counts where its blocks, joined and cut to `len`, with zeros past the area's
-/// end, have this hash. The value is the vote of the counting copies for `m`, and the copies lack it that do not count,
-/// that have other bytes, or whose area does not reach to the end of all of them. Where there is no value, the salvage
-/// is the first content that counts. No byte changes.
+/// The content of these blocks: a copy counts where its blocks, joined and cut to `len` bytes, with zeros past the
+/// area's end, have this SHA-256. The value is the first content that at least `m` of the counting copies have, and the
+/// copies lack it that do not count, that have other bytes, or whose area does not reach to the end of all of them.
+/// Where there is no value, the salvage is the first content that counts. No byte changes.
 ///
 /// # Errors
 ///
@@ -49,6 +49,8 @@ pub fn get_blob<D: Disk>(
     m: u32,
 ) -> Result<Blob, BlobError>
     requires { 1 ≤ m }
+    // The value is the vote of the copies for m, the salvage is there only without a value, and the copies that lack
+    // the value are named.
     ensures value { IsTrue D.told → IfOk result (λ blob. blob.value
         ≡ voted m (contents place blocks.now len hash.now (D.medium disk.old).image)) }
     ensures salvage { IsTrue D.told → IfOk result (λ blob. blob.salvage
@@ -56,7 +58,8 @@ pub fn get_blob<D: Disk>(
     ensures lacking { IsTrue D.told → IfOk result (λ blob. blob.lacking
         ≡ lacking blob.value place blocks.now len hash.now (D.medium disk.old).image) }
 
-    // Whether the disk's bytes are modelled or not.
+    // Whether the disk's bytes are modelled or not: the states are of the value, the value and the salvage have the
+    // length that was asked for, as far as the blocks go, and the lacking copies are copies of the place, ascending.
     ensures states { IfOk result (λ blob. IfSome blob.value (λ value. AreStatesOf value blob.states.items)) }
     ensures size { IfOk result (λ blob. IfSome blob.value (λ value. length value ≡ min len (256 * length blocks.now))) }
     ensures salvage_size { IfOk result (λ blob. IfSome blob.salvage
@@ -64,6 +67,7 @@ pub fn get_blob<D: Disk>(
     ensures copies { IfOk result (λ blob. AreCopies place.copies blob.lacking) }
     ensures ascending { IfOk result (λ blob. Ascend blob.lacking) }
 
+    // No byte changes; the count of faults rose where the disk failed, and stays where it did not.
     ensures reads { OnlyReads (D.medium disk.old) (D.medium disk.new) }
     ensures time { Elapses (D.medium disk.old) (D.medium disk.new) }
     ensures cause { IsErrOf result BlobError.Device → Rose (D.medium disk.old).faults (D.medium disk.new).faults }

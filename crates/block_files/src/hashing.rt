@@ -24,9 +24,9 @@ pub struct Hashed {
 /// A content, and states of the hasher after its first parts of 32 KiB, in order.
 #[derive(Clone, Copy)]
 pub struct HashedParts<'a> {
-    /// The content.
+    /// The bytes of the content.
     pub bytes: &'a [u8],
-    /// The states.
+    /// The i-th one, from 0, is that after the first i + 1 parts; they may be fewer than the parts.
     pub states: &'a [Sha256],
 }
 
@@ -40,8 +40,10 @@ pub fn nothing_known<'a>() -> HashedParts<'a>
     }
 }
 
-/// The hash of bytes, taken from the last state on that is one of theirs too.
+/// The SHA-256 of the bytes, and states of the hasher on the way. The hasher goes on from the last state of the known
+/// content up to which both begin with the same bytes. Where memory is short, fewer states are kept.
 pub fn hash_beside(alloc: Global, bytes: &[u8], known: HashedParts<'_>) -> Hashed
+    // The known states are those of the known bytes.
     requires { AreStatesOf known.bytes.now known.states.now }
     ensures hash { result.hash ≡ sha256 bytes.now }
     ensures states { AreStatesOf bytes.now result.states.items }

@@ -2,8 +2,8 @@
 
 ghost use Rattle.block_files.specs.Aside.{AsideLaw};
 
-/// Contents in blocks that no write touches survive every crash: whole ones stay as they were, and no new copy of any
-/// comes up.
+/// Contents in blocks that no write touches survive every crash: those that their area had whole stay as they were, and
+/// the writes make no bytes with the hash of any that were not there.
 pub fn contents_stand_aside()
     ensures { AsideLaw }
 {}

@@ -10,8 +10,8 @@ use crate::errors::BlobError;
 use crate::writing::write_copies;
 use disk_model::{Disk, Place};
 
-/// Writes the bytes into their blocks in these copies alone, counted from 1. Does not allocate. The bytes are durable
-/// after the caller's next sync.
+/// Writes the bytes into their blocks, 256 bytes each in order, in these copies of the place alone, counted from 1.
+/// Does not allocate. The bytes are durable after the caller's next sync.
 ///
 /// # Errors
 ///
@@ -26,6 +26,9 @@ pub fn mend<D: Disk>(
     requires copies { AreCopies place.copies copies.now }
     requires room { length bytes.now ≤ 256 * length blocks.now }
     requires distinct { AreDistinct blocks.now }
+
+    // These copies have the bytes; files that are none of their areas, and other blocks, read as before. So they do
+    // where the disk failed, but for what is past an old end.
     ensures whole { IsTrue D.told → OnOk result
         (NamedFull place copies.now blocks.now bytes.now (D.medium disk.new).image) }
     ensures done { OnOk result (Wrote D.told (IsNoneOf place copies.now) (IsNotAmong blocks.now)

@@ -24,19 +24,22 @@ use std::alloc::{AllocError, Global};
 /// Where a content was put, and its SHA-256.
 #[derive(Debug, Drop)]
 pub struct PutBlob {
-    /// The blocks of the content, in order.
+    /// The numbers of the content's blocks, in order.
     pub blocks: Numbers,
     /// The hash of the content's bytes.
     pub hash: [u8; 32],
 }
 
-/// Chooses blocks for the bytes and adds them to `used`: all of a put but its writes, which are for `write_blob`.
+/// Chooses free blocks for the bytes and adds them to `used`, the blocks that are taken: all of `put_blob` but its
+/// writes, which are for `write_blob`.
 ///
 /// # Errors
 ///
 /// Only `OutOfMemory`.
 pub fn reserve_blob(alloc: Global, used: &mut BlockSet, bytes: &[u8]) -> Result<PutBlob, AllocError>
+    // Enough blocks are free.
     requires { blocks_for (length bytes.now) ≤ free_of used.old }
+    // One block for each 256 bytes, all free before, and taken now; the hash is that of the bytes.
     ensures count { IfOk result (λ blob. length blob.blocks ≡ blocks_for (length bytes.now)) }
     ensures free { IfOk result (λ blob. AreFree used.old blob.blocks) }
     ensures hash { IfOk result (λ blob. blob.hash ≡ sha256 bytes.now) }
@@ -51,8 +54,8 @@ pub fn reserve_blob(alloc: Global, used: &mut BlockSet, bytes: &[u8]) -> Result<
     })
 }
 
-/// Writes the bytes into blocks outside `used` in every copy, and adds the blocks to `used`. The bytes are durable
-/// after the caller's next sync.
+/// Writes the bytes into blocks outside `used`, the blocks that are taken, in every copy of the place, and adds the
+/// blocks to `used`. The bytes are durable after the caller's next sync.
 ///
 /// # Errors
 ///
@@ -65,20 +68,23 @@ pub fn put_blob<D: Disk>(
     used: &mut BlockSet,
     bytes: &[u8],
 ) -> Result<PutBlob, BlobError>
+    // Enough blocks are free.
     requires { blocks_for (length bytes.now) ≤ free_of used.old }
-    // The blocks.
+
+    // The blocks: one for each 256 bytes, all free before, and taken now; the hash is that of the bytes.
     ensures count { IfOk result (λ blob. length blob.blocks ≡ blocks_for (length bytes.now)) }
     ensures free { IfOk result (λ blob. AreFree used.old blob.blocks) }
     ensures hash { IfOk result (λ blob. blob.hash ≡ sha256 bytes.now) }
     ensures used { IfOk result (λ blob. IsAdded blob.blocks used.old used.new) }
 
-    // The disk.
+    // The disk: every copy has the bytes; files that are no areas of the place, and other blocks, read as before.
     ensures whole { IsTrue D.told → IfOk result (λ blob.
         AllFull place blob.blocks bytes.now (D.medium disk.new).image) }
     ensures done { IfOk result (λ blob. Wrote D.told (IsNoArea place) (IsNotAmong blob.blocks)
         (place.copies * (256 * length blob.blocks)) (D.medium disk.old) (D.medium disk.new)) }
 
-    // Errors.
+    // Errors: without memory nothing happened; where the disk failed, blocks that were taken read as before, and blocks
+    // for the bytes are taken.
     ensures memory { IsErrOf result BlobError.OutOfMemory → (used.new ≡ used.old) × (disk.new ≡ disk.old) }
     ensures failed { IsErrOf result BlobError.Device → Tore D.told (IsNoArea place)
         (IsTaken used.old)
@@ -91,8 +97,9 @@ pub fn put_blob<D: Disk>(
     Ok(blob)
 }
 
-/// Chooses blocks for the bytes and adds them to `used`: all of a `put_shared` but its writes, which are for
-/// `write_shared`.
+/// Chooses blocks for the bytes beside an earlier content, `old_bytes` in `old_blocks`: where both have the same part
+/// of 256 bytes the earlier block is shared, and for the others free blocks are added to `used`, the blocks that are
+/// taken. It is all of `put_shared` but its writes, which are for `write_shared`.
 ///
 /// # Errors
 ///
@@ -104,10 +111,12 @@ pub fn reserve_shared(
     old_bytes: &[u8],
     old_blocks: &[u32],
 ) -> Result<PutBlob, AllocError>
+    // The earlier content fits its blocks, which are taken and distinct, and blocks are free for the parts that differ.
     requires room { length old_bytes.now ≤ 256 * length old_blocks.now }
     requires taken { (i : ℕ) → i < length old_blocks.now → contains used.old (slice_index old_blocks.now i) ≡ true }
     requires distinct { AreDistinct old_blocks.now }
     requires free { changed_blocks bytes.now old_bytes.now ≤ free_of used.old }
+    // One block for each 256 bytes, distinct, each shared or free before, and taken now; the hash is that of the bytes.
     ensures count { IfOk result (λ blob. length blob.blocks ≡ blocks_for (length bytes.now)) }
     ensures shared { IfOk result (λ blob. SharesBlocks bytes.now old_bytes.now old_blocks.now used.old blob.blocks) }
     ensures distinct { IfOk result (λ blob. AreDistinct blob.blocks) }
@@ -119,7 +128,7 @@ pub fn reserve_shared(
     reserve_hashed(alloc, used, bytes, hash(bytes), old_bytes, old_blocks)
 }
 
-/// Does what `reserve_shared` does, for bytes whose hash is known.
+/// Does what `reserve_shared` does, for bytes whose SHA-256 is known.
 ///
 /// # Errors
 ///
@@ -133,10 +142,12 @@ pub fn reserve_hashed(
     old_blocks: &[u32],
 ) -> Result<PutBlob, AllocError>
     requires hash { hash ≡ sha256 bytes.now }
+    // The earlier content fits its blocks, which are taken and distinct, and blocks are free for the parts that differ.
     requires room { length old_bytes.now ≤ 256 * length old_blocks.now }
     requires taken { (i : ℕ) → i < length old_blocks.now → contains used.old (slice_index old_blocks.now i) ≡ true }
     requires distinct { AreDistinct old_blocks.now }
     requires free { changed_blocks bytes.now old_bytes.now ≤ free_of used.old }
+    // One block for each 256 bytes, distinct, each shared or free before, and taken now; the hash is that of the bytes.
     ensures count { IfOk result (λ blob. length blob.blocks ≡ blocks_for (length bytes.now)) }
     ensures shared { IfOk result (λ blob. SharesBlocks bytes.now old_bytes.now old_blocks.now used.old blob.blocks) }
     ensures distinct { IfOk result (λ blob. AreDistinct blob.blocks) }
@@ -154,8 +165,9 @@ pub fn reserve_hashed(
     })
 }
 
-/// Puts the bytes beside an earlier content: a block that is equal in both is shared, and the others are written into
-/// blocks outside `used`, which are added to it. The bytes are durable after the caller's next sync.
+/// Puts the bytes beside an earlier content, `old_bytes` in `old_blocks`: where both have the same part of 256 bytes
+/// the earlier block is shared, and the other parts are written into blocks outside `used`, the blocks that are taken,
+/// in every copy of the place; these blocks are added to it. The bytes are durable after the caller's next sync.
 ///
 /// # Errors
 ///
@@ -170,13 +182,15 @@ pub fn put_shared<D: Disk>(
     old_bytes: &[u8],
     old_blocks: &[u32],
 ) -> Result<PutBlob, BlobError>
+    // Every copy has the earlier content; its blocks are taken and distinct; blocks are free for the parts that differ.
     requires whole { IsTrue D.told
         → AllFull place old_blocks.now old_bytes.now (D.medium disk.old).image }
     requires room { length old_bytes.now ≤ 256 * length old_blocks.now }
     requires taken { (i : ℕ) → i < length old_blocks.now → contains used.old (slice_index old_blocks.now i) ≡ true }
     requires distinct { AreDistinct old_blocks.now }
     requires free { changed_blocks bytes.now old_bytes.now ≤ free_of used.old }
-    // The blocks.
+
+    // The blocks: one for each 256 bytes, distinct, each shared or free before, and taken now.
     ensures count { IfOk result (λ blob. length blob.blocks ≡ blocks_for (length bytes.now)) }
     ensures shared { IfOk result (λ blob. SharesBlocks bytes.now old_bytes.now old_blocks.now used.old blob.blocks) }
     ensures distinct { IfOk result (λ blob. AreDistinct blob.blocks) }
@@ -184,14 +198,16 @@ pub fn put_shared<D: Disk>(
     ensures used { IfOk result (λ blob. IsAdded blob.blocks used.old used.new) }
     ensures free { OnOk result (free_of used.old ≤ free_of used.new + changed_blocks bytes.now old_bytes.now) }
 
-    // The disk.
+    // The disk: every copy has the bytes; files that are no areas of the place, and blocks but those whose parts
+    // differ, read as before.
     ensures whole { IsTrue D.told → IfOk result (λ blob.
         AllFull place blob.blocks bytes.now (D.medium disk.new).image) }
     ensures done { IfOk result (λ blob.
         Wrote D.told (IsNoArea place) (IsApartFromChanged blob.blocks bytes.now old_bytes.now)
         (place.copies * (256 * changed_blocks bytes.now old_bytes.now)) (D.medium disk.old) (D.medium disk.new)) }
 
-    // Errors.
+    // Errors: without memory nothing happened; where the disk failed, blocks that were taken read as before, and blocks
+    // for the bytes are taken.
     ensures memory { IsErrOf result BlobError.OutOfMemory → (used.new ≡ used.old) × (disk.new ≡ disk.old) }
     ensures failed { IsErrOf result BlobError.Device → Tore D.told (IsNoArea place)
         (IsTaken used.old)

@@ -23,7 +23,9 @@ use std::alloc::Global;
 /// What each copy of a content gives, in order: its bytes where they have the hash, and whether its file has them all.
 #[derive(Drop)]
 pub(crate) struct Looked {
+    /// For each copy, its bytes where they have the hash.
     pub(crate) texts: Vec<Option<Vec<u8>>>,
+    /// For each copy, whether its area file has all bytes.
     pub(crate) inside: Vec<bool>,
     /// States of the hasher on the way through the first of the texts.
     pub(crate) states: Vec<Sha256>,

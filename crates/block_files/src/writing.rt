@@ -17,8 +17,8 @@ use per_base::BLOCK;
 /// The numbers of the copies that a place can have.
 const NUMBERS: [u32; 8] = [1, 2, 3, 4, 5, 6, 7, 8];
 
-/// Writes the bytes into these blocks in every copy, for a caller who has chosen the blocks before. Does not allocate.
-/// The bytes are durable after the caller's next sync.
+/// Writes the bytes into these blocks, 256 bytes each in order, in every copy of the place, for a caller who has chosen
+/// the blocks before. Does not allocate. The bytes are durable after the caller's next sync.
 ///
 /// # Errors
 ///
@@ -31,6 +31,9 @@ pub fn write_blob<D: Disk>(
 ) -> Result<(), DiskFailed>
     requires room { length bytes.now ≤ 256 * length blocks.now }
     requires distinct { AreDistinct blocks.now }
+
+    // Every copy has the bytes; files that are no areas of the place, and other blocks, read as before. So they do
+    // where the disk failed, but for what is past an old end.
     ensures whole { IsTrue D.told → OnOk result
         (AllFull place blocks.now bytes.now (D.medium disk.new).image) }
     ensures done { OnOk result (Wrote D.told (IsNoArea place) (IsNotAmong blocks.now)
@@ -41,8 +44,9 @@ pub fn write_blob<D: Disk>(
     write_shared(disk, place, blocks, bytes, &[])
 }
 
-/// Writes those parts of the bytes that differ from `was` into their blocks in every copy, for a caller who has chosen
-/// the blocks before. Does not allocate. The bytes are durable after the caller's next sync.
+/// Writes those parts of 256 bytes that differ from the earlier content `was` into their blocks in every copy of the
+/// place, for a caller who has chosen the blocks before. Does not allocate. The bytes are durable after the caller's
+/// next sync.
 ///
 /// # Errors
 ///
@@ -56,8 +60,12 @@ pub fn write_shared<D: Disk>(
 ) -> Result<(), DiskFailed>
     requires room { length bytes.now ≤ 256 * length blocks.now }
     requires distinct { AreDistinct blocks.now }
+    // Each copy c has the parts that do not differ in their blocks already.
     requires shared { IsTrue D.told → (c : ℕ) → c < place.copies
         → HoldsShared ((D.medium disk.old).image (area place c)) blocks.now bytes.now was.now }
+
+    // Every copy has the bytes; files that are no areas of the place, and blocks but those whose parts differ, read as
+    // before. So they do where the disk failed, but for what is past an old end.
     ensures whole { IsTrue D.told → OnOk result
         (AllFull place blocks.now bytes.now (D.medium disk.new).image) }
     ensures done { OnOk result (Wrote D.told (IsNoArea place)

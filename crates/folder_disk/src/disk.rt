@@ -10,16 +10,19 @@ use std::io;
 use std::marker::Model;
 use system_model::{Asked, Failure, Part, System};
 
-/// A disk over the files of a folder. Contracts see the system and what the disk counts.
+/// A disk over the files of a folder: each file of the disk is the file of its number. Contracts see the system that
+/// has the files, and what the disk counts: calls that failed, and bytes written.
 #[derive(Drop)]
 pub struct FolderDisk<S: System> {
     pub(crate) folder: Folder<S>,
 }
 
-/// A folder that could not be synced: its system, and the call that failed.
+/// A folder that could not be opened as a disk: its system, and the call that failed.
 #[derive(Drop)]
 pub struct FolderRefused<S> {
+    /// The system, as the disk left it.
     pub system: S,
+    /// The call of the system that failed, if one did.
     pub failure: Option<Failure>,
 }
 
@@ -73,7 +76,9 @@ impl<S: System> FolderDisk<S> {
     /// cannot be opened counts as one that is not there; where none can, or no byte of any can be read, the folder is
     /// refused.
     pub fn open(alloc: Global, system: S) -> Result<FolderDisk<S>, FolderRefused<S>>
+        // No failed sync has dropped anything of any file f.
         requires { IsTrue S.told → (f : ℕ) → IsWhole (S.medium system) f }
+        // Nothing is pending on the disk, and no byte was changed.
         ensures quiet { IfOk result (λ disk. Quiet (disk_seen S.medium disk)) }
         ensures writes_nothing { IfOk result (λ disk.
             WritesNothing (S.medium system).disk (S.medium disk.system).disk) }
@@ -114,6 +119,7 @@ impl<S: System> FolderDisk<S> {
     }
 }
 
+/// What is left of a folder that is refused.
 fn refused<S: System>(folder: Folder<S>) -> FolderRefused<S> {
     let failure = folder.failure;
     FolderRefused {

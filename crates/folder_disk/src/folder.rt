@@ -35,14 +35,16 @@ pub struct Folder<S: System> {
     pub is_grown: bool,
     /// Whether a sync failed whose bytes could not be written again.
     pub is_lost: bool,
+    /// How many calls of the disk have failed, up to the greatest u64.
     pub faults: u64,
+    /// How many bytes were written by calls of the disk.
     pub written: u64,
     /// The last call of the system that failed.
     pub failure: Option<Failure>,
 }
 
 impl<S: System> Folder<S> {
-    /// Counts a failure once more.
+    /// Counts one failure more.
     pub(crate) fn fault(&mut self) -> DiskFailed
         ensures system { self.new.system ≡ self.old.system }
         ensures ranges { self.new.ranges ≡ self.old.ranges }
@@ -72,6 +74,7 @@ impl<S: System> Folder<S> {
         self.fault()
     }
 
+    /// How many bytes the file has; none where it is not there.
     pub(crate) fn size(&mut self, file: u32) -> Result<u64, DiskFailed>
         requires { Knows S.told (S.medium self.old.system) self.old.ranges.items self.old.is_fresh self.old.is_grown
             self.old.is_lost }
@@ -97,6 +100,7 @@ impl<S: System> Folder<S> {
         }
     }
 
+    /// Reads from the byte `at` on as many bytes as there are and as there is room for, and says how many.
     pub(crate) fn read(&mut self, file: u32, at: u64, out: &mut [u8]) -> Result<usize, DiskFailed>
         requires { Knows S.told (S.medium self.old.system) self.old.ranges.items self.old.is_fresh
             self.old.is_grown self.old.is_lost }
@@ -275,6 +279,7 @@ impl<S: System> Folder<S> {
         Ok(progress)
     }
 
+    /// Writes all the bytes from the byte `at` on, into a file that it makes where it is not there.
     pub(crate) fn write_at(&mut self, file: u32, at: u64, bytes: &[u8]) -> Result<(), DiskFailed>
         requires { Knows S.told (S.medium self.old.system) self.old.ranges.items self.old.is_fresh
             self.old.is_grown self.old.is_lost }

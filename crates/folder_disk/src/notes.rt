@@ -6,9 +6,10 @@ ghost use Rattle.folder_disk.specs.Knows.{Covered};
 
 use crate::range::Range;
 
-/// How many bytes of a file may wait for a sync before it is synced unasked, and in how many ranges.
+/// How many bytes of a file may wait for a sync before it is synced unasked: 1 MiB.
 const MOST_BYTES: u64 = 1_048_576;
 
+/// In how many ranges they may wait.
 const MOST_RANGES: usize = 1024;
 
 /// Notes that a range was written, and says whether there was memory for it. One that goes on where the last one ended

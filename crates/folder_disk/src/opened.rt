@@ -55,6 +55,7 @@ impl<S: System> Model for Opened<S> {
 }
 
 impl<S: System> Opened<S> {
+    /// The system, with no file open yet.
     pub(crate) fn new(alloc: Global, system: S) -> Opened<S>
         ensures { result ≡ system }
     {
@@ -71,6 +72,7 @@ impl<S: System> Opened<S> {
         }
     }
 
+    /// The system alone.
     pub(crate) fn into_system(self) -> S
         ensures { result ≡ self }
     {
@@ -146,6 +148,7 @@ impl<S: System> Opened<S> {
         self.note_answer(file, answer);
     }
 
+    /// Notes whether a file can be read.
     fn note_answer(&mut self, file: u32, answer: Answer)
         ensures { self.new ≡ self.old }
     {
@@ -168,6 +171,7 @@ impl<S: System> Opened<S> {
         self.keep(file, made)
     }
 
+    /// The file that is made, once what stands in its place is set aside.
     fn made(&mut self, file: u32) -> io::Result<S::File>
         requires { IsTrue S.told → (S.medium self.old).disk.image file ≡ [] }
         ensures number { IfOk result (λ it. S.number it ≡ file) }
@@ -196,6 +200,7 @@ impl<S: System> Opened<S> {
         }
     }
 
+    /// Keeps an open file under its number.
     fn keep(&mut self, number: u32, file: S::File) -> io::Result<()>
         requires { S.number file ≡ number }
         ensures { self.new ≡ self.old }
@@ -211,12 +216,14 @@ impl<S: System> Opened<S> {
         }
     }
 
+    /// Notes that the file was asked for now.
     fn note_use(&mut self, file: u32)
         ensures { self.new ≡ self.old }
     {
         let _ = self.uses.insert(file, self.questions);
     }
 
+    /// The numbers of the files that the folder has.
     pub(crate) fn list(&mut self, alloc: Global) -> io::Result<Vec<u32>>
         ensures others { IsTrue S.told → IfOk result (λ files. (f : ℕ) → ¬ (Contains files.items f)
             → IsAbsent (S.medium self.new) f) }
@@ -227,6 +234,7 @@ impl<S: System> Opened<S> {
         Ok(files)
     }
 
+    /// Reads some bytes of an open file from `at` on, as the system does.
     pub(crate) fn read(&mut self, file: u32, at: u64, out: &mut [u8]) -> io::Result<Reading>
         ensures count { IfOk result (λ reading. read_count reading ≤ length out.old) }
         ensures gives { IsTrue S.told → IsWhole (S.medium self.old) file → IfOk result (λ reading.
@@ -239,6 +247,7 @@ impl<S: System> Opened<S> {
         }
     }
 
+    /// How many bytes an open file has.
     pub(crate) fn length(&mut self, file: u32) -> io::Result<u64>
         ensures length { IsTrue S.told → IfOk result (λ n. n ≡ length ((S.medium self.old).disk.image file)) }
         ensures looks { Looks (S.medium self.old) (S.medium self.new) }
@@ -249,6 +258,7 @@ impl<S: System> Opened<S> {
         }
     }
 
+    /// Writes the bytes into an open file from `at` on, or some of the first of them, as the system does.
     pub(crate) fn write(&mut self, file: u32, at: u64, bytes: &[u8]) -> io::Result<usize>
         ensures count { IfOk result (λ n. n ≤ length bytes.now) }
         ensures image { IsTrue S.told → IfOk result (λ n. (S.medium self.new).disk.image
@@ -275,6 +285,7 @@ impl<S: System> Opened<S> {
         }
     }
 
+    /// Syncs an open file, as the system does.
     pub(crate) fn sync_file(&mut self, file: u32) -> io::Result<()>
         ensures safe { IsTrue S.told → OnOk result (IsWhole (S.medium self.old) file
             → (S.medium self.old).named file → IsSafe (S.medium self.new).disk file) }
@@ -299,6 +310,7 @@ impl<S: System> Opened<S> {
         }
     }
 
+    /// Makes the names of all files durable, as the system does.
     pub(crate) fn sync_folder(&mut self) -> io::Result<()>
         ensures names { OnOk result ((f : ℕ) → (S.medium self.new).named f) }
         ensures looks { OnOk result (Looks (S.medium self.old) (S.medium self.new)) }
@@ -310,6 +322,7 @@ impl<S: System> Opened<S> {
         self.system.sync_folder()
     }
 
+    /// Notes that the writes to come serve this one, as the system does.
     pub(crate) fn announce(&mut self, file: u32, at: u64, bytes: &[u8]) -> io::Result<()>
         ensures image { (S.medium self.new).disk.image ≡ (S.medium self.old).disk.image }
         ensures now { OnOk result (Follows (AnnounceCase file at bytes.now) (S.medium self.old).disk.now
@@ -325,6 +338,7 @@ impl<S: System> Opened<S> {
         self.system.announce(file, at, bytes)
     }
 
+    /// Notes that all that was announced is durable, as the system does.
     pub(crate) fn settle(&mut self) -> io::Result<()>
         requires { IsTrue S.told → (f : ℕ) → IsSafe (S.medium self.old).disk f }
         ensures quiet { OnOk result (Quiet (S.medium self.new).disk) }
@@ -347,6 +361,7 @@ fn earlier(least: Option<(u32, u64)>, file: u32, used: u64) -> Option<(u32, u64)
     }
 }
 
+/// The error of a call on a file that is not open.
 fn not_open() -> io::Error {
     io::Error::from(io::ErrorKind::NotFound)
 }

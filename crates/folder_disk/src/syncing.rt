@@ -248,6 +248,7 @@ impl<S: System> Folder<S> {
         Ok(())
     }
 
+    /// Makes all that was written durable, names and bytes, so that nothing is pending.
     pub(crate) fn sync(&mut self) -> Result<(), DiskFailed>
         requires { Knows S.told (S.medium self.old.system) self.old.ranges.items self.old.is_fresh
             self.old.is_grown self.old.is_lost }
@@ -415,6 +416,7 @@ fn held_in<S: System>(system: &mut Opened<S>, alloc: Global, range: Range) -> io
     })
 }
 
+/// The error of a call for which memory ran out.
 fn no_memory() -> io::Error {
     io::Error::from(io::ErrorKind::OutOfMemory)
 }

@@ -17,7 +17,7 @@ generation_of cell = cell.generation
 abbrev pub CellAt : Image → Cell → List ℕ → Type 0
 CellAt image cell text = IsAlone image cell.place cell.generation text
 
--- a cell of this place and generation
+-- this cell is of this place, and its text is held under this generation
 pub record IsCellOf (place : Place) (generation : ℕ) (cell : Cell) : Type 0 where
   pub lies : place_of cell ≡ place
   pub counts : generation_of cell ≡ generation

@@ -1,5 +1,6 @@
 -- What the calls on a register change and write, whether they come to their end or stop on the way, and what a stop at
--- any moment of them leaves.
+-- any moment of them leaves. `told`: the bytes of the disk are modelled. `old` and `new` are the disk before the call
+-- and after it. A blank takes a header's bytes.
 use Rattle.std.specs.Prelude.{◌≡◌, ℕ, ◌+◌, ◌*◌, ◌≤◌, List, length, Bool, IsTrue}
 use Rattle.hash_guard.specs.SealedText.{header, max_body, sealed}
 use Rattle.disk_model.specs.Medium.{Medium, Quiet, EachCase, Elapses}
@@ -13,8 +14,8 @@ use Rattle.guarded_cell.specs.Rights.{IsRight, IsRightFor, IsClear}
 use Rattle.guarded_cell.specs.Stops.{PutStops, KeepStops, FormatStops}
 use Rattle.guarded_cell.specs.Opens.{OpenStops}
 
--- A text is put into every copy. Only slots of the place change, and a stop at any moment leaves every copy what it
--- held or every copy the text.
+-- A text is put into every copy under this generation. Only slots of the place change, and a stop at any moment leaves
+-- every copy what it held or every copy the text. At most a sealed text and a blank are written for each copy.
 pub record PutsText (told : Bool) (place : Place) (generation : ℕ) (text : List ℕ) (old new : Medium) : Type 0 where
   pub elsewhere : IsTrue told → Spares (IsNoSlot place) old.image new.image
   pub any_moment : IsTrue told → Quiet old
@@ -32,8 +33,8 @@ pub record Brings (told : Bool) (place : Place) (generation : ℕ) (text : List 
   pub right : IsTrue told → Spares (IsRight old.image place generation text) old.image new.image
   pub already : IsTrue told → IsAlone old.image place generation text → new.written ≡ old.written
 
--- Every other text is taken away. Only slots of the place change, and none that is clear already, and at any moment the
--- copies that held the text hold it.
+-- Every text but this one is taken away. Only slots of the place change, and none that is clear already, and at any
+-- moment the copies that held the text hold it. At most two blanks are written for each copy.
 pub record Clears (told : Bool) (place : Place) (generation : ℕ) (text : List ℕ) (old new : Medium) : Type 0 where
   pub elsewhere : IsTrue told → Spares (IsNoSlot place) old.image new.image
   pub right : IsTrue told → Spares (IsClear old.image place generation text) old.image new.image
@@ -43,7 +44,7 @@ pub record Clears (told : Bool) (place : Place) (generation : ℕ) (text : List 
   pub time : Elapses old new
 
 -- A register is formatted with a text, under generation 1. Only slots of the place change, and a stop at any moment
--- leaves only what was held or only the text.
+-- leaves only what was held or only the text. At most two blanks and the sealed text are written for each copy.
 pub record FormatsRegister (told : Bool) (place : Place) (text : List ℕ) (old new : Medium) : Type 0 where
   pub elsewhere : IsTrue told → Spares (IsNoSlot place) old.image new.image
   pub any_moment : IsTrue told → Quiet old
@@ -51,8 +52,9 @@ pub record FormatsRegister (told : Bool) (place : Place) (text : List ℕ) (old 
   pub written : new.written ≤ old.written + place.copies * (header + header + (header + length text))
   pub time : Elapses old new
 
--- Every copy is brought to the text that stands, if one does. Only slots of the place change, and none that is right
--- already, and a stop at any moment leaves every copy what it held or every copy the text that stood.
+-- Every copy is brought to the text that stands, which at least m copies hold, if one does. Only slots of the place
+-- change, and none that is right already, and a stop at any moment leaves every copy what it held or every copy the
+-- text that stood. At most the longest sealed text and a blank are written for each copy.
 pub record OpensRegister (told : Bool) (place : Place) (m : ℕ) (old new : Medium) : Type 0 where
   pub elsewhere : IsTrue told → Spares (IsNoSlot place) old.image new.image
   pub right : IsTrue told

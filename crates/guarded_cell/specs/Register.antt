@@ -1,4 +1,6 @@
--- A register: a text with a generation, in the slots of several copies. Copies are counted from 0.
+-- A register: a text with a generation, in the slots of several copies. Copies are counted from 0. Each copy has two
+-- slots, one file each: that of parity 0 is for even generations, that of parity 1 for odd ones. A slot verifies as a
+-- text where its start is this text, with its generation, under its own hash.
 use Rattle.std.specs.Prelude.{◌≡◌, ℕ, ◌-◌, ◌%◌, ◌<◌, ◌≤◌, List}
 use Rattle.hash_guard.specs.SealedText.{VerifiesAs}
 use Rattle.disk_model.specs.Image.{Image}
@@ -6,18 +8,19 @@ use Rattle.disk_model.specs.Place.{slot}
 use Rattle.disk_model.specs.Damage.{AtLeast}
 use Rattle.disk_model.specs.declared.place.Place.{Place}
 
--- the parity of the slots that hold texts of this generation, and that of the others
+-- the parity of the slots that hold texts of this generation: 0 or 1
 abbrev pub own : ℕ → ℕ
 own generation = generation % 2
 
+-- the parity of the other slots, in which no text of this generation belongs
 abbrev pub other : ℕ → ℕ
 other generation = 1 - own generation
 
--- the slot holds no text
+-- the slot with these bytes holds no text: it verifies as none
 abbrev pub IsBlank : List ℕ → Type 0
 IsBlank bytes = (generation : ℕ) (text : List ℕ) → ¬ (VerifiesAs bytes generation text)
 
--- the copy holds this text under this generation
+-- on this image the copy holds this text under this generation: its slot of the generation's parity verifies as it
 abbrev pub Holds : Image → Place → (copy generation : ℕ) → List ℕ → Type 0
 Holds image place copy generation text = VerifiesAs (image (slot place copy (own generation))) generation text
 
@@ -30,7 +33,7 @@ pub record IsAlone (image : Image) (place : Place) (generation : ℕ) (text : Li
   pub held : (copy : ℕ) → copy < place.copies → Holds image place copy generation text
   pub blank : (copy : ℕ) → copy < place.copies → IsBlank (image (slot place copy (other generation)))
 
--- just the copies that held the text hold it, and no other slot verifies
+-- just the copies that held the text on the old image hold it on the new one, and no other slot verifies
 pub record IsKeptAlone (place : Place) (generation : ℕ) (text : List ℕ) (old new : Image) : Type 0 where
   pub held : (copy : ℕ) → copy < place.copies → Holds old place copy generation text
       → Holds new place copy generation text

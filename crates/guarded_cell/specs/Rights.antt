@@ -8,8 +8,8 @@ use Rattle.guarded_cell.specs.declared.looking.Seen.{Seen}
 use Rattle.guarded_cell.specs.Register.{IsBlank, own, other}
 use Rattle.guarded_cell.specs.Slots.{HasNoOther}
 
--- the slots that bringing every copy to a text leaves alone: those that hold it, and those of the other parity that
--- hold none
+-- the file is a slot that bringing every copy to a text leaves alone: one that holds it, or one of the other parity
+-- that holds none; so is each file that is no slot of the place
 abbrev pub IsRight : Image → Place → (generation : ℕ) → List ℕ → (file : ℕ) → Type 0
 IsRight image place generation text file = (copy : ℕ) → copy < place.copies
     → (file ≡ slot place copy (own generation) → VerifiesAs (image file) generation text)
@@ -20,8 +20,8 @@ abbrev pub IsRightFor : Option Seen → Image → Place → (file : ℕ) → Typ
 IsRightFor None image place file = Unit {0}
 IsRightFor (Some seen) image place file = IsRight image place seen.generation seen.text file
 
--- the slots that taking every other text away leaves alone: those that hold no other, and those of the other parity
--- that hold none
+-- the file is a slot that taking every other text away leaves alone: one that holds no other, or one of the other
+-- parity that holds none; so is each file that is no slot of the place
 abbrev pub IsClear : Image → Place → (generation : ℕ) → List ℕ → (file : ℕ) → Type 0
 IsClear image place generation text file = (copy : ℕ) → copy < place.copies
     → (file ≡ slot place copy (own generation) → HasNoOther (image file) generation text)

@@ -11,11 +11,11 @@ use Rattle.guarded_cell.specs.declared.slots.Slots.{Slots}
 use Rattle.guarded_cell.specs.declared.slots.Pick.TheVariants.{Lacking, Verifying, Others}
 use Rattle.guarded_cell.specs.Register.{IsBlank}
 
--- that many bytes of a slot are read
+-- how many bytes of a slot are read at most: a header and the longest body
 abbrev pub front : ℕ
 front = 524288
 
--- what is found in a slot, where this text is wanted
+-- what is found in a slot with these bytes, where this text under this generation is wanted
 abbrev pub IsFoundInSlot : Found → List ℕ → ℕ → List ℕ → Type 0
 IsFoundInSlot Nothing bytes generation text = IsBlank bytes
 IsFoundInSlot Wanted bytes generation text = VerifiesAs bytes generation text
@@ -33,29 +33,30 @@ matches_pick Others Nothing = false
 matches_pick Others Wanted = false
 matches_pick Others Another = true
 
--- nothing but this text verifies in the slot
+-- nothing but this text under this generation verifies in the slot with these bytes
 abbrev pub HasNoOther : List ℕ → ℕ → List ℕ → Type 0
 HasNoOther bytes generation text = (g : ℕ) (t : List ℕ) → VerifiesAs bytes g t → (g ≡ generation) × (t ≡ text)
 
--- what a slot is that is not picked
+-- what a slot with these bytes is that is not picked, where this text under this generation is wanted
 abbrev pub IsNotPicked : Pick → List ℕ → ℕ → List ℕ → Type 0
 IsNotPicked Lacking bytes generation text = VerifiesAs bytes generation text
 IsNotPicked Verifying bytes generation text = IsBlank bytes
 IsNotPicked Others bytes generation text = HasNoOther bytes generation text
 
--- a slot is picked just where it is not to be spared
+-- the flag is right: the slot is picked (true) just where it is not one that is not to be picked
 abbrev pub Tells : Pick → Bool → List ℕ → ℕ → List ℕ → Type 0
 Tells pick true bytes generation text = ¬ (IsNotPicked pick bytes generation text)
 Tells pick false bytes generation text = IsNotPicked pick bytes generation text
 
--- which of the copies are picked, by their slots of this parity
+-- the flags `chosen`, one for each copy, say which are picked by their slots of this parity, where this text under this
+-- generation is wanted
 abbrev pub Picks : Pick → (chosen : List Bool) → Image → Place → (parity generation : ℕ) → List ℕ → Type 0
 Picks pick chosen image place parity generation text = (copy : ℕ) → copy < place.copies
     → Tells pick (get_or chosen copy false) (image (slot place copy parity)) generation text
 
 -- ---- which slots hold a text
 
--- the flag says whether a text verifies in the slot
+-- the flag says whether some text verifies in the slot with these bytes
 abbrev pub IsFlag : List ℕ → Bool → Type 0
 IsFlag bytes flag = flag ≡ is_some (verified bytes)
 
@@ -64,7 +65,7 @@ abbrev pub AreFlags : Image → Place → (n parity : ℕ) → List Bool → Typ
 AreFlags image place n parity flags = (copy : ℕ) → copy < n
     → IsFlag (image (slot place copy parity)) (get_or flags copy false)
 
--- the flags are right for all slots of a place
+-- for each copy of the place the flags say whether some text verifies in its even slot, and in its odd one
 pub record IsSlotsOf (image : Image) (place : Place) (slots : Slots) : Type 0 where
   pub even : AreFlags image place place.copies 0 slots.even
   pub odd : AreFlags image place place.copies 1 slots.odd

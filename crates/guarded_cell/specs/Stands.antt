@@ -7,13 +7,14 @@ use Rattle.disk_model.specs.declared.place.Place.{Place}
 use Rattle.guarded_cell.specs.Register.{Holds, IsStanding, IsOneEach}
 use Rattle.guarded_cell.specs.Stops.{IsOldOrNew}
 
--- every slot of the place is as it was
+-- every slot of the place holds the same bytes on both images
 abbrev pub SameSlots : Place → (old new : Image) → Type 0
 SameSlots place old new = (copy parity : ℕ) → copy < place.copies → parity < 2
     → new (slot place copy parity) ≡ old (slot place copy parity)
 
--- A text is put into every copy under the generation after the one that stands, no greater one is held, and m copies
--- that held what stands are not damaged.
+-- On `start` this text stands by m copies under generation g, no greater one is held, and no two held texts have the
+-- same one. The next text is put into every copy under g + 1; a stop of that, and then damage to the files of the list
+-- `damaged`, left `image`; and m copies that held what stood are not damaged.
 pub record IsAdopting (place : Place) (m g : ℕ) (text next damaged : List ℕ) (start image : Image) : Type 0 where
   pub positive : 1 ≤ m
   pub one : IsOneEach start place

@@ -20,8 +20,9 @@ use disk_model::{Disk, DiskFailed, Place};
 use hash_guard::seal;
 use std::alloc::Global;
 
-/// Brings every copy to this text under this generation: it is written where it lacks, which is made durable, and then
-/// every other slot that verifies is blanked, which is made durable too.
+/// Brings every copy of the place to this text under this generation: it is written where it lacks, which is made
+/// durable, and then every other slot that verifies is blanked, which is made durable too. It gives the register in
+/// use.
 ///
 /// # Errors
 ///
@@ -36,6 +37,7 @@ pub fn adopt<D: Disk>(
     requires positive { 1 ≤ generation }
     requires short { length text.now ≤ max_body }
 
+    // The register is in use at this place and generation, every copy holds the text alone, and nothing is pending.
     ensures cell { IfOk result (IsCellOf place generation) }
     ensures held { IsTrue D.told → IfOk result (λ cell. CellAt (D.medium disk.new).image cell text.now) }
     ensures quiet { OnOk result (Quiet (D.medium disk.new)) }
@@ -54,8 +56,8 @@ pub fn adopt<D: Disk>(
     Ok(Cell::new(place, generation))
 }
 
-/// The same as [`adopt`], for a text that [`look`](crate::look) saw among the copies, on a disk that has not changed
-/// since: it reads nothing.
+/// The same as [`adopt`], for a text that [`look`](crate::look) saw among the copies, and the slots that it gave with
+/// it, on a disk that has not changed since: it reads nothing.
 ///
 /// # Errors
 ///
@@ -67,10 +69,13 @@ pub fn adopt_seen<D: Disk>(
     seen: &Seen,
     slots: Slots,
 ) -> Result<Cell, CellError>
+    // The text can be sealed, just the copies listed with it hold it, and `slots` says in which slots any text
+    // verifies.
     requires sealable { IsSealable seen.now }
     requires seen { IsTrue D.told → IsSeenOn (D.medium disk.old).image place seen.now }
     requires slots { IsTrue D.told → IsSlotsOf (D.medium disk.old).image place slots }
 
+    // The register is in use at this place and generation, every copy holds the text alone, and nothing is pending.
     ensures cell { IfOk result (IsCellOf place seen.now.generation) }
     ensures held { IsTrue D.told → IfOk result (λ cell. CellAt (D.medium disk.new).image cell seen.now.text) }
     ensures quiet { OnOk result (Quiet (D.medium disk.new)) }

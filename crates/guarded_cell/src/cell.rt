@@ -40,7 +40,7 @@ impl Cell {
         self.generation
     }
 
-    /// A buffer in which [`Cell::write_in`] writes a text of `len` bytes later.
+    /// A buffer in which [`Cell::write_in`] seals a text of `len` bytes later: as long as a header and the text.
     pub fn room(alloc: Global, len: usize) -> Result<Vec<u8>, AllocError>
         requires { len ≤ max_body }
         ensures { IfOk result (λ room. length room.items ≡ header + len) }
@@ -54,29 +54,34 @@ impl Cell {
     ///
     /// # Errors
     ///
-    /// `OutOfMemory` hands the cell back before any call of the disk. `Device` closes the cell.
+    /// `OutOfMemory` hands the cell back before any call of the disk. `Device` closes the cell: it is to be opened
+    /// again.
     pub fn write<D: Disk>(
         self,
         alloc: Global,
         disk: &mut D,
         text: &[u8],
     ) -> Result<Cell, Fault<Cell>>
+        // The text is not too long, a next generation is left in a u64, and every copy holds some text t alone, as the
+        // last call on the cell left it.
         requires short { length text.now ≤ max_body }
         requires generation { generation_of self + 1 < 2 ^ 64 }
         requires held { IsTrue D.told → (t : List ℕ) × CellAt (D.medium disk.old).image self t }
 
+        // The cell goes on under the next generation, every copy holds the text alone, and nothing is pending.
         ensures next { IfOk result (IsCellOf (place_of self) (generation_of self + 1)) }
         ensures held { IsTrue D.told → IfOk result (λ cell. CellAt (D.medium disk.new).image cell text.now) }
         ensures quiet { OnOk result (Quiet (D.medium disk.new)) }
 
         // Running out of memory hands the cell back, and then nothing happened. Only a disk that failed closes the
-        // cell.
+        // cell: then its count of faults rose, and it stayed where the call succeeded.
         ensures memory { IfErr result (λ fault. HandsBack self fault (disk.new ≡ disk.old)) }
         ensures cause { IfErr result (λ fault. IsDeviceFault fault
             → Rose (D.medium disk.old).faults (D.medium disk.new).faults) }
         ensures passes { OnOk result ((D.medium disk.new).faults ≡ (D.medium disk.old).faults) }
 
-        // Only slots of the place change, and a stop at any moment leaves the old text or the new one.
+        // In every copy one slot took the sealed text and the other a blank. Only slots of the place change, and a stop
+        // at any moment leaves the old text or the new one.
         ensures over { IsTrue D.told → OnOk result (IsOver (place_of self) (generation_of self + 1)
             (sealed (generation_of self + 1) text.now) (D.medium disk.old).image (D.medium disk.new).image) }
         ensures puts { PutsText D.told (place_of self) (generation_of self + 1) text.now (D.medium disk.old)
@@ -99,17 +104,21 @@ impl Cell {
         text: &[u8],
         room: &mut [u8],
     ) -> Result<Cell, DiskFailed>
+        // The text is not too long, a next generation is left in a u64, and every copy holds some text t alone, as the
+        // last call on the cell left it.
         requires short { length text.now ≤ max_body }
         requires room { length room.old ≡ header + length text.now }
         requires generation { generation_of self + 1 < 2 ^ 64 }
         requires held { IsTrue D.told → (t : List ℕ) × CellAt (D.medium disk.old).image self t }
 
+        // The cell goes on under the next generation, every copy holds the text alone, and nothing is pending.
         ensures next { IfOk result (IsCellOf (place_of self) (generation_of self + 1)) }
         ensures held { IsTrue D.told → IfOk result (λ cell. CellAt (D.medium disk.new).image cell text.now) }
         ensures quiet { OnOk result (Quiet (D.medium disk.new)) }
         ensures faults { DiskFaults result (D.medium disk.old) (D.medium disk.new) }
 
-        // Only slots of the place change, and a stop at any moment leaves the old text or the new one.
+        // In every copy one slot took the sealed text and the other a blank. Only slots of the place change, and a stop
+        // at any moment leaves the old text or the new one.
         ensures over { IsTrue D.told → OnOk result (IsOver (place_of self) (generation_of self + 1)
             (sealed (generation_of self + 1) text.now) (D.medium disk.old).image (D.medium disk.new).image) }
         ensures puts { PutsText D.told (place_of self) (generation_of self + 1) text.now (D.medium disk.old)

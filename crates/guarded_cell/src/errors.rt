@@ -8,9 +8,9 @@ use std::alloc::AllocError;
 /// Why a register was not opened, read or changed.
 #[derive(Clone, Copy, Debug, PartialEq, Eq)]
 pub enum CellError {
-    /// The disk failed, and its count of faults rose.
+    /// A call of the disk failed, and its count of faults rose.
     Device,
-    /// No text stands.
+    /// No text stands: none is held by enough copies.
     Corrupt,
     /// Memory ran out.
     OutOfMemory,

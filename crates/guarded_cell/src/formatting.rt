@@ -17,7 +17,7 @@ use hash_guard::{BLANK, seal};
 use std::alloc::Global;
 
 /// Gives up what the place held: all slots are blanked, which is made durable, and then every copy takes the text under
-/// generation 1.
+/// generation 1, which is made durable too. It gives the register in use.
 ///
 /// # Errors
 ///
@@ -30,6 +30,7 @@ pub fn format_cell<D: Disk>(
 ) -> Result<Cell, CellError>
     requires { length text.now ≤ max_body }
 
+    // The register is in use at this place under generation 1, every copy holds the text alone, and nothing is pending.
     ensures cell { IfOk result (IsCellOf place 1) }
     ensures held { IsTrue D.told → IfOk result (λ cell. CellAt (D.medium disk.new).image cell text.now) }
     ensures quiet { OnOk result (Quiet (D.medium disk.new)) }

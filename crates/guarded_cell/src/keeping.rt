@@ -15,8 +15,8 @@ use disk_model::{Disk, DiskFailed, Place};
 use hash_guard::BLANK;
 use std::alloc::Global;
 
-/// Blanks every slot that verifies and does not hold this text under this generation, and makes that durable. The
-/// copies that held the text hold it still.
+/// Blanks every slot of the place that verifies, but those of the generation's parity that hold this text under it, and
+/// makes that durable. The copies that held the text hold it still.
 ///
 /// # Errors
 ///
@@ -28,6 +28,7 @@ pub fn keep_only<D: Disk>(
     generation: u64,
     text: &[u8],
 ) -> Result<(), CellError>
+    // Just the copies that held the text hold it, no other slot verifies, and nothing is pending.
     ensures alone { IsTrue D.told → OnOk result
         (IsKeptAlone place generation text.now (D.medium disk.old).image (D.medium disk.new).image) }
     ensures quiet { OnOk result (Quiet (D.medium disk.new)) }

@@ -23,8 +23,11 @@ ghost use Rattle.std.specs.Prelude.{◌*◌};
 ghost use Rattle.hash_guard.specs.SealedText.{sealed};
 ghost use Rattle.guarded_cell.specs.Register.{own};
 
-/// The laws of [`look`](crate::look) and [`open_cell`](crate::open_cell), for proofs.
+/// The laws of [`look`](crate::look) and [`open_cell`](crate::open_cell), for proofs. `g` is a generation, and `m` how
+/// many copies have to agree.
 pub fn held_is_lawful()
+    // The list of held texts is complete, and what stands in it is a text that at least m copies hold, under
+    // the greatest generation of such texts.
     ensures held { (image : Image) (place : Place) → ShowsTexts image place (held image place) }
     ensures standing { (image : Image) (place : Place) (m : ℕ) → 1 ≤ m
         → Chooses image place m (standing image place m) }
@@ -52,7 +55,9 @@ pub fn held_is_lawful()
 {}
 
 /// What the stops of [`Cell::write`](crate::Cell::write), [`open_cell`](crate::open_cell) and [`adopt`](crate::adopt)
-/// say of the text that stands, and what damage leaves of a register that nobody touched, for proofs.
+/// say of the text that stands, and what damage leaves of a register that nobody touched, for proofs. `start` is the
+/// image before the call and `image` what is there after a stop and damage to the files of the list `damaged`; `g` and
+/// `h` are generations, `t` is a text, and `m` is how many copies have to agree.
 pub fn stops_are_lawful()
     // The next text is written where one is held alone: what at least m copies hold is the old text or the next one,
     // and something is, where m copies are not damaged.
@@ -86,13 +91,16 @@ pub fn stops_are_lawful()
         × ((g : ℕ) (text : List ℕ) → KeepsText place g text damaged start image)) c }
 {}
 
-/// What a text costs over a slot in which another one stood and was blanked: its first run, and the runs in which it
-/// differs from that one.
+/// What a text costs over a slot in which another one stood and was blanked: at most its first run of 256 bytes, and
+/// the runs in which it differs from that one.
 pub fn blanked_slots_cost_what_differs()
+    // The texts a and b are written one after the other, from `start` by `mid` to `now`; c goes next, into the
+    // slots that held a.
     ensures third { (place : Place) (g : ℕ) (a b c : List ℕ) (start mid now : Image)
         → IsOver place g (sealed g a) start mid → IsOver place (g + 1) (sealed (g + 1) b) mid now
         → texts_cost place (own (g + 2)) (sealed (g + 2) c) now place.copies
         ≤ place.copies * (256 + changed_len (sealed g a) 0 (sealed (g + 2) c)) }
+    // The slot w took the bytes `before` at its start, then the 44 zeros of a blank, and takes `text` next.
     ensures each { (w before text : List ℕ)
         → front_cost (put_bytes (put_bytes w 0 before) 0 (replicate 44 0)) text ≤ 256 + changed_len before 0 text }
 {}

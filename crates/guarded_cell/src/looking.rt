@@ -19,11 +19,11 @@ use std::alloc::{AllocError, Global};
 /// A text that some copies hold.
 #[derive(Debug, Drop)]
 pub struct Seen {
-    /// At least 1.
+    /// The generation of the text, at least 1.
     pub generation: u64,
     /// The bytes of the text, at most as many as one seal can hold.
     pub text: Bytes,
-    /// Those that hold it, counted from 1 and ascending.
+    /// The copies that hold it, counted from 1 and ascending.
     pub copies: Numbers,
 }
 
@@ -36,19 +36,22 @@ pub struct Looked {
     pub slots: Slots,
 }
 
-/// Every text that some copy holds, greatest generation first, then by first copy, and which slots hold one. It begins
-/// with a sync, reads each slot once and writes nothing.
+/// Every text that some copy of the place holds, greatest generation first, then by first copy, and which slots hold
+/// one. It begins with a sync, reads each slot once and writes nothing.
 ///
 /// # Errors
 ///
-/// Never `Corrupt`.
+/// `Device` where the disk fails, and `OutOfMemory`. Never `Corrupt`.
 pub fn look<D: Disk>(alloc: Global, disk: &mut D, place: Place) -> Result<Looked, CellError>
+    // All texts that are held, and all slots that hold one; each text could be sealed again.
     ensures held { IsTrue D.told → IfOk result (λ looked. looked.seens.items
         ≡ held (D.medium disk.old).image place) }
     ensures slots { IsTrue D.told → IfOk result (λ looked.
         IsSlotsOf (D.medium disk.old).image place looked.slots) }
     ensures sealable { IfOk result (λ looked. All IsSealable looked.seens.items) }
 
+    // Nothing is pending at the end, and no byte changes; on a disk where nothing was pending, nothing is at any
+    // moment.
     ensures quiet { OnOk result (Quiet (D.medium disk.new)) }
     ensures image { (D.medium disk.new).image ≡ (D.medium disk.old).image }
     ensures idle { Quiet (D.medium disk.old) → IsIdle (D.medium disk.old) (D.medium disk.new) }
@@ -194,6 +197,7 @@ fn place_in(seens: &[Seen], generation: u64, text: &[u8]) -> usize
     seens.len()
 }
 
+// A text that one copy so far holds.
 fn first_seen(alloc: Global, copy: u32, generation: u64, text: &[u8]) -> Result<Seen, AllocError>
     ensures { IfOk result (λ seen. seen ≡ record { generation = generation; text = text.now; copies = copy ∷ [] }) }
 {
@@ -206,6 +210,7 @@ fn first_seen(alloc: Global, copy: u32, generation: u64, text: &[u8]) -> Result<
     })
 }
 
+// Adds a copy, by its number from 1, to those that hold a text.
 fn add_copy(alloc: Global, seen: &mut Seen, copy: u32) -> Result<(), AllocError>
     ensures { OnOk result (seen.new ≡ record seen.old { copies = seen.old.copies ++ copy ∷ [] }) }
 {

@@ -33,11 +33,12 @@ pub struct OpenedCell {
 }
 
 /// Finds the text that stands, which is of those that at least `m` copies hold the one of the greatest generation, and
-/// at one generation the one whose first copy is lowest, and brings every copy to it. It begins with a sync.
+/// at one generation the one whose first copy is lowest, and brings every copy of the place to it. It begins with a
+/// sync.
 ///
 /// # Errors
 ///
-/// `Corrupt` exactly where no text stands, and then nothing was written.
+/// `Corrupt` only where no text stands, and then nothing was written; `Device` where the disk fails; `OutOfMemory`.
 pub fn open_cell<D: Disk>(
     alloc: Global,
     disk: &mut D,
@@ -46,6 +47,8 @@ pub fn open_cell<D: Disk>(
 ) -> Result<OpenedCell, CellError>
     requires { 1 ≤ m }
 
+    // The text is what stood, `lacking` are the copies that did not hold it, every copy holds it alone now, and nothing
+    // is pending.
     ensures place { IfOk result (λ opened. place_of opened.cell ≡ place) }
     ensures stands { IsTrue D.told → IfOk result (λ opened.
         StandsAs (standing (D.medium disk.old).image place m) (generation_of opened.cell)
@@ -56,7 +59,8 @@ pub fn open_cell<D: Disk>(
     ensures held { IsTrue D.told → IfOk result (λ opened. CellAt (D.medium disk.new).image opened.cell opened.text) }
     ensures quiet { OnOk result (Quiet (D.medium disk.new)) }
 
-    // Where nothing stands, nothing is written; nor is it where memory runs out.
+    // `Corrupt` comes only where nothing stands, and then nothing is written, and nothing is pending; nor is anything
+    // written where memory runs out.
     ensures corrupt { IsTrue D.told → IsErrOf result CellError.Corrupt
         → standing (D.medium disk.old).image place m ≡ None }
     ensures not_written { IsErrOf result CellError.Corrupt → (D.medium disk.new).image ≡ (D.medium disk.old).image }
@@ -71,6 +75,7 @@ pub fn open_cell<D: Disk>(
     // Only slots of the place change, and none that is right already. A stop at any moment leaves every copy what it
     // held or every copy the text that stood.
     ensures opens { OpensRegister D.told place m (D.medium disk.old) (D.medium disk.new) }
+    // At most the sealed text and a blank are written for each copy.
     ensures written { IfOk result (λ opened.
         (D.medium disk.new).written ≤ (D.medium disk.old).written
         + place.copies * (header + length opened.text + header)) }
@@ -85,8 +90,9 @@ pub fn open_cell<D: Disk>(
     }
 }
 
-/// The text that stands among those that [`look`] gave: the first that at least `m` copies hold. Neither allocates
-/// nor calls the disk, so that a text can be judged before [`adopt_seen`](crate::adopt_seen) brings every copy to it.
+/// The text that stands among those that [`look`] gave: the first that at least `m` copies hold, if any. Neither
+/// allocates nor calls the disk, so that a text can be judged before [`adopt_seen`](crate::adopt_seen) brings every
+/// copy to it.
 pub fn standing_among(seens: Vec<Seen>, m: u32) -> Option<Seen>
     ensures { result ≡ standing_in m seens.items }
 {

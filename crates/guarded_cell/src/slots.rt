@@ -18,7 +18,8 @@ pub(crate) const FRONT: usize = HEADER + MAX_BODY;
 /// The greatest number of copies of a place.
 pub(crate) const MAX_COPIES: usize = 8;
 
-/// Which slots of a place hold a text, be its generation of the slot's parity or not.
+/// Which slots of a place hold a text, be its generation of the slot's parity or not: a flag for each copy's even slot,
+/// and for its odd one.
 #[derive(Clone, Copy, Debug)]
 pub struct Slots {
     pub(crate) even: [bool; MAX_COPIES],
@@ -163,7 +164,8 @@ fn is_picked(pick: Pick, found: Found) -> bool
     }
 }
 
-/// Which copies are picked, by their slots of this parity.
+/// Which copies are picked, by their slots of this parity, where this text under this generation is wanted: a flag for
+/// each. `room` is a buffer for the start of a slot.
 pub(crate) fn choose<D: Disk>(
     disk: &mut D,
     place: Place,

@@ -17,7 +17,7 @@ use changed_runs::write_changed;
 use disk_model::{Disk, DiskFailed, Place};
 use hash_guard::{BLANK, HEADER};
 
-/// Writes the bytes at the starts of the chosen slots of one parity.
+/// Writes the bytes at the starts of the chosen slots of one parity; `chosen` has a flag for each copy.
 pub(crate) fn write_starts<D: Disk>(
     disk: &mut D,
     place: Place,

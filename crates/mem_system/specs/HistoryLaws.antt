@@ -60,11 +60,12 @@ sound_after_calls : (calls : List Call) (s : FolderState) → IsSoundFolder s �
 sound_after_calls [] s sound = sound
 sound_after_calls (call ∷ calls) s sound = sound_after_calls calls (after_call call s) (sound_after call s sound)
 
+-- every folder with a record is sound in this sense
 pub is_bounded : (start : Image) (calls : List Call) → IsSoundFolder (state_after start calls)
 is_bounded start calls = sound_after_calls calls (all_durable start)
     (record { sure = λ f n is. is; free = λ f i free. absurd free })
 
--- what reads give is what some power loss leaves
+-- in a sound folder what reads give is what some power loss leaves
 pub gives_one : (s : FolderState) → IsSoundFolder s → (c : Case) × IsLeft s c × (c.left ≡ s.image)
 gives_one s sound = (
   record { base = s.base; full = s.full; left = s.image },
@@ -80,6 +81,7 @@ gives_one s sound = (
   refl,
 )
 
+-- a folder with a record obeys the laws of a disk
 pub folder_is_lawful : (start : Image) (calls : List Call) → IsLawful true (folder_after start calls).disk
 folder_is_lawful start calls =
     let all : take (length calls) calls ≡ calls = take_all (length calls) calls (le_refl _) in

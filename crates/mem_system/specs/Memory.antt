@@ -6,19 +6,19 @@ use Rattle.mem_system.specs.declared.memory.MemSystem.{MemSystem}
 use Rattle.mem_system.specs.declared.record.Call.{Call}
 use Rattle.mem_system.specs.History.{folder_after}
 
--- what is said of a system in memory as a system
+-- what is said of a folder in memory as a system, by the files at which its record began and the calls since
 abbrev pub mem_medium : MemSystem → SystemMedium
 mem_medium system = folder_after (image_of system.start) system.history.items
 
--- its record is this one, and began at the same files
+-- the new system's record is of these calls, and began at the same files as that of the old one
 pub record HasRecord (old new : MemSystem) (calls : List Call) : Type 0 where
   pub start_is : new.start ≡ old.start
   pub calls_are : new.history.items ≡ calls
 
--- nothing but counts changed
+-- the record is the same: nothing but counts changed
 abbrev pub SameRecord : MemSystem → MemSystem → Type 0
 SameRecord old new = HasRecord old new old.history.items
 
--- a call was added
+-- this call was added at the end of the record
 abbrev pub AddsCall : Call → MemSystem → MemSystem → Type 0
 AddsCall call old new = HasRecord old new (old.history.items ++ call ∷ [])

@@ -84,6 +84,7 @@ impl Device {
         Ok(())
     }
 
+    /// Writes, which the device does not have yet; what it overlaps is no longer dropped.
     fn write(&mut self, file: u32, at: u64, bytes: &[u8]) -> Result<(), AllocError> {
         put(self.alloc, &mut self.files, file, at, bytes)?;
         let stretch = Stretch {
@@ -103,6 +104,7 @@ impl Device {
         Ok(())
     }
 
+    /// Makes an empty file, whose name the device does not have yet.
     fn make(&mut self, file: u32) -> Result<(), AllocError> {
         self.files.insert(file, Vec::new(self.alloc))?;
         self.durable.insert(file, Vec::new(self.alloc))?;
@@ -110,6 +112,7 @@ impl Device {
         Ok(())
     }
 
+    /// Writes to the device what a file has where it was written, but for what was dropped.
     fn sync(&mut self, file: u32) -> Result<(), AllocError> {
         for unsynced in self.unsynced.iter() {
             let stretch = unsynced.stretch;
@@ -122,6 +125,7 @@ impl Device {
         Ok(())
     }
 
+    /// Drops all unsynced writes of a file.
     fn drop_writes(&mut self, file: u32) {
         for unsynced in self.unsynced.iter_mut() {
             if unsynced.stretch.file == file {
@@ -174,6 +178,7 @@ fn take_back(left: &mut Files, durable: &Files, stretch: Stretch, kept: Left) {
     }
 }
 
+/// A byte, with zeros past the end.
 fn byte_at(bytes: &[u8], place: usize) -> u8 {
     match bytes.get(place) {
         Some(byte) => *byte,

@@ -24,7 +24,8 @@ pub struct MemFile {
     pub(crate) number: u32,
 }
 
-/// The files of a folder, in memory. It keeps a record of the calls that changed something.
+/// The files of a folder, in memory. It keeps a record of the calls that changed or noted something, with which it can
+/// tell what a power loss leaves after each of them.
 #[derive(Drop)]
 pub struct MemSystem {
     alloc: Global,
@@ -53,7 +54,7 @@ impl MemSystem {
         }
     }
 
-    /// What the calls to come meet. They are counted from 0 again.
+    /// Sets what the calls to come meet: which of them fail. They are counted from 0 again.
     pub fn set_trouble(&mut self, trouble: Trouble) {
         self.calls = Calls::new(trouble);
     }
@@ -68,12 +69,13 @@ impl MemSystem {
         self.calls.syncs()
     }
 
-    /// How many calls changed or noted something, since the folder was made or power was lost.
+    /// How many calls changed or noted something since the record began: when the folder was made, spoiled or started
+    /// again, or power was lost.
     pub fn changes(&self) -> usize {
         self.history.len()
     }
 
-    /// The bytes of a file.
+    /// The bytes of the file of this number; none where there is no such file.
     pub fn bytes(&self, file: u32) -> &[u8] {
         bytes_of(&self.files, file)
     }
@@ -83,7 +85,7 @@ impl MemSystem {
         self.files == other.files
     }
 
-    /// Whether no write was lost by a failed sync: none of a file failed since the folder was made or power was lost.
+    /// Whether no write was lost by a failed sync: no sync of a file failed since the record of changes began.
     pub fn is_whole(&self) -> bool
         ensures { IsTrue result → (f : ℕ) → IsWhole (mem_medium self.now) f }
     {
@@ -114,9 +116,10 @@ impl MemSystem {
         MemSystem::holding(self.alloc, copy_of(&self.files)?, self.unreadable.clone()?)
     }
 
-    /// The folder after a power loss after the first of the changes. Of each write that was not synced there, two bits
-    /// of the seed, from the lowest on and over again after 32 writes, say what is left: nothing, all, the first half
-    /// or the second; of each name that was not, whether it is. What a sync failed to write is lost.
+    /// The folder after a power loss after so many of the changes, which are counted as by `changes`. Of each write
+    /// that was not synced there, two bits of the seed, from the lowest on and over again after 32 writes, say what is
+    /// left: nothing, all, the first half or the second; of each name that was not, whether it is. What a sync failed
+    /// to write is lost.
     pub fn power_loss(&self, changes: usize, seed: u64) -> Result<MemSystem, AllocError> {
         let mut device = Device::new(self.alloc, &self.start)?;
         device.replay(self.history.get(..changes).unwrap_or(&self.history))?;
@@ -352,10 +355,12 @@ impl System for MemSystem {
 /// The number of the error of a device that cannot do what it is asked.
 const DEVICE_ERROR: i32 = 5;
 
+/// The error of a call that a trouble lets fail.
 fn device_error() -> io::Error {
     io::Error::from_raw_os_error(DEVICE_ERROR)
 }
 
+/// The error of a call for which memory ran out.
 fn no_memory() -> io::Error {
     io::Error::from(io::ErrorKind::OutOfMemory)
 }

@@ -4,6 +4,7 @@
 /// settling do not count.
 #[derive(Clone, Copy, Debug, PartialEq, Eq)]
 pub enum Trouble {
+    /// No call fails.
     Nothing,
     /// The call of this number fails. Where it syncs a file, what was to be written is dropped.
     Call(u64),
@@ -40,10 +41,12 @@ impl Calls {
         }
     }
 
+    /// How many calls were made.
     pub(crate) fn calls(&self) -> u64 {
         self.calls
     }
 
+    /// How many of them were syncs.
     pub(crate) fn syncs(&self) -> u64 {
         self.syncs
     }

@@ -2,7 +2,7 @@
 
 ghost use Rattle.std.specs.Prelude.{◌≡◌, ◌<◌, ◌≤◌, ◌+◌, ℕ, slice_index};
 
-/// A stretch of a file.
+/// A stretch of a file: `len` bytes of the file of this number, from the byte `at` on.
 #[derive(Clone, Copy, Debug, PartialEq, Eq)]
 pub struct Stretch {
     pub file: u32,
@@ -11,6 +11,7 @@ pub struct Stretch {
 }
 
 impl Stretch {
+    /// The byte after the last one.
     fn end(self) -> u64 {
         self.at.saturating_add(self.len)
     }

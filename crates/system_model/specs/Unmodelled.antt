@@ -2,6 +2,7 @@
 use Rattle.system_model.specs.SystemMedium.{SystemMedium}
 use Rattle.disk_model.specs.Silence.{silent_medium}
 
+-- every file is empty, nothing is free or lost, and no power loss is spoken of
 abbrev pub unmodelled : SystemMedium
 unmodelled = record {
   disk = silent_medium 0;

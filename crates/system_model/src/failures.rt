@@ -5,13 +5,21 @@ use std::{fmt, io};
 /// What was asked of the system.
 #[derive(Clone, Copy, Debug, PartialEq, Eq)]
 pub enum Asked {
+    /// To open a file, or the folder.
     Open,
+    /// To make a file.
     Make,
+    /// To read a file.
     Read,
+    /// To write a file.
     Write,
+    /// How many bytes a file has.
     Size,
+    /// To sync a file, or the folder: to make it durable.
     Sync,
+    /// Which files the folder has.
     List,
+    /// To lock the folder for one process.
     Lock,
 }
 
@@ -33,6 +41,7 @@ impl Asked {
 /// Of which part of a folder it was asked.
 #[derive(Clone, Copy, Debug, PartialEq, Eq)]
 pub enum Part {
+    /// The folder itself.
     Folder,
     /// The file of this number of a disk.
     File(u32),
@@ -43,8 +52,11 @@ pub enum Part {
 /// A call of the system that failed: what was asked, of which part of the folder, and why it failed.
 #[derive(Clone, Copy, Debug)]
 pub struct Failure {
+    /// What was asked.
     pub asked: Asked,
+    /// Of which part of the folder.
     pub part: Part,
+    /// What the system answered.
     pub error: io::Error,
 }
 

@@ -13,46 +13,55 @@ use crate::reading::Reading;
 use std::alloc::Global;
 use std::io;
 
-/// The files of one folder, named by numbers, as the operating system has them.
-/// A byte is *free* while no sync since its last write covered it, and *lost* where a failed sync may have dropped it.
-/// What is said of bytes and of power losses holds where the system models them. A call that fails may be interrupted,
-/// or find no descriptor left: then it did nothing, as any other that fails, but for syncs.
+/// The files of one folder, named by numbers, as the operating system has them. Bytes of a file are counted from 0. A
+/// byte is *free* while no sync since its last write covered it, and *lost* where a failed sync may have dropped it. A
+/// name is *durable* once every power loss leaves it. What is said of bytes and of power losses holds where the system
+/// models them (`told`). A call that fails may be interrupted, or find no descriptor left: then it did nothing, as any
+/// other that fails, but for syncs.
+///
+/// In the clauses f is the number of a file, i that of a byte in it, n how many bytes, and c a case of a power loss.
+/// `Looks` says of a call that it changed no byte, and that no power loss leaves anything new; the clauses `time`, that
+/// the clock and the counts do not go back.
 pub trait System {
     /// A file that is open.
     type File: Drop;
 
-    /// Which file it is.
+    /// The number of the file.
     ghost number: { Self.File → ℕ };
 
     /// Whether the bytes of a system of this type are modelled.
     ghost told: { Bool };
 
-    /// What reads give, what a power loss may leave, and what is not durable yet.
+    /// What reads give, what a power loss may leave, which names are durable, and which bytes are free or lost.
     ghost medium: { Self → SystemMedium };
 
-    /// The files that the folder has: of any other neither reads nor a power loss give a byte. It changes nothing.
+    /// The numbers of the files that the folder has: of any other neither reads nor a power loss give a byte. It
+    /// changes nothing.
     fn list(&mut self, alloc: Global) -> io::Result<Vec<u32>>
         ensures others { IsTrue told → IfOk result (λ files. (f : ℕ) → ¬ (Contains files.items f)
             → IsAbsent (medium self.new) f) }
         ensures looks { Looks (medium self.old) (medium self.new) };
 
-    /// `false` only where no file stands in this place. What stands there instead may hold up whoever opens it.
+    /// Whether the folder has a file of this number: `false` only where none stands in its place. What stands there
+    /// instead, as a pipe, may hold up whoever opens it.
     fn is_file(&mut self, file: u32) -> io::Result<bool>
         ensures absent { IsTrue told → IfOk result (λ is. IsFalse is → IsAbsent (medium self.new) file) }
         ensures looks { Looks (medium self.old) (medium self.new) };
 
-    /// Opens the file for reading and writing, if the folder has it.
+    /// Opens the file of this number for reading and writing, if the folder has it.
     fn open(&mut self, file: u32) -> io::Result<Option<Self::File>>
         ensures number { IfOk result (λ found. IfSome found (λ it. number it ≡ file)) }
         ensures absent { IsTrue told → IfOk result (λ found. IfNone found (IsAbsent (medium self.new) file)) }
         ensures looks { Looks (medium self.old) (medium self.new) };
 
-    /// Gives what stands in the place of the file, and cannot be read, another name.
+    /// Gives what stands in the place of the file of this number, and cannot be read as one, another name. Of the file
+    /// no byte may be read.
     fn set_aside(&mut self, file: u32) -> io::Result<()>
         requires { IsTrue told → (medium self.old).disk.image file ≡ [] }
         ensures looks { Looks (medium self.old) (medium self.new) };
 
-    /// Makes the file, which the folder does not have, and opens it; no byte changes. Durable after `sync_folder`.
+    /// Makes the file of this number, which the folder does not have, and opens it; no byte changes. Its name is
+    /// durable after `sync_folder`.
     fn make(&mut self, file: u32) -> io::Result<Self::File>
         ensures number { IfOk result (λ it. number it ≡ file) }
         ensures reads { OnlyReads (medium self.old).disk (medium self.new).disk }
@@ -60,12 +69,14 @@ pub trait System {
         ensures free { (f i : ℕ) → (medium self.new).free f i ↔ (medium self.old).free f i }
         ensures lost { (f i : ℕ) → (medium self.new).lost f i → (medium self.old).lost f i };
 
-    /// Closes the file. Nothing of it may be free: the error of a later writing back would reach nobody.
+    /// Closes the file. Nothing of it may be free: an error of the device when it is written there later would reach
+    /// nobody.
     fn close(&mut self, file: Self::File)
         requires { IsTrue told → HasNothingFree (medium self.old) (number file) }
         ensures looks { Looks (medium self.old) (medium self.new) };
 
-    /// Reads some bytes from `at` on (sure if nothing of the file is lost), none only at its end or without room.
+    /// Reads some bytes of the file from `at` on into `out`, none only at its end or without room. They are those of
+    /// the file if nothing of it is lost.
     fn read(&mut self, file: &Self::File, at: u64, out: &mut [u8]) -> io::Result<Reading>
         ensures count { IfOk result (λ reading. read_count reading ≤ length out.old) }
         ensures gives { IsTrue told → IsWhole (medium self.old) (number file.now) → IfOk result (λ reading.
@@ -78,8 +89,10 @@ pub trait System {
             n ≡ length ((medium self.old).disk.image (number file.now))) }
         ensures looks { Looks (medium self.old) (medium self.new) };
 
-    /// Writes the bytes from `at` on, or some of the first of them. Where it fails no byte is written.
+    /// Writes the bytes from `at` on, or some of the first of them, and says how many. Where it fails no byte is
+    /// written.
     fn write(&mut self, file: &Self::File, at: u64, bytes: &[u8]) -> io::Result<usize>
+        // The first n bytes are written, and a power loss may leave any part of them, and meanwhile of all the bytes.
         ensures count { IfOk result (λ n. n ≤ length bytes.now) }
         ensures image { IsTrue told → IfOk result (λ n. (medium self.new).disk.image
             ≡ put_image (medium self.old).disk.image (number file.now) at (take n bytes.now)) }
@@ -104,9 +117,11 @@ pub trait System {
             → (IsTrue told → ShowsBytes ((medium self.old).disk.image (number file.now)) at bytes.now)
             → OnlyReads (medium self.old).disk (medium self.new).disk };
 
-    /// Makes the file durable, whoever wrote it, if nothing of it is lost and its name is durable. Where it fails, what
-    /// was free of it may be lost.
+    /// Makes the bytes of the file durable, whoever wrote them, if nothing of it is lost and its name is durable. Where
+    /// it fails, what was free of it may be lost.
     fn sync_file(&mut self, file: &Self::File) -> io::Result<()>
+        // A sync that succeeds: of a file of which nothing is lost nothing is free any more, and a power loss leaves
+        // it, where its name is durable. Nothing becomes lost, and of other files nothing becomes free.
         ensures safe { IsTrue told → OnOk result (IsWhole (medium self.old) (number file.now)
             → (medium self.old).named (number file.now) → IsSafe (medium self.new).disk (number file.now)) }
         ensures still { IsTrue told → OnOk result (IsWhole (medium self.old) (number file.now)
@@ -116,6 +131,8 @@ pub trait System {
         ensures others { IsTrue told → (f i : ℕ) → f ≢ number file.now
             → ((medium self.new).lost f i → (medium self.old).lost f i)
             × ((medium self.new).free f i ↔ (medium self.old).free f i) }
+
+        // A sync that fails: what was free of the file stays free, and may be lost. Nothing becomes free by any sync.
         ensures failed { IsTrue told → OnErr result ((i : ℕ)
             → ((medium self.new).free (number file.now) i ↔ (medium self.old).free (number file.now) i)
             × ((medium self.new).lost (number file.now) i
@@ -135,7 +152,8 @@ pub trait System {
         ensures reads { OnlyReads (medium self.old).disk (medium self.new).disk }
         ensures time { Elapses (medium self.old).disk (medium self.new).disk };
 
-    /// Notes that the writes to come serve this one. It changes no byte; an operating system has nothing to do.
+    /// Notes that the writes to come serve this one write of a disk, of these bytes from `at` on, so that the disk can
+    /// say of it that it is done whole or torn. It changes no byte; an operating system has nothing to do.
     fn announce(&mut self, file: u32, at: u64, bytes: &[u8]) -> io::Result<()>
         ensures image { (medium self.new).disk.image ≡ (medium self.old).disk.image }
         ensures now { OnOk result (Follows (AnnounceCase file at bytes.now) (medium self.old).disk.now
@@ -148,7 +166,8 @@ pub trait System {
         ensures lost { (f i : ℕ) → (medium self.new).lost f i → (medium self.old).lost f i }
         ensures failed { OnErr result (Looks (medium self.old) (medium self.new)) };
 
-    /// Notes that all that was announced is durable. It changes no byte; an operating system has nothing to do.
+    /// Notes that all that was announced is durable, as it is when a power loss leaves of every file what reads give.
+    /// It changes no byte; an operating system has nothing to do.
     fn settle(&mut self) -> io::Result<()>
         requires { IsTrue told → (f : ℕ) → IsSafe (medium self.old).disk f }
         ensures quiet { OnOk result (Quiet (medium self.new).disk) }
@@ -158,6 +177,7 @@ pub trait System {
         ensures free { (f i : ℕ) → (medium self.new).free f i ↔ (medium self.old).free f i }
         ensures lost { (f i : ℕ) → (medium self.new).lost f i → (medium self.old).lost f i }
         ensures failed { OnErr result (Looks (medium self.old) (medium self.new)) };
+
     /// A folder obeys the laws of a disk.
     ghost lawful: { (system : Self) → IsLawful told (medium system).disk };
 }
