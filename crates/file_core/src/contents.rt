@@ -10,7 +10,8 @@ use per_base::{Bytes, Content};
 use std::alloc::AllocError;
 use std::mem;
 
-/// Puts the piece into a readable content from there on, and gives the new length.
+/// Puts the piece into a readable content from the position `from` on, which is in it or at its end, and gives the new
+/// length in bytes.
 pub fn overwrite_content(
     content: &mut Content,
     from: usize,
@@ -21,6 +22,7 @@ pub fn overwrite_content(
     ensures ok { OnOk result (content.new ≡ Content.Good (overwritten from piece.now (readable_bytes content.old))) }
     ensures len { IfOk result (λ len. len ≡ length (overwritten from piece.now (readable_bytes content.old))) }
     ensures unchanged { OnErr result (content.new ≡ content.old) }
+    // Memory runs out only where the piece reaches past the end.
     ensures memory { OnErr result (length (readable_bytes content.old) < from + length piece.now) }
 {
     let Content::Good(bytes) = mem::replace(content, Content::Bad(None)) else {

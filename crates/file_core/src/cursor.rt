@@ -1,4 +1,4 @@
-//! A place in a content, and what may be done there.
+//! A position in a content, and what may be done there.
 
 ghost use Rattle.std.specs.Prelude.{◌≡◌, ◌<◌, ◌≤◌, cond, length, min, IfOk, IfErr, IfSome, OnOk, OnErr};
 ghost use Rattle.per_base.specs.Refusals.{IsDue, IsRefusal};
@@ -30,8 +30,8 @@ pub fn is_bad_mode(kind: OpenKind, mode: OpenMode) -> bool
     both_ends || (!writes(kind) && changes)
 }
 
-/// A place in a content: the kind of the opening, whether each write goes to the end, and the position in bytes from
-/// the beginning.
+/// A position in a content: the kind of the opening, whether each write goes to the end, and the position in bytes
+/// from the beginning.
 #[derive(Clone, Copy, Debug)]
 pub struct Cursor {
     pub kind: OpenKind,
@@ -40,7 +40,7 @@ pub struct Cursor {
 }
 
 impl Cursor {
-    /// The place of a new opening of a content of this size.
+    /// The cursor of a new opening of a content of this size in bytes: at its end where the flags say so, else at 0.
     pub fn new(kind: OpenKind, mode: OpenMode, size: u64) -> Cursor
         ensures placed { result ≡ places.opening_place kind mode size }
         ensures inside { result.position ≤ size }
@@ -101,6 +101,7 @@ impl Cursor {
         ensures ok { IfOk result (λ byte. places.get_byte self.old bytes.now ≡ Ok (byte, self.new)) }
         ensures refused { IfErr result (λ error. places.get_byte self.old bytes.now ≡ Err error) }
         ensures unchanged { OnErr result (self.new ≡ self.old) }
+        // The position stays in the content, and the kind is the same.
         ensures inside { self.old.position ≤ length bytes.now → self.new.position ≤ length bytes.now }
         ensures kind { self.new.kind ≡ self.old.kind }
     {
@@ -119,9 +120,11 @@ impl Cursor {
     pub fn read(&mut self, alloc: Global, bytes: &[u8], count: u64) -> Result<Vec<u8>, PerError>
         ensures ok { IfOk result (λ piece. places.read self.old bytes.now count ≡ Ok (piece.items, self.new)) }
         ensures refused { IfErr result (λ error. IsRefusal (places.read self.old bytes.now count) error) }
+        // Memory runs out only where bytes are due, not in the place of a refusal.
         ensures memory { IfErr result (λ error. error ≡ PerError.OutOfMemory
             → IsDue (places.read self.old bytes.now count)) }
         ensures unchanged { OnErr result (self.new ≡ self.old) }
+        // The position stays in the content, and the kind is the same.
         ensures inside { self.old.position ≤ length bytes.now → self.new.position ≤ length bytes.now }
         ensures kind { self.new.kind ≡ self.old.kind }
     {
@@ -140,9 +143,11 @@ impl Cursor {
     pub fn read_all(&mut self, alloc: Global, bytes: &[u8]) -> Result<Vec<u8>, PerError>
         ensures ok { IfOk result (λ piece. places.read_all self.old bytes.now ≡ Ok (piece.items, self.new)) }
         ensures refused { IfErr result (λ error. IsRefusal (places.read_all self.old bytes.now) error) }
+        // Memory runs out only where bytes are due, not in the place of a refusal.
         ensures memory { IfErr result (λ error. error ≡ PerError.OutOfMemory
             → IsDue (places.read_all self.old bytes.now)) }
         ensures unchanged { OnErr result (self.new ≡ self.old) }
+        // The position stays in the content, and the kind is the same.
         ensures inside { self.old.position ≤ length bytes.now → self.new.position ≤ length bytes.now }
         ensures kind { self.new.kind ≡ self.old.kind }
     {
@@ -165,9 +170,11 @@ impl Cursor {
     ) -> Result<Vec<u8>, PerError>
         ensures ok { IfOk result (λ piece. places.read_line self.old bytes.now delimiter ≡ Ok (piece.items, self.new)) }
         ensures refused { IfErr result (λ error. IsRefusal (places.read_line self.old bytes.now delimiter) error) }
+        // Memory runs out only where bytes are due, not in the place of a refusal.
         ensures memory { IfErr result (λ error. error ≡ PerError.OutOfMemory
             → IsDue (places.read_line self.old bytes.now delimiter)) }
         ensures unchanged { OnErr result (self.new ≡ self.old) }
+        // The position stays in the content, and the kind is the same.
         ensures inside { self.old.position ≤ length bytes.now → self.new.position ≤ length bytes.now }
         ensures kind { self.new.kind ≡ self.old.kind }
     {
@@ -187,6 +194,7 @@ impl Cursor {
         ensures ok { OnOk result (places.set_position self.old size position ≡ Ok self.new) }
         ensures refused { IfErr result (λ error. places.set_position self.old size position ≡ Err error) }
         ensures unchanged { OnErr result (self.new ≡ self.old) }
+        // The position stays in the content, and the kind is the same.
         ensures inside { self.old.position ≤ size → self.new.position ≤ size }
         ensures kind { self.new.kind ≡ self.old.kind }
     {
@@ -206,6 +214,7 @@ impl Cursor {
         ensures ok { IfOk result (λ at. places.move_position self.old size origin offset ≡ Ok (at, self.new)) }
         ensures refused { IfErr result (λ error. places.move_position self.old size origin offset ≡ Err error) }
         ensures unchanged { OnErr result (self.new ≡ self.old) }
+        // The position stays in the content, and the kind is the same.
         ensures inside { self.old.position ≤ size → self.new.position ≤ size }
         ensures kind { self.new.kind ≡ self.old.kind }
     {
@@ -220,8 +229,8 @@ impl Cursor {
         Ok(target)
     }
 
-    /// Where the next write begins in a content of this size: at its end where the cursor appends, else at the position
-    /// or at the end, whichever comes first.
+    /// The position where the next write begins in a content of this size: its end where the cursor appends, else the
+    /// position of the cursor, or the end where that is above it.
     pub fn write_place(&self, size: usize) -> usize
         ensures { result ≡ cond self.now.append size (min self.now.position size) }
     {

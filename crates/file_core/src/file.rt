@@ -91,6 +91,7 @@ impl File {
 
     /// The bytes; an unreadable file gives none.
     pub fn bytes(&self) -> &[u8]
+        // They are at most 1,048,576, and for a readable file as many as its length says.
         ensures bytes { result.now ≡ readable_bytes self.now.content }
         ensures small { length result.now ≤ 1048576 }
         ensures len { IsTrue (is_readable self.now.content) → length result.now ≡ self.now.len }
@@ -101,7 +102,7 @@ impl File {
         }
     }
 
-    /// Notes an opening in the info.
+    /// Notes in the info that the file is opened at this moment.
     pub fn open(&mut self, now: u64)
         ensures { self.new ≡ opened_at now self.old }
     {
@@ -118,8 +119,10 @@ impl File {
         self.content = Content::Good(bytes);
     }
 
-    /// Makes the salvage of an unreadable file its content, where there is a salvage. Does not allocate.
+    /// Makes the salvage of an unreadable file its content, where there is a salvage, and says whether it did. Does not
+    /// allocate.
     pub fn recover(&mut self, now: u64) -> bool
+        // Where it did, the salvage is the content, changed now by a recovery; else the file had none, and stays.
         ensures recovered { OnTrue result ((salvage : List ℕ) × (self.old.content ≡ Content.Bad (Some salvage))
             × (self.new ≡ changed_to salvage now Cause.Recovery self.old)) }
         ensures unchanged { OnFalse result ((self.new ≡ self.old) × NoSalvage self.old.content) }
@@ -133,7 +136,8 @@ impl File {
         true
     }
 
-    /// Writes the piece from the place of the cursor on, which then stands past it. An empty piece changes nothing.
+    /// Writes the piece at the moment `now`: from the position of the cursor on, or with append from the end on. The
+    /// cursor then stands past it. An empty piece changes nothing. `room` says what all else of the storage takes.
     ///
     /// # Errors
     ///
@@ -146,14 +150,17 @@ impl File {
         now: u64,
         room: Room,
     ) -> Result<(), PerError>
+        // The file is readable; what all else takes is bounded, so that no sum with it overflows.
         requires good { IsTrue (is_readable self.old.content) }
         requires bounded { room.others ≤ 2 ^ 32 }
         ensures ok { OnOk result (written cursor.old self.old piece.now now room ≡ Ok (cursor.new, self.new)) }
         ensures refused { IfErr result (λ error. IsRefusal (written cursor.old self.old piece.now now room) error) }
         ensures unchanged { OnErr result ((self.new ≡ self.old) × (cursor.new ≡ cursor.old)) }
+        // A position in the file stays in it, the file stays readable and the kind of the cursor the same.
         ensures inside { cursor.old.position ≤ self.old.len → cursor.new.position ≤ self.new.len }
         ensures good { IsTrue (is_readable self.new.content) }
         ensures kind { cursor.new.kind ≡ cursor.old.kind }
+        // A storage that is within what it is allowed stays so; only a kind that writes has written.
         ensures within { room.others + self.old.len ≤ room.allowed → room.others + self.new.len ≤ room.allowed }
         ensures writer { OnOk result (IsTrue (places.writes cursor.old.kind)) }
         // `OutOfMemory` never replaces a refusal; it comes only where the file grows.
@@ -180,7 +187,7 @@ impl File {
         Ok(())
     }
 
-    /// Cuts the content to this size, and the position with it. Does not allocate.
+    /// Cuts the content to this size at the moment `now`; a position above becomes the size. Does not allocate.
     ///
     /// # Errors
     ///
@@ -190,6 +197,8 @@ impl File {
         ensures ok { OnOk result (cut cursor.old self.old size now ≡ Ok (cursor.new, self.new)) }
         ensures refused { IfErr result (λ error. cut cursor.old self.old size now ≡ Err error) }
         ensures unchanged { OnErr result ((self.new ≡ self.old) × (cursor.new ≡ cursor.old)) }
+        // A position in the file stays in it, the file stays readable and the kind of the cursor the same; the file
+        // does not grow, and only a kind that writes has cut it.
         ensures inside { cursor.old.position ≤ self.old.len → cursor.new.position ≤ self.new.len }
         ensures good { IsTrue (is_readable self.new.content) }
         ensures kind { cursor.new.kind ≡ cursor.old.kind }

@@ -56,7 +56,8 @@ impl KeyElement {
         }
     }
 
-    /// The key that this entry is: bytes that encode no value are unreadable, and no salvage.
+    /// The key that this entry of a storage is: bytes that encode no value are unreadable, and no salvage. The error is
+    /// that memory ran out.
     pub fn judge(alloc: Global, entry: &Entry) -> Result<KeyElement, AllocError>
         requires { IsKeyEntry entry.now }
         ensures { IfOk result (λ key. key ≡ key_judged (entry_element entry.now)) }
