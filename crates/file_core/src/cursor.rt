@@ -101,7 +101,7 @@ impl Cursor {
         ensures ok { IfOk result (λ byte. places.get_byte self.old bytes.now ≡ Ok (byte, self.new)) }
         ensures refused { IfErr result (λ error. places.get_byte self.old bytes.now ≡ Err error) }
         ensures unchanged { OnErr result (self.new ≡ self.old) }
-        // The position stays in the content, and the kind is the same.
+        // A position in the content stays in it, and the kind is the same.
         ensures inside { self.old.position ≤ length bytes.now → self.new.position ≤ length bytes.now }
         ensures kind { self.new.kind ≡ self.old.kind }
     {
@@ -120,11 +120,11 @@ impl Cursor {
     pub fn read(&mut self, alloc: Global, bytes: &[u8], count: u64) -> Result<Vec<u8>, PerError>
         ensures ok { IfOk result (λ piece. places.read self.old bytes.now count ≡ Ok (piece.items, self.new)) }
         ensures refused { IfErr result (λ error. IsRefusal (places.read self.old bytes.now count) error) }
-        // Memory runs out only where bytes are due, not in the place of a refusal.
+        // Memory runs out only where bytes are due, not instead of a refusal.
         ensures memory { IfErr result (λ error. error ≡ PerError.OutOfMemory
             → IsDue (places.read self.old bytes.now count)) }
         ensures unchanged { OnErr result (self.new ≡ self.old) }
-        // The position stays in the content, and the kind is the same.
+        // A position in the content stays in it, and the kind is the same.
         ensures inside { self.old.position ≤ length bytes.now → self.new.position ≤ length bytes.now }
         ensures kind { self.new.kind ≡ self.old.kind }
     {
@@ -143,11 +143,11 @@ impl Cursor {
     pub fn read_all(&mut self, alloc: Global, bytes: &[u8]) -> Result<Vec<u8>, PerError>
         ensures ok { IfOk result (λ piece. places.read_all self.old bytes.now ≡ Ok (piece.items, self.new)) }
         ensures refused { IfErr result (λ error. IsRefusal (places.read_all self.old bytes.now) error) }
-        // Memory runs out only where bytes are due, not in the place of a refusal.
+        // Memory runs out only where bytes are due, not instead of a refusal.
         ensures memory { IfErr result (λ error. error ≡ PerError.OutOfMemory
             → IsDue (places.read_all self.old bytes.now)) }
         ensures unchanged { OnErr result (self.new ≡ self.old) }
-        // The position stays in the content, and the kind is the same.
+        // A position in the content stays in it, and the kind is the same.
         ensures inside { self.old.position ≤ length bytes.now → self.new.position ≤ length bytes.now }
         ensures kind { self.new.kind ≡ self.old.kind }
     {
@@ -170,11 +170,11 @@ impl Cursor {
     ) -> Result<Vec<u8>, PerError>
         ensures ok { IfOk result (λ piece. places.read_line self.old bytes.now delimiter ≡ Ok (piece.items, self.new)) }
         ensures refused { IfErr result (λ error. IsRefusal (places.read_line self.old bytes.now delimiter) error) }
-        // Memory runs out only where bytes are due, not in the place of a refusal.
+        // Memory runs out only where bytes are due, not instead of a refusal.
         ensures memory { IfErr result (λ error. error ≡ PerError.OutOfMemory
             → IsDue (places.read_line self.old bytes.now delimiter)) }
         ensures unchanged { OnErr result (self.new ≡ self.old) }
-        // The position stays in the content, and the kind is the same.
+        // A position in the content stays in it, and the kind is the same.
         ensures inside { self.old.position ≤ length bytes.now → self.new.position ≤ length bytes.now }
         ensures kind { self.new.kind ≡ self.old.kind }
     {
@@ -194,7 +194,7 @@ impl Cursor {
         ensures ok { OnOk result (places.set_position self.old size position ≡ Ok self.new) }
         ensures refused { IfErr result (λ error. places.set_position self.old size position ≡ Err error) }
         ensures unchanged { OnErr result (self.new ≡ self.old) }
-        // The position stays in the content, and the kind is the same.
+        // A position in the content stays in it, and the kind is the same.
         ensures inside { self.old.position ≤ size → self.new.position ≤ size }
         ensures kind { self.new.kind ≡ self.old.kind }
     {
@@ -214,7 +214,7 @@ impl Cursor {
         ensures ok { IfOk result (λ at. places.move_position self.old size origin offset ≡ Ok (at, self.new)) }
         ensures refused { IfErr result (λ error. places.move_position self.old size origin offset ≡ Err error) }
         ensures unchanged { OnErr result (self.new ≡ self.old) }
-        // The position stays in the content, and the kind is the same.
+        // A position in the content stays in it, and the kind is the same.
         ensures inside { self.old.position ≤ size → self.new.position ≤ size }
         ensures kind { self.new.kind ≡ self.old.kind }
     {

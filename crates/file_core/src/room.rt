@@ -15,8 +15,8 @@ pub struct Room {
 }
 
 impl Room {
-    /// What refuses a content of this length in bytes: `LimitReached` with `FileBytes`, then `OutOfStorageSpace`. Does not
-    /// allocate.
+    /// What refuses a content of this length in bytes: `LimitReached` with `FileBytes`, then `OutOfStorageSpace`. Does
+    /// not allocate.
     pub fn too_long(self, len: u64) -> Option<PerError>
         // So that no sum of bytes overflows.
         requires { self.others ≤ 2 ^ 32 }

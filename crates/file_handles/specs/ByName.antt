@@ -26,7 +26,7 @@ found (Some file) call = call file
 abbrev pub current_file_size : Map → List ℕ → Result ℕ PerError
 current_file_size files name = found (element_at files name) (λ file. Ok file.len)
 
--- the info; every file has one
+-- the info, which every file has, or `FileNotFound` where there is none
 abbrev pub info_or : Option FileInfo → Result FileInfo PerError
 info_or None = Err FileNotFound
 info_or (Some info) = Ok info

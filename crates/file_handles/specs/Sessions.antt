@@ -98,8 +98,8 @@ with_cursor s number handle cursor = record s {
       with_handle s.handles number (record handle { cursor = cursor });
 }
 
--- how many bytes all else takes beside the content of this name, where this stands under it: the names, that one
--- included, and the other contents
+-- how many bytes all but the content of this name take in the storage, the name included; what is last given is the
+-- file of this name, if there is one
 abbrev pub others : Map → List ℕ → Option Element → ℕ
 others files name None = size_of files + length name
 others files name (Some file) = size_of files - file.len

@@ -45,12 +45,12 @@ put_whole storage s name bytes now =
 
 -- ---- what was asked first is not refused midway
 
--- where a file may be opened for reading, its whole content is given
+-- where a file may be opened for reading, its whole content is given and not refused midway
 abbrev pub CatLaw : Type 0
 CatLaw = (storage : Storage) (s : Session) (name : List ℕ) (now : ℕ) → can_open storage s name Read plain ≡ None
     → IsDue (cat storage s name now)
 
--- where a file may be opened for writing and the bytes fit, they become its content
+-- where a file may be opened for writing and the bytes fit, putting them is not refused midway
 abbrev pub PutLaw : Type 0
 PutLaw = (storage : Storage) (s : Session) (name bytes : List ℕ) (now : ℕ)
     → IsStrictlySortedBy name_cmp (keys_of s.files)

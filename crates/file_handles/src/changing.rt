@@ -23,6 +23,7 @@ impl FileTable {
             ≡ Ok self.new.session) }
         ensures refused { IfErr result (λ error. IsRefusal
             (calls.write self.old.storage self.old.session self.old.moment number piece.now) error) }
+        // Memory runs out only where nothing refuses the call and the piece reaches past the end of the file.
         ensures due { IfErr result (λ error. error ≡ PerError.OutOfMemory
             → IsDue (calls.write self.old.storage self.old.session self.old.moment number piece.now)) }
         ensures memory { IfErr result (λ error. error ≡ PerError.OutOfMemory

@@ -13,7 +13,7 @@ use per_base::{Bytes, Cause, Name, OpenKind, OpenMode, PerError};
 use std::alloc::Global;
 
 impl FileTable {
-    /// The whole content of a file.
+    /// The whole content of a file, as a reader gets it that opens the file with no flag and closes it again.
     ///
     /// # Errors
     ///
@@ -22,9 +22,11 @@ impl FileTable {
         ensures ok { IfOk result (λ content. cat self.old.storage self.old.session name.now now
             ≡ Ok (content.items, self.new.session)) }
         ensures refused { IfErr result (λ error. IsRefusal (cat self.old.storage self.old.session name.now now) error) }
+        // Memory runs out where the call is not to be refused, or for the names that `IntegrityCorrupted` carries.
         ensures memory { IfErr result (λ error. error ≡ PerError.OutOfMemory
             → NeedsMemory (cat self.old.storage self.old.session name.now now)) }
         ensures unchanged { OnErr result (self.new ≡ self.old) }
+        // The moment is then this one, and the storage stays.
         ensures storage { self.new.storage ≡ self.old.storage }
         ensures moment { OnOk result (self.new.moment ≡ now) }
     {
@@ -38,8 +40,9 @@ impl FileTable {
         Ok(content)
     }
 
-    /// Makes these bytes the content of a file, which is made where it is missing. Whether it may be opened and whether
-    /// they fit is asked first, and they are copied before anything changes.
+    /// Makes these bytes the content of a file, which is made where it is missing, as a writer does that truncates the
+    /// file, writes them and closes it again. Whether it may be opened and whether they fit is asked first, and they
+    /// are copied before anything changes.
     ///
     /// # Errors
     ///
@@ -49,9 +52,11 @@ impl FileTable {
             ≡ Ok self.new.session) }
         ensures refused { IfErr result (λ error. IsRefusal
             (put_whole self.old.storage self.old.session name.now bytes.now now) error) }
+        // Memory runs out where the call is not to be refused, or for the names that `IntegrityCorrupted` carries.
         ensures memory { IfErr result (λ error. error ≡ PerError.OutOfMemory
             → NeedsMemory (put_whole self.old.storage self.old.session name.now bytes.now now)) }
         ensures unchanged { OnErr result (self.new ≡ self.old) }
+        // The moment is then this one, and the storage stays.
         ensures storage { self.new.storage ≡ self.old.storage }
         ensures moment { OnOk result (self.new.moment ≡ now) }
     {

@@ -24,7 +24,7 @@ impl FileTable {
         handle.cursor.peek_byte(file.bytes())
     }
 
-    /// The next byte, which the position passes. Does not allocate.
+    /// The next byte of the handle's file, which the position passes. Does not allocate.
     ///
     /// # Errors
     ///
@@ -46,7 +46,7 @@ impl FileTable {
         Ok(byte)
     }
 
-    /// That many bytes, or the rest where fewer are left; the position passes them.
+    /// That many bytes of the handle's file, or the rest where fewer are left; the position passes them.
     ///
     /// # Errors
     ///
@@ -56,6 +56,7 @@ impl FileTable {
         ensures ok { IfOk result (λ piece. calls.read self.old.session number count
             ≡ Ok (piece.items, self.new.session)) }
         ensures refused { IfErr result (λ error. IsRefusal (calls.read self.old.session number count) error) }
+        // Memory runs out only where bytes are due, not instead of a refusal.
         ensures memory { IfErr result (λ error. error ≡ PerError.OutOfMemory
             → IsDue (calls.read self.old.session number count)) }
         ensures unchanged { OnErr result (self.new ≡ self.old) }
@@ -72,7 +73,7 @@ impl FileTable {
         Ok(piece)
     }
 
-    /// The rest, which the position passes.
+    /// What is left of the handle's file from the position on; the position is then at its end.
     ///
     /// # Errors
     ///
@@ -82,6 +83,7 @@ impl FileTable {
         ensures ok { IfOk result (λ piece. calls.read_all self.old.session number
             ≡ Ok (piece.items, self.new.session)) }
         ensures refused { IfErr result (λ error. IsRefusal (calls.read_all self.old.session number) error) }
+        // Memory runs out only where bytes are due, not instead of a refusal.
         ensures memory { IfErr result (λ error. error ≡ PerError.OutOfMemory
             → IsDue (calls.read_all self.old.session number)) }
         ensures unchanged { OnErr result (self.new ≡ self.old) }
@@ -108,6 +110,7 @@ impl FileTable {
         ensures ok { IfOk result (λ piece. calls.read_line self.old.session number delimiter
             ≡ Ok (piece.items, self.new.session)) }
         ensures refused { IfErr result (λ error. IsRefusal (calls.read_line self.old.session number delimiter) error) }
+        // Memory runs out only where bytes are due, not instead of a refusal.
         ensures memory { IfErr result (λ error. error ≡ PerError.OutOfMemory
             → IsDue (calls.read_line self.old.session number delimiter)) }
         ensures unchanged { OnErr result (self.new ≡ self.old) }
@@ -139,7 +142,7 @@ impl FileTable {
         }
     }
 
-    /// The position of the handle. Does not allocate.
+    /// The position of the handle, in bytes from the beginning of its file. Does not allocate.
     ///
     /// # Errors
     ///
@@ -190,7 +193,8 @@ impl FileTable {
         Ok(())
     }
 
-    /// Moves the handle by an offset from the origin, and gives the new position. Does not allocate.
+    /// Moves the handle by an offset in bytes from the origin, which is the beginning, the position or the end of its
+    /// file, and gives the new position. Does not allocate.
     ///
     /// # Errors
     ///

@@ -31,6 +31,7 @@ impl Files {
     /// `OutOfMemory`.
     pub fn all_file_names(&self) -> Result<Vec<Name>, PerError>
         ensures names { IfOk result (λ names. names.items ≡ names_of self.now.session.files) }
+        // The only error is that memory ran out.
         ensures memory { IfErr result (λ error. error ≡ PerError.OutOfMemory) }
     {
         self.table.all_file_names()
@@ -60,14 +61,14 @@ impl Files {
         self.table.file_info(name)
     }
 
-    /// The size of the working files: names and contents. Does not allocate.
+    /// The size of the working files in bytes: names and contents. Does not allocate.
     pub fn current_size(&self) -> u64
         ensures { result ≡ size_of self.now.session.files }
     {
         self.table.current_size()
     }
 
-    /// Sets the time that is recorded in files that are written or truncated from now on. Does not allocate.
+    /// Sets the time, in seconds, that is recorded in files that are written or cut from now on. Does not allocate.
     pub fn set_now(&mut self, now: u64)
         ensures { self.new ≡ record self.old { moment = now } }
     {
@@ -104,7 +105,7 @@ impl Files {
         ensures refused { IfErr result (λ error. IsRefusal
             (calls.recover_file (storage_of self.old.config) self.old.session name.now now
             (initial_content self.old.config name.now)) error) }
-        // `OutOfMemory` never comes in the place of a refusal, and only where the initial content is copied.
+        // `OutOfMemory` never comes instead of a refusal, and only where the initial content is copied.
         ensures memory { IfErr result (λ error. error ≡ PerError.OutOfMemory
             → IsDue (calls.recover_file (storage_of self.old.config) self.old.session name.now now
             (initial_content self.old.config name.now))) }
@@ -132,7 +133,7 @@ impl Files {
         ensures refused { IfErr result (λ error. IsRefusal
             (calls.reset_file (storage_of self.old.config) self.old.session name.now now
             (initial_content self.old.config name.now)) error) }
-        // `OutOfMemory` never comes in the place of a refusal.
+        // `OutOfMemory` never comes instead of a refusal.
         ensures memory { IfErr result (λ error. error ≡ PerError.OutOfMemory
             → IsDue (calls.reset_file (storage_of self.old.config) self.old.session name.now now
             (initial_content self.old.config name.now))) }

@@ -23,7 +23,7 @@ impl Files {
             bytes.now ≡ Ok self.new.session) }
         ensures refused { IfErr result (λ error. IsRefusal
             (calls.write (storage_of self.old.config) self.old.session self.old.moment handle bytes.now) error) }
-        // `OutOfMemory` never comes in the place of a refusal, and only where the piece reaches past the file's end.
+        // `OutOfMemory` never comes instead of a refusal, and only where the piece reaches past the file's end.
         ensures due { IfErr result (λ error. error ≡ PerError.OutOfMemory
             → IsDue (calls.write (storage_of self.old.config) self.old.session self.old.moment handle bytes.now)) }
         ensures memory { IfErr result (λ error. error ≡ PerError.OutOfMemory

@@ -47,7 +47,7 @@ impl Files {
         ensures ok { IfOk result (λ piece. calls.read self.old.session handle count
             ≡ Ok (piece.items, self.new.session)) }
         ensures refused { IfErr result (λ error. IsRefusal (calls.read self.old.session handle count) error) }
-        // `OutOfMemory` never comes in the place of a refusal.
+        // `OutOfMemory` never comes instead of a refusal.
         ensures memory { IfErr result (λ error. error ≡ PerError.OutOfMemory
             → IsDue (calls.read self.old.session handle count)) }
         ensures beside { self.new ≡ record self.old { session = self.new.session } }
@@ -66,7 +66,7 @@ impl Files {
         ensures ok { IfOk result (λ piece. calls.read_all self.old.session handle
             ≡ Ok (piece.items, self.new.session)) }
         ensures refused { IfErr result (λ error. IsRefusal (calls.read_all self.old.session handle) error) }
-        // `OutOfMemory` never comes in the place of a refusal.
+        // `OutOfMemory` never comes instead of a refusal.
         ensures memory { IfErr result (λ error. error ≡ PerError.OutOfMemory
             → IsDue (calls.read_all self.old.session handle)) }
         ensures beside { self.new ≡ record self.old { session = self.new.session } }
@@ -85,7 +85,7 @@ impl Files {
         ensures ok { IfOk result (λ piece. calls.read_line self.old.session handle delimiter
             ≡ Ok (piece.items, self.new.session)) }
         ensures refused { IfErr result (λ error. IsRefusal (calls.read_line self.old.session handle delimiter) error) }
-        // `OutOfMemory` never comes in the place of a refusal.
+        // `OutOfMemory` never comes instead of a refusal.
         ensures memory { IfErr result (λ error. error ≡ PerError.OutOfMemory
             → IsDue (calls.read_line self.old.session handle delimiter)) }
         ensures beside { self.new ≡ record self.old { session = self.new.session } }

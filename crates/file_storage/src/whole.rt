@@ -9,7 +9,8 @@ use crate::files::Files;
 use per_base::{Name, PerError};
 
 impl Files {
-    /// The whole content of a file, as a reader gets it that opens the file with no flag and closes it again.
+    /// The whole content of a file, as a reader gets it that opens the file with no flag and closes it again. `now` is
+    /// the moment of the opening, in seconds.
     ///
     /// # Errors
     ///

@@ -86,7 +86,7 @@ impl KeySession {
     /// # Errors
     ///
     /// Those of `get_any`; `DataTypeMismatch` with the stored and the asked type where they differ; `OutOfMemory`, and
-    /// this only in the place of a refusal that carries names or texts.
+    /// this only instead of a refusal that carries names or texts.
     #[tactic(auto, using(crate::proofs::Contents::text_kept))]
     pub fn get_as(&self, name: &Name, asked: &ValueType) -> Result<&Value, PerError>
         // In the asked type each group of fields has 1 to 32 members.

@@ -25,7 +25,7 @@ impl KeySession {
         ensures ok { OnOk result (calls.recover_key self.old.config self.old.visible name.now ≡ Ok self.new.visible) }
         ensures refused { IfErr result (λ error. IsRefusal (calls.recover_key self.old.config self.old.visible name.now)
             error) }
-        // `OutOfMemory` never comes in the place of a refusal, and only where a salvage or an initial value is copied.
+        // `OutOfMemory` never comes instead of a refusal, and only where a salvage or an initial value is copied.
         ensures memory { IfErr result (λ error. error ≡ PerError.OutOfMemory
             → NeedsMemory (calls.recover_key self.old.config self.old.visible name.now)) }
         ensures copies { IfErr result (λ error. error ≡ PerError.OutOfMemory → (key : Element)
@@ -108,7 +108,7 @@ impl KeySession {
         // The refusal that is due, or `OutOfMemory`.
         ensures refused { IfErr result (λ error. IsRefusal (calls.reset_key self.old.config self.old.visible name.now)
             error) }
-        // `OutOfMemory` never comes in the place of a refusal.
+        // `OutOfMemory` never comes instead of a refusal.
         ensures memory { IfErr result (λ error. error ≡ PerError.OutOfMemory
             → NeedsMemory (calls.reset_key self.old.config self.old.visible name.now)) }
         ensures beside { self.new ≡ record self.old { visible = self.new.visible } }
