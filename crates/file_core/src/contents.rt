@@ -17,6 +17,7 @@ pub fn overwrite_content(
     from: usize,
     piece: &[u8],
 ) -> Result<usize, AllocError>
+    // The content is readable, and the piece begins in it or at its end.
     requires good { IsTrue (is_readable content.old) }
     requires inside { from ≤ length (readable_bytes content.old) }
     ensures ok { OnOk result (content.new ≡ Content.Good (overwritten from piece.now (readable_bytes content.old))) }
@@ -38,6 +39,7 @@ pub fn overwrite_content(
 
 /// Truncates a readable content to its first `size` bytes.
 pub fn truncate_content(content: &mut Content, size: usize)
+    // The content is readable.
     requires { IsTrue (is_readable content.old) }
     ensures { content.new ≡ Content.Good (take size (readable_bytes content.old)) }
 {
@@ -50,6 +52,7 @@ pub fn truncate_content(content: &mut Content, size: usize)
 
 /// Makes the salvage of an unreadable content the content, and gives its length; none where there is no salvage.
 pub fn recover_content(content: &mut Content) -> Option<usize>
+    // Where it gives a length, the content was unreadable and is its salvage; else it had none, and stays.
     ensures recovered { IfSome result (λ len. (salvage : List ℕ) × (content.old ≡ Content.Bad (Some salvage))
         × (content.new ≡ Content.Good salvage) × (len ≡ length salvage)) }
     ensures unchanged { IfNone result ((content.new ≡ content.old) × NoSalvage content.old) }

@@ -42,6 +42,7 @@ pub struct Cursor {
 impl Cursor {
     /// The cursor of a new opening of a content of this size in bytes: at its end where the flags say so, else at 0.
     pub fn new(kind: OpenKind, mode: OpenMode, size: u64) -> Cursor
+        // It is the one that `opening_place` says, and its position is in the content or at its end.
         ensures placed { result ≡ places.opening_place kind mode size }
         ensures inside { result.position ≤ size }
     {
@@ -85,6 +86,7 @@ impl Cursor {
     ///
     /// `IllegalReadAccess` for a kind that only writes; `IsEof` where nothing is left.
     pub fn peek_byte(&self, bytes: &[u8]) -> Result<u8, PerError>
+        // The answer, or the refusal that is due, is what `peek_byte` gives for this cursor.
         ensures ok { IfOk result (λ byte. places.peek_byte self.now bytes.now ≡ Ok byte) }
         ensures refused { IfErr result (λ error. places.peek_byte self.now bytes.now ≡ Err error) }
     {
@@ -98,6 +100,8 @@ impl Cursor {
     ///
     /// `IllegalReadAccess` for a kind that only writes; `IsEof` where nothing is left.
     pub fn get_byte(&mut self, bytes: &[u8]) -> Result<u8, PerError>
+        // The answer and the cursor after it, or the refusal that is due, are what `get_byte` gives for the cursor
+        // before.
         ensures ok { IfOk result (λ byte. places.get_byte self.old bytes.now ≡ Ok (byte, self.new)) }
         ensures refused { IfErr result (λ error. places.get_byte self.old bytes.now ≡ Err error) }
         ensures unchanged { OnErr result (self.new ≡ self.old) }
@@ -118,6 +122,8 @@ impl Cursor {
     /// `IllegalReadAccess` for a kind that only writes; `IsEof` where nothing is left, also for a count of 0;
     /// `OutOfMemory`.
     pub fn read(&mut self, alloc: Global, bytes: &[u8], count: u64) -> Result<Vec<u8>, PerError>
+        // The answer and the cursor after it, or the refusal that is due, are what `read` gives for the cursor
+        // before.
         ensures ok { IfOk result (λ piece. places.read self.old bytes.now count ≡ Ok (piece.items, self.new)) }
         ensures refused { IfErr result (λ error. IsRefusal (places.read self.old bytes.now count) error) }
         // Memory runs out only where bytes are due, not instead of a refusal.
@@ -141,6 +147,8 @@ impl Cursor {
     ///
     /// `IllegalReadAccess` for a kind that only writes; `IsEof` where nothing is left; `OutOfMemory`.
     pub fn read_all(&mut self, alloc: Global, bytes: &[u8]) -> Result<Vec<u8>, PerError>
+        // The answer and the cursor after it, or the refusal that is due, are what `read_all` gives for the cursor
+        // before.
         ensures ok { IfOk result (λ piece. places.read_all self.old bytes.now ≡ Ok (piece.items, self.new)) }
         ensures refused { IfErr result (λ error. IsRefusal (places.read_all self.old bytes.now) error) }
         // Memory runs out only where bytes are due, not instead of a refusal.
@@ -168,6 +176,8 @@ impl Cursor {
         bytes: &[u8],
         delimiter: u8,
     ) -> Result<Vec<u8>, PerError>
+        // The answer and the cursor after it, or the refusal that is due, are what `read_line` gives for the cursor
+        // before.
         ensures ok { IfOk result (λ piece. places.read_line self.old bytes.now delimiter ≡ Ok (piece.items, self.new)) }
         ensures refused { IfErr result (λ error. IsRefusal (places.read_line self.old bytes.now delimiter) error) }
         // Memory runs out only where bytes are due, not instead of a refusal.
@@ -191,6 +201,7 @@ impl Cursor {
     ///
     /// `InvalidPosition` where it is above the size.
     pub fn set_position(&mut self, size: u64, position: u64) -> Result<(), PerError>
+        // The cursor after it, or the refusal that is due, is what `set_position` gives for the cursor before.
         ensures ok { OnOk result (places.set_position self.old size position ≡ Ok self.new) }
         ensures refused { IfErr result (λ error. places.set_position self.old size position ≡ Err error) }
         ensures unchanged { OnErr result (self.new ≡ self.old) }
@@ -211,6 +222,8 @@ impl Cursor {
     ///
     /// `InvalidPosition` where it is not from 0 to the size.
     pub fn move_position(&mut self, size: u64, origin: Origin, offset: i64) -> Result<u64, PerError>
+        // The answer and the cursor after it, or the refusal that is due, are what `move_position` gives for the
+        // cursor before.
         ensures ok { IfOk result (λ at. places.move_position self.old size origin offset ≡ Ok (at, self.new)) }
         ensures refused { IfErr result (λ error. places.move_position self.old size origin offset ≡ Err error) }
         ensures unchanged { OnErr result (self.new ≡ self.old) }

@@ -42,6 +42,7 @@ impl Model for File {
 impl File {
     /// A file with these bytes. Does not allocate.
     pub fn new(info: FileInfo, bytes: Bytes) -> File
+        // At most 1,048,576 bytes, the most of a file.
         requires { length bytes ≤ 1048576 }
         ensures { result ≡ file_of (Some info) bytes }
     {
@@ -54,6 +55,7 @@ impl File {
 
     /// A file as it was stored: its info, its length and its content, which may be unreadable. Does not allocate.
     pub fn stored(info: FileInfo, len: u32, content: Content) -> File
+        // They are of a file: the length is that of the bytes or salvage, at most 1,048,576.
         requires { IsFile (record { info = Some info; len = len; content = content }) }
         ensures { result ≡ record { info = Some info; len = len; content = content } }
     {
@@ -69,6 +71,7 @@ impl File {
 
     /// The length in bytes, also of an unreadable file.
     pub fn len(&self) -> u32
+        // What always holds of a file is known too: it has an info, and its length is that of its content.
         ensures len { result ≡ self.now.len }
         ensures file { IsFile self.now }
     {
@@ -111,6 +114,7 @@ impl File {
 
     /// Gives the file other bytes, for this cause. Does not allocate.
     pub fn replace(&mut self, bytes: Bytes, now: u64, cause: Cause)
+        // At most 1,048,576 bytes, the most of a file.
         requires { length bytes ≤ 1048576 }
         ensures { self.new ≡ changed_to bytes now cause self.old }
     {
@@ -153,6 +157,7 @@ impl File {
         // The file is readable; what all else takes is bounded, so that no sum with it overflows.
         requires good { IsTrue (is_readable self.old.content) }
         requires bounded { room.others ≤ 2 ^ 32 }
+        // The cursor and the file after it, or the refusal that is due, are what `written` gives for those before.
         ensures ok { OnOk result (written cursor.old self.old piece.now now room ≡ Ok (cursor.new, self.new)) }
         ensures refused { IfErr result (λ error. IsRefusal (written cursor.old self.old piece.now now room) error) }
         ensures unchanged { OnErr result ((self.new ≡ self.old) × (cursor.new ≡ cursor.old)) }
@@ -193,7 +198,9 @@ impl File {
     ///
     /// `IllegalWriteAccess` for a kind that only reads; `InvalidSize` where it is above the size.
     pub fn set_size(&mut self, cursor: &mut Cursor, size: u64, now: u64) -> Result<(), PerError>
+        // The file is readable.
         requires { IsTrue (is_readable self.old.content) }
+        // The cursor and the file after it, or the refusal that is due, are what `cut` gives for those before.
         ensures ok { OnOk result (cut cursor.old self.old size now ≡ Ok (cursor.new, self.new)) }
         ensures refused { IfErr result (λ error. cut cursor.old self.old size now ≡ Err error) }
         ensures unchanged { OnErr result ((self.new ≡ self.old) × (cursor.new ≡ cursor.old)) }

@@ -19,6 +19,8 @@ impl FileTable {
     ///
     /// Those of an opening for reading with no flag; `OutOfMemory`.
     pub fn whole_content(&mut self, name: &Name, now: u64) -> Result<Vec<u8>, PerError>
+        // The answer and the session after it, or the refusal that is due, are what `cat` gives for the session
+        // before.
         ensures ok { IfOk result (λ content. cat self.old.storage self.old.session name.now now
             ≡ Ok (content.items, self.new.session)) }
         ensures refused { IfErr result (λ error. IsRefusal (cat self.old.storage self.old.session name.now now) error) }
@@ -48,6 +50,7 @@ impl FileTable {
     ///
     /// Those of an opening for writing with the flag that truncates; those of `would_fit`; `OutOfMemory`.
     pub fn replace(&mut self, name: &Name, bytes: &[u8], now: u64) -> Result<(), PerError>
+        // The session after the call, or the refusal that is due, is what `put_whole` gives for the session before.
         ensures ok { OnOk result (put_whole self.old.storage self.old.session name.now bytes.now now
             ≡ Ok self.new.session) }
         ensures refused { IfErr result (λ error. IsRefusal

@@ -36,6 +36,7 @@ pub fn blocking(kind: OpenKind, name: &Name, handles: &BTreeMap<u32, Handle>) ->
 
 /// The lowest number from 1 that no handle has.
 pub fn free_number(handles: &BTreeMap<u32, Handle>) -> u32
+    // At most 64 handles are open, the most of a storage. The number is at most one more than there are handles.
     requires { length handles.now.entries ≤ 64 }
     ensures free { result ≡ sessions.free_number handles.now.entries }
     ensures few { result ≤ length handles.now.entries + 1 }

@@ -26,6 +26,7 @@ use std::collections::BTreeMap;
 /// Gives the handle of this number another cursor.
 #[tactic(auto, using(crate::specs::lemmas::Entries::handle_set))]
 pub fn set_cursor(handles: &mut BTreeMap<u32, Handle>, number: u32, cursor: Cursor)
+    // There is such a handle; the numbers stay, and the handle alone changes.
     requires { IsSome (handle_at handles.old.entries number) }
     ensures moved { (handle : Handle) → handle_at handles.old.entries number ≡ Some handle
         → handles.new.entries ≡ with_handle handles.old.entries number (record handle { cursor = cursor }) }
@@ -39,6 +40,7 @@ pub fn set_cursor(handles: &mut BTreeMap<u32, Handle>, number: u32, cursor: Curs
 /// The length of the file of this name, or 0.
 #[tactic(auto, using(crate::specs::lemmas::Entries::len_fits))]
 pub fn len_of(files: &BTreeMap<Name, File>, name: &Name) -> u64
+    // It is no more than all files together take.
     ensures len { (file : Element) → element_at files.now.entries name.now ≡ Some file → result ≡ file.len }
     ensures fits { result ≤ size_of files.now.entries }
 {
@@ -153,6 +155,7 @@ pub fn reopen_file(
     mode: OpenMode,
     now: u64,
 )
+    // There is a file of this name; the names stay, and the file alone changes.
     requires { IsSome (element_at files.old.entries name.now) }
     ensures opened { (old : Element) → element_at files.old.entries name.now ≡ Some old
         → files.new.entries ≡ with_element files.old.entries name.now (file_opened read_only mode now (Some old)) }
@@ -207,6 +210,7 @@ pub fn add_file(files: &mut BTreeMap<Name, File>, name: &Name, file: File) -> Re
 
 /// The length that an opening leaves of a file of this length.
 pub fn opened_len(before: u64, read_only: bool, mode: OpenMode) -> u64
+    // So for an opening at any moment of a file that was this long; it is no longer than before.
     ensures len { (now : ℕ) (old : Element) → before ≡ old.len
         → result ≡ (file_opened read_only mode now (Some old)).len }
     ensures smaller { result ≤ before }
@@ -251,6 +255,7 @@ pub fn add_file_and_handle(
 
 /// Removes a file.
 pub fn remove_file(files: &mut BTreeMap<Name, File>, name: &Name)
+    // The names stay in order, and there are no more files than before.
     ensures gone { files.new.entries ≡ without files.old.entries name.now }
     ensures names { IsStrictlySortedBy name_cmp (keys_of files.new.entries) }
     ensures few { length files.new.entries ≤ length files.old.entries }
@@ -268,6 +273,7 @@ pub fn empty_file(alloc: Global, now: u64) -> File
 /// The number of bytes of a name.
 #[tactic(auto, using(crate::specs::lemmas::Entries::name_fits))]
 pub fn name_len(name: &Name) -> u64
+    // It is at most 255.
     ensures exact { result ≡ length name.now }
     ensures small { result ≤ 255 }
 {
@@ -320,6 +326,7 @@ pub fn replace_in(
     now: u64,
     cause: Cause,
 )
+    // There is such a file, and the bytes are at most 1,048,576, the most of a file; the names stay.
     requires there { IsTrue (has files.old.entries name.now) }
     requires small { length bytes ≤ 1048576 }
     ensures replaced { (old : Element) → element_at files.old.entries name.now ≡ Some old

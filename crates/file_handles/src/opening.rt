@@ -78,6 +78,8 @@ impl FileTable {
         mode: OpenMode,
         now: u64,
     ) -> Result<u32, PerError>
+        // The number of the handle and the session after the call, or the refusal that is due, are what `open_file`
+        // gives for the session before.
         ensures ok { IfOk result (λ number. opening.open_file self.old.storage self.old.session name.now kind mode now
             ≡ Ok (number, self.new.session)) }
         ensures refused { IfErr result (λ error. IsRefusal
@@ -198,6 +200,7 @@ impl FileTable {
     /// `LimitReached` with `FileBytes` where the length is above 1,048,576; `OutOfStorageSpace` where the storage with
     /// this file at that length would exceed its maximum. Changes nothing, and does not allocate.
     pub fn would_fit(&self, name: &Name, len: u64) -> Result<(), PerError>
+        // It fits where nothing refuses it; else the error is what refuses it.
         ensures ok { OnOk result (opening.would_fit self.now.storage self.now.session.files name.now len ≡ None) }
         ensures refused { IfErr result (λ error. opening.would_fit self.now.storage self.now.session.files name.now len
             ≡ Some error) }

@@ -34,6 +34,8 @@ impl FileTable {
     ) -> Result<(), PerError>
         // An initial content is at most as long as a file may be, 1,048,576 bytes.
         requires { MatchOption (option_copied initial) ⊤ (λ bytes. length bytes ≤ 1048576) }
+        // The session after the call, or the refusal that is due, is what `recover_file` gives for the session
+        // before.
         ensures ok { OnOk result (calls.recover_file self.old.storage self.old.session name.now now
             (option_copied initial.entry) ≡ Ok self.new.session) }
         ensures refused { IfErr result (λ error. IsRefusal
@@ -123,6 +125,7 @@ impl FileTable {
     ) -> Result<(), PerError>
         // An initial content is at most as long as a file may be, 1,048,576 bytes.
         requires { MatchOption (option_copied initial) ⊤ (λ bytes. length bytes ≤ 1048576) }
+        // The session after the call, or the refusal that is due, is what `reset_file` gives for the session before.
         ensures ok { OnOk result (calls.reset_file self.old.storage self.old.session name.now now
             (option_copied initial.entry) ≡ Ok self.new.session) }
         ensures refused { IfErr result (λ error. IsRefusal

@@ -85,6 +85,8 @@ impl FileTable {
     /// that a number is not open just where no handle has it.
     #[tactic(auto, using(crate::specs::lemmas::Numbers::lower_are_taken, crate::specs::lemmas::Numbers::lowest_is_free, crate::specs::lemmas::Sound::closed_without_handle))]
     pub fn invariants(&self)
+        // The table is sound; all numbers below the free one are taken, and it is not; a number without an open file
+        // has no handle.
         ensures table { IsTable self.now.storage self.now.session.files self.now.session.handles }
         ensures taken { (number : ℕ) → 1 ≤ number → number < free_number self.now.session.handles
             → IsSome (handle_at self.now.session.handles number) }

@@ -43,6 +43,7 @@ impl Files {
     ///
     /// `FileNotFound` where there is no file of this name.
     pub fn current_file_size(&self, name: &Name) -> Result<u64, PerError>
+        // The answer, or the refusal that is due, is what `current_file_size` gives for these files and this name.
         ensures ok { IfOk result (λ size. calls.current_file_size self.now.session.files name.now ≡ Ok size) }
         ensures refused { IfErr result (λ error. calls.current_file_size self.now.session.files name.now ≡ Err error) }
     {
@@ -55,6 +56,7 @@ impl Files {
     ///
     /// `FileNotFound` where there is no file of this name.
     pub fn file_info(&self, name: &Name) -> Result<FileInfo, PerError>
+        // The answer, or the refusal that is due, is what `file_info` gives for these files and this name.
         ensures ok { IfOk result (λ info. calls.file_info self.now.session.files name.now ≡ Ok info) }
         ensures refused { IfErr result (λ error. calls.file_info self.now.session.files name.now ≡ Err error) }
     {
@@ -81,6 +83,7 @@ impl Files {
     ///
     /// `IllegalWriteAccess` where the storage is read-only; `FileNotFound`; `ResourceBusy` where it has a handle.
     pub fn delete_file(&mut self, name: &Name) -> Result<(), PerError>
+        // The session after the call, or the refusal that is due, is what `delete_file` gives for the session before.
         ensures ok { OnOk result (calls.delete_file (storage_of self.old.config) self.old.session name.now
             ≡ Ok self.new.session) }
         ensures refused { IfErr result (λ error. calls.delete_file (storage_of self.old.config) self.old.session
@@ -100,6 +103,8 @@ impl Files {
     /// `IllegalWriteAccess` where the storage is read-only; `FileNotFound`; `ResourceBusy` where the file has a handle;
     /// `OutOfStorageSpace` where the initial content does not fit; `OutOfMemory`.
     pub fn recover_file(&mut self, name: &Name, now: u64) -> Result<(), PerError>
+        // The session after the call, or the refusal that is due, is what `recover_file` gives for the session
+        // before.
         ensures ok { OnOk result (calls.recover_file (storage_of self.old.config) self.old.session name.now now
             (initial_content self.old.config name.now) ≡ Ok self.new.session) }
         ensures refused { IfErr result (λ error. IsRefusal
@@ -128,6 +133,7 @@ impl Files {
     /// `ResourceBusy` where the file has a handle; `LimitReached` with `Elements` where it is missing and there are
     /// 1,024; `OutOfStorageSpace` where the initial content does not fit; `OutOfMemory`.
     pub fn reset_file(&mut self, name: &Name, now: u64) -> Result<(), PerError>
+        // The session after the call, or the refusal that is due, is what `reset_file` gives for the session before.
         ensures ok { OnOk result (calls.reset_file (storage_of self.old.config) self.old.session name.now now
             (initial_content self.old.config name.now) ≡ Ok self.new.session) }
         ensures refused { IfErr result (λ error. IsRefusal

@@ -19,6 +19,8 @@ impl Files {
     ///
     /// Those of `can_open`; `OutOfMemory`.
     pub fn open_read_only(&mut self, name: &Name, mode: OpenMode, now: u64) -> Result<u32, PerError>
+        // The number of the handle and the session after the call, or the refusal that is due, are what `open_file`
+        // gives for the session before.
         ensures ok { IfOk result (λ handle. opening.open_file (storage_of self.old.config) self.old.session name.now
             OpenKind.Read mode now ≡ Ok (handle, self.new.session)) }
         ensures refused { IfErr result (λ error. IsRefusal
@@ -50,6 +52,8 @@ impl Files {
         mode: OpenMode,
         now: u64,
     ) -> Result<u32, PerError>
+        // The number of the handle and the session after the call, or the refusal that is due, are what `open_file`
+        // gives for the session before.
         ensures ok { IfOk result (λ handle. opening.open_file (storage_of self.old.config) self.old.session name.now
             OpenKind.Write mode now ≡ Ok (handle, self.new.session)) }
         ensures refused { IfErr result (λ error. IsRefusal
@@ -82,6 +86,8 @@ impl Files {
         mode: OpenMode,
         now: u64,
     ) -> Result<u32, PerError>
+        // The number of the handle and the session after the call, or the refusal that is due, are what `open_file`
+        // gives for the session before.
         ensures ok { IfOk result (λ handle. opening.open_file (storage_of self.old.config) self.old.session name.now
             OpenKind.ReadWrite mode now ≡ Ok (handle, self.new.session)) }
         ensures refused { IfErr result (λ error. IsRefusal
@@ -111,6 +117,8 @@ impl Files {
         mode: OpenMode,
         now: u64,
     ) -> Result<u32, PerError>
+        // The number of the handle and the session after the call, or the refusal that is due, are what `open_file`
+        // gives for the session before.
         ensures ok { IfOk result (λ handle. opening.open_file (storage_of self.old.config) self.old.session name.now
             kind mode now ≡ Ok (handle, self.new.session)) }
         ensures refused { IfErr result (λ error. IsRefusal
@@ -156,6 +164,7 @@ impl Files {
     /// `LimitReached` with `FileBytes` where the length is above 1,048,576; `OutOfStorageSpace` where the storage with
     /// this file at that length would exceed its maximum.
     pub fn would_fit(&self, name: &Name, len: u64) -> Result<(), PerError>
+        // It fits where nothing refuses it; else the error is what refuses it.
         ensures ok { OnOk result (opening.would_fit (storage_of self.now.config) self.now.session.files name.now len
             ≡ None) }
         ensures refused { IfErr result (λ error. opening.would_fit (storage_of self.now.config) self.now.session.files

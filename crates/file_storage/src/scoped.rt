@@ -84,6 +84,8 @@ impl<'a> Scoped<'a> {
         // It stays the same handle on the same storage.
         ensures same_reference { self.new.files.ghost_name ≡ self.old.files.ghost_name }
         ensures handle { self.new.handle ≡ self.old.handle }
+        // The answer and the session after it, or the refusal that is due, are what `read_all` gives for the session
+        // before.
         ensures ok { IfOk result (λ piece. calls.read_all self.old.files.now.session self.old.handle
             ≡ Ok (piece.items, self.new.files.now.session)) }
         ensures refused { IfErr result (λ error. IsRefusal (calls.read_all self.old.files.now.session self.old.handle)
@@ -113,6 +115,7 @@ impl<'a> Scoped<'a> {
         // It stays the same handle on the same storage.
         ensures same_reference { self.new.files.ghost_name ≡ self.old.files.ghost_name }
         ensures handle { self.new.handle ≡ self.old.handle }
+        // The session after the call, or the refusal that is due, is what `write` gives for the session before.
         ensures ok { OnOk result (calls.write (storage_of self.old.files.now.config) self.old.files.now.session
             self.old.files.now.moment self.old.handle bytes.now ≡ Ok self.new.files.now.session) }
         ensures refused { IfErr result (λ error. IsRefusal

@@ -16,6 +16,8 @@ impl Files {
     ///
     /// Those of `can_open` for kind Read with no flag; `OutOfMemory`.
     pub fn whole_content(&mut self, name: &Name, now: u64) -> Result<Vec<u8>, PerError>
+        // The answer and the session after it, or the refusal that is due, are what `cat` gives for the session
+        // before.
         ensures ok { IfOk result (λ content. cat (storage_of self.old.config) self.old.session name.now now
             ≡ Ok (content.items, self.new.session)) }
         ensures refused { IfErr result (λ error. IsRefusal
@@ -39,6 +41,7 @@ impl Files {
     ///
     /// Those of `can_open` for kind Write with the flag that truncates; those of `would_fit`; `OutOfMemory`.
     pub fn replace(&mut self, name: &Name, bytes: &[u8], now: u64) -> Result<(), PerError>
+        // The session after the call, or the refusal that is due, is what `put_whole` gives for the session before.
         ensures ok { OnOk result (put_whole (storage_of self.old.config) self.old.session name.now bytes.now now
             ≡ Ok self.new.session) }
         ensures refused { IfErr result (λ error. IsRefusal

@@ -85,6 +85,8 @@ impl KeySession {
     /// `IllegalWriteAccess` where the storage is read-only;
     /// `KeyNotFound` where the name is not visible.
     pub fn remove_key(&mut self, name: &Name) -> Result<(), PerError>
+        // The visible keys are then those that `remove_key` leaves, or the refusal that is due is given; all else
+        // stays.
         ensures ok { OnOk result (calls.remove_key self.old.config self.old.visible name.now ≡ Ok self.new.visible) }
         ensures refused { IfErr result (λ error. calls.remove_key self.old.config self.old.visible name.now
             ≡ Err error) }
@@ -106,6 +108,7 @@ impl KeySession {
     ///
     /// `IllegalWriteAccess` where the storage is read-only.
     pub fn remove_all_keys(&mut self) -> Result<(), PerError>
+        // Then no key is visible, or the refusal that is due is given; all else stays.
         ensures ok { OnOk result (calls.remove_all_keys self.old.config self.old.visible ≡ Ok self.new.visible) }
         ensures refused { IfErr result (λ error. calls.remove_all_keys self.old.config self.old.visible ≡ Err error) }
         ensures beside { self.new ≡ record self.old { visible = self.new.visible } }

@@ -133,6 +133,7 @@ impl Kvs {
     /// `LimitReached` with `Elements` where the name is not visible and 1,024 are; `OutOfStorageSpace` where the
     /// initial value does not fit; `OutOfMemory`.
     pub fn reset_key(&mut self, name: &Name) -> Result<(), PerError>
+        // The visible keys are then those that `reset_key` makes of them.
         ensures ok { OnOk result (calls.reset_key (kvs_session self.old).config (kvs_session self.old).visible name.now
             ≡ Ok (kvs_session self.new).visible) }
         // The refusal that is due, or `OutOfMemory`.
