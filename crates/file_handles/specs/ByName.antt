@@ -58,7 +58,7 @@ HasSalvage (Good bytes) = ⊥
 HasSalvage (Bad None) = ⊥
 HasSalvage (Bad (Some salvage)) = Unit {0}
 
--- what there is to save of a content
+-- what there is of a content: its bytes, else its salvage, else none
 abbrev pub saved_bytes : Content → List ℕ
 saved_bytes (Good bytes) = bytes
 saved_bytes (Bad None) = []

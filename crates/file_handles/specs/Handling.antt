@@ -26,7 +26,7 @@ on_open (Some o) call = call o.0 o.1
 abbrev pub at_handle : {A : Type 0} → Session → ℕ → (Handle → Element → Result A PerError) → Result A PerError
 at_handle s number call = on_open (open_at s number) call
 
--- the answer of a call that moves, with the session in which the handle has moved
+-- the answer of a call that moves, with the session in which the handle has moved; an error stays
 abbrev pub moving : {A : Type 0} → Session → ℕ → Handle → Result (A × Cursor) PerError → Result (A × Session) PerError
 moving s number handle (Ok answer) = Ok (answer.0, with_cursor s number handle answer.1)
 moving s number handle (Err error) = Err error
@@ -97,7 +97,7 @@ write storage s now number piece = at_handle s number (λ handle file.
     changing s number handle (with_changed s.files handle.name
     (core.written handle.cursor file piece now (room_for s.files handle.name storage.maximum))))
 
--- there is a handle, and this piece would reach past the end of its file
+-- the handle is open, and this piece written through it reaches past the end of its file
 abbrev pub GrowsBy : Option (Handle × Element) → List ℕ → Type 0
 GrowsBy None piece = ⊥
 GrowsBy (Some o) piece = core.GrowsBy o.0.cursor o.1 piece

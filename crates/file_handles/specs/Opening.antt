@@ -55,15 +55,16 @@ can_open storage s name kind mode =
     (or_next (when (nat_le 64 (length s.handles)) (LimitReached limit.Handles))
     (too_many s.files name))))))
 
--- the file as an opening leaves it: made empty where it was missing, emptied, or with the moment of the opening; a
--- read-only storage keeps its files as they are
+-- the file as an opening leaves it, of the one that was there, if any: made empty where it was missing, emptied where
+-- the flags say so, else with the moment of the opening; a read-only storage keeps its files as they are
 abbrev pub file_opened : Bool → OpenMode → ℕ → Option Element → Element
 file_opened read_only mode now None = file_of (Some (made now Application)) []
 file_opened read_only mode now (Some file) =
     cond read_only file
     (cond (truncates mode) (changed_to [] now Application (opened_at now file)) (opened_at now file))
 
--- the number of the new handle, which is the lowest free one, and the session with it and the file as it is opened
+-- the number of the new handle, which is the lowest free one, and the session with the handle and with `file`, the
+-- file as it is opened
 abbrev pub with_opened : Session → List ℕ → OpenKind → OpenMode → Element → ℕ × Session
 with_opened s name kind mode file = (
   free_number s.handles,
@@ -74,7 +75,8 @@ with_opened s name kind mode file = (
   },
 )
 
--- `OutOfStorageSpace` where the file is missing and its name alone would exceed the maximum
+-- `OutOfStorageSpace` where the file is missing and the storage would exceed its maximum with the name of the file in
+-- addition
 abbrev pub no_room_to_create : Storage → Map → List ℕ → Option PerError
 no_room_to_create storage files name =
     when (not (has files name) && nat_lt storage.maximum (size_of files + length name))
