@@ -64,7 +64,8 @@ pub record IsSynced (told : Bool) (s later : FilesInUse) (old new : Medium) : Ty
   pub used : IsUsed told new.image later.store
   pub durable : IsDurable told (store_shape s.store) (stored_in s.store) s.session.files
       (length (index_text (index_in later.store))) old new
-  -- the index: each file that does not differ as it was listed
+  -- its index: each file that does not differ as it was listed; where one does, in format 2, which has the generation
+  -- of each last change, and as long as the entries of its view ask
   pub carried : KeepsEqual (stored_in s.store) s.session.files (index_in s.store).entries (index_in later.store).entries
   pub format : is_synced s ≡ false → (index_in later.store).format ≡ 2
   pub text : is_synced s ≡ false → length (index_text (index_in later.store))

@@ -128,8 +128,8 @@ remove_all_keys c m = refuse c.read_only IllegalWriteAccess (Ok [])
 
 -- ---- restoring
 
--- the map once an unreadable key without a salvage is recovered, by its initial value in bytes: with that, or without
--- the key where there is none
+-- the map once an unreadable key without a salvage is recovered: with its initial value in bytes, if there is room
+-- for it, or without the key where it has none
 abbrev pub restored : StorageData → Map → List ℕ → Option (List ℕ) → Result Map PerError
 restored c m name None = Ok (without m name)
 restored c m name (Some bytes) = with_room c (with_element m name (key_of bytes))

@@ -43,7 +43,8 @@ pub record IsSynced (told : Bool) (kvs later : KvsSession) (old new : Medium) : 
   pub used : IsUsed told new.image later.store
   pub durable : IsDurable told (store_shape kvs.store) kvs.session.synced kvs.session.visible
       (length (index_text (index_in later.store))) old new
-  -- its index: a key that does not differ as it was listed, and in format 2 where one does
+  -- its index: a key that does not differ as it was listed; where one does, in format 2, which has the generation of
+  -- each last change, and as long as the entries of its view ask
   pub carried : KeepsEqual kvs.session.synced kvs.session.visible (index_in kvs.store).entries
       (index_in later.store).entries
   pub format : is_synced kvs ≡ false → (index_in later.store).format ≡ 2
