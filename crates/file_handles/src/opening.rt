@@ -69,7 +69,8 @@ impl FileTable {
     ///
     /// # Errors
     ///
-    /// Those of `can_open`, then `OutOfStorageSpace` where an empty file of a missing name would exceed the maximum.
+    /// Those of `can_open`, then `OutOfStorageSpace` where an empty file of a missing name would exceed the maximum;
+    /// `OutOfMemory`.
     #[tactic(auto, using(crate::specs::lemmas::Opens::refused_first, crate::specs::lemmas::Opens::refused_space))]
     pub fn open_file(
         &mut self,

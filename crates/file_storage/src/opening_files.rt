@@ -45,7 +45,8 @@ impl Files {
     ///
     /// # Errors
     ///
-    /// Those of `can_open`, then `OutOfStorageSpace` where an empty file of a missing name would exceed the maximum.
+    /// Those of `can_open`, then `OutOfStorageSpace` where an empty file of a missing name would exceed the maximum;
+    /// `OutOfMemory`.
     pub fn open_write_only(
         &mut self,
         name: &Name,
@@ -79,7 +80,8 @@ impl Files {
     ///
     /// # Errors
     ///
-    /// Those of `can_open`, then `OutOfStorageSpace` where an empty file of a missing name would exceed the maximum.
+    /// Those of `can_open`, then `OutOfStorageSpace` where an empty file of a missing name would exceed the maximum;
+    /// `OutOfMemory`.
     pub fn open_read_write(
         &mut self,
         name: &Name,
@@ -109,7 +111,8 @@ impl Files {
     ///
     /// # Errors
     ///
-    /// Those of `can_open`, then `OutOfStorageSpace` where an empty file of a missing name would exceed the maximum.
+    /// Those of `can_open`, then `OutOfStorageSpace` where an empty file of a missing name would exceed the maximum;
+    /// `OutOfMemory`.
     pub(crate) fn open_file(
         &mut self,
         name: &Name,

@@ -28,7 +28,8 @@ impl Files {
     ///
     /// # Errors
     ///
-    /// Those of `can_open`, then `OutOfStorageSpace` where an empty file of a missing name would exceed the maximum.
+    /// Those of `can_open`, then `OutOfStorageSpace` where an empty file of a missing name would exceed the maximum;
+    /// `OutOfMemory`.
     pub fn scoped(
         &mut self,
         name: &Name,
