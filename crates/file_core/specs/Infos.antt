@@ -1,4 +1,4 @@
--- What a making, a change and an opening leave of the info of a file.
+-- What a making, a change and an opening leave of the info of a file. A moment (`now`) is in seconds.
 use Rattle.std.specs.Prelude.{ℕ}
 use Rattle.per_base.specs.declared.elements.Cause.{Cause}
 use Rattle.per_base.specs.declared.elements.FileInfo.{FileInfo}

@@ -10,17 +10,20 @@ use per_base::{Bytes, Content};
 use std::alloc::AllocError;
 use std::mem;
 
-/// Puts the piece into a readable content from there on, and gives the new length.
+/// Puts the piece into a readable content from the position `from` on, which is in it or at its end, and gives the new
+/// length in bytes.
 pub fn overwrite_content(
     content: &mut Content,
     from: usize,
     piece: &[u8],
 ) -> Result<usize, AllocError>
+    // The content is readable, and the piece begins in it or at its end.
     requires good { IsTrue (is_readable content.old) }
     requires inside { from ≤ length (readable_bytes content.old) }
     ensures ok { OnOk result (content.new ≡ Content.Good (overwritten from piece.now (readable_bytes content.old))) }
     ensures len { IfOk result (λ len. len ≡ length (overwritten from piece.now (readable_bytes content.old))) }
     ensures unchanged { OnErr result (content.new ≡ content.old) }
+    // Memory runs out only where the piece reaches past the end.
     ensures memory { OnErr result (length (readable_bytes content.old) < from + length piece.now) }
 {
     let Content::Good(bytes) = mem::replace(content, Content::Bad(None)) else {
@@ -36,6 +39,7 @@ pub fn overwrite_content(
 
 /// Truncates a readable content to its first `size` bytes.
 pub fn truncate_content(content: &mut Content, size: usize)
+    // The content is readable.
     requires { IsTrue (is_readable content.old) }
     ensures { content.new ≡ Content.Good (take size (readable_bytes content.old)) }
 {
@@ -48,6 +52,7 @@ pub fn truncate_content(content: &mut Content, size: usize)
 
 /// Makes the salvage of an unreadable content the content, and gives its length; none where there is no salvage.
 pub fn recover_content(content: &mut Content) -> Option<usize>
+    // Where it gives a length, the content was unreadable and is its salvage; else it had none, and stays.
     ensures recovered { IfSome result (λ len. (salvage : List ℕ) × (content.old ≡ Content.Bad (Some salvage))
         × (content.new ≡ Content.Good salvage) × (len ≡ length salvage)) }
     ensures unchanged { IfNone result ((content.new ≡ content.old) × NoSalvage content.old) }

@@ -1,4 +1,4 @@
-//! A place in a content, and what may be done there.
+//! A position in a content, and what may be done there.
 
 ghost use Rattle.std.specs.Prelude.{◌≡◌, ◌<◌, ◌≤◌, cond, length, min, IfOk, IfErr, IfSome, OnOk, OnErr};
 ghost use Rattle.per_base.specs.Refusals.{IsDue, IsRefusal};
@@ -30,8 +30,8 @@ pub fn is_bad_mode(kind: OpenKind, mode: OpenMode) -> bool
     both_ends || (!writes(kind) && changes)
 }
 
-/// A place in a content: the kind of the opening, whether each write goes to the end, and the position in bytes from
-/// the beginning.
+/// A position in a content: the kind of the opening, whether each write goes to the end, and the position in bytes
+/// from the beginning.
 #[derive(Clone, Copy, Debug)]
 pub struct Cursor {
     pub kind: OpenKind,
@@ -40,8 +40,9 @@ pub struct Cursor {
 }
 
 impl Cursor {
-    /// The place of a new opening of a content of this size.
+    /// The cursor of a new opening of a content of this size in bytes: at its end where the flags say so, else at 0.
     pub fn new(kind: OpenKind, mode: OpenMode, size: u64) -> Cursor
+        // It is the one that `opening_place` says, and its position is in the content or at its end.
         ensures placed { result ≡ places.opening_place kind mode size }
         ensures inside { result.position ≤ size }
     {
@@ -85,6 +86,7 @@ impl Cursor {
     ///
     /// `IllegalReadAccess` for a kind that only writes; `IsEof` where nothing is left.
     pub fn peek_byte(&self, bytes: &[u8]) -> Result<u8, PerError>
+        // The answer, or the refusal that is due, is what `peek_byte` gives for this cursor.
         ensures ok { IfOk result (λ byte. places.peek_byte self.now bytes.now ≡ Ok byte) }
         ensures refused { IfErr result (λ error. places.peek_byte self.now bytes.now ≡ Err error) }
     {
@@ -98,9 +100,12 @@ impl Cursor {
     ///
     /// `IllegalReadAccess` for a kind that only writes; `IsEof` where nothing is left.
     pub fn get_byte(&mut self, bytes: &[u8]) -> Result<u8, PerError>
+        // The answer and the cursor after it, or the refusal that is due, are what `get_byte` gives for the cursor
+        // before.
         ensures ok { IfOk result (λ byte. places.get_byte self.old bytes.now ≡ Ok (byte, self.new)) }
         ensures refused { IfErr result (λ error. places.get_byte self.old bytes.now ≡ Err error) }
         ensures unchanged { OnErr result (self.new ≡ self.old) }
+        // A position in the content stays in it, and the kind is the same.
         ensures inside { self.old.position ≤ length bytes.now → self.new.position ≤ length bytes.now }
         ensures kind { self.new.kind ≡ self.old.kind }
     {
@@ -117,11 +122,15 @@ impl Cursor {
     /// `IllegalReadAccess` for a kind that only writes; `IsEof` where nothing is left, also for a count of 0;
     /// `OutOfMemory`.
     pub fn read(&mut self, alloc: Global, bytes: &[u8], count: u64) -> Result<Vec<u8>, PerError>
+        // The answer and the cursor after it, or the refusal that is due, are what `read` gives for the cursor
+        // before.
         ensures ok { IfOk result (λ piece. places.read self.old bytes.now count ≡ Ok (piece.items, self.new)) }
         ensures refused { IfErr result (λ error. IsRefusal (places.read self.old bytes.now count) error) }
+        // Memory runs out only where bytes are due, not instead of a refusal.
         ensures memory { IfErr result (λ error. error ≡ PerError.OutOfMemory
             → IsDue (places.read self.old bytes.now count)) }
         ensures unchanged { OnErr result (self.new ≡ self.old) }
+        // A position in the content stays in it, and the kind is the same.
         ensures inside { self.old.position ≤ length bytes.now → self.new.position ≤ length bytes.now }
         ensures kind { self.new.kind ≡ self.old.kind }
     {
@@ -138,11 +147,15 @@ impl Cursor {
     ///
     /// `IllegalReadAccess` for a kind that only writes; `IsEof` where nothing is left; `OutOfMemory`.
     pub fn read_all(&mut self, alloc: Global, bytes: &[u8]) -> Result<Vec<u8>, PerError>
+        // The answer and the cursor after it, or the refusal that is due, are what `read_all` gives for the cursor
+        // before.
         ensures ok { IfOk result (λ piece. places.read_all self.old bytes.now ≡ Ok (piece.items, self.new)) }
         ensures refused { IfErr result (λ error. IsRefusal (places.read_all self.old bytes.now) error) }
+        // Memory runs out only where bytes are due, not instead of a refusal.
         ensures memory { IfErr result (λ error. error ≡ PerError.OutOfMemory
             → IsDue (places.read_all self.old bytes.now)) }
         ensures unchanged { OnErr result (self.new ≡ self.old) }
+        // A position in the content stays in it, and the kind is the same.
         ensures inside { self.old.position ≤ length bytes.now → self.new.position ≤ length bytes.now }
         ensures kind { self.new.kind ≡ self.old.kind }
     {
@@ -163,11 +176,15 @@ impl Cursor {
         bytes: &[u8],
         delimiter: u8,
     ) -> Result<Vec<u8>, PerError>
+        // The answer and the cursor after it, or the refusal that is due, are what `read_line` gives for the cursor
+        // before.
         ensures ok { IfOk result (λ piece. places.read_line self.old bytes.now delimiter ≡ Ok (piece.items, self.new)) }
         ensures refused { IfErr result (λ error. IsRefusal (places.read_line self.old bytes.now delimiter) error) }
+        // Memory runs out only where bytes are due, not instead of a refusal.
         ensures memory { IfErr result (λ error. error ≡ PerError.OutOfMemory
             → IsDue (places.read_line self.old bytes.now delimiter)) }
         ensures unchanged { OnErr result (self.new ≡ self.old) }
+        // A position in the content stays in it, and the kind is the same.
         ensures inside { self.old.position ≤ length bytes.now → self.new.position ≤ length bytes.now }
         ensures kind { self.new.kind ≡ self.old.kind }
     {
@@ -184,9 +201,11 @@ impl Cursor {
     ///
     /// `InvalidPosition` where it is above the size.
     pub fn set_position(&mut self, size: u64, position: u64) -> Result<(), PerError>
+        // The cursor after it, or the refusal that is due, is what `set_position` gives for the cursor before.
         ensures ok { OnOk result (places.set_position self.old size position ≡ Ok self.new) }
         ensures refused { IfErr result (λ error. places.set_position self.old size position ≡ Err error) }
         ensures unchanged { OnErr result (self.new ≡ self.old) }
+        // A position in the content stays in it, and the kind is the same.
         ensures inside { self.old.position ≤ size → self.new.position ≤ size }
         ensures kind { self.new.kind ≡ self.old.kind }
     {
@@ -203,9 +222,12 @@ impl Cursor {
     ///
     /// `InvalidPosition` where it is not from 0 to the size.
     pub fn move_position(&mut self, size: u64, origin: Origin, offset: i64) -> Result<u64, PerError>
+        // The answer and the cursor after it, or the refusal that is due, are what `move_position` gives for the
+        // cursor before.
         ensures ok { IfOk result (λ at. places.move_position self.old size origin offset ≡ Ok (at, self.new)) }
         ensures refused { IfErr result (λ error. places.move_position self.old size origin offset ≡ Err error) }
         ensures unchanged { OnErr result (self.new ≡ self.old) }
+        // A position in the content stays in it, and the kind is the same.
         ensures inside { self.old.position ≤ size → self.new.position ≤ size }
         ensures kind { self.new.kind ≡ self.old.kind }
     {
@@ -220,8 +242,8 @@ impl Cursor {
         Ok(target)
     }
 
-    /// Where the next write begins in a content of this size: at its end where the cursor appends, else at the position
-    /// or at the end, whichever comes first.
+    /// The position where the next write begins in a content of this size: its end where the cursor appends, else the
+    /// position of the cursor, or the end where that is above it.
     pub fn write_place(&self, size: usize) -> usize
         ensures { result ≡ cond self.now.append size (min self.now.position size) }
     {

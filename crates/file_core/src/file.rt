@@ -42,6 +42,7 @@ impl Model for File {
 impl File {
     /// A file with these bytes. Does not allocate.
     pub fn new(info: FileInfo, bytes: Bytes) -> File
+        // At most 1,048,576 bytes, the most of a file.
         requires { length bytes ≤ 1048576 }
         ensures { result ≡ file_of (Some info) bytes }
     {
@@ -54,6 +55,7 @@ impl File {
 
     /// A file as it was stored: its info, its length and its content, which may be unreadable. Does not allocate.
     pub fn stored(info: FileInfo, len: u32, content: Content) -> File
+        // They are of a file: the length is that of the bytes or salvage, at most 1,048,576.
         requires { IsFile (record { info = Some info; len = len; content = content }) }
         ensures { result ≡ record { info = Some info; len = len; content = content } }
     {
@@ -69,6 +71,7 @@ impl File {
 
     /// The length in bytes, also of an unreadable file.
     pub fn len(&self) -> u32
+        // What always holds of a file is known too: it has an info, and its length is that of its content.
         ensures len { result ≡ self.now.len }
         ensures file { IsFile self.now }
     {
@@ -91,6 +94,7 @@ impl File {
 
     /// The bytes; an unreadable file gives none.
     pub fn bytes(&self) -> &[u8]
+        // They are at most 1,048,576, and for a readable file as many as its length says.
         ensures bytes { result.now ≡ readable_bytes self.now.content }
         ensures small { length result.now ≤ 1048576 }
         ensures len { IsTrue (is_readable self.now.content) → length result.now ≡ self.now.len }
@@ -101,7 +105,7 @@ impl File {
         }
     }
 
-    /// Notes an opening in the info.
+    /// Notes in the info that the file is opened at this moment.
     pub fn open(&mut self, now: u64)
         ensures { self.new ≡ opened_at now self.old }
     {
@@ -110,6 +114,7 @@ impl File {
 
     /// Gives the file other bytes, for this cause. Does not allocate.
     pub fn replace(&mut self, bytes: Bytes, now: u64, cause: Cause)
+        // At most 1,048,576 bytes, the most of a file.
         requires { length bytes ≤ 1048576 }
         ensures { self.new ≡ changed_to bytes now cause self.old }
     {
@@ -118,8 +123,10 @@ impl File {
         self.content = Content::Good(bytes);
     }
 
-    /// Makes the salvage of an unreadable file its content, where there is a salvage. Does not allocate.
+    /// Makes the salvage of an unreadable file its content, where there is a salvage, and says whether it did. Does not
+    /// allocate.
     pub fn recover(&mut self, now: u64) -> bool
+        // Where it did, the salvage is the content, changed now by a recovery; else the file had none, and stays.
         ensures recovered { OnTrue result ((salvage : List ℕ) × (self.old.content ≡ Content.Bad (Some salvage))
             × (self.new ≡ changed_to salvage now Cause.Recovery self.old)) }
         ensures unchanged { OnFalse result ((self.new ≡ self.old) × NoSalvage self.old.content) }
@@ -133,7 +140,8 @@ impl File {
         true
     }
 
-    /// Writes the piece from the place of the cursor on, which then stands past it. An empty piece changes nothing.
+    /// Writes the piece at the moment `now`: from the position of the cursor on, or with append from the end on. The
+    /// cursor then stands past it. An empty piece changes nothing. `room` says what all else of the storage takes.
     ///
     /// # Errors
     ///
@@ -146,14 +154,18 @@ impl File {
         now: u64,
         room: Room,
     ) -> Result<(), PerError>
+        // The file is readable; what all else takes is bounded, so that no sum with it overflows.
         requires good { IsTrue (is_readable self.old.content) }
         requires bounded { room.others ≤ 2 ^ 32 }
+        // The cursor and the file after it, or the refusal that is due, are what `written` gives for those before.
         ensures ok { OnOk result (written cursor.old self.old piece.now now room ≡ Ok (cursor.new, self.new)) }
         ensures refused { IfErr result (λ error. IsRefusal (written cursor.old self.old piece.now now room) error) }
         ensures unchanged { OnErr result ((self.new ≡ self.old) × (cursor.new ≡ cursor.old)) }
+        // A position in the file stays in it, the file stays readable and the kind of the cursor the same.
         ensures inside { cursor.old.position ≤ self.old.len → cursor.new.position ≤ self.new.len }
         ensures good { IsTrue (is_readable self.new.content) }
         ensures kind { cursor.new.kind ≡ cursor.old.kind }
+        // A storage that is within what it is allowed stays so; only a kind that writes has written.
         ensures within { room.others + self.old.len ≤ room.allowed → room.others + self.new.len ≤ room.allowed }
         ensures writer { OnOk result (IsTrue (places.writes cursor.old.kind)) }
         // `OutOfMemory` never replaces a refusal; it comes only where the file grows.
@@ -180,16 +192,20 @@ impl File {
         Ok(())
     }
 
-    /// Cuts the content to this size, and the position with it. Does not allocate.
+    /// Cuts the content to this size at the moment `now`; a position above becomes the size. Does not allocate.
     ///
     /// # Errors
     ///
     /// `IllegalWriteAccess` for a kind that only reads; `InvalidSize` where it is above the size.
     pub fn set_size(&mut self, cursor: &mut Cursor, size: u64, now: u64) -> Result<(), PerError>
+        // The file is readable.
         requires { IsTrue (is_readable self.old.content) }
+        // The cursor and the file after it, or the refusal that is due, are what `cut` gives for those before.
         ensures ok { OnOk result (cut cursor.old self.old size now ≡ Ok (cursor.new, self.new)) }
         ensures refused { IfErr result (λ error. cut cursor.old self.old size now ≡ Err error) }
         ensures unchanged { OnErr result ((self.new ≡ self.old) × (cursor.new ≡ cursor.old)) }
+        // A position in the file stays in it, the file stays readable and the kind of the cursor the same; the file
+        // does not grow, and only a kind that writes has cut it.
         ensures inside { cursor.old.position ≤ self.old.len → cursor.new.position ≤ self.new.len }
         ensures good { IsTrue (is_readable self.new.content) }
         ensures kind { cursor.new.kind ≡ cursor.old.kind }

@@ -1,4 +1,4 @@
-//! What a making, a change and an opening leave of the info of a file.
+//! What a making, a change and an opening leave of the info of a file. A moment (`now`) is in seconds.
 
 ghost use Rattle.std.specs.Prelude.{◌≡◌};
 ghost use Rattle.file_core.specs.Infos as infos;

@@ -1,7 +1,7 @@
-//! One file and a place in it.
+//! One file and a position in it.
 //!
 //! A [`File`] is an element with an info whose length is that of its content, at most 1,048,576 bytes. A [`Cursor`] is
-//! a place in a content with what may be done there: reading bytes, lines and the rest, overwriting and extending,
+//! a position in a content with what may be done there: reading bytes, lines and the rest, overwriting and extending,
 //! cutting, moving. Each call answers exactly by its definition, each error in its case and order, and a refused call
 //! changes nothing.
 //!

@@ -1,4 +1,6 @@
--- The refusals of an opening in their order, and what an opening makes.
+-- The refusals of an opening in their order, and what an opening makes. Of an opening, `name` is the name of the
+-- file, `kind` whether it reads, writes or both, `mode` its flags: where the position starts, whether the file is
+-- emptied, and whether each write goes to the end. `now` is the moment in seconds.
 use Rattle.std.specs.Prelude.{ℕ, ◌+◌, [], List, length, Bool, false, cond, not, ◌&&◌, nat_le, nat_lt, Option, Some}
 use Rattle.std.specs.Prelude.{None, Result, Ok}
 use Rattle.per_base.specs.declared.elements.Cause.TheVariants.{Application}
@@ -26,20 +28,23 @@ use Rattle.file_handles.specs.Sessions.{Session, with_handle, free_number, block
 abbrev pub when : Bool → PerError → Option PerError
 when test error = cond test (Some error) None
 
+-- whether there is a file and it is unreadable
 abbrev pub is_unreadable : Option Element → Bool
 is_unreadable None = false
 is_unreadable (Some file) = not (is_readable file.content)
 
--- busy by this handle
+-- `ResourceBusy` of the handle of this number, where there is one
 abbrev pub busy : Option ℕ → Option PerError
 busy None = None
 busy (Some number) = Some (ResourceBusy (holder.Handle number))
 
--- one more file would be one too many
+-- `LimitReached` where there is no file of this name and there are 1,024, the most of a storage
 abbrev pub too_many : Map → List ℕ → Option PerError
 too_many files name = when (not (has files name) && nat_le 1024 (length files)) (LimitReached limit.Elements)
 
--- what refuses an opening, but the lack of space
+-- what refuses an opening, but the lack of space: the first that holds, of flags that contradict one another or the
+-- kind; a writer in a read-only storage; a reader of a missing file; an unreadable file; a conflicting handle; 64
+-- open handles, the most of a storage; and one file too many
 abbrev pub can_open : Storage → Session → List ℕ → OpenKind → OpenMode → Option PerError
 can_open storage s name kind mode =
     or_next (when (is_bad_mode kind mode) InvalidOpenMode)
@@ -50,15 +55,16 @@ can_open storage s name kind mode =
     (or_next (when (nat_le 64 (length s.handles)) (LimitReached limit.Handles))
     (too_many s.files name))))))
 
--- the file as an opening leaves it: made, emptied, or with the moment of the opening; a read-only storage keeps its
--- files
+-- the file as an opening leaves it, of the one that was there, if any: made empty where it was missing, emptied where
+-- the flags say so, else with the moment of the opening; a read-only storage keeps its files as they are
 abbrev pub file_opened : Bool → OpenMode → ℕ → Option Element → Element
 file_opened read_only mode now None = file_of (Some (made now Application)) []
 file_opened read_only mode now (Some file) =
     cond read_only file
     (cond (truncates mode) (changed_to [] now Application (opened_at now file)) (opened_at now file))
 
--- the session with the file as it is opened, and a handle of the lowest free number on it
+-- the number of the new handle, which is the lowest free one, and the session with the handle and with `file`, the
+-- file as it is opened
 abbrev pub with_opened : Session → List ℕ → OpenKind → OpenMode → Element → ℕ × Session
 with_opened s name kind mode file = (
   free_number s.handles,
@@ -69,18 +75,21 @@ with_opened s name kind mode file = (
   },
 )
 
--- an empty file of a name that is missing must find room
+-- `OutOfStorageSpace` where the file is missing and the storage would exceed its maximum with the name of the file in
+-- addition
 abbrev pub no_room_to_create : Storage → Map → List ℕ → Option PerError
 no_room_to_create storage files name =
     when (not (has files name) && nat_lt storage.maximum (size_of files + length name))
     (OutOfStorageSpace (size_of files + length name) storage.maximum)
 
+-- an opening of a file: the first refusal that holds, else the number of the new handle and the session in which the
+-- file is opened
 abbrev pub open_file : Storage → Session → List ℕ → OpenKind → OpenMode → ℕ → Result (ℕ × Session) PerError
 open_file storage s name kind mode now =
     refused_by (can_open storage s name kind mode)
     (refused_by (no_room_to_create storage s.files name)
     (Ok (with_opened s name kind mode (file_opened storage.read_only mode now (element_at s.files name)))))
 
--- what refuses a content of this length under this name
+-- what refuses a content of `len` bytes under this name, if anything
 abbrev pub would_fit : Storage → Map → List ℕ → ℕ → Option PerError
 would_fit storage files name len = too_long (room_for files name storage.maximum) len

@@ -18,9 +18,11 @@ use Rattle.file_core.specs.Files.{IsFile}
 use Rattle.file_core.specs.Places.{writes}
 use Rattle.file_handles.specs.declared.handle.Handle.{Handle}
 
+-- the open handles by number
 abbrev pub Handles : Type 0
 Handles = List (ℕ × Handle)
 
+-- the working files by name, and the handles on them by number
 pub record Session : Type 0 where
   pub files : Map
   pub handles : Handles
@@ -29,44 +31,48 @@ pub record Session : Type 0 where
 abbrev pub handle_at : Handles → ℕ → Option Handle
 handle_at handles number = lookup (is_at (nat_cmp number)) handles
 
+-- the handles with this one at the number
 abbrev pub with_handle : Handles → ℕ → Handle → Handles
 with_handle handles number handle = insert_entry nat_cmp handles number handle
 
+-- the handles with none at the number
 abbrev pub without_handle : Handles → ℕ → Handles
 without_handle handles number = remove_entry (is_at (nat_cmp number)) handles
 
--- the lowest number from here on that no handle has
+-- the lowest number from this one on that no handle has, where no handle has a lower number
 abbrev pub lowest_free_from : ℕ → Handles → ℕ
 lowest_free_from number [] = number
 lowest_free_from number (e ∷ es) = cond (number == e.0) (lowest_free_from (number + 1) es) number
 
--- numbers are counted from 1
+-- the lowest number that no handle has, counted from 1
 abbrev pub free_number : Handles → ℕ
 free_number handles = lowest_free_from 1 handles
 
--- the lowest handle of all
+-- the lowest number of all handles, if there are any
 abbrev pub lowest : Handles → Option ℕ
 lowest [] = None
 lowest (e ∷ es) = Some e.0
 
--- whether a handle conflicts with an opening of this kind: a writer is alone with its file
+-- whether this handle conflicts with an opening of this kind of the file `name`: it is on the same file, and one of
+-- the two writes
 abbrev pub blocks : OpenKind → List ℕ → Handle → Bool
 blocks kind name handle = bytes_eq handle.name name && (writes kind || writes handle.cursor.kind)
 
--- the lowest conflicting handle
+-- the lowest number of a handle that conflicts with an opening of this kind of the file `name`
 abbrev pub blocking : OpenKind → List ℕ → Handles → Option ℕ
 blocking kind name handles = option_map (λ e. e.0) (find (λ e. blocks kind name e.1) handles)
 
--- a file with a handle is readable
+-- the handle with its file, where there is a file and it is readable
 abbrev pub readable : Handle → Option Element → Option (Handle × Element)
 readable handle None = None
 readable handle (Some file) = cond (is_readable file.content) (Some (handle, file)) None
 
+-- a handle, where there is one, with its file among these, where that is there and readable
 abbrev pub with_file : Map → Option Handle → Option (Handle × Element)
 with_file files None = None
 with_file files (Some handle) = readable handle (element_at files handle.name)
 
--- there is a file, it is readable, and the position is in it
+-- there is a file, it is readable, and this position is in it or at its end
 abbrev pub IsHeldAt : Option Element → ℕ → Type 0
 IsHeldAt None position = ⊥
 IsHeldAt (Some file) position = IsTrue (is_readable file.content) × (position ≤ file.len)
@@ -76,7 +82,7 @@ abbrev pub IsFileAt : Option Element → Type 0
 IsFileAt None = Unit {0}
 IsFileAt (Some file) = IsFile file
 
--- the files of all other names are as they were
+-- of the maps `files` and `later`, all names but this one have the same file in both
 abbrev pub SameBeside : Map → Map → List ℕ → Type 0
 SameBeside files later name = (other : List ℕ) → is_at (name_cmp name) other ≡ false
     → element_at later other ≡ element_at files other
@@ -85,22 +91,24 @@ SameBeside files later name = (other : List ℕ) → is_at (name_cmp name) other
 abbrev pub open_at : Session → ℕ → Option (Handle × Element)
 open_at s number = with_file s.files (handle_at s.handles number)
 
--- the session with the handle at another place
+-- the session with this cursor for the handle of this number
 abbrev pub with_cursor : Session → ℕ → Handle → Cursor → Session
 with_cursor s number handle cursor = record s {
   handles =
       with_handle s.handles number (record handle { cursor = cursor });
 }
 
--- what all else takes beside the content of this name
+-- how many bytes all but the content of this name take in the storage, the name included; what is last given is the
+-- file of this name, if there is one
 abbrev pub others : Map → List ℕ → Option Element → ℕ
 others files name None = size_of files + length name
 others files name (Some file) = size_of files - file.len
 
+-- the room for a content under this name, in a storage of at most `maximum` bytes
 abbrev pub room_for : Map → List ℕ → ℕ → Room
 room_for files name maximum = record { others = others files name (element_at files name); allowed = maximum }
 
--- the map with the file changed so, beside the place of the handle
+-- the map with the file of this name as changed, beside the cursor of its handle; an error stays
 abbrev pub with_changed : Map → List ℕ → Result (Cursor × Element) PerError → Result (Cursor × Map) PerError
 with_changed files name (Ok new) = Ok (new.0, with_element files name new.1)
 with_changed files name (Err error) = Err error

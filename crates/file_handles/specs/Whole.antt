@@ -24,17 +24,19 @@ and_then (Err error) next = Err error
 abbrev pub released : Session → ℕ → Session
 released s number = record s { handles = without_handle s.handles number }
 
--- the bytes of a file that is there
+-- the bytes of a readable file; none where it is missing or unreadable
 abbrev pub bytes_of_file : Option Element → List ℕ
 bytes_of_file None = []
 bytes_of_file (Some file) = readable_bytes file.content
 
--- the whole content of a file
+-- the whole content of a file and the session after it, as a reader gets them that opens the file with no flag and
+-- closes it again
 abbrev pub cat : Storage → Session → List ℕ → ℕ → Result (List ℕ × Session) PerError
 cat storage s name now = and_then (open_file storage s name Read plain now)
     (λ o. Ok (bytes_of_file (element_at o.1.files name), released o.1 o.0))
 
--- the content of a file is then these bytes; whether it may be opened and whether they fit is asked first
+-- the session in which the content of a file is these bytes, as a writer puts them that opens the file with the flag
+-- that truncates, writes and closes it again; whether it may be opened and whether they fit is asked first
 abbrev pub put_whole : Storage → Session → List ℕ → List ℕ → ℕ → Result Session PerError
 put_whole storage s name bytes now =
     refused_by (can_open storage s name Write truncating)
@@ -44,17 +46,19 @@ put_whole storage s name bytes now =
 
 -- ---- what was asked first is not refused midway
 
+-- where a file may be opened for reading, its whole content is given and not refused midway
 abbrev pub CatLaw : Type 0
 CatLaw = (storage : Storage) (s : Session) (name : List ℕ) (now : ℕ) → can_open storage s name Read plain ≡ None
     → IsDue (cat storage s name now)
 
+-- where a file may be opened for writing and the bytes fit, putting them is not refused midway
 abbrev pub PutLaw : Type 0
 PutLaw = (storage : Storage) (s : Session) (name bytes : List ℕ) (now : ℕ)
     → IsStrictlySortedBy name_cmp (keys_of s.files)
     → can_open storage s name Write truncating ≡ None → would_fit storage s.files name (length bytes) ≡ None
     → IsDue (put_whole storage s name bytes now)
 
--- the content of a file is that before its opening
+-- after an opening for reading with no flag, the content of the file is as before
 abbrev pub SameContentLaw : Type 0
 SameContentLaw = (storage : Storage) (s : Session) (name : List ℕ) (now : ℕ) (opened : ℕ × Session)
     → open_file storage s name Read plain now ≡ Ok opened

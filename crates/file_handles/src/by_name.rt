@@ -17,6 +17,7 @@ impl FileTable {
     ///
     /// `FileNotFound` where there is no file of this name.
     pub fn current_file_size(&self, name: &Name) -> Result<u64, PerError>
+        // The answer, or the refusal that is due, is what `current_file_size` gives for these files and this name.
         ensures ok { IfOk result (λ size. calls.current_file_size self.now.session.files name.now ≡ Ok size) }
         ensures refused { IfErr result (λ error. calls.current_file_size self.now.session.files name.now ≡ Err error) }
     {
@@ -32,6 +33,7 @@ impl FileTable {
     ///
     /// `FileNotFound` where there is no file of this name.
     pub fn file_info(&self, name: &Name) -> Result<FileInfo, PerError>
+        // The answer, or the refusal that is due, is what `file_info` gives for these files and this name.
         ensures ok { IfOk result (λ info. calls.file_info self.now.session.files name.now ≡ Ok info) }
         ensures refused { IfErr result (λ error. calls.file_info self.now.session.files name.now ≡ Err error) }
     {
@@ -48,6 +50,7 @@ impl FileTable {
     /// `OutOfMemory`.
     pub fn all_file_names(&self) -> Result<Vec<Name>, PerError>
         ensures names { IfOk result (λ names. names.items ≡ names_of self.now.session.files) }
+        // The only error is that memory ran out.
         ensures memory { IfErr result (λ error. error ≡ PerError.OutOfMemory) }
     {
         copied_names(self.alloc, &self.files)
@@ -59,6 +62,7 @@ impl FileTable {
     ///
     /// `IllegalWriteAccess` where the storage is read-only; `FileNotFound`; `ResourceBusy` where it has a handle.
     pub fn delete_file(&mut self, name: &Name) -> Result<(), PerError>
+        // The session after the call, or the refusal that is due, is what `delete_file` gives for the session before.
         ensures ok { OnOk result (calls.delete_file self.old.storage self.old.session name.now ≡ Ok self.new.session) }
         ensures refused { IfErr result (λ error. calls.delete_file self.old.storage self.old.session name.now
             ≡ Err error) }

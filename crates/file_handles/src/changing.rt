@@ -19,10 +19,12 @@ impl FileTable {
     /// `NotOpen`; `IllegalWriteAccess` for kind Read; `LimitReached` with `FileBytes`; `OutOfStorageSpace`;
     /// `OutOfMemory`, and this only where the piece reaches past the end of the file.
     pub fn write(&mut self, number: u32, piece: &[u8]) -> Result<(), PerError>
+        // The session after the call, or the refusal that is due, is what `write` gives for the session before.
         ensures ok { OnOk result (calls.write self.old.storage self.old.session self.old.moment number piece.now
             ≡ Ok self.new.session) }
         ensures refused { IfErr result (λ error. IsRefusal
             (calls.write self.old.storage self.old.session self.old.moment number piece.now) error) }
+        // Memory runs out only where nothing refuses the call and the piece reaches past the end of the file.
         ensures due { IfErr result (λ error. error ≡ PerError.OutOfMemory
             → IsDue (calls.write self.old.storage self.old.session self.old.moment number piece.now)) }
         ensures memory { IfErr result (λ error. error ≡ PerError.OutOfMemory
@@ -63,6 +65,7 @@ impl FileTable {
     ///
     /// `NotOpen`; `IllegalWriteAccess` for kind Read; `InvalidSize` where it is above the file's size.
     pub fn set_size(&mut self, number: u32, size: u64) -> Result<(), PerError>
+        // The session after the call, or the refusal that is due, is what `set_size` gives for the session before.
         ensures ok { OnOk result (calls.set_size self.old.session self.old.moment number size ≡ Ok self.new.session) }
         ensures refused { IfErr result (λ error. calls.set_size self.old.session self.old.moment number size
             ≡ Err error) }
@@ -97,6 +100,7 @@ impl FileTable {
     ///
     /// `NotOpen` for a number that no handle has.
     pub fn close(&mut self, number: u32) -> Result<(), PerError>
+        // The session after the call, or the refusal that is due, is what `close` gives for the session before.
         ensures ok { OnOk result (calls.close self.old.session number ≡ Ok self.new.session) }
         ensures refused { IfErr result (λ error. calls.close self.old.session number ≡ Err error) }
         ensures unchanged { OnErr result (self.new ≡ self.old) }

@@ -13,18 +13,22 @@ use per_base::{Bytes, Cause, Name, OpenKind, OpenMode, PerError};
 use std::alloc::Global;
 
 impl FileTable {
-    /// The whole content of a file.
+    /// The whole content of a file, as a reader gets it that opens the file with no flag and closes it again.
     ///
     /// # Errors
     ///
     /// Those of an opening for reading with no flag; `OutOfMemory`.
     pub fn whole_content(&mut self, name: &Name, now: u64) -> Result<Vec<u8>, PerError>
+        // The answer and the session after it, or the refusal that is due, are what `cat` gives for the session
+        // before.
         ensures ok { IfOk result (λ content. cat self.old.storage self.old.session name.now now
             ≡ Ok (content.items, self.new.session)) }
         ensures refused { IfErr result (λ error. IsRefusal (cat self.old.storage self.old.session name.now now) error) }
+        // Memory runs out where the call is not to be refused, or for the names that `IntegrityCorrupted` carries.
         ensures memory { IfErr result (λ error. error ≡ PerError.OutOfMemory
             → NeedsMemory (cat self.old.storage self.old.session name.now now)) }
         ensures unchanged { OnErr result (self.new ≡ self.old) }
+        // The moment is then this one, and the storage stays.
         ensures storage { self.new.storage ≡ self.old.storage }
         ensures moment { OnOk result (self.new.moment ≡ now) }
     {
@@ -38,20 +42,24 @@ impl FileTable {
         Ok(content)
     }
 
-    /// Makes these bytes the content of a file, which is made where it is missing. Whether it may be opened and whether
-    /// they fit is asked first, and they are copied before anything changes.
+    /// Makes these bytes the content of a file, which is made where it is missing, as a writer does that truncates the
+    /// file, writes them and closes it again. Whether it may be opened and whether they fit is asked first, and they
+    /// are copied before anything changes.
     ///
     /// # Errors
     ///
     /// Those of an opening for writing with the flag that truncates; those of `would_fit`; `OutOfMemory`.
     pub fn replace(&mut self, name: &Name, bytes: &[u8], now: u64) -> Result<(), PerError>
+        // The session after the call, or the refusal that is due, is what `put_whole` gives for the session before.
         ensures ok { OnOk result (put_whole self.old.storage self.old.session name.now bytes.now now
             ≡ Ok self.new.session) }
         ensures refused { IfErr result (λ error. IsRefusal
             (put_whole self.old.storage self.old.session name.now bytes.now now) error) }
+        // Memory runs out where the call is not to be refused, or for the names that `IntegrityCorrupted` carries.
         ensures memory { IfErr result (λ error. error ≡ PerError.OutOfMemory
             → NeedsMemory (put_whole self.old.storage self.old.session name.now bytes.now now)) }
         ensures unchanged { OnErr result (self.new ≡ self.old) }
+        // The moment is then this one, and the storage stays.
         ensures storage { self.new.storage ≡ self.old.storage }
         ensures moment { OnOk result (self.new.moment ≡ now) }
     {

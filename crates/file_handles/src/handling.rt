@@ -15,6 +15,7 @@ impl FileTable {
     /// `NotOpen` for a number that no handle has; `IllegalReadAccess` for a kind that only writes;
     /// `IsEof` where nothing is left.
     pub fn peek_byte(&self, number: u32) -> Result<u8, PerError>
+        // The answer, or the refusal that is due, is what `peek_byte` gives for this session and handle.
         ensures ok { IfOk result (λ byte. calls.peek_byte self.now.session number ≡ Ok byte) }
         ensures refused { IfErr result (λ error. calls.peek_byte self.now.session number ≡ Err error) }
     {
@@ -24,13 +25,15 @@ impl FileTable {
         handle.cursor.peek_byte(file.bytes())
     }
 
-    /// The next byte, which the position passes. Does not allocate.
+    /// The next byte of the handle's file, which the position passes. Does not allocate.
     ///
     /// # Errors
     ///
     /// `NotOpen` for a number that no handle has; `IllegalReadAccess` for a kind that only writes;
     /// `IsEof` where nothing is left.
     pub fn get_byte(&mut self, number: u32) -> Result<u8, PerError>
+        // The answer and the session after it, or the refusal that is due, are what `get_byte` gives for the session
+        // before.
         ensures ok { IfOk result (λ byte. calls.get_byte self.old.session number ≡ Ok (byte, self.new.session)) }
         ensures refused { IfErr result (λ error. calls.get_byte self.old.session number ≡ Err error) }
         ensures unchanged { OnErr result (self.new ≡ self.old) }
@@ -46,16 +49,19 @@ impl FileTable {
         Ok(byte)
     }
 
-    /// That many bytes, or the rest where fewer are left; the position passes them.
+    /// That many bytes of the handle's file, or the rest where fewer are left; the position passes them.
     ///
     /// # Errors
     ///
     /// `NotOpen` for a number that no handle has; `IllegalReadAccess` for a kind that only writes;
     /// `IsEof` where nothing is left, also for a count of 0; `OutOfMemory`.
     pub fn read(&mut self, number: u32, count: u64) -> Result<Vec<u8>, PerError>
+        // The answer and the session after it, or the refusal that is due, are what `read` gives for the session
+        // before.
         ensures ok { IfOk result (λ piece. calls.read self.old.session number count
             ≡ Ok (piece.items, self.new.session)) }
         ensures refused { IfErr result (λ error. IsRefusal (calls.read self.old.session number count) error) }
+        // Memory runs out only where bytes are due, not instead of a refusal.
         ensures memory { IfErr result (λ error. error ≡ PerError.OutOfMemory
             → IsDue (calls.read self.old.session number count)) }
         ensures unchanged { OnErr result (self.new ≡ self.old) }
@@ -72,16 +78,19 @@ impl FileTable {
         Ok(piece)
     }
 
-    /// The rest, which the position passes.
+    /// What is left of the handle's file from the position on; the position is then at its end.
     ///
     /// # Errors
     ///
     /// `NotOpen` for a number that no handle has; `IllegalReadAccess` for a kind that only writes;
     /// `IsEof` where nothing is left; `OutOfMemory`.
     pub fn read_all(&mut self, number: u32) -> Result<Vec<u8>, PerError>
+        // The answer and the session after it, or the refusal that is due, are what `read_all` gives for the session
+        // before.
         ensures ok { IfOk result (λ piece. calls.read_all self.old.session number
             ≡ Ok (piece.items, self.new.session)) }
         ensures refused { IfErr result (λ error. IsRefusal (calls.read_all self.old.session number) error) }
+        // Memory runs out only where bytes are due, not instead of a refusal.
         ensures memory { IfErr result (λ error. error ≡ PerError.OutOfMemory
             → IsDue (calls.read_all self.old.session number)) }
         ensures unchanged { OnErr result (self.new ≡ self.old) }
@@ -105,9 +114,12 @@ impl FileTable {
     /// `NotOpen` for a number that no handle has; `IllegalReadAccess` for a kind that only writes;
     /// `IsEof` where nothing is left; `OutOfMemory`.
     pub fn read_line(&mut self, number: u32, delimiter: u8) -> Result<Vec<u8>, PerError>
+        // The answer and the session after it, or the refusal that is due, are what `read_line` gives for the session
+        // before.
         ensures ok { IfOk result (λ piece. calls.read_line self.old.session number delimiter
             ≡ Ok (piece.items, self.new.session)) }
         ensures refused { IfErr result (λ error. IsRefusal (calls.read_line self.old.session number delimiter) error) }
+        // Memory runs out only where bytes are due, not instead of a refusal.
         ensures memory { IfErr result (λ error. error ≡ PerError.OutOfMemory
             → IsDue (calls.read_line self.old.session number delimiter)) }
         ensures unchanged { OnErr result (self.new ≡ self.old) }
@@ -130,6 +142,7 @@ impl FileTable {
     ///
     /// `NotOpen` for a number that no handle has.
     pub fn size(&self, number: u32) -> Result<u64, PerError>
+        // The answer, or the refusal that is due, is what `size` gives for this session and handle.
         ensures ok { IfOk result (λ size. calls.size self.now.session number ≡ Ok size) }
         ensures refused { IfErr result (λ error. calls.size self.now.session number ≡ Err error) }
     {
@@ -139,12 +152,13 @@ impl FileTable {
         }
     }
 
-    /// The position of the handle. Does not allocate.
+    /// The position of the handle, in bytes from the beginning of its file. Does not allocate.
     ///
     /// # Errors
     ///
     /// `NotOpen` for a number that no handle has.
     pub fn position(&self, number: u32) -> Result<u64, PerError>
+        // The answer, or the refusal that is due, is what `position` gives for this session and handle.
         ensures ok { IfOk result (λ position. calls.position self.now.session number ≡ Ok position) }
         ensures refused { IfErr result (λ error. calls.position self.now.session number ≡ Err error) }
     {
@@ -160,6 +174,7 @@ impl FileTable {
     ///
     /// `NotOpen` for a number that no handle has.
     pub fn is_eof(&self, number: u32) -> Result<bool, PerError>
+        // The answer, or the refusal that is due, is what `is_eof` gives for this session and handle.
         ensures ok { IfOk result (λ is. calls.is_eof self.now.session number ≡ Ok is) }
         ensures refused { IfErr result (λ error. calls.is_eof self.now.session number ≡ Err error) }
     {
@@ -175,6 +190,8 @@ impl FileTable {
     ///
     /// `NotOpen`; `InvalidPosition` where it is above the size.
     pub fn set_position(&mut self, number: u32, position: u64) -> Result<(), PerError>
+        // The session after the call, or the refusal that is due, is what `set_position` gives for the session
+        // before.
         ensures ok { OnOk result (calls.set_position self.old.session number position ≡ Ok self.new.session) }
         ensures refused { IfErr result (λ error. calls.set_position self.old.session number position ≡ Err error) }
         ensures unchanged { OnErr result (self.new ≡ self.old) }
@@ -190,7 +207,8 @@ impl FileTable {
         Ok(())
     }
 
-    /// Moves the handle by an offset from the origin, and gives the new position. Does not allocate.
+    /// Moves the handle by an offset in bytes from the origin, which is the beginning, the position or the end of its
+    /// file, and gives the new position. Does not allocate.
     ///
     /// # Errors
     ///
@@ -201,6 +219,8 @@ impl FileTable {
         origin: Origin,
         offset: i64,
     ) -> Result<u64, PerError>
+        // The answer and the session after it, or the refusal that is due, are what `move_position` gives for the
+        // session before.
         ensures ok { IfOk result (λ at. calls.move_position self.old.session number origin offset
             ≡ Ok (at, self.new.session)) }
         ensures refused { IfErr result (λ error. calls.move_position self.old.session number origin offset

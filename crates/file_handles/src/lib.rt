@@ -8,6 +8,12 @@
 //! The files are the table's own, apart from those on the disk: cutting a file does not allocate, and neither do the
 //! other calls that only look, move or close. There are at most 1,024 files, and they never take more than the storage
 //! is allowed.
+//!
+//! Words of the contracts: a *session* is the files and the handles; `ok` says what a call answers, by the function of
+//! its name in `specs`; `refused` that an error is the one that is due, or `OutOfMemory` where the call may run out of
+//! memory; `memory` and `due` when it can be that; `storage` and `moment` what becomes of all else of the table; and
+//! `unchanged` that an error changes nothing. A *salvage* is the bytes that are left of an unreadable file. A moment
+//! (`now`) is in seconds.
 #![tactic(auto)]
 
 mod by_name;

@@ -23,9 +23,10 @@ use per_base::{Bytes, Cause, Name, OpenMode, PerError};
 use std::alloc::Global;
 use std::collections::BTreeMap;
 
-/// Puts the handle of this number at another place.
+/// Gives the handle of this number another cursor.
 #[tactic(auto, using(crate::specs::lemmas::Entries::handle_set))]
 pub fn set_cursor(handles: &mut BTreeMap<u32, Handle>, number: u32, cursor: Cursor)
+    // There is such a handle; the numbers stay, and the handle alone changes.
     requires { IsSome (handle_at handles.old.entries number) }
     ensures moved { (handle : Handle) → handle_at handles.old.entries number ≡ Some handle
         → handles.new.entries ≡ with_handle handles.old.entries number (record handle { cursor = cursor }) }
@@ -39,6 +40,7 @@ pub fn set_cursor(handles: &mut BTreeMap<u32, Handle>, number: u32, cursor: Curs
 /// The length of the file of this name, or 0.
 #[tactic(auto, using(crate::specs::lemmas::Entries::len_fits))]
 pub fn len_of(files: &BTreeMap<Name, File>, name: &Name) -> u64
+    // It is no more than all files together take.
     ensures len { (file : Element) → element_at files.now.entries name.now ≡ Some file → result ≡ file.len }
     ensures fits { result ≤ size_of files.now.entries }
 {
@@ -58,8 +60,10 @@ pub fn write_file(
     now: u64,
     room: Room,
 ) -> Result<u32, PerError>
+    // The file is there and readable, and the position is in it.
     requires held { IsHeldAt (element_at files.old.entries name.now) cursor.old.position }
     requires bounded { room.others ≤ 2 ^ 32 }
+    // The file, its handle and the error are those of a write by this cursor; all other files stay.
     ensures ok { OnOk result ((old : Element) → element_at files.old.entries name.now ≡ Some old
         → with_changed files.old.entries name.now (core.written cursor.old old piece.now now room)
         ≡ Ok (cursor.new, files.new.entries)) }
@@ -68,6 +72,7 @@ pub fn write_file(
     ensures unchanged { OnErr result ((files.new.entries ≡ files.old.entries) × (cursor.new ≡ cursor.old)) }
     ensures keys { keys_of files.new.entries ≡ keys_of files.old.entries }
     ensures beside { SameBeside files.old.entries files.new.entries name.now }
+    // The sizes in bytes of all files rise by what this one grows, and stay within the room; the position is in it.
     ensures size { IfOk result (λ len. (old : Element) → element_at files.old.entries name.now ≡ Some old
         → size_of files.new.entries + old.len ≡ size_of files.old.entries + len) }
     ensures within { IfOk result (λ len. (old : Element) → element_at files.old.entries name.now ≡ Some old
@@ -75,6 +80,7 @@ pub fn write_file(
     ensures held { OnOk result (IsHeldAt (element_at files.new.entries name.now) cursor.new.position) }
     ensures writer { OnOk result (IsTrue (writes cursor.old.kind) × (cursor.new.kind ≡ cursor.old.kind)) }
     ensures file { OnOk result (IsFileAt (element_at files.new.entries name.now)) }
+    // Memory runs out only where nothing refuses the write and the piece reaches past the end.
     ensures due { IfErr result (λ error. error ≡ PerError.OutOfMemory → (old : Element)
         → element_at files.old.entries name.now ≡ Some old → IsDue (core.written cursor.old old piece.now now room)) }
     ensures memory { IfErr result (λ error. error ≡ PerError.OutOfMemory → (old : Element)
@@ -98,7 +104,9 @@ pub fn cut_file(
     size: u64,
     now: u64,
 ) -> Result<u32, PerError>
+    // The file is there and readable, and the position is in it.
     requires { IsHeldAt (element_at files.old.entries name.now) cursor.old.position }
+    // The file, its handle and the error are those of a cut; all other files stay.
     ensures ok { OnOk result ((old : Element) → element_at files.old.entries name.now ≡ Some old
         → with_changed files.old.entries name.now (core.cut cursor.old old size now)
         ≡ Ok (cursor.new, files.new.entries)) }
@@ -147,6 +155,7 @@ pub fn reopen_file(
     mode: OpenMode,
     now: u64,
 )
+    // There is a file of this name; the names stay, and the file alone changes.
     requires { IsSome (element_at files.old.entries name.now) }
     ensures opened { (old : Element) → element_at files.old.entries name.now ≡ Some old
         → files.new.entries ≡ with_element files.old.entries name.now (file_opened read_only mode now (Some old)) }
@@ -167,6 +176,7 @@ pub fn add_handle(
     ensures ok { OnOk result (handles.new.entries ≡ with_handle handles.old.entries number
         (record { name = name.now; cursor = cursor })) }
     ensures unchanged { OnErr result (handles.new.entries ≡ handles.old.entries) }
+    // The only error is that memory ran out.
     ensures memory { IfErr result (λ error. error ≡ PerError.OutOfMemory) }
     ensures ordered { OnOk result (IsStrictlySortedBy nat_cmp (keys_of handles.new.entries)) }
     ensures few { OnOk result (length handles.new.entries ≤ length handles.old.entries + 1) }
@@ -184,6 +194,7 @@ pub fn add_handle(
 pub fn add_file(files: &mut BTreeMap<Name, File>, name: &Name, file: File) -> Result<(), PerError>
     ensures ok { OnOk result (files.new.entries ≡ with_element files.old.entries name.now file) }
     ensures unchanged { OnErr result (files.new.entries ≡ files.old.entries) }
+    // The only error is that memory ran out.
     ensures memory { IfErr result (λ error. error ≡ PerError.OutOfMemory) }
     ensures ordered { OnOk result (IsStrictlySortedBy name_cmp (keys_of files.new.entries)) }
     ensures few { OnOk result (length files.new.entries ≤ length files.old.entries + 1) }
@@ -199,6 +210,7 @@ pub fn add_file(files: &mut BTreeMap<Name, File>, name: &Name, file: File) -> Re
 
 /// The length that an opening leaves of a file of this length.
 pub fn opened_len(before: u64, read_only: bool, mode: OpenMode) -> u64
+    // So for an opening at any moment of a file that was this long; it is no longer than before.
     ensures len { (now : ℕ) (old : Element) → before ≡ old.len
         → result ≡ (file_opened read_only mode now (Some old)).len }
     ensures smaller { result ≤ before }
@@ -225,6 +237,7 @@ pub fn add_file_and_handle(
         (record { name = name.now; cursor = cursor })) }
     ensures files_unchanged { OnErr result (files.new.entries ≡ files.old.entries) }
     ensures handles_unchanged { OnErr result (handles.new.entries ≡ handles.old.entries) }
+    // The only error is that memory ran out.
     ensures memory { IfErr result (λ error. error ≡ PerError.OutOfMemory) }
     ensures names { OnOk result (IsStrictlySortedBy name_cmp (keys_of files.new.entries)) }
     ensures few_files { OnOk result (length files.new.entries ≤ length files.old.entries + 1) }
@@ -242,6 +255,7 @@ pub fn add_file_and_handle(
 
 /// Removes a file.
 pub fn remove_file(files: &mut BTreeMap<Name, File>, name: &Name)
+    // The names stay in order, and there are no more files than before.
     ensures gone { files.new.entries ≡ without files.old.entries name.now }
     ensures names { IsStrictlySortedBy name_cmp (keys_of files.new.entries) }
     ensures few { length files.new.entries ≤ length files.old.entries }
@@ -259,6 +273,7 @@ pub fn empty_file(alloc: Global, now: u64) -> File
 /// The number of bytes of a name.
 #[tactic(auto, using(crate::specs::lemmas::Entries::name_fits))]
 pub fn name_len(name: &Name) -> u64
+    // It is at most 255.
     ensures exact { result ≡ length name.now }
     ensures small { result ≤ 255 }
 {
@@ -283,6 +298,7 @@ fn recover(file: &mut File, now: u64) -> bool
 /// stays.
 #[tactic(auto, using(crate::specs::lemmas::Entries::file_set, crate::specs::lemmas::Entries::size_set, std::proofs::lemmas::Map::Steps::set_value_same))]
 pub fn recover_in(files: &mut BTreeMap<Name, File>, name: &Name, now: u64) -> bool
+    // Where there is a salvage it is the content; else nothing changed. Names and sizes stay.
     ensures recovered { OnTrue result ((old : Element) → element_at files.old.entries name.now ≡ Some old
         → files.new.entries ≡ with_element files.old.entries name.now (salvaged now old)) }
     ensures some { OnTrue result ((old : Element) → element_at files.old.entries name.now ≡ Some old
@@ -310,6 +326,7 @@ pub fn replace_in(
     now: u64,
     cause: Cause,
 )
+    // There is such a file, and the bytes are at most 1,048,576, the most of a file; the names stay.
     requires there { IsTrue (has files.old.entries name.now) }
     requires small { length bytes ≤ 1048576 }
     ensures replaced { (old : Element) → element_at files.old.entries name.now ≡ Some old

@@ -15,17 +15,20 @@ use file_core::{Cursor, Room, is_bad_mode, writes};
 use per_base::{Holder, Limit, Name, OpenKind, OpenMode, PerError, Unit};
 
 impl FileTable {
-    /// Checks whether a file can be opened with this kind and mode. Space is not checked. Changes nothing.
+    /// Checks whether a file can be opened with this kind (to read, to write or both) and mode (the flags). Space is
+    /// not checked. Changes nothing.
     ///
     /// Errors, in this order: `InvalidOpenMode` where the flags contradict one another or ask a reader to change the
     /// file; `IllegalWriteAccess` where the kind writes and the storage is read-only; `FileNotFound` where the kind is
     /// Read and the file is missing; `IntegrityCorrupted` where it is unreadable; `ResourceBusy` with the lowest
-    /// conflicting handle; `LimitReached` with `Handles`, then with `Elements`. `OutOfMemory` comes only in the
-    /// place of `IntegrityCorrupted`.
+    /// conflicting handle; `LimitReached` with `Handles`, then with `Elements`. `OutOfMemory` comes only
+    /// instead of `IntegrityCorrupted`.
     pub fn can_open(&self, name: &Name, kind: OpenKind, mode: OpenMode) -> Result<(), PerError>
+        // Nothing refuses the opening, or the error is the one that is due.
         ensures ok { OnOk result (opening.can_open self.now.storage self.now.session name.now kind mode ≡ None) }
         ensures refused { IfErr result (λ error. error ≢ PerError.OutOfMemory
             → opening.can_open self.now.storage self.now.session name.now kind mode ≡ Some error) }
+        // Memory runs out only for the names that `IntegrityCorrupted` carries.
         ensures memory { IfErr result (λ error. error ≡ PerError.OutOfMemory
             → opening.can_open self.now.storage self.now.session name.now kind mode
             ≡ Some (PerError.IntegrityCorrupted (Unit.Part self.now.storage.name name.now))) }
@@ -58,12 +61,16 @@ impl FileTable {
         Ok(())
     }
 
-    /// Opens a file with this kind and mode, and gives the number of its handle, the lowest free one. A missing file is
-    /// created empty, unless it is opened only to read.
+    /// Opens a file with this kind and mode at the moment `now`, and gives the number of its handle, the lowest free
+    /// one. A missing file is created empty, unless it is opened only to read.
+    ///
+    /// The flags of the mode: the position starts at 0, or with `AT_THE_END` at the size that the opening leaves;
+    /// `TRUNCATE` empties the file; with `APPEND` each write goes to the end.
     ///
     /// # Errors
     ///
-    /// Those of `can_open`, then `OutOfStorageSpace` where an empty file of a missing name would exceed the maximum.
+    /// Those of `can_open`, then `OutOfStorageSpace` where an empty file of a missing name would exceed the maximum;
+    /// `OutOfMemory`.
     #[tactic(auto, using(crate::specs::lemmas::Opens::refused_first, crate::specs::lemmas::Opens::refused_space))]
     pub fn open_file(
         &mut self,
@@ -72,13 +79,17 @@ impl FileTable {
         mode: OpenMode,
         now: u64,
     ) -> Result<u32, PerError>
+        // The number of the handle and the session after the call, or the refusal that is due, are what `open_file`
+        // gives for the session before.
         ensures ok { IfOk result (λ number. opening.open_file self.old.storage self.old.session name.now kind mode now
             ≡ Ok (number, self.new.session)) }
         ensures refused { IfErr result (λ error. IsRefusal
             (opening.open_file self.old.storage self.old.session name.now kind mode now) error) }
+        // Memory runs out where an opening is due, or for the names that `IntegrityCorrupted` carries.
         ensures memory { IfErr result (λ error. error ≡ PerError.OutOfMemory
             → NeedsMemory (opening.open_file self.old.storage self.old.session name.now kind mode now)) }
         ensures unchanged { OnErr result (self.new ≡ self.old) }
+        // The moment is then this one, and the storage stays.
         ensures storage { self.new.storage ≡ self.old.storage }
         ensures moment { OnOk result (self.new.moment ≡ now) }
     {
@@ -183,13 +194,14 @@ impl FileTable {
         None
     }
 
-    /// Whether the storage has a file of this length under this name.
+    /// Checks whether a content of this length in bytes would fit under this name.
     ///
     /// # Errors
     ///
     /// `LimitReached` with `FileBytes` where the length is above 1,048,576; `OutOfStorageSpace` where the storage with
     /// this file at that length would exceed its maximum. Changes nothing, and does not allocate.
     pub fn would_fit(&self, name: &Name, len: u64) -> Result<(), PerError>
+        // It fits where nothing refuses it; else the error is what refuses it.
         ensures ok { OnOk result (opening.would_fit self.now.storage self.now.session.files name.now len ≡ None) }
         ensures refused { IfErr result (λ error. opening.would_fit self.now.storage self.now.session.files name.now len
             ≡ Some error) }

@@ -19,7 +19,8 @@ use file_core::{File, made};
 use per_base::{Bytes, Cause, Holder, Name, OpenKind, PerError};
 
 impl FileTable {
-    /// A readable file stays; an unreadable one becomes its salvage, else its initial content, else it goes.
+    /// Recovers a file: a readable one stays; an unreadable one gets its salvage as its content, else its initial
+    /// content (`initial`, where it has one), else it is deleted.
     ///
     /// # Errors
     ///
@@ -31,7 +32,10 @@ impl FileTable {
         now: u64,
         initial: Option<&[u8]>,
     ) -> Result<(), PerError>
+        // An initial content is at most as long as a file may be, 1,048,576 bytes.
         requires { MatchOption (option_copied initial) ⊤ (λ bytes. length bytes ≤ 1048576) }
+        // The session after the call, or the refusal that is due, is what `recover_file` gives for the session
+        // before.
         ensures ok { OnOk result (calls.recover_file self.old.storage self.old.session name.now now
             (option_copied initial.entry) ≡ Ok self.new.session) }
         ensures refused { IfErr result (λ error. IsRefusal
@@ -107,7 +111,7 @@ impl FileTable {
         Ok(())
     }
 
-    /// The file of this name gets its initial content, and is made where it is missing.
+    /// Gives the file of this name its initial content (`initial`); the file is made where it is missing.
     ///
     /// # Errors
     ///
@@ -119,11 +123,14 @@ impl FileTable {
         now: u64,
         initial: Option<&[u8]>,
     ) -> Result<(), PerError>
+        // An initial content is at most as long as a file may be, 1,048,576 bytes.
         requires { MatchOption (option_copied initial) ⊤ (λ bytes. length bytes ≤ 1048576) }
+        // The session after the call, or the refusal that is due, is what `reset_file` gives for the session before.
         ensures ok { OnOk result (calls.reset_file self.old.storage self.old.session name.now now
             (option_copied initial.entry) ≡ Ok self.new.session) }
         ensures refused { IfErr result (λ error. IsRefusal
             (calls.reset_file self.old.storage self.old.session name.now now (option_copied initial.entry)) error) }
+        // Memory runs out only where nothing refuses the call.
         ensures memory { IfErr result (λ error. error ≡ PerError.OutOfMemory
             → IsDue (calls.reset_file self.old.storage self.old.session name.now now (option_copied initial.entry))) }
         ensures unchanged { OnErr result (self.new ≡ self.old) }

@@ -24,7 +24,8 @@ pub const HANDLES: usize = 64;
 /// The greatest number of bytes that a storage may be allowed.
 pub const STORAGE_BYTES: u64 = 4_194_304;
 
-/// The working files of a storage, the handles on them, and the moment last given. Contracts see it as a `Table`.
+/// The working files of a storage, the handles on them, and the moment last given, in seconds, which changes record.
+/// Contracts see it as a `Table`.
 #[derive(Drop)]
 pub struct FileTable {
     pub(crate) alloc: Global,
@@ -53,8 +54,10 @@ impl Model for FileTable {
 }
 
 impl FileTable {
-    /// A table of these files, whose sizes sum up to this, with no handle and the moment 0.
+    /// A table of these files, whose names and contents take `size` bytes, with no handle and the moment 0.
     pub fn new(alloc: Global, storage: Storage, files: BTreeMap<Name, File>, size: u64) -> FileTable
+        // The storage and the files are within the limits of a storage and what it is allowed, and each element is a
+        // file.
         requires allowed { storage.maximum ≤ 4194304 }
         requires few { length files.entries ≤ 1024 }
         requires room { size_of files.entries ≤ storage.maximum }
@@ -82,6 +85,8 @@ impl FileTable {
     /// that a number is not open just where no handle has it.
     #[tactic(auto, using(crate::specs::lemmas::Numbers::lower_are_taken, crate::specs::lemmas::Numbers::lowest_is_free, crate::specs::lemmas::Sound::closed_without_handle))]
     pub fn invariants(&self)
+        // The table is sound; all numbers below the free one are taken, and it is not; a number without an open file
+        // has no handle.
         ensures table { IsTable self.now.storage self.now.session.files self.now.session.handles }
         ensures taken { (number : ℕ) → 1 ≤ number → number < free_number self.now.session.handles
             → IsSome (handle_at self.now.session.handles number) }
@@ -92,14 +97,14 @@ impl FileTable {
         let _size = self.size;
     }
 
-    /// The size of the working files: names and contents. Does not allocate.
+    /// The size of the working files in bytes: names and contents. Does not allocate.
     pub fn current_size(&self) -> u64
         ensures { result ≡ size_of self.now.session.files }
     {
         self.size
     }
 
-    /// Sets the moment. Does not allocate.
+    /// Sets the moment, in seconds, that later writes and cuts record. Does not allocate.
     pub fn set_now(&mut self, now: u64)
         ensures { self.new ≡ record self.old { moment = now } }
     {
@@ -113,7 +118,7 @@ impl FileTable {
         &self.files
     }
 
-    /// The lowest open handle of all. Does not allocate.
+    /// The number of the lowest open handle of all, if one is open. Does not allocate.
     #[tactic(auto, using(crate::specs::lemmas::Numbers::lowest_first, crate::specs::lemmas::Numbers::lowest_none))]
     pub fn lowest_handle(&self) -> Option<u32>
         ensures { result ≡ lowest self.now.session.handles }
@@ -124,8 +129,10 @@ impl FileTable {
         }
     }
 
-    /// The handle of this number, and its file.
+    /// The handle of this number and its file; none where the number is not open.
     pub fn at(&self, number: u32) -> Option<(&Handle, &File)>
+        // The handle is one of the table's and the file the one of its name, which is readable; the position is in
+        // the file or at its end.
         ensures open { MatchOption result (open_at self.now.session number ≡ None)
             (λ o. open_at self.now.session number ≡ Some (o.0.now, o.1.now)) }
         ensures handle { IfSome result (λ o. handle_at self.now.session.handles number ≡ Some o.0.now) }
@@ -141,7 +148,7 @@ impl FileTable {
         Some((handle, file))
     }
 
-    /// Puts an open handle at another place.
+    /// Gives an open handle another position.
     pub(crate) fn put_cursor(&mut self, number: u32, cursor: Cursor)
         requires there { IsSome (handle_at self.old.session.handles number) }
         requires stands { (handle : Handle) → handle_at self.old.session.handles number ≡ Some handle

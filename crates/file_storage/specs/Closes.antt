@@ -5,7 +5,7 @@ use Rattle.file_storage.specs.declared.syncing.Closed.{Closed}
 use Rattle.file_storage.specs.declared.syncing.Closed.TheVariants.{Done, Refused}
 use Rattle.file_storage.specs.FileSessions.{FilesInUse}
 
--- P holds where the storage was closed, and Q of the session and the error where that was refused
+-- P holds where the storage was closed, and Q of the open storage and the error where that was refused
 abbrev pub MatchClosed : Closed → Type 0 → (FilesInUse → PerError → Type 0) → Type 0
 MatchClosed Done P Q = P
 MatchClosed (Refused files error) P Q = Q files error

@@ -13,23 +13,23 @@ use Rattle.element_maps.specs.Storages.{IsConfigured}
 use Rattle.element_store.specs.declared.store.Store.{Store}
 use Rattle.element_store.specs.Stores.{store_shape, view_in}
 
--- how it is configured, the storage in use below it, the working files with the handles on them, and the moment last
--- given
+-- how it is configured (`config`), the storage of elements on the disk below it (`store`), the working files with the
+-- handles on them (`session`), and the moment last given, in seconds
 pub record FilesInUse : Type 0 where
   pub config : StorageData
   pub store : Store
   pub session : Session
   pub moment : ℕ
 
--- what the working files must know of their storage
+-- what the working files must know of their storage: its name, whether it is read-only, and its most bytes
 abbrev pub storage_of : StorageData → Storage
 storage_of config = record { name = config.name; read_only = config.read_only; maximum = config.maximum }
 
--- the synchronised files of a storage
+-- the synchronised files of a storage, by name
 abbrev pub stored_in : Store → Map
 stored_in store = map_of (view_in store)
 
--- a working file that cannot be read is the very one that is synchronised
+-- a working file (one of `files`) that cannot be read is the very one that is synchronised (in `stored`)
 abbrev pub AreAsStored : (stored files : Map) → Type 0
 AreAsStored stored files = (name : List ℕ) (file : Element) → element_at files name ≡ Some file
     → is_readable file.content ≡ false → element_at stored name ≡ Some file

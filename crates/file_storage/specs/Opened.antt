@@ -4,7 +4,8 @@ use Rattle.element_maps.specs.Storages.{Opened}
 use Rattle.file_storage.specs.declared.opening.OpenedFiles.{OpenedFiles}
 use Rattle.file_storage.specs.FileSessions.{stored_in}
 
--- where the storage is, what it shows, its synchronised files, and what is reported
+-- what an opening gives: how the storage is configured (`shape`), the view that it shows, its synchronised files, and
+-- what is reported
 abbrev pub opened_as : OpenedFiles → Opened
 opened_as o = record {
   shape = store_shape o.files.store;

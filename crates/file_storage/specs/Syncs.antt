@@ -1,4 +1,5 @@
--- Making the working files durable: what refuses it, and what it makes of the storage.
+-- Making the working files durable: what refuses it, and what it makes of the storage. `s` is the open storage, `old`
+-- and `new` are the disk before and after it.
 use Rattle.std.specs.Prelude.{◌≡◌, ℕ, length, Bool, false, not, ◌&&◌, Option, Some, None}
 use Rattle.per_base.specs.declared.elements.Element.{Element}
 use Rattle.per_base.specs.declared.errors.Limit.TheVariants as limit
@@ -20,15 +21,16 @@ use Rattle.element_maps.specs.Sessions as maps
 use Rattle.element_maps.specs.Storages.{IsDurable, KeepsEqual}
 use Rattle.file_storage.specs.FileSessions.{FilesInUse, stored_in}
 
--- the working files are those that are synchronised
+-- whether the working files are those that are synchronised
 abbrev pub is_synced : FilesInUse → Bool
 is_synced s = maps.same_map (stored_in s.store) s.session.files
 
--- the refusal where files differ and no generation is left for them
+-- `LimitReached` where files differ and no generation is left for them: this number, which rises with each commit, is
+-- the greatest of 64 bits
 abbrev pub worn : FilesInUse → Option PerError
 worn s = when (not (is_synced s) && is_worn (view_in s.store)) (LimitReached limit.Generations)
 
--- what refuses a sync through this handle: there is none, or it only reads
+-- what refuses a sync through this handle: it is not open, or it only reads
 abbrev pub no_writer : Option (Handle × Element) → Option PerError
 no_writer None = Some NotOpen
 no_writer (Some o) = when (not (writes o.0.cursor.kind)) IllegalWriteAccess
@@ -37,7 +39,7 @@ no_writer (Some o) = when (not (writes o.0.cursor.kind)) IllegalWriteAccess
 abbrev pub sync_refused : FilesInUse → ℕ → Option PerError
 sync_refused s number = or_next (no_writer (open_at s.session number)) (worn s)
 
--- what refuses to close the storage
+-- what refuses to close the storage: the lowest open handle, or that no generation is left for files that differ
 abbrev pub close_refused : FilesInUse → Option PerError
 close_refused s = or_next (busy (lowest s.session.handles)) (worn s)
 
@@ -45,13 +47,15 @@ close_refused s = or_next (busy (lowest s.session.handles)) (worn s)
 abbrev pub synced_view : FilesInUse → View
 synced_view s = maps.view_once_synced (store_shape s.store) (view_in s.store) (stored_in s.store) s.session.files
 
--- at most this is written: in each copy the contents that differ, and the next index
+-- at most this is written: in each copy the contents that differ, the next index with its head of 44 bytes, and 44
+-- bytes that blank the old index
 abbrev pub WritesAtMost : FilesInUse → (old new : Medium) → Type 0
 WritesAtMost s old new = IsWithin (store_shape s.store).place.copies
     (map_cost (store_shape s.store).kind (stored_in s.store) s.session.files)
     (index_length (store_shape s.store).kind (synced_view s).entries) old.written new.written
 
--- the working files of a session are durable in a later one, and all else of it stays
+-- the working files of `s` are durable in `later`, and all else of it stays; `told` says that the bytes of the disk
+-- are modelled
 pub record IsSynced (told : Bool) (s later : FilesInUse) (old new : Medium) : Type 0 where
   pub stored : stored_in later.store ≡ s.session.files
   pub view : view_in later.store ≡ synced_view s
@@ -60,7 +64,8 @@ pub record IsSynced (told : Bool) (s later : FilesInUse) (old new : Medium) : Ty
   pub used : IsUsed told new.image later.store
   pub durable : IsDurable told (store_shape s.store) (stored_in s.store) s.session.files
       (length (index_text (index_in later.store))) old new
-  -- the index: each file that does not differ as it was listed
+  -- its index: each file that does not differ as it was listed; where one does, in format 2, which has the generation
+  -- of each last change, and as long as the entries of its view ask
   pub carried : KeepsEqual (stored_in s.store) s.session.files (index_in s.store).entries (index_in later.store).entries
   pub format : is_synced s ≡ false → (index_in later.store).format ≡ 2
   pub text : is_synced s ≡ false → length (index_text (index_in later.store))

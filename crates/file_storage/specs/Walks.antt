@@ -9,11 +9,11 @@ use Rattle.per_base.specs.declared.elements.Change.{Change}
 use Rattle.per_base.specs.declared.elements.Change.TheVariants.{Remove}
 use Rattle.element_maps.specs.Differences.{arrival, put}
 
--- the change that removes a stored file
+-- the change that removes this stored file
 abbrev pub removed : List ℕ × Element → Change
 removed e = Remove e.0
 
--- the changes along the stored files up to the one of a working file, then at it, and then those of the rest
+-- the changes along the stored files up to the name of this working file and at it, then those of the rest
 abbrev pub passing : List ℕ × Element → (rest : Map → List Change) → (stored : Map) → List Change
 passing file rest [] = put file.0 file.1 ∷ rest []
 passing file rest (e ∷ stored) = match_ordering (name_cmp e.0 file.0)
@@ -21,7 +21,8 @@ passing file rest (e ∷ stored) = match_ordering (name_cmp e.0 file.0)
     (cons_option (arrival file.0 (Some e.1) file.1) (rest stored))
     (put file.0 file.1 ∷ rest (e ∷ stored))
 
--- the changes that make the stored files into these, in the order of the names: one where the two differ, and none else
+-- the changes that make the map `stored` into the map `files`, in the order of the names: one where the two differ,
+-- and none else
 abbrev pub walked : (files stored : Map) → List Change
 walked [] stored = map removed stored
 walked (file ∷ files) stored = passing file (walked files) stored

@@ -31,6 +31,7 @@ impl Files {
     /// `OutOfMemory`.
     pub fn all_file_names(&self) -> Result<Vec<Name>, PerError>
         ensures names { IfOk result (λ names. names.items ≡ names_of self.now.session.files) }
+        // The only error is that memory ran out.
         ensures memory { IfErr result (λ error. error ≡ PerError.OutOfMemory) }
     {
         self.table.all_file_names()
@@ -42,6 +43,7 @@ impl Files {
     ///
     /// `FileNotFound` where there is no file of this name.
     pub fn current_file_size(&self, name: &Name) -> Result<u64, PerError>
+        // The answer, or the refusal that is due, is what `current_file_size` gives for these files and this name.
         ensures ok { IfOk result (λ size. calls.current_file_size self.now.session.files name.now ≡ Ok size) }
         ensures refused { IfErr result (λ error. calls.current_file_size self.now.session.files name.now ≡ Err error) }
     {
@@ -54,20 +56,21 @@ impl Files {
     ///
     /// `FileNotFound` where there is no file of this name.
     pub fn file_info(&self, name: &Name) -> Result<FileInfo, PerError>
+        // The answer, or the refusal that is due, is what `file_info` gives for these files and this name.
         ensures ok { IfOk result (λ info. calls.file_info self.now.session.files name.now ≡ Ok info) }
         ensures refused { IfErr result (λ error. calls.file_info self.now.session.files name.now ≡ Err error) }
     {
         self.table.file_info(name)
     }
 
-    /// The size of the working files: names and contents. Does not allocate.
+    /// The size of the working files in bytes: names and contents. Does not allocate.
     pub fn current_size(&self) -> u64
         ensures { result ≡ size_of self.now.session.files }
     {
         self.table.current_size()
     }
 
-    /// Sets the time that is recorded in files that are written or truncated from now on. Does not allocate.
+    /// Sets the time, in seconds, that is recorded in files that are written or cut from now on. Does not allocate.
     pub fn set_now(&mut self, now: u64)
         ensures { self.new ≡ record self.old { moment = now } }
     {
@@ -80,6 +83,7 @@ impl Files {
     ///
     /// `IllegalWriteAccess` where the storage is read-only; `FileNotFound`; `ResourceBusy` where it has a handle.
     pub fn delete_file(&mut self, name: &Name) -> Result<(), PerError>
+        // The session after the call, or the refusal that is due, is what `delete_file` gives for the session before.
         ensures ok { OnOk result (calls.delete_file (storage_of self.old.config) self.old.session name.now
             ≡ Ok self.new.session) }
         ensures refused { IfErr result (λ error. calls.delete_file (storage_of self.old.config) self.old.session
@@ -99,12 +103,14 @@ impl Files {
     /// `IllegalWriteAccess` where the storage is read-only; `FileNotFound`; `ResourceBusy` where the file has a handle;
     /// `OutOfStorageSpace` where the initial content does not fit; `OutOfMemory`.
     pub fn recover_file(&mut self, name: &Name, now: u64) -> Result<(), PerError>
+        // The session after the call, or the refusal that is due, is what `recover_file` gives for the session
+        // before.
         ensures ok { OnOk result (calls.recover_file (storage_of self.old.config) self.old.session name.now now
             (initial_content self.old.config name.now) ≡ Ok self.new.session) }
         ensures refused { IfErr result (λ error. IsRefusal
             (calls.recover_file (storage_of self.old.config) self.old.session name.now now
             (initial_content self.old.config name.now)) error) }
-        // `OutOfMemory` never comes in the place of a refusal, and only where the initial content is copied.
+        // `OutOfMemory` never comes instead of a refusal, and only where the initial content is copied.
         ensures memory { IfErr result (λ error. error ≡ PerError.OutOfMemory
             → IsDue (calls.recover_file (storage_of self.old.config) self.old.session name.now now
             (initial_content self.old.config name.now))) }
@@ -127,12 +133,13 @@ impl Files {
     /// `ResourceBusy` where the file has a handle; `LimitReached` with `Elements` where it is missing and there are
     /// 1,024; `OutOfStorageSpace` where the initial content does not fit; `OutOfMemory`.
     pub fn reset_file(&mut self, name: &Name, now: u64) -> Result<(), PerError>
+        // The session after the call, or the refusal that is due, is what `reset_file` gives for the session before.
         ensures ok { OnOk result (calls.reset_file (storage_of self.old.config) self.old.session name.now now
             (initial_content self.old.config name.now) ≡ Ok self.new.session) }
         ensures refused { IfErr result (λ error. IsRefusal
             (calls.reset_file (storage_of self.old.config) self.old.session name.now now
             (initial_content self.old.config name.now)) error) }
-        // `OutOfMemory` never comes in the place of a refusal.
+        // `OutOfMemory` never comes instead of a refusal.
         ensures memory { IfErr result (λ error. error ≡ PerError.OutOfMemory
             → IsDue (calls.reset_file (storage_of self.old.config) self.old.session name.now now
             (initial_content self.old.config name.now))) }

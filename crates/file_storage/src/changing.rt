@@ -19,11 +19,12 @@ impl Files {
     /// where the file would have more than 1,048,576 bytes; `OutOfStorageSpace` where the storage would exceed its
     /// maximum; `OutOfMemory`, and this only where the piece reaches past the end of the file.
     pub fn write(&mut self, handle: u32, bytes: &[u8]) -> Result<(), PerError>
+        // The session after the call, or the refusal that is due, is what `write` gives for the session before.
         ensures ok { OnOk result (calls.write (storage_of self.old.config) self.old.session self.old.moment handle
             bytes.now ≡ Ok self.new.session) }
         ensures refused { IfErr result (λ error. IsRefusal
             (calls.write (storage_of self.old.config) self.old.session self.old.moment handle bytes.now) error) }
-        // `OutOfMemory` never comes in the place of a refusal, and only where the piece reaches past the file's end.
+        // `OutOfMemory` never comes instead of a refusal, and only where the piece reaches past the file's end.
         ensures due { IfErr result (λ error. error ≡ PerError.OutOfMemory
             → IsDue (calls.write (storage_of self.old.config) self.old.session self.old.moment handle bytes.now)) }
         ensures memory { IfErr result (λ error. error ≡ PerError.OutOfMemory
@@ -41,6 +42,7 @@ impl Files {
     /// `NotOpen` for a number that no handle has; `IllegalWriteAccess` for kind Read; `InvalidSize` where the size is
     /// above that of the file.
     pub fn set_size(&mut self, handle: u32, size: u64) -> Result<(), PerError>
+        // The session after the call, or the refusal that is due, is what `set_size` gives for the session before.
         ensures ok { OnOk result (calls.set_size self.old.session self.old.moment handle size ≡ Ok self.new.session) }
         ensures refused { IfErr result (λ error. calls.set_size self.old.session self.old.moment handle size
             ≡ Err error) }
@@ -56,6 +58,7 @@ impl Files {
     ///
     /// `NotOpen` for a number that no handle has.
     pub fn close(&mut self, handle: u32) -> Result<(), PerError>
+        // The session after the call, or the refusal that is due, is what `close` gives for the session before.
         ensures ok { OnOk result (calls.close self.old.session handle ≡ Ok self.new.session) }
         ensures refused { IfErr result (λ error. calls.close self.old.session handle ≡ Err error) }
         ensures beside { self.new ≡ record self.old { session = self.new.session } }

@@ -18,6 +18,12 @@
 //! the *salvage* of a file is the bytes that are left where too few copies agree. `told` says that the bytes of a disk
 //! of this type are modelled. A disk is *quiet* where nothing is pending, a place *clean* where nothing on it
 //! contradicts anything.
+//!
+//! Of a disk at a moment (a `Medium`), the `image` is what reads give, `written` counts the bytes that were written,
+//! and `faults` the calls that failed; that count *rose* also where it stands at its greatest. The *view* of a
+//! storage is what its copies denote: its generation, its elements as entries, and which copies lack something. The
+//! *generation* is a number that rises with each commit. The index lists the elements: in format 2 with the generation
+//! of the last change of each, in format 1 without.
 #![tactic(auto)]
 
 mod by_name;

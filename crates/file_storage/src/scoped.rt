@@ -23,9 +23,13 @@ impl Files {
     /// Opens a file with a handle that is closed when it is dropped: the handles are then as before, and the working
     /// files and the moment stay as calls through it left them.
     ///
+    /// The flags of `mode`: the position starts at 0, or with `AT_THE_END` at the size that the opening leaves;
+    /// `TRUNCATE` empties the file; with `APPEND` each write goes to the end. `now` is the moment in seconds.
+    ///
     /// # Errors
     ///
-    /// Those of `can_open`, then `OutOfStorageSpace` where an empty file of a missing name would exceed the maximum.
+    /// Those of `can_open`, then `OutOfStorageSpace` where an empty file of a missing name would exceed the maximum;
+    /// `OutOfMemory`.
     pub fn scoped(
         &mut self,
         name: &Name,
@@ -33,7 +37,8 @@ impl Files {
         mode: OpenMode,
         now: u64,
     ) -> Result<Scoped<'_>, PerError>
-        // Where it is refused, the storage is given back as it was; else the handle is on this very storage.
+        // Where it is refused, the storage is given back as it was; else the handle is on this very storage: both
+        // hold the same reference.
         ensures* untouched { sem 𝓛 (RestsIfErr the_row self.entry (λ scoped. scoped.files.ghost_name) result
             (λ last. last ≡ self.old)) }
         ensures same_reference { IfOk result (λ scoped. scoped.files.ghost_name ≡ self.entry.ghost_name) }
@@ -80,11 +85,13 @@ impl<'a> Scoped<'a> {
         // It stays the same handle on the same storage.
         ensures same_reference { self.new.files.ghost_name ≡ self.old.files.ghost_name }
         ensures handle { self.new.handle ≡ self.old.handle }
+        // The answer and the session after it, or the refusal that is due, are what `read_all` gives for the session
+        // before.
         ensures ok { IfOk result (λ piece. calls.read_all self.old.files.now.session self.old.handle
             ≡ Ok (piece.items, self.new.files.now.session)) }
         ensures refused { IfErr result (λ error. IsRefusal (calls.read_all self.old.files.now.session self.old.handle)
             error) }
-        // `OutOfMemory` never comes in the place of a refusal.
+        // `OutOfMemory` never comes instead of a refusal.
         ensures memory { IfErr result (λ error. error ≡ PerError.OutOfMemory
             → IsDue (calls.read_all self.old.files.now.session self.old.handle)) }
         // Only the session changes, and in it no other handle; an error changes nothing.
@@ -109,12 +116,13 @@ impl<'a> Scoped<'a> {
         // It stays the same handle on the same storage.
         ensures same_reference { self.new.files.ghost_name ≡ self.old.files.ghost_name }
         ensures handle { self.new.handle ≡ self.old.handle }
+        // The session after the call, or the refusal that is due, is what `write` gives for the session before.
         ensures ok { OnOk result (calls.write (storage_of self.old.files.now.config) self.old.files.now.session
             self.old.files.now.moment self.old.handle bytes.now ≡ Ok self.new.files.now.session) }
         ensures refused { IfErr result (λ error. IsRefusal
             (calls.write (storage_of self.old.files.now.config) self.old.files.now.session self.old.files.now.moment
             self.old.handle bytes.now) error) }
-        // `OutOfMemory` never comes in the place of a refusal, and only where the piece reaches past the file's end.
+        // `OutOfMemory` never comes instead of a refusal, and only where the piece reaches past the file's end.
         ensures due { IfErr result (λ error. error ≡ PerError.OutOfMemory
             → IsDue (calls.write (storage_of self.old.files.now.config) self.old.files.now.session
             self.old.files.now.moment self.old.handle bytes.now)) }

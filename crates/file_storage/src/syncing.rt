@@ -60,6 +60,7 @@ impl Files {
         disk: &mut D,
         handle: u32,
     ) -> Result<FilesOutcome, Fault<Files>>
+        // The storage is in use on this disk: where the bytes of the disk are modelled, they are its own.
         requires { IsUsed D.told (D.medium disk.old).image self.store }
 
         // The refusal that is due, which hands all back; and where nothing differs nothing happens.
@@ -129,6 +130,7 @@ impl Files {
     ///
     /// `OutOfMemory` hands the storage back before any call of the disk. `Device` closes it.
     pub fn close_storage<D: Disk>(self, disk: &mut D) -> Result<Closed, Fault<Files>>
+        // The storage is in use on this disk: where the bytes of the disk are modelled, they are its own.
         requires { IsUsed D.told (D.medium disk.old).image self.store }
 
         // The refusal that is due, which hands all back; and where nothing differs the disk is not called.

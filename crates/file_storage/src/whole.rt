@@ -9,12 +9,15 @@ use crate::files::Files;
 use per_base::{Name, PerError};
 
 impl Files {
-    /// The whole content of a file, as a reader gets it that opens the file with no flag and closes it again.
+    /// The whole content of a file, as a reader gets it that opens the file with no flag and closes it again. `now` is
+    /// the moment of the opening, in seconds.
     ///
     /// # Errors
     ///
     /// Those of `can_open` for kind Read with no flag; `OutOfMemory`.
     pub fn whole_content(&mut self, name: &Name, now: u64) -> Result<Vec<u8>, PerError>
+        // The answer and the session after it, or the refusal that is due, are what `cat` gives for the session
+        // before.
         ensures ok { IfOk result (λ content. cat (storage_of self.old.config) self.old.session name.now now
             ≡ Ok (content.items, self.new.session)) }
         ensures refused { IfErr result (λ error. IsRefusal
@@ -38,6 +41,7 @@ impl Files {
     ///
     /// Those of `can_open` for kind Write with the flag that truncates; those of `would_fit`; `OutOfMemory`.
     pub fn replace(&mut self, name: &Name, bytes: &[u8], now: u64) -> Result<(), PerError>
+        // The session after the call, or the refusal that is due, is what `put_whole` gives for the session before.
         ensures ok { OnOk result (put_whole (storage_of self.old.config) self.old.session name.now bytes.now now
             ≡ Ok self.new.session) }
         ensures refused { IfErr result (λ error. IsRefusal

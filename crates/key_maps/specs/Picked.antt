@@ -1,6 +1,7 @@
 -- A map read off another map: each entry gives one entry or none.
 use Rattle.std.specs.Prelude.{List, [], ◌∷◌, Option, None, Some}
 
+-- the rest of a list, with the key and the value in front of it where there is a value
 abbrev pub when_some : {K B : Type 0} → K → Option B → List (K × B) → List (K × B)
 when_some key None rest = rest
 when_some key (Some b) rest = (key, b) ∷ rest

@@ -7,12 +7,13 @@ use Rattle.per_base.specs.Names.{name_cmp}
 use Rattle.per_base.specs.Contents.{is_readable}
 use Rattle.key_maps.specs.KeyElements.{IsKey}
 
--- what is on the disk, and what calls see
+-- what is on the disk (`synced`), and what calls see (`visible`), each a map from names to keys
 pub record TwoMaps : Type 0 where
   pub synced : Map
   pub visible : Map
 
--- a map of keys, in the order of the names and within the limits of a storage
+-- a map `m` from names to keys, in the order of the names and within the limits of a storage: at most 1,024 keys, and
+-- 4,194,304 bytes of names and encodings
 pub record IsKeyMap (m : Map) : Type 0 where
   pub ordered : IsStrictlySortedBy name_cmp (names_of m)
   pub few : length m ≤ 1024

@@ -56,8 +56,10 @@ impl KeyElement {
         }
     }
 
-    /// The key that this entry is: bytes that encode no value are unreadable, and no salvage.
+    /// The key that this entry of a storage is: bytes that encode no value are unreadable, and no salvage. The error is
+    /// that memory ran out.
     pub fn judge(alloc: Global, entry: &Entry) -> Result<KeyElement, AllocError>
+        // The entry is one of a storage of keys: no info, at most 65,536 bytes.
         requires { IsKeyEntry entry.now }
         ensures { IfOk result (λ key. key ≡ key_judged (entry_element entry.now)) }
     {
@@ -70,6 +72,7 @@ impl KeyElement {
 
     /// The length of the encoding, in bytes.
     pub fn len(&self) -> u32
+        // What always holds of a key is known too: it has no info, and its length is that of its encoding or salvage.
         ensures len { result ≡ self.now.len }
         ensures key { IsKey self.now }
     {
@@ -112,6 +115,7 @@ impl KeyElement {
 
     /// The salvage of an unreadable key.
     pub fn salvage(&self) -> Option<&StoredValue>
+        // Its length is that of the key.
         ensures salvage { option_copied result ≡ salvage_in self.now.content }
         ensures len { IfSome result (λ salvage. length salvage.now ≡ self.now.len) }
     {

@@ -125,6 +125,7 @@ fn is_same(old: &Option<KeyElement>, key: &KeyElement) -> bool
 /// The visible key of a name.
 #[tactic(auto, using(crate::specs::lemmas::Steps::visible_at))]
 pub fn get<'a>(states: &'a BTreeMap<Name, KeyState>, name: &Name) -> Option<&'a KeyElement>
+    // The states are in order and each holds keys.
     requires { AreKeyStates states.now.entries }
     ensures { option_copied result ≡ element_at (visible_map states.now.entries) name.now }
 {
@@ -153,7 +154,7 @@ fn mark(states: &mut BTreeMap<Name, KeyState>, name: &Name, pending: Pending) ->
     }
 }
 
-/// Adds a state.
+/// Adds a state under a name. The error is that memory ran out, and then nothing changed.
 pub fn add(
     states: &mut BTreeMap<Name, KeyState>,
     name: &Name,
@@ -193,8 +194,10 @@ pub fn put(
     name: &Name,
     key: KeyElement,
 ) -> Result<(), AllocError>
+    // The states are in order and each holds keys, and the key to put is readable.
     requires kept { AreKeyStates states.old.entries }
     requires readable { IsTrue (is_readable key.content) }
+    // What is synchronised stays, and the visible map then has the key. Where memory ran out, nothing changed.
     ensures step { OnOk result (IsStep states.old.entries states.new.entries
         (with_element (visible_map states.old.entries) name.now key)) }
     ensures unchanged { OnErr result (states.new.entries ≡ states.old.entries) }
@@ -217,7 +220,9 @@ fn is_synced(states: &BTreeMap<Name, KeyState>, name: &Name) -> bool
 
 /// Removes a key. Does not allocate.
 pub fn remove(states: &mut BTreeMap<Name, KeyState>, name: &Name)
+    // The states are in order and each holds keys.
     requires { AreKeyStates states.old.entries }
+    // What is synchronised stays, and the visible map is then without the name.
     ensures { IsStep states.old.entries states.new.entries (without (visible_map states.old.entries) name.now) }
 {
     if is_synced(states, name) {
@@ -229,7 +234,9 @@ pub fn remove(states: &mut BTreeMap<Name, KeyState>, name: &Name)
 
 /// Removes all keys. Does not allocate.
 pub fn clear(states: &mut BTreeMap<Name, KeyState>)
+    // The states are in order and each holds keys.
     requires { AreKeyStates states.old.entries }
+    // What is synchronised stays, and no key is visible.
     ensures { IsStep states.old.entries states.new.entries [] }
 {
     states.retain(|_, state| {
@@ -240,7 +247,9 @@ pub fn clear(states: &mut BTreeMap<Name, KeyState>)
 
 /// Discards the pending changes: the synchronised keys are visible again. Does not allocate.
 pub fn discard(states: &mut BTreeMap<Name, KeyState>)
+    // The states are in order and each holds keys.
     requires { AreKeyStates states.old.entries }
+    // What is synchronised stays, and is visible.
     ensures { IsStep states.old.entries states.new.entries (synced_map states.old.entries) }
 {
     states.retain(|_, state| {
@@ -251,6 +260,7 @@ pub fn discard(states: &mut BTreeMap<Name, KeyState>)
 
 /// Marks the visible keys as synchronised. Does not allocate.
 pub fn mark_synced(states: &mut BTreeMap<Name, KeyState>)
+    // The states are in order and each holds keys. What is visible stays, and is synchronised.
     requires { AreKeyStates states.old.entries }
     ensures { IsMarkedSynced states.old.entries states.new.entries }
 {

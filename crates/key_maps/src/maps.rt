@@ -91,6 +91,7 @@ impl KeyMaps {
 
     /// The size in bytes that the visible map would have with a key of this length under this name. Does not allocate.
     pub fn size_with(&self, name: &Name, len: u32) -> u64
+        // So for each key of this length in bytes.
         ensures { (key : Element) → key.len ≡ len → result ≡ size_of (with_element self.now.visible name.now key) }
     {
         self.extent_with(name, len).size
@@ -118,9 +119,12 @@ impl KeyMaps {
 
     /// Sets a readable key. Allocates only for a name that is in neither map.
     pub fn put(&mut self, name: &Name, key: KeyElement) -> Result<(), AllocError>
+        // The key is readable; where the name is not visible, fewer than the 1,024 keys of a storage are; and the
+        // visible map with the key takes no more bytes than a storage may have.
         requires readable { IsTrue (is_readable key.content) }
         requires place { element_at self.old.visible name.now ≡ None → length self.old.visible < KEYS }
         requires room { size_of (with_element self.old.visible name.now key) ≤ STORAGE_BYTES }
+        // The key is then visible under the name; what is synchronised stays. Where memory ran out, nothing changed.
         ensures ok { OnOk result (self.new ≡ record self.old { visible = with_element self.old.visible name.now key }) }
         ensures unchanged { OnErr result (self.new ≡ self.old) }
     {
@@ -132,6 +136,7 @@ impl KeyMaps {
 
     /// Removes a key, and says whether it was visible. Does not allocate.
     pub fn remove(&mut self, name: &Name) -> bool
+        // Whether the name was visible; it then is not, and where it was not, nothing changed.
         ensures was { result ≡ has self.old.visible name.now }
         ensures removed { self.new ≡ record self.old { visible = without self.old.visible name.now } }
         ensures unchanged { OnFalse result (self.new ≡ self.old) }
@@ -172,8 +177,9 @@ impl KeyMaps {
         self.synced = self.visible;
     }
 
-    /// Whether the maps differ. Does not allocate.
+    /// Whether the synchronised map and the visible one differ. Does not allocate.
     pub fn has_changes(&self) -> bool
+        // False exactly where both maps are the same.
         ensures { (result ≡ false) ↔ (self.now.synced ≡ self.now.visible) }
     {
         // So that what always holds of the maps is known here.

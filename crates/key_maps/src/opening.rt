@@ -21,10 +21,13 @@ impl KeyMaps {
     /// its key unreadable.
     #[tactic(auto, using(crate::specs::lemmas::Opened::opened_synced, crate::specs::lemmas::Opened::opened_visible, crate::specs::lemmas::Opened::opened_measured, crate::specs::lemmas::Opened::judged_size))]
     pub fn new(alloc: Global, entries: &[Entry]) -> Result<KeyMaps, AllocError>
+        // Each entry is one of a storage of keys, the names ascend strictly, and number and size are within its
+        // limits.
         requires keys { All IsKeyEntry entries.now }
         requires ordered { IsStrictlySortedBy name_cmp (entry_names entries.now) }
         requires few { length entries.now ≤ KEYS }
         requires small { size_of (judged_map entries.now) ≤ STORAGE_BYTES }
+        // Both maps are then those of the judged keys.
         ensures { IfOk result (λ maps. maps ≡ record {
           synced = judged_map entries.now;
           visible =

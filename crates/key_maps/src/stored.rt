@@ -49,6 +49,8 @@ impl StoredValue {
     ///
     /// `NotAValue` exactly where no value encodes to the bytes; `OutOfMemory`.
     pub fn read(alloc: Global, bytes: &[u8]) -> Result<StoredValue, DecodeError>
+        // A value is given only for bytes that encode one, which are then its encoding; `NotAValue` only for bytes
+        // that decode to none.
         ensures bytes { IfOk result (λ stored. stored ≡ bytes.now) }
         ensures readable { OnOk result (IsTrue (is_encoding bytes.now)) }
         ensures only { result ≡ Err DecodeError.NotAValue → decoded bytes.now ≡ None }
@@ -63,6 +65,7 @@ impl StoredValue {
 
     /// The value.
     pub fn value(&self) -> &Value
+        // The encoding decodes to this value, this value encodes to it, and it is a valid one.
         ensures reads { decoded self.now ≡ Some result.now }
         ensures writes { self.now ≡ encoding result.now }
         ensures valid { IsValue result.now }
@@ -86,6 +89,7 @@ impl StoredValue {
 
     /// The number of bytes of the encoding.
     pub fn len(&self) -> u32
+        // It is at most 65,536, and the bytes encode a value.
         ensures len { result ≡ length self.now }
         ensures short { result ≤ 65536 }
         ensures readable { IsTrue (is_encoding self.now) }

@@ -6,14 +6,16 @@ use Rattle.deployment_model.specs.Conditions.{IsStorage}
 use Rattle.deployment_model.specs.Data.{StorageData}
 use Rattle.key_maps.specs.TwoMaps.{TwoMaps}
 
+-- what contracts see of an open storage of keys
 pub record Session : Type 0 where
+  -- how the storage is configured
   pub config : StorageData
-  -- what is on the disk
+  -- what is on the disk, a map from names to keys
   pub synced : Map
-  -- what the calls see
+  -- what the calls see, with the changes that are pending
   pub visible : Map
 
--- the storage is one of keys, and neither map takes more than it is allowed
+-- the storage is one of keys, and neither map takes more bytes than it is allowed (`maximum`)
 pub record HasRoom (config : StorageData) (maps : TwoMaps) : Type 0 where
   pub configured : IsStorage config
   pub of_keys : config.kind ≡ Keys

@@ -8,6 +8,11 @@
 //! refused, or out of memory, it changes nothing. A key is *visible* where calls see it, *unreadable* where too few
 //! copies agree on its bytes or these encode no value; its *salvage* is a value that is left. Reading and writing a key
 //! take logarithmic time in the number of keys, at most 1,024, which never take more than the storage is allowed.
+//!
+//! Words of the contracts: `calls` is `specs/Calls`; `refused` says that an error is the one that is due, or
+//! `OutOfMemory`; `memory` when it can be that; `beside` that all but the visible keys stays; `unchanged` that an error
+//! changes nothing. A *thing* is what a Rust type makes of a value: `T.kind` is the type of its values, `T.tree` the
+//! value that a thing is.
 #![tactic(auto)]
 
 mod reading;

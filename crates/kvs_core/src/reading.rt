@@ -40,6 +40,7 @@ impl KeySession {
     /// `OutOfMemory` alone.
     pub fn all_keys(&self) -> Result<Vec<Name>, PerError>
         ensures names { IfOk result (λ names. names.items ≡ names_of self.now.visible) }
+        // The only error is that memory ran out.
         ensures memory { IfErr result (λ error. error ≡ PerError.OutOfMemory) }
     {
         match self.maps.names(self.alloc) {
@@ -62,6 +63,7 @@ impl KeySession {
     /// `KeyNotFound` where it is not visible; `IntegrityCorrupted` where it is unreadable; `OutOfMemory`.
     #[tactic(auto, using(crate::proofs::Contents::read_stored, crate::proofs::Contents::read_bad))]
     pub fn get_any(&self, name: &Name) -> Result<&Value, PerError>
+        // The value, which is a valid one, or the refusal that is due.
         ensures ok { IfOk result (λ value. calls.get_any self.now.config self.now.visible name.now ≡ Ok value.now) }
         ensures valid { IfOk result (λ value. IsValue value.now) }
         ensures refused { IfErr result (λ error. IsRefusal (calls.get_any self.now.config self.now.visible name.now)
@@ -84,15 +86,18 @@ impl KeySession {
     /// # Errors
     ///
     /// Those of `get_any`; `DataTypeMismatch` with the stored and the asked type where they differ; `OutOfMemory`, and
-    /// this only in the place of a refusal that carries names or texts.
+    /// this only instead of a refusal that carries names or texts.
     #[tactic(auto, using(crate::proofs::Contents::text_kept))]
     pub fn get_as(&self, name: &Name, asked: &ValueType) -> Result<&Value, PerError>
+        // In the asked type each group of fields has 1 to 32 members.
         requires { IsTrue (kind_fits (kind_of asked.now)) }
+        // The value, or the refusal that is due: what `get_as` of the visible keys gives for the asked type.
         ensures ok { IfOk result (λ value. calls.get_as self.now.config self.now.visible name.now (kind_of asked.now)
             ≡ Ok value.now) }
         ensures valid { IfOk result (λ value. IsValue value.now) }
         ensures refused { IfErr result (λ error. IsRefusal
             (calls.get_as self.now.config self.now.visible name.now (kind_of asked.now)) error) }
+        // Memory runs out only for the names or types in a refusal.
         ensures memory { IfErr result (λ error. error ≡ PerError.OutOfMemory
             → IsTextRefusal (calls.get_as self.now.config self.now.visible name.now (kind_of asked.now))) }
     {
@@ -110,10 +115,12 @@ impl KeySession {
     /// Those of `get_as`, asked for the type of the thing; `OutOfMemory` for the thing too.
     #[tactic(auto, using(crate::proofs::Contents::needs_value, crate::proofs::Contents::text_needs))]
     pub fn get_value<T: PerValue>(&self, name: &Name) -> Result<T, PerError>
+        // The thing whose value is the one that `get_as` gives for the type of `T`, or the refusal that is due.
         ensures ok { IfOk result (λ thing. calls.get_as self.now.config self.now.visible name.now T.kind
             ≡ Ok (T.tree thing)) }
         ensures refused { IfErr result (λ error. IsRefusal
             (calls.get_as self.now.config self.now.visible name.now T.kind) error) }
+        // Memory runs out for the thing, or for the names or types in a refusal.
         ensures memory { IfErr result (λ error. error ≡ PerError.OutOfMemory
             → NeedsMemory (calls.get_as self.now.config self.now.visible name.now T.kind)) }
     {

@@ -22,10 +22,11 @@ impl KeySession {
     /// `OutOfStorageSpace` where the initial value does not fit; `OutOfMemory`.
     #[tactic(auto, using(crate::proofs::Recoveries::recovers_good, crate::proofs::Recoveries::recovers_salvage, crate::proofs::Recoveries::recovers_other, crate::proofs::Recoveries::same_room))]
     pub fn recover_key(&mut self, name: &Name) -> Result<(), PerError>
+        // The visible keys are then those that `recover_key` makes, or the refusal that is due is given.
         ensures ok { OnOk result (calls.recover_key self.old.config self.old.visible name.now ≡ Ok self.new.visible) }
         ensures refused { IfErr result (λ error. IsRefusal (calls.recover_key self.old.config self.old.visible name.now)
             error) }
-        // `OutOfMemory` never comes in the place of a refusal, and only where a salvage or an initial value is copied.
+        // `OutOfMemory` never comes instead of a refusal, and only where a salvage or an initial value is copied.
         ensures memory { IfErr result (λ error. error ≡ PerError.OutOfMemory
             → NeedsMemory (calls.recover_key self.old.config self.old.visible name.now)) }
         ensures copies { IfErr result (λ error. error ≡ PerError.OutOfMemory → (key : Element)
@@ -104,11 +105,12 @@ impl KeySession {
     /// `LimitReached` with `Elements` for one key too many; `OutOfStorageSpace` where it does not fit; `OutOfMemory`.
     #[tactic(auto, using(crate::proofs::Contents::few_without, crate::proofs::Contents::placed_there, crate::proofs::Contents::reset_there))]
     pub fn reset_key(&mut self, name: &Name) -> Result<(), PerError>
+        // The visible keys are then those that `reset_key` makes of them.
         ensures ok { OnOk result (calls.reset_key self.old.config self.old.visible name.now ≡ Ok self.new.visible) }
         // The refusal that is due, or `OutOfMemory`.
         ensures refused { IfErr result (λ error. IsRefusal (calls.reset_key self.old.config self.old.visible name.now)
             error) }
-        // `OutOfMemory` never comes in the place of a refusal.
+        // `OutOfMemory` never comes instead of a refusal.
         ensures memory { IfErr result (λ error. error ≡ PerError.OutOfMemory
             → NeedsMemory (calls.reset_key self.old.config self.old.visible name.now)) }
         ensures beside { self.new ≡ record self.old { visible = self.new.visible } }

@@ -51,12 +51,15 @@ impl KeySession {
         config: &StorageConfig,
         entries: &[Entry],
     ) -> Result<KeySession, AllocError>
+        // The configuration is that of a storage of keys; the entries are those of one, their names ascend strictly,
+        // and number and size are within its limits.
         requires configured { IsStorage (storage_data config.now) }
         requires of_keys { config.now.kind ≡ Keys }
         requires keys { All IsKeyEntry entries.now }
         requires ordered { IsStrictlySortedBy name_cmp (entry_names entries.now) }
         requires few { length entries.now ≤ KEYS }
         requires room { size_of (judged_map entries.now) ≤ config.now.maximum }
+        // Both maps are then those of the judged keys.
         ensures { IfOk result (λ session. session ≡ record {
           config = storage_data config.now;
           synced =
@@ -75,6 +78,7 @@ impl KeySession {
 
     /// What always holds of a session: both maps are in order, and take no more than the storage is allowed.
     pub fn invariants(&self)
+        // Both maps are in order, and neither takes more bytes than the storage is allowed.
         ensures maps { AreTwoMaps (record { synced = self.now.synced; visible = self.now.visible }) }
         ensures room { HasRoom self.now.config (record { synced = self.now.synced; visible = self.now.visible }) }
     {

@@ -17,6 +17,7 @@ impl KeySession {
 
     /// Whether the synchronised map and the visible one differ. Does not allocate.
     pub fn has_changes(&self) -> bool
+        // False exactly where both maps are the same.
         ensures { (result ≡ false) ↔ (self.now.synced ≡ self.now.visible) }
     {
         self.maps.has_changes()
@@ -25,6 +26,7 @@ impl KeySession {
     /// The changes that a sync writes: those that make the synchronised map into the visible one, one for each key in
     /// which they differ.
     pub fn changes(&self) -> Result<Vec<Change>, AllocError>
+        // The only error is that memory ran out.
         ensures { IfOk result (λ changes. AreChanges changes.items self.now.synced self.now.visible) }
     {
         self.maps.changes(self.alloc)

@@ -19,7 +19,7 @@ use std::alloc::Global;
 use value_model::{Value, ValueType};
 use value_text::print_type;
 
-/// Whether the value's type and this one are the same, said both ways round.
+/// Whether the value's type and this one are the same. The clauses say it both ways round.
 pub fn has_type(value: &Value, value_type: &ValueType) -> bool
     ensures asked { result ≡ same_kind (type_of value.now) (kind_of value_type.now) }
     ensures stored { result ≡ same_kind (kind_of value_type.now) (type_of value.now) }

@@ -30,6 +30,7 @@ impl KeySession {
     /// the maximum, with both numbers; `OutOfMemory`.
     #[tactic(auto, using(crate::proofs::Contents::takes_place))]
     pub fn set_any(&mut self, name: &Name, value: Value) -> Result<(), PerError>
+        // The visible map is then what `set_any` makes of it, or the refusal that is due is given.
         ensures ok { OnOk result (calls.set_any self.old.config self.old.visible name.now value ≡ Ok self.new.visible) }
         ensures refused { IfErr result (λ error. IsRefusal
             (calls.set_any self.old.config self.old.visible name.now value) error) }
@@ -52,6 +53,8 @@ impl KeySession {
     ///
     /// `LimitReached` with `ValueDepth` or `ValueBytes` where the value is too deep or too long; then as `set_any`.
     pub fn set_value<T: PerValue>(&mut self, name: &Name, value: &T) -> Result<(), PerError>
+        // The visible map is then what `set_value` makes of it for the value of the thing, or the refusal that is due
+        // is given.
         ensures ok { OnOk result (calls.set_value self.old.config self.old.visible name.now (T.tree value.now)
             ≡ Ok self.new.visible) }
         ensures refused { IfErr result (λ error. IsRefusal
@@ -82,6 +85,8 @@ impl KeySession {
     /// `IllegalWriteAccess` where the storage is read-only;
     /// `KeyNotFound` where the name is not visible.
     pub fn remove_key(&mut self, name: &Name) -> Result<(), PerError>
+        // The visible keys are then those that `remove_key` leaves, or the refusal that is due is given; all else
+        // stays.
         ensures ok { OnOk result (calls.remove_key self.old.config self.old.visible name.now ≡ Ok self.new.visible) }
         ensures refused { IfErr result (λ error. calls.remove_key self.old.config self.old.visible name.now
             ≡ Err error) }
@@ -103,6 +108,7 @@ impl KeySession {
     ///
     /// `IllegalWriteAccess` where the storage is read-only.
     pub fn remove_all_keys(&mut self) -> Result<(), PerError>
+        // Then no key is visible, or the refusal that is due is given; all else stays.
         ensures ok { OnOk result (calls.remove_all_keys self.old.config self.old.visible ≡ Ok self.new.visible) }
         ensures refused { IfErr result (λ error. calls.remove_all_keys self.old.config self.old.visible ≡ Err error) }
         ensures beside { self.new ≡ record self.old { visible = self.new.visible } }

@@ -12,7 +12,8 @@ use Rattle.key_maps.specs.KeyElements.{is_encoding}
 use Rattle.key_maps.specs.TwoMaps.{TwoMaps}
 use Rattle.kvs_core.specs.Sessions.{Session}
 
--- how it is configured, the storage in use below it, and what is synchronised beside what the calls see
+-- how it is configured (`config`), the storage of elements on the disk below it (`store`), and what is synchronised
+-- beside what the calls see (`session`)
 pub record KvsSession : Type 0 where
   pub config : StorageData
   pub store : Store
@@ -26,7 +27,7 @@ kvs_session kvs = record { config = kvs.config; synced = kvs.session.synced; vis
 abbrev pub showing : KvsSession → Map → KvsSession
 showing kvs m = record kvs { session = record kvs.session { visible = m } }
 
--- the keys that a view shows: bytes that encode no value are unreadable, and no salvage
+-- the map of the keys that a view of a storage shows: bytes that encode no value are unreadable, and no salvage
 abbrev pub keys_in : View → Map
 keys_in v = synchronised is_encoding v
 

@@ -1,4 +1,5 @@
--- What a sync makes, and how it fails.
+-- What a sync makes, and how it fails. `old` and `new` are the disk before and after it, `kvs` and `later` the
+-- storage.
 use Rattle.std.specs.Prelude.{◌≡◌, Bool, false, length}
 use Rattle.disk_model.specs.Medium.{Medium}
 use Rattle.index_text.specs.Spelling.{index_text}
@@ -13,11 +14,11 @@ use Rattle.kvs_store.specs.declared.syncing.SyncFault.{SyncFault}
 use Rattle.kvs_store.specs.declared.syncing.SyncFault.TheVariants.{Device, WornOut, OutOfMemory}
 use Rattle.kvs_store.specs.Storages.{KvsSession}
 
--- what the calls see is what is synchronised
+-- whether what the calls see is what is synchronised
 abbrev pub is_synced : KvsSession → Bool
 is_synced kvs = maps.same_map kvs.session.synced kvs.session.visible
 
--- both maps after a sync
+-- both maps after a sync: what was visible is synchronised
 abbrev pub marked_synced : TwoMaps → TwoMaps
 marked_synced session = record session { synced = session.visible }
 
@@ -26,13 +27,15 @@ abbrev pub synced_view : KvsSession → View
 synced_view kvs = maps.view_once_synced (store_shape kvs.store) (view_in kvs.store) kvs.session.synced
     kvs.session.visible
 
--- at most this is written: in each copy the keys that differ, and the next index
+-- at most this is written: in each copy the keys that differ, the next index with its head of 44 bytes, and 44 bytes
+-- that blank the old index
 abbrev pub WritesAtMost : KvsSession → (old new : Medium) → Type 0
 WritesAtMost kvs old new = IsWithin (store_shape kvs.store).place.copies
     (map_cost (store_shape kvs.store).kind kvs.session.synced kvs.session.visible)
     (index_length (store_shape kvs.store).kind (synced_view kvs).entries) old.written new.written
 
--- what the calls see is durable in a later storage, and all else of it stays
+-- what the calls see is durable in a later storage, and all else of it stays; `told` says that the bytes of the disk
+-- are modelled
 pub record IsSynced (told : Bool) (kvs later : KvsSession) (old new : Medium) : Type 0 where
   pub session : later ≡ record kvs { store = later.store; session = marked_synced kvs.session }
   pub shape : store_shape later.store ≡ store_shape kvs.store
@@ -40,20 +43,21 @@ pub record IsSynced (told : Bool) (kvs later : KvsSession) (old new : Medium) : 
   pub used : IsUsed told new.image later.store
   pub durable : IsDurable told (store_shape kvs.store) kvs.session.synced kvs.session.visible
       (length (index_text (index_in later.store))) old new
-  -- its index: a key that does not differ as it was listed, and in format 2 where one does
+  -- its index: a key that does not differ as it was listed; where one does, in format 2, which has the generation of
+  -- each last change, and as long as the entries of its view ask
   pub carried : KeepsEqual kvs.session.synced kvs.session.visible (index_in kvs.store).entries
       (index_in later.store).entries
   pub format : is_synced kvs ≡ false → (index_in later.store).format ≡ 2
   pub text : is_synced kvs ≡ false → length (index_text (index_in later.store))
       ≡ index_length (store_shape kvs.store).kind (view_in later.store).entries
 
--- all but a failure of the device hands the storage back, and then this holds
+-- an error other than a failure of the device hands the storage back as it was given, and then P holds
 abbrev pub HandsBack : KvsSession → SyncFault → Type 0 → Type 0
 HandsBack kvs Device P = Unit {0}
 HandsBack kvs (WornOut same) P = (same ≡ kvs) × P
 HandsBack kvs (OutOfMemory same) P = (same ≡ kvs) × P
 
--- a failure of the device
+-- the error is a failure of the device
 abbrev pub IsDeviceFault : SyncFault → Type 0
 IsDeviceFault Device = Unit {0}
 IsDeviceFault (WornOut kvs) = ⊥

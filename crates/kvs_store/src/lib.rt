@@ -17,7 +17,14 @@
 //! where nothing is pending, a place *clean* where nothing on it contradicts anything. What a call on keys answers is
 //! the function of its name in `kvs_core/specs/Calls`, of the configuration, the visible keys and the arguments;
 //! `refused` says that an error is the one that is due, or `OutOfMemory`, `memory` when it can be that, and `beside`
-//! that all but the visible keys stays.
+//! that all but the visible keys stays. A *thing* is what a Rust type makes of a value: `T.kind` is the type of its
+//! values, `T.tree` the value that a thing is.
+//!
+//! Of a disk at a moment (a `Medium`), the `image` is what reads give, `written` counts the bytes that were written,
+//! and `faults` the calls that failed; that count *rose* also where it stands at its greatest. The *view* of a
+//! storage is what its copies denote: its generation, its elements as entries, and which copies lack something. The
+//! *generation* is a number that rises with each commit. The index lists the elements: in format 2 with the generation
+//! of the last change of each, in format 1 without.
 //!
 //! Limits: those of the layers below, 1,024 keys and 4,194,304 bytes; a storage is used with the disk of its opening,
 //! by one caller at a time. Dropping a [`Kvs`] drops its pending changes.

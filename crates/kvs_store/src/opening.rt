@@ -73,7 +73,8 @@ pub fn open_kvs<D: Disk>(
     ensures unwritten { IsErrOf result StoreError.Corrupt → (D.medium disk.new).written ≡ (D.medium disk.old).written }
     ensures settled { IsErrOf result StoreError.Corrupt → Quiet (D.medium disk.new) }
 
-    // The disk's count of faults rose where the answer is `Device`, and stayed with any other answer.
+    // The disk's count of faults rose where the answer is `Device`, and stayed with any other answer: `passes` says
+    // so of an opening, `fed` where memory ran out, `unfailed` where nothing qualifies.
     ensures cause { IsErrOf result StoreError.Device → Rose (D.medium disk.old).faults (D.medium disk.new).faults }
     ensures passes { OnOk result ((D.medium disk.new).faults ≡ (D.medium disk.old).faults) }
     ensures fed { IsErrOf result StoreError.OutOfMemory → (D.medium disk.new).faults ≡ (D.medium disk.old).faults }

@@ -29,6 +29,7 @@ impl Kvs {
     /// `OutOfMemory` alone.
     pub fn all_keys(&self) -> Result<Vec<Name>, PerError>
         ensures names { IfOk result (λ names. names.items ≡ names_of (kvs_session self.now).visible) }
+        // The only error is that memory ran out.
         ensures memory { IfErr result (λ error. error ≡ PerError.OutOfMemory) }
     {
         self.session.all_keys()
@@ -47,6 +48,7 @@ impl Kvs {
     ///
     /// `KeyNotFound` where it is not visible; `IntegrityCorrupted` where it is unreadable; `OutOfMemory`.
     pub fn get_any(&self, name: &Name) -> Result<&Value, PerError>
+        // The value, which is a valid one, or the refusal that is due.
         ensures ok { IfOk result (λ value.
             calls.get_any (kvs_session self.now).config (kvs_session self.now).visible name.now ≡ Ok value.now) }
         ensures valid { IfOk result (λ value. IsValue value.now) }
@@ -64,8 +66,8 @@ impl Kvs {
     /// # Errors
     ///
     /// `KeyNotFound` where the name is not visible; `IntegrityCorrupted` where the key is unreadable;
-    /// `DataTypeMismatch` with the stored and the asked type where they differ; `OutOfMemory`, and this only in the
-    /// place of a refusal that carries names or texts.
+    /// `DataTypeMismatch` with the stored and the asked type where they differ; `OutOfMemory`, and this only
+    /// instead of a refusal that carries names or texts.
     pub fn get_as(&self, name: &Name, asked: &ValueType) -> Result<&Value, PerError>
         // In the asked type each group of fields has 1 to 32 members.
         requires { IsTrue (kind_fits (kind_of asked.now)) }

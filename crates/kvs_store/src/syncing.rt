@@ -39,6 +39,7 @@ impl Kvs {
     /// `WornOut` exactly where the maps differ and the generation is the greatest, and `OutOfMemory`, hand the storage
     /// back with its pending changes before any call of the disk. `Device` closes it.
     pub fn sync_to_storage<D: Disk>(self, disk: &mut D) -> Result<Kvs, SyncFault>
+        // The storage is in use on this disk: where the bytes of the disk are modelled, they are its own.
         requires { IsUsed D.told (D.medium disk.old).image self.store }
 
         // What the calls see is then what is synchronised and what the storage shows, and all else stays.

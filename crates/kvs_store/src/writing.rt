@@ -25,6 +25,7 @@ impl Kvs {
     /// `Elements` where the name is not visible and 1,024 are; `OutOfStorageSpace` where the visible size would exceed
     /// the maximum, with both numbers; `OutOfMemory`.
     pub fn set_any(&mut self, name: &Name, value: Value) -> Result<(), PerError>
+        // The visible keys are then those that `set_any` makes, or the refusal that is due is given.
         ensures ok { OnOk result (calls.set_any (kvs_session self.old).config (kvs_session self.old).visible name.now
             value ≡ Ok (kvs_session self.new).visible) }
         ensures refused { IfErr result (λ error.
@@ -46,6 +47,8 @@ impl Kvs {
     ///
     /// `LimitReached` with `ValueDepth` or `ValueBytes` where the value is too deep or too long; then as `set_any`.
     pub fn set_value<T: PerValue>(&mut self, name: &Name, value: &T) -> Result<(), PerError>
+        // The visible keys are then those that `set_value` makes for the thing's value, or the refusal that is due is
+        // given.
         ensures ok { OnOk result (calls.set_value (kvs_session self.old).config (kvs_session self.old).visible name.now
             (T.tree value.now) ≡ Ok (kvs_session self.new).visible) }
         ensures refused { IfErr result (λ error.
@@ -68,6 +71,7 @@ impl Kvs {
     ///
     /// `IllegalWriteAccess` where the storage is read-only; `KeyNotFound` where the name is not visible.
     pub fn remove_key(&mut self, name: &Name) -> Result<(), PerError>
+        // The visible keys are then those that `remove_key` leaves, or the refusal that is due is given.
         ensures ok { OnOk result (calls.remove_key (kvs_session self.old).config (kvs_session self.old).visible name.now
             ≡ Ok (kvs_session self.new).visible) }
         ensures refused { IfErr result (λ error. calls.remove_key (kvs_session self.old).config
@@ -84,6 +88,7 @@ impl Kvs {
     ///
     /// `IllegalWriteAccess` where the storage is read-only.
     pub fn remove_all_keys(&mut self) -> Result<(), PerError>
+        // Then no key is visible, or the refusal that is due is given.
         ensures ok { OnOk result (calls.remove_all_keys (kvs_session self.old).config (kvs_session self.old).visible
             ≡ Ok (kvs_session self.new).visible) }
         ensures refused { IfErr result (λ error. calls.remove_all_keys (kvs_session self.old).config
@@ -102,12 +107,13 @@ impl Kvs {
     /// `IllegalWriteAccess` where the storage is read-only; `KeyNotFound` where the name is not visible;
     /// `OutOfStorageSpace` where the initial value does not fit; `OutOfMemory`.
     pub fn recover_key(&mut self, name: &Name) -> Result<(), PerError>
+        // The visible keys are then those that `recover_key` makes, or the refusal that is due is given.
         ensures ok { OnOk result (calls.recover_key (kvs_session self.old).config
             (kvs_session self.old).visible name.now
             ≡ Ok (kvs_session self.new).visible) }
         ensures refused { IfErr result (λ error.
             IsRefusal (calls.recover_key (kvs_session self.old).config (kvs_session self.old).visible name.now) error) }
-        // `OutOfMemory` never comes in the place of a refusal, and only where a salvage or an initial value is copied.
+        // `OutOfMemory` never comes instead of a refusal, and only where a salvage or an initial value is copied.
         ensures memory { IfErr result (λ error. error ≡ PerError.OutOfMemory
             → NeedsMemory (calls.recover_key (kvs_session self.old).config (kvs_session self.old).visible name.now)) }
         ensures copies { IfErr result (λ error. error ≡ PerError.OutOfMemory → (key : Element)
@@ -127,12 +133,13 @@ impl Kvs {
     /// `LimitReached` with `Elements` where the name is not visible and 1,024 are; `OutOfStorageSpace` where the
     /// initial value does not fit; `OutOfMemory`.
     pub fn reset_key(&mut self, name: &Name) -> Result<(), PerError>
+        // The visible keys are then those that `reset_key` makes of them.
         ensures ok { OnOk result (calls.reset_key (kvs_session self.old).config (kvs_session self.old).visible name.now
             ≡ Ok (kvs_session self.new).visible) }
         // The refusal that is due, or `OutOfMemory`.
         ensures refused { IfErr result (λ error.
             IsRefusal (calls.reset_key (kvs_session self.old).config (kvs_session self.old).visible name.now) error) }
-        // `OutOfMemory` never comes in the place of a refusal.
+        // `OutOfMemory` never comes instead of a refusal.
         ensures memory { IfErr result (λ error. error ≡ PerError.OutOfMemory
             → NeedsMemory (calls.reset_key (kvs_session self.old).config (kvs_session self.old).visible name.now)) }
         ensures beside { self.new ≡ showing self.old (kvs_session self.new).visible }
@@ -143,6 +150,7 @@ impl Kvs {
 
     /// Discards the pending changes: the synchronised keys are visible again. Does not allocate.
     pub fn discard_pending_changes(&mut self)
+        // What the calls see is then what is synchronised; nothing else changes.
         ensures discarded { self.new ≡ showing self.old (kvs_session self.old).synced }
     {
         self.session.discard_pending_changes();
