@@ -144,7 +144,7 @@ dump_in text = do
 -- ---- which applications are written, and so that they are read back
 
 -- its manifest is UTF-8, and the text of each storage that of an export
-pub record IsWritable (d : DumpedApplication) : Type 0 where
+pub record IsDumpable (d : DumpedApplication) : Type 0 where
   pub manifest : IsUtf8 d.manifest
   pub exports : AllByRecursion HasExport d.storages.items
 

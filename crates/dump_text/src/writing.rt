@@ -7,7 +7,7 @@ ghost use Rattle.per_base.specs.Names.{IsName, NamesAscend, name_cmp};
 ghost use Rattle.export_text.specs.Exports.{IsExport, IsExportable, export_text, names_of};
 ghost use Rattle.serde_json.specs.Data.{depth};
 ghost use Rattle.serde_json.specs.View.{view};
-ghost use Rattle.dump_text.specs.Dumps.{AreInOrder, HasExport, IsInOrder, IsWritable, application_data, dump_in};
+ghost use Rattle.dump_text.specs.Dumps.{AreInOrder, HasExport, IsInOrder, IsDumpable, application_data, dump_in};
 ghost use Rattle.dump_text.specs.Dumps.{dump_of, dumped_application_in, dumped_storage_in};
 ghost use Rattle.dump_text.specs.Elements.{IsObjectOf, dumped_element_in};
 ghost use Rattle.dump_text.specs.Views.{RefusesToWrite, is_memory};
@@ -31,7 +31,7 @@ pub fn write_dump(alloc: Global, applications: &[DumpedApplication]) -> Result<V
     // Of applications in order the text has each, with every storage and every element as it is, and nothing else.
     ensures written { IfOk result (λ text. AreInOrder applications.now
         → dump_in text.items ≡ Some (map application_data applications.now)) }
-    ensures refused { IfErr result (λ e. RefusesToWrite e (AllByRecursion IsWritable applications.now)) }
+    ensures refused { IfErr result (λ e. RefusesToWrite e (AllByRecursion IsDumpable applications.now)) }
 {
     let dump = dump_value(alloc, applications)?;
     let mut text = dump.to_vec_pretty(alloc)?;
@@ -43,7 +43,7 @@ fn dump_value(alloc: Global, applications: &[DumpedApplication]) -> Result<Value
     ensures read { IfOk result (λ value. AreInOrder applications.now
         → dump_of (view value) ≡ Some (map application_data applications.now)) }
     ensures nests { IfOk result (λ value. depth (view value) ≤ 7) }
-    ensures refused { IfErr result (λ e. RefusesToWrite e (AllByRecursion IsWritable applications.now)) }
+    ensures refused { IfErr result (λ e. RefusesToWrite e (AllByRecursion IsDumpable applications.now)) }
 {
     let applications = applications_value(alloc, applications)?;
     let mut dump = Map::new(alloc);
@@ -62,7 +62,7 @@ fn applications_value(alloc: Global, applications: &[DumpedApplication]) -> Resu
     ensures read { IfOk result (λ value. AreInOrder applications.now
         → IsObjectOf dumped_application_in (map application_data applications.now) (view value)) }
     ensures nests { IfOk result (λ value. depth (view value) ≤ 6) }
-    ensures refused { IfErr result (λ e. RefusesToWrite e (AllByRecursion IsWritable applications.now)) }
+    ensures refused { IfErr result (λ e. RefusesToWrite e (AllByRecursion IsDumpable applications.now)) }
 {
     let mut members = Map::new(alloc);
     for dumped in applications {
@@ -79,7 +79,7 @@ fn application_value(alloc: Global, dumped: &DumpedApplication) -> Result<Value,
     ensures read { IfOk result (λ value. IsInOrder dumped.now
         → dumped_application_in (decimal dumped.now.application) (view value) ≡ Some (application_data dumped.now)) }
     ensures nests { IfOk result (λ value. depth (view value) ≤ 5) }
-    ensures refused { IfErr result (λ e. RefusesToWrite e (IsWritable dumped.now)) }
+    ensures refused { IfErr result (λ e. RefusesToWrite e (IsDumpable dumped.now)) }
 {
     let Ok(manifest) = str::from_utf8(dumped.manifest.as_slice()) else {
         return Err(DumpError::NotADump(String::from_str(alloc, "the manifest is not UTF-8")?));

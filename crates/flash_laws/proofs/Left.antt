@@ -13,7 +13,7 @@ use Rattle.flash_disk.specs.Emptied.{LosesAnyPages}
 use Rattle.flash_disk.specs.FlashFiles.{record_byte, byte_in, file_byte, file_len, flash_files, IsFileLen}
 use Rattle.flash_disk.specs.Newest.{Placed, record_at, is_of, newest, places, IsNewest, IsNewestOf}
 use Rattle.flash_disk.specs.Standing.{said, IsAgreed}
-use Rattle.flash_laws.specs.Lost.{SparesFile, LeavesFile, IsNoNewer, IsLeft, IsOlderByte, IsKeptByte, IsKeptLength}
+use Rattle.flash_laws.specs.Lost.{SparesFile, LeavesFileWhole, IsNoNewer, IsPageLeft, IsOlderByte, IsKeptByte, IsKeptLength}
 use Rattle.flash_laws.specs.Lost.{AgreeThroughout, ArePure, LosesOfCopies}
 use Rattle.flash_laws.proofs.Newest.{newest_is}
 use Rattle.flash_laws.proofs.Lengths.{both_parts, file_len_is, one_len}
@@ -122,7 +122,7 @@ module _ (old new : Pages) (loses : LosesAnyPages old new) where
     }
 
     by_both : (was is : Option Placed) → IsNewestOf old file page n was → IsNewestOf new file page n is
-        → IsLeft old new n file page was is
+        → IsPageLeft old new n file page was is
     by_both None None none is_new = refl
     by_both None (Some y) none is_y = absurd
         (none y.place y.says is_y.within (was_there y.place y.says is_y.there) is_y.of_page)
@@ -135,13 +135,13 @@ module _ (old new : Pages) (loses : LosesAnyPages old new) where
         (λ lost. inr (lost, no_newer x y is_x is_y))
         (there_or_lost x.place x.says is_x.there)
 
-    pub left : IsLeft old new n file page (newest old file page n) (newest new file page n)
+    pub left : IsPageLeft old new n file page (newest old file page n) (newest new file page n)
     left = by_both (newest old file page n) (newest new file page n) (newest_is old file page n)
         (newest_is new file page n)
 
     -- ---- its bytes
 
-    byte_by : (at : ℕ) (was is : Option Placed) → newest old file page n ≡ was → IsLeft old new n file page was is
+    byte_by : (at : ℕ) (was is : Option Placed) → newest old file page n ≡ was → IsPageLeft old new n file page was is
         → (byte_in is at ≡ byte_in was at) ⊎ IsOlderByte old new n file page at (byte_in is at)
     byte_by at None is e stays = inl (ap (λ o. byte_in o at) stays)
     byte_by at (Some x) None e lost = inr (record { counted = x; counted_is = e; lost = lost; is = inl refl })
@@ -188,7 +188,7 @@ module _ (old new : Pages) (loses : LosesAnyPages old new) where
     is_said (Some y) is_y = ap (λ (z : Placed). Some z.says) (one_newest new file page n y x is_y is)
 
   spared_said : (n file : ℕ) → SparesFile old new n file → (page : ℕ) → (was : Option Placed)
-      → newest old file page n ≡ was → IsLeft old new n file page was (newest new file page n)
+      → newest old file page n ≡ was → IsPageLeft old new n file page was (newest new file page n)
       → said (newest new file page n) ≡ said was
   spared_said n file spares page None e stays = ap said stays
   spared_said n file spares page (Some x) e stays = is_said n file page x
@@ -203,7 +203,7 @@ module _ (old new : Pages) (loses : LosesAnyPages old new) where
       (λ page. spared_said n file spares page (newest old file page n) refl (left n file page))
 
   -- where the records agree an equal one is as good
-  module _ (n file : ℕ) (agreed : IsAgreed old n) (leaves : LeavesFile old new n file) where
+  module _ (n file : ℕ) (agreed : IsAgreed old n) (leaves : LeavesFileWhole old new n file) where
     by_equal : (page : ℕ) (x : Placed) → newest old file page n ≡ Some x → (best : Option Placed)
         → IsNewestOf new file page n best → said best ≡ Some x.says
     by_equal page x e None none =
@@ -219,11 +219,11 @@ module _ (old new : Pages) (loses : LosesAnyPages old new) where
         ap Some (agreed file page x e y.place y.says is_y.within was is_y.of_page same)
 
     equal_said : (page : ℕ) (was : Option Placed) → newest old file page n ≡ was
-        → IsLeft old new n file page was (newest new file page n) → said (newest new file page n) ≡ said was
+        → IsPageLeft old new n file page was (newest new file page n) → said (newest new file page n) ≡ said was
     equal_said page None e stays = ap said stays
     equal_said page (Some x) e stays = by_equal page x e (newest new file page n) (newest_is new file page n)
 
-  pub left_file : (blocks file : ℕ) → IsAgreed old (places blocks) → LeavesFile old new (places blocks) file
+  pub left_file : (blocks file : ℕ) → IsAgreed old (places blocks) → LeavesFileWhole old new (places blocks) file
       → flash_files new blocks file ≡ flash_files old blocks file
   left_file blocks file agreed leaves =
       let n = places blocks in

@@ -13,8 +13,8 @@ SparesFile old new n file = (page : ℕ) (x : Placed) → newest old file page n
     → record_at new x.place ≡ Some x.says
 
 -- of each record that counted for a page of this file an equal one is left
-abbrev pub LeavesFile : (old new : Pages) → (n file : ℕ) → Type 0
-LeavesFile old new n file = (page : ℕ) (x : Placed) → newest old file page n ≡ Some x
+abbrev pub LeavesFileWhole : (old new : Pages) → (n file : ℕ) → Type 0
+LeavesFileWhole old new n file = (page : ℕ) (x : Placed) → newest old file page n ≡ Some x
     → (j : ℕ) × (j < n) × (record_at new j ≡ Some x.says)
 
 -- a record of this page that was there, no newer than the one that counted
@@ -27,10 +27,10 @@ pub record IsNoNewer (old : Pages) (n file page : ℕ) (counted : Placed) (r : P
 
 -- What counts of a page: what counted; or that was lost, and nothing does, or a record that was there, no newer than
 -- it. Where nothing counted nothing does.
-abbrev pub IsLeft : (old new : Pages) → (n file page : ℕ) → (was is : Option Placed) → Type 0
-IsLeft old new n file page None is = is ≡ None
-IsLeft old new n file page (Some x) None = record_at new x.place ≡ None
-IsLeft old new n file page (Some x) (Some y) = (y ≡ x)
+abbrev pub IsPageLeft : (old new : Pages) → (n file page : ℕ) → (was is : Option Placed) → Type 0
+IsPageLeft old new n file page None is = is ≡ None
+IsPageLeft old new n file page (Some x) None = record_at new x.place ≡ None
+IsPageLeft old new n file page (Some x) (Some y) = (y ≡ x)
     ⊎ ((record_at new x.place ≡ None) × IsNoNewer old n file page x y.says)
 
 -- the record that counted for this page was lost, and this byte of it is a zero, or that of a record that was there, no

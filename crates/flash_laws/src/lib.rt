@@ -10,8 +10,8 @@ ghost use Rattle.flash_disk.specs.KeepsApart.{ApartSince};
 ghost use Rattle.flash_disk.specs.Newest.{newest, places};
 ghost use Rattle.flash_disk.specs.Standing.{IsAgreed};
 ghost use Rattle.flash_disk.specs.Throughout.{AgreedSince};
-ghost use Rattle.flash_laws.specs.Lost.{AgreeThroughout, ArePure, LeavesFile, LosesOfCopies, SparesFile};
-ghost use Rattle.flash_laws.specs.Lost.{IsKeptByte, IsKeptLength, IsLeft};
+ghost use Rattle.flash_laws.specs.Lost.{AgreeThroughout, ArePure, LeavesFileWhole, LosesOfCopies, SparesFile};
+ghost use Rattle.flash_laws.specs.Lost.{IsKeptByte, IsKeptLength, IsPageLeft};
 ghost use Rattle.flash_laws.specs.Outvotes.{Outvotes, OutlastsSince};
 
 use flash_disk::lost_pages_cost_one_copy;
@@ -44,9 +44,9 @@ pub fn only_what_lay_there_is_lost()
     ensures spared { (old new : Pages) (blocks file : ℕ) → LosesAnyPages old new
         → SparesFile old new (places blocks) file → flash_files new blocks file ≡ flash_files old blocks file }
     ensures left { (old new : Pages) (blocks file : ℕ) → LosesAnyPages old new → IsAgreed old (places blocks)
-        → LeavesFile old new (places blocks) file → flash_files new blocks file ≡ flash_files old blocks file }
+        → LeavesFileWhole old new (places blocks) file → flash_files new blocks file ≡ flash_files old blocks file }
     ensures pages { (old new : Pages) (blocks file page : ℕ) → LosesAnyPages old new
-        → IsLeft old new (places blocks) file page (newest old file page (places blocks))
+        → IsPageLeft old new (places blocks) file page (newest old file page (places blocks))
         (newest new file page (places blocks)) }
     ensures bytes { (old new : Pages) (blocks file i : ℕ) → LosesAnyPages old new
         → IsKeptByte old new (places blocks) file i }

@@ -25,8 +25,8 @@ use Rattle.flash_disk.specs.declared.disk.FlashOpenError.{FlashOpenError}
 use Rattle.flash_disk.specs.declared.disk.FlashOpenError.TheVariants.{WrongSize, Unusable, Device, OutOfMemory}
 use Rattle.flash_disk.specs.Throughout.{AgreedSince, KeepsAgreed, KeepsUsable, UsableSince}
 use Rattle.deploy_laws.specs.Laws.{AppFrameLaw, VersionsLaw}
-use Rattle.flash_reclaim.specs.Naming.{IsGivenUp}
-use Rattle.flash_reclaim.specs.Reclaiming.{AppsStand, AppsStandSince, HandsBackTold, IsHandedBack, Reclaims}
+use Rattle.flash_reclaim.specs.Naming.{IsFileGivenUp}
+use Rattle.flash_reclaim.specs.Reclaiming.{AppsStand, AppsStandSince, HandsBackTold, IsFlashRefused, Reclaims}
 use Rattle.flash_reclaim.specs.Reclaiming.{ReclaimsTold}
 use Rattle.flash_reclaim.proofs.Standing.{FreeBankLaw, apps_stand}
 
@@ -38,7 +38,7 @@ err_is (Ok y) e P is p = tt
 err_is (Err x) e P is p = subst P (sym is) p
 
 pub hands_back : (told : Bool) (old back : FlashMedium) (error : FlashOpenError)
-    → (IsTrue told → IsHandedBack old back error) → HandsBackTold told old back error
+    → (IsTrue told → IsFlashRefused old back error) → HandsBackTold told old back error
 unfolding HandsBackTold
 hands_back told old back error is = is
 
@@ -75,7 +75,7 @@ module _ (frame : AppFrameLaw) (law : FreeBankLaw) (of : VersionsLaw) where
       → new.blocks ≡ old.blocks → LeavesFlashAlone told old new
       → (error ≡ WrongSize → (old.blocks < 4) ⊎ (4096 < old.blocks))
       → (error ≡ Unusable → IsUnusable old.state.pages old.blocks) → (error ≡ Device → Rose old.faults new.faults)
-      → IsHandedBack old new error
+      → IsFlashRefused old new error
   looks_refused told tells old new error blocks looks size unusable device = record {
     stands = looks_stand told tells old new blocks looks;
     wrong_size = size;
@@ -193,7 +193,7 @@ module _ {F : Type 0} (told : Bool) (tells : IsTrue told) (medium : F → FlashM
     }
 
     pub seen_refused : (error : FlashOpenError) → (error ≡ WrongSize → ⊥) → (error ≡ Unusable → ⊥)
-        → (error ≡ Device → Rose start.faults mid.faults) → IsHandedBack start mid error
+        → (error ≡ Device → Rose start.faults mid.faults) → IsFlashRefused start mid error
     seen_refused error size unusable device = record {
       stands = seen_stand;
       wrong_size = λ is. absurd (size is);
@@ -203,7 +203,7 @@ module _ {F : Type 0} (told : Bool) (tells : IsTrue told) (medium : F → FlashM
 
     -- files were given up
     module _ (kept : ℕ → Bool)
-        (named : (file : ℕ) → file < 4294967295 → (IsGivenUp (files_on start) file → ⊥) → kept file ≡ true)
+        (named : (file : ℕ) → file < 4294967295 → (IsFileGivenUp (files_on start) file → ⊥) → kept file ≡ true)
         (now : FlashMedium) (gives : GivesUp kept mid now) where
       forgot_stand : (p : Pages) → Forgets kept mid.blocks mid.state.pages p
           → AppsStand (files_on start) (flash_files p now.blocks)
@@ -253,7 +253,7 @@ module _ {F : Type 0} (told : Bool) (tells : IsTrue told) (medium : F → FlashM
           (subst (λ p. HasRivals p (places mid.blocks) ⊎ IsFullOfKept kept p mid.blocks) (sym same) stuck)
 
       pub given_refused : (error : FlashOpenError) → (error ≡ Device) ⊎ (error ≡ OutOfMemory)
-          → (error ≡ Device → Rose start.faults now.faults) → IsHandedBack start now error
+          → (error ≡ Device → Rose start.faults now.faults) → IsFlashRefused start now error
       given_refused error two device = record {
         stands = given_stand;
         wrong_size = λ is. absurd (⊎_elim (λ a. (let b = sym is ∙ a in cc)) (λ a. (let b = sym is ∙ a in cc)) two);
@@ -261,7 +261,7 @@ module _ {F : Type 0} (told : Bool) (tells : IsTrue told) (medium : F → FlashM
         device = device;
       }
 
-      pub given_reclaims : (whole : Bool) → ((file : ℕ) → IsGivenUp (files_on start) file → kept file ≡ false)
+      pub given_reclaims : (whole : Bool) → ((file : ℕ) → IsFileGivenUp (files_on start) file → kept file ≡ false)
           → (IsTrue whole → files_on now ≡ kept_image kept (files_on mid))
           → (IsFalse whole → now.state.pages ≡ mid.state.pages)
           → (IsFalse whole → MayGiveNothing kept mid) → StaysAgreed mid now.state.pages

@@ -12,7 +12,7 @@ use Rattle.flash_disk.specs.Kept.{lies_in, in_ranges}
 use Rattle.deploy_laws.specs.Apps.{Says, nothing, absent, installed, AreVersions, IsFree, app_at, root_sole, says_at}
 use Rattle.deploy_laws.specs.Places.{first_file, storage_file}
 use Rattle.deploy.specs.Views.{RootSeen, bad, no_version, versions, seen_at, seen_by}
-use Rattle.flash_reclaim.specs.Naming.{IsFreeBank, IsGivenUp, first_free, count_free, free_range, kept_of, kept_below}
+use Rattle.flash_reclaim.specs.Naming.{IsFreeBank, IsFileGivenUp, first_free, count_free, free_range, kept_of, kept_below}
 use Rattle.flash_reclaim.specs.Naming.{all_kept, is_whole}
 
 -- ---- tests
@@ -227,7 +227,7 @@ module _ (image : Image) (of : (app : ℕ) → AreVersions (says_at image app)) 
 
   module _ (file : ℕ) where
     module _ (app bank : ℕ) (within : app < 8) (few : bank ≤ 1) (from : storage_file app bank 0 ≤ file)
-        (below : file < storage_file app bank 0 + 512) (not : IsGivenUp image file → ⊥)
+        (below : file < storage_file app bank 0 + 512) (not : IsFileGivenUp image file → ⊥)
         (past : (free_range app (seen_at image app)).first ≤ file)
         (before : file < (free_range app (seen_at image app)).end) where
       no_bank : ⊥
@@ -245,7 +245,7 @@ module _ (image : Image) (of : (app : ℕ) → AreVersions (says_at image app)) 
           (decided app bank few)
 
     of_app : (app : ℕ) → app < 8 → first_file app ≤ file → file < first_file app + 4096
-        → (IsGivenUp image file → ⊥) → in_ranges (kept_of app (seen_at image app)) file ≡ true
+        → (IsFileGivenUp image file → ⊥) → in_ranges (kept_of app (seen_at image app)) file ≡ true
     of_app app within from below not =
         let seen = seen_at image app in
         let most = two_banks seen in ⊎_elim
@@ -263,7 +263,7 @@ module _ (image : Image) (of : (app : ℕ) → AreVersions (says_at image app)) 
         (cases_lt file (free_range app seen).first)
 
     -- a file that is not given up is kept
-    pub kept_true : file < 4294967295 → (IsGivenUp image file → ⊥) → in_ranges (all_kept image) file ≡ true
+    pub kept_true : file < 4294967295 → (IsFileGivenUp image file → ⊥) → in_ranges (all_kept image) file ≡ true
     unfolding all_kept
     kept_true few not =
         let rest : FileRange = record { first = 32768; end = 4294967295 } in
@@ -275,7 +275,7 @@ module _ (image : Image) (of : (app : ℕ) → AreVersions (says_at image app)) 
         (or_left (lies_in file rest) false (has_file file rest past few)))
         (cases_lt file 32768)
 
-    module _ (up : IsGivenUp image file) where
+    module _ (up : IsFileGivenUp image file) where
       no_app : (k : ℕ) → k < 8 → in_ranges (kept_of k (seen_at image k)) file ≡ false
       no_app k lt =
           let seen = seen_at image k in

@@ -9,7 +9,7 @@ use Rattle.flash_disk.specs.Kept.{lies_in}
 use Rattle.deploy_laws.specs.Apps.{App, IsCleanApp, IsFree, app_at, says_at}
 use Rattle.deploy_laws.specs.Laws.{AppFrameLaw, VersionsLaw}
 use Rattle.deploy_laws.specs.Places.{storage_file, IsFileOf, IsOutsideBank}
-use Rattle.flash_reclaim.specs.Naming.{IsFreeBank, IsGivenUp}
+use Rattle.flash_reclaim.specs.Naming.{IsFreeBank, IsFileGivenUp}
 use Rattle.flash_reclaim.specs.Reclaiming.{AppsStand}
 use Rattle.flash_reclaim.proofs.Ranges.{decided, has_file, lacks_file, says_is}
 
@@ -55,11 +55,11 @@ stands_then : (app : ℕ) (a b c : Image) → AppStands app a b → AppStands ap
 stands_then app a b c first second = (second.0 ∙ first.0, λ clean. second.1 (first.1 clean))
 
 module _ (frame : AppFrameLaw) (law : FreeBankLaw) (of : VersionsLaw) (old new : Image)
-    (spared : (file : ℕ) → file < 4294967295 → (IsGivenUp old file → ⊥) → new file ≡ old file)
+    (spared : (file : ℕ) → file < 4294967295 → (IsFileGivenUp old file → ⊥) → new file ≡ old file)
     (app : ℕ) (within : app < 8) where
   -- a file in a bank is given up only where that bank is free
   free_at : (bank file : ℕ) → bank ≤ 1 → storage_file app bank 0 ≤ file → file < storage_file app bank 0 + 512
-      → IsGivenUp old file → IsFreeBank old app bank
+      → IsFileGivenUp old file → IsFreeBank old app bank
   free_at bank file few from below up =
       let up_from = up.from in
       let up_below = up.below in
@@ -127,6 +127,6 @@ module _ (frame : AppFrameLaw) (law : FreeBankLaw) (of : VersionsLaw) (old new :
       (stands_then app old (over app 0 old new) (over app 1 (over app 0 old new) new) at_first at_second) at_last
 
 pub apps_stand : AppFrameLaw → FreeBankLaw → VersionsLaw → (old new : Image)
-    → ((file : ℕ) → file < 4294967295 → (IsGivenUp old file → ⊥) → new file ≡ old file) → AppsStand old new
+    → ((file : ℕ) → file < 4294967295 → (IsFileGivenUp old file → ⊥) → new file ≡ old file) → AppsStand old new
 unfolding AppsStand
 apps_stand frame law of old new spared app within = app_stands frame law of old new spared app within

@@ -17,7 +17,7 @@ pub record IsFreeBank (image : Image) (app bank : ℕ) : Type 0 where
   pub free : IsFree bank (says_at image app)
 
 -- the file is one of a bank that is free so: it is given up
-pub record IsGivenUp (image : Image) (file : ℕ) : Type 0 where
+pub record IsFileGivenUp (image : Image) (file : ℕ) : Type 0 where
   pub app : ℕ
   pub bank : ℕ
   pub app_within : app < 8

@@ -16,7 +16,7 @@ use Rattle.flash_disk.specs.Sound.{files_on}
 use Rattle.flash_disk.specs.Standing.{IsAgreed}
 use Rattle.flash_disk.specs.Throughout.{UsableSince}
 use Rattle.deploy_laws.specs.Apps.{IsCleanApp, app_at}
-use Rattle.flash_reclaim.specs.Naming.{IsGivenUp}
+use Rattle.flash_reclaim.specs.Naming.{IsFileGivenUp}
 
 -- every application is what it was, and its places are clean where they were
 unfoldable pub AppsStand : (old new : Image) → Type 0
@@ -32,13 +32,13 @@ pub record AppsStandSince (old new : FlashMedium) : Type 0 where
 
 -- the files that are given up are empty, and every other is as it was
 pub record IsReclaimed (old new : Image) : Type 0 where
-  pub given_up : (file : ℕ) → IsGivenUp old file → new file ≡ []
-  pub kept : (file : ℕ) → file < 4294967295 → ¬ (IsGivenUp old file) → new file ≡ old file
+  pub given_up : (file : ℕ) → IsFileGivenUp old file → new file ≡ []
+  pub kept : (file : ℕ) → file < 4294967295 → ¬ (IsFileGivenUp old file) → new file ≡ old file
 
 -- there are rivals, which are newest records of one page that differ, or each block but one is needed for files that
 -- are not given up
 abbrev pub MayTakeNothing : (old : Image) → (new : FlashMedium) → Type 0
-MayTakeNothing old new = (kept : ℕ → Bool) × ((file : ℕ) → kept file ≡ true → ¬ (IsGivenUp old file))
+MayTakeNothing old new = (kept : ℕ → Bool) × ((file : ℕ) → kept file ≡ true → ¬ (IsFileGivenUp old file))
     × MayGiveNothing kept new
 
 -- A flash whose room was reclaimed, in whole or not at all, and what the disk counted of its own while roots were read.
@@ -60,7 +60,7 @@ pub record Reclaims (old new : FlashMedium) (whole : Bool) (own : ℕ) : Type 0 
   pub faults : IsTrue whole → new.faults ≡ old.faults
 
 -- A flash that is handed back: each application stands as before, and why it was refused.
-pub record IsHandedBack (old back : FlashMedium) (error : FlashOpenError) : Type 0 where
+pub record IsFlashRefused (old back : FlashMedium) (error : FlashOpenError) : Type 0 where
   pub stands : AppsStandSince old back
   pub wrong_size : error ≡ WrongSize → (old.blocks < 4) ⊎ (4096 < old.blocks)
   pub unusable : error ≡ Unusable → IsUnusable old.state.pages old.blocks
@@ -72,4 +72,4 @@ ReclaimsTold told old new whole own = IsTrue told → Reclaims old new whole own
 
 -- a flash that is modelled was handed back so
 unfoldable pub HandsBackTold : (told : Bool) → (old back : FlashMedium) → FlashOpenError → Type 0
-HandsBackTold told old back error = IsTrue told → IsHandedBack old back error
+HandsBackTold told old back error = IsTrue told → IsFlashRefused old back error

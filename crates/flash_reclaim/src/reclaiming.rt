@@ -34,7 +34,7 @@ pub struct Reclaimed<F: Flash> {
 /// Those of an opening ([`FlashDisk::open`]). The flash is handed back, and each application stands on it as before.
 pub fn reclaim<F: Flash>(alloc: Global, flash: F) -> Result<Reclaimed<F>, FlashRefused<F>>
     // Where the flash is modelled each application stands as before, also after a stop at any moment. Either each file
-    // that is given up (`IsGivenUp`) is empty and all others are as they were, or none changed, which comes only where
+    // that is given up (`IsFileGivenUp`) is empty and all others are as they were, or none changed, which comes only where
     // nothing could be taken or the disk counted a fault of its own.
     ensures reclaims { IfOk result (λ reclaimed. ReclaimsTold F.told (F.medium flash) (F.medium reclaimed.flash)
         reclaimed.whole reclaimed.own_faults) }

@@ -4,8 +4,8 @@ use Rattle.std.specs.Prelude.{Option, Some, None}
 use Rattle.std.specs.List.{list_any, starts_with}
 use Rattle.std.specs.Str.{bytes_eq}
 use Rattle.per_words.specs.Words.{is_among}
-use Rattle.per_words.specs.declared.words.Reading.{Reading}
-use Rattle.per_words.specs.declared.words.Reading.TheVariants as reading
+use Rattle.per_words.specs.declared.words.WordRole.{WordRole}
+use Rattle.per_words.specs.declared.words.WordRole.TheVariants as reading
 
 -- the word begins with two dashes
 abbrev pub is_option : List ℕ → Bool
@@ -17,7 +17,7 @@ takes_value = is_among (codes "--dir" ∷ codes "--flash" ∷ codes "--generate"
     ∷ codes "--list" ∷ codes "--recover-root" ∷ [])
 
 -- how a word is read: as an option or what is named, as the value of an option, or as an operand, whatever it is
-abbrev pub reading_after : Reading → List ℕ → Reading
+abbrev pub reading_after : WordRole → List ℕ → WordRole
 reading_after reading.Word word =
     if bytes_eq word (codes "--") then reading.Operand else (
     if takes_value word then reading.Value else reading.Word)
@@ -25,36 +25,36 @@ reading_after reading.Value word = reading.Word
 reading_after reading.Operand word = reading.Operand
 
 -- the word is an option, or the value of one
-abbrev pub is_of_options : Reading → List ℕ → Bool
+abbrev pub is_of_options : WordRole → List ℕ → Bool
 is_of_options reading.Word word = is_option word && not (bytes_eq word (codes "--"))
 is_of_options reading.Value word = true
 is_of_options reading.Operand word = false
 
 -- options and their values
-abbrev pub options_in : Reading → List (List ℕ) → List (List ℕ)
+abbrev pub options_in : WordRole → List (List ℕ) → List (List ℕ)
 options_in r [] = []
 options_in r (w ∷ ws) =
     if is_of_options r w then w ∷ options_in (reading_after r w) ws else options_in (reading_after r w) ws
 
 -- the word is named: it is an operand, or no option
-abbrev pub is_named : Reading → List ℕ → Bool
+abbrev pub is_named : WordRole → List ℕ → Bool
 is_named reading.Word word = not (is_option word)
 is_named reading.Value word = false
 is_named reading.Operand word = true
 
 -- all words that are named
-abbrev pub named_words : Reading → List (List ℕ) → List (List ℕ)
+abbrev pub named_words : WordRole → List (List ℕ) → List (List ℕ)
 named_words r [] = []
 named_words r (w ∷ ws) =
     if is_named r w then w ∷ named_words (reading_after r w) ws else named_words (reading_after r w) ws
 
 -- help is asked for before the operands
-abbrev pub is_help : Reading → List ℕ → Bool
+abbrev pub is_help : WordRole → List ℕ → Bool
 is_help reading.Word word = bytes_eq word (codes "--help")
 is_help reading.Value word = bytes_eq word (codes "--help")
 is_help reading.Operand word = false
 
-abbrev pub asks_help : Reading → List (List ℕ) → Bool
+abbrev pub asks_help : WordRole → List (List ℕ) → Bool
 asks_help r [] = false
 asks_help r (w ∷ ws) = if is_help r w then true else asks_help (reading_after r w) ws
 
@@ -72,12 +72,12 @@ abbrev pub is_known : List ℕ → Bool
 is_known word = takes_value word || (is_flag word || has_value word)
 
 -- a run does not know the word: it is no option of one and no value, or an operand
-abbrev pub is_unknown : Reading → List ℕ → Bool
+abbrev pub is_unknown : WordRole → List ℕ → Bool
 is_unknown reading.Word word = not (is_known word) && not (bytes_eq word (codes "--"))
 is_unknown reading.Value word = false
 is_unknown reading.Operand word = true
 
 -- the first such word
-abbrev pub unknown_in : Reading → List (List ℕ) → Option (List ℕ)
+abbrev pub unknown_in : WordRole → List (List ℕ) → Option (List ℕ)
 unknown_in r [] = None
 unknown_in r (w ∷ ws) = if is_unknown r w then Some w else unknown_in (reading_after r w) ws

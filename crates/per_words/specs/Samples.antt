@@ -13,7 +13,7 @@ use Rattle.command_text.specs.declared.replies.AppStatus.{AppStatus}
 use Rattle.per_words.specs.Apart.{asks_help, named_words, options_in, unknown_in}
 use Rattle.per_words.specs.Screens.{broken}
 use Rattle.per_words.specs.declared.showing.Shown.TheVariants as shown
-use Rattle.per_words.specs.declared.words.Reading.TheVariants as reading
+use Rattle.per_words.specs.declared.words.WordRole.TheVariants as reading
 use Rattle.per_words.specs.Shown.{ended, shown_in}
 use Rattle.per_words.specs.Words.{call_lines, content_lines, fed_lines, file_lines, manifest_lines}
 

@@ -32,4 +32,4 @@ pub use prompting::{call_shown, column_after, help_asked, is_line_word, row_word
 pub use putting::content_lines;
 pub use screens::broken;
 pub use showing::{Shown, shown_bytes, shown_in};
-pub use words::{Reading, asks_help, named_words, options_in, unknown_in};
+pub use words::{WordRole, asks_help, named_words, options_in, unknown_in};

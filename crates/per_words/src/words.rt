@@ -12,7 +12,7 @@ use std::alloc::{AllocError, Global};
 
 /// How a word is read.
 #[derive(Clone, Copy)]
-pub enum Reading {
+pub enum WordRole {
     /// As an option, or as what is named.
     Word,
     /// As the value of an option.
@@ -24,10 +24,10 @@ pub enum Reading {
 /// The words that are options, and the values of those that take one, in their order.
 pub fn options_in(alloc: Global, words: &[String]) -> Result<Vec<String>, AllocError>
     ensures { IfOk result (λ options. map string_bytes options.items
-        ≡ options_in Reading.Word (map string_bytes words.now)) }
+        ≡ options_in WordRole.Word (map string_bytes words.now)) }
 {
     let mut options = Vec::new(alloc);
-    let mut reading = Reading::Word;
+    let mut reading = WordRole::Word;
     for word in words {
         let is_taken = is_of_options(reading, word.as_bytes());
         reading = reading_after(reading, word.as_bytes());
@@ -41,10 +41,10 @@ pub fn options_in(alloc: Global, words: &[String]) -> Result<Vec<String>, AllocE
 /// A call and its arguments: all words but options, their values and the `--` that ends the options, in their order.
 pub fn named_words<'a>(alloc: Global, words: &'a [String]) -> Result<Vec<&'a [u8]>, AllocError>
     ensures { IfOk result (λ named. map (λ word. word.now) named.items
-        ≡ named_words Reading.Word (map string_bytes words.now)) }
+        ≡ named_words WordRole.Word (map string_bytes words.now)) }
 {
     let mut named = Vec::new(alloc);
-    let mut reading = Reading::Word;
+    let mut reading = WordRole::Word;
     for word in words {
         let is_taken = is_named(reading, word.as_bytes());
         reading = reading_after(reading, word.as_bytes());
@@ -57,9 +57,9 @@ pub fn named_words<'a>(alloc: Global, words: &'a [String]) -> Result<Vec<&'a [u8
 
 /// Whether help is asked for.
 pub fn asks_help(words: &[String]) -> bool
-    ensures { result ≡ asks_help Reading.Word (map string_bytes words.now) }
+    ensures { result ≡ asks_help WordRole.Word (map string_bytes words.now) }
 {
-    let mut reading = Reading::Word;
+    let mut reading = WordRole::Word;
     for word in words {
         if is_help(reading, word.as_bytes()) {
             return true;
@@ -71,9 +71,9 @@ pub fn asks_help(words: &[String]) -> bool
 
 /// The first word that a run does not know.
 pub fn unknown_in(words: &[String]) -> Option<&[u8]>
-    ensures { Finds (λ word. word.now) result (unknown_in Reading.Word (map string_bytes words.now)) }
+    ensures { Finds (λ word. word.now) result (unknown_in WordRole.Word (map string_bytes words.now)) }
 {
-    let mut reading = Reading::Word;
+    let mut reading = WordRole::Word;
     for word in words {
         let word = word.as_bytes();
         if is_unknown(reading, word) {
@@ -85,64 +85,64 @@ pub fn unknown_in(words: &[String]) -> Option<&[u8]>
 }
 
 /// How the word after this one is read.
-fn reading_after(reading: Reading, word: &[u8]) -> Reading
+fn reading_after(reading: WordRole, word: &[u8]) -> WordRole
     ensures { result ≡ reading_after reading word.now }
 {
     match reading {
-        Reading::Word => {
+        WordRole::Word => {
             if ends_options(word) {
-                Reading::Operand
+                WordRole::Operand
             } else if takes_value(word) {
-                Reading::Value
+                WordRole::Value
             } else {
-                Reading::Word
+                WordRole::Word
             }
         }
-        Reading::Value => Reading::Word,
-        Reading::Operand => Reading::Operand,
+        WordRole::Value => WordRole::Word,
+        WordRole::Operand => WordRole::Operand,
     }
 }
 
 /// Whether the word is an option, or the value of one.
-fn is_of_options(reading: Reading, word: &[u8]) -> bool
+fn is_of_options(reading: WordRole, word: &[u8]) -> bool
     ensures { result ≡ is_of_options reading word.now }
 {
     match reading {
-        Reading::Word => is_option(word) && !ends_options(word),
-        Reading::Value => true,
-        Reading::Operand => false,
+        WordRole::Word => is_option(word) && !ends_options(word),
+        WordRole::Value => true,
+        WordRole::Operand => false,
     }
 }
 
 /// Whether the word is an operand, or no option.
-fn is_named(reading: Reading, word: &[u8]) -> bool
+fn is_named(reading: WordRole, word: &[u8]) -> bool
     ensures { result ≡ is_named reading word.now }
 {
     match reading {
-        Reading::Word => !is_option(word),
-        Reading::Value => false,
-        Reading::Operand => true,
+        WordRole::Word => !is_option(word),
+        WordRole::Value => false,
+        WordRole::Operand => true,
     }
 }
 
 /// Whether the word asks for help, which an operand does not.
-fn is_help(reading: Reading, word: &[u8]) -> bool
+fn is_help(reading: WordRole, word: &[u8]) -> bool
     ensures { result ≡ is_help reading word.now }
 {
     match reading {
-        Reading::Word | Reading::Value => is_word(word, b"--help"),
-        Reading::Operand => false,
+        WordRole::Word | WordRole::Value => is_word(word, b"--help"),
+        WordRole::Operand => false,
     }
 }
 
 /// Whether a run does not know the word: it is no option of one and no value, or an operand.
-fn is_unknown(reading: Reading, word: &[u8]) -> bool
+fn is_unknown(reading: WordRole, word: &[u8]) -> bool
     ensures { result ≡ is_unknown reading word.now }
 {
     match reading {
-        Reading::Word => !is_known(word) && !ends_options(word),
-        Reading::Value => false,
-        Reading::Operand => true,
+        WordRole::Word => !is_known(word) && !ends_options(word),
+        WordRole::Value => false,
+        WordRole::Operand => true,
     }
 }
 

@@ -1,6 +1,6 @@
 use Rattle.std.proofs.Common.{◌≡◌, drop, map, string_bytes}
 use Rattle.per_words.specs.Apart.{asks_help}
-use Rattle.per_words.specs.declared.words.Reading.TheVariants as reading
+use Rattle.per_words.specs.declared.words.WordRole.TheVariants as reading
 use Rattle.per_words.proofs.words.asks_help.Given as goal
 
 -- so do the words that are left

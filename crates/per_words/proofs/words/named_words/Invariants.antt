@@ -1,6 +1,6 @@
 use Rattle.std.proofs.Common.{◌≡◌, ◌++◌, drop, map, string_bytes}
 use Rattle.per_words.specs.Apart.{named_words}
-use Rattle.per_words.specs.declared.words.Reading.TheVariants as reading
+use Rattle.per_words.specs.declared.words.WordRole.TheVariants as reading
 use Rattle.per_words.proofs.words.named_words.Given as goal
 
 -- what is named so far, and in the words that are left

@@ -1,6 +1,6 @@
 use Rattle.std.proofs.Common.{◌≡◌, ◌++◌, drop, map, string_bytes}
 use Rattle.per_words.specs.Apart.{options_in}
-use Rattle.per_words.specs.declared.words.Reading.TheVariants as reading
+use Rattle.per_words.specs.declared.words.WordRole.TheVariants as reading
 use Rattle.per_words.proofs.words.options_in.Given as goal
 
 -- the options so far, and those of the words that are left

@@ -1,6 +1,6 @@
 use Rattle.std.proofs.Common.{◌≡◌, drop, map, string_bytes}
 use Rattle.per_words.specs.Apart.{unknown_in}
-use Rattle.per_words.specs.declared.words.Reading.TheVariants as reading
+use Rattle.per_words.specs.declared.words.WordRole.TheVariants as reading
 use Rattle.per_words.proofs.words.unknown_in.Given as goal
 
 -- the first such word is among those that are left
