@@ -43,6 +43,7 @@ pub fn generated_line(alloc: Global, n: u32, x: u64, i: u32) -> Result<Vec<u8>, 
     Ok(text.into_bytes())
 }
 
+/// The same line as a string, since that is what `format!` makes.
 fn generated_text(alloc: Global, x: u64, i: u32) -> Result<String, AllocError>
     ensures { IfOk result (λ text. string_bytes text ≡ generated_line x i) }
 {

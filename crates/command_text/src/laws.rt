@@ -22,7 +22,8 @@ pub fn one_line()
     ensures { (text : List ℕ) (line other : Line) → IsLine text line → IsLine text other → line ≡ other }
 {}
 
-/// Line `i` that is generated of a number `x` spells an event, and so does each line of the whole input of `n` lines.
+/// Line `i` that is generated of a number `x` spells an event, and so does each line of the whole input of a number
+/// `n`: the first lines, `n` generated ones, the last. All numbers of the sequence are below 2^31, and so is `n`.
 pub fn generated_is_spelled()
     ensures line { (x i : ℕ) → x < 2 ^ 31 → IsEventLine (generated_line x i) }
     ensures whole { (n : ℕ) → n < 2 ^ 31 → AllByRecursion IsEventLine (generated n) }

@@ -227,6 +227,7 @@ impl File {
     fn put(&mut self, from: usize, piece: &[u8], now: u64) -> Result<(), AllocError>
         requires good { IsTrue (is_readable self.old.content) }
         requires inside { from ≤ length (readable_bytes self.old.content) }
+        // The content is then at most 1,048,576 bytes, the most of a file.
         requires small { length (overwritten from piece.now (readable_bytes self.old.content)) ≤ 1048576 }
         ensures ok { OnOk result (self.new ≡ changed_to (overwritten from piece.now (readable_bytes self.old.content))
             now

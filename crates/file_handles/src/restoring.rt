@@ -71,6 +71,7 @@ impl FileTable {
         now: u64,
         initial: Option<&[u8]>,
     ) -> Result<(), PerError>
+        // An initial content is at most as long as a file may be, 1,048,576 bytes.
         requires small { MatchOption (option_copied initial) ⊤ (λ bytes. length bytes ≤ 1048576) }
         requires free { opening.busy (blocking OpenKind.Write name.now self.old.session.handles) ≡ None }
         requires there { IsTrue (has self.old.session.files name.now) }
@@ -207,6 +208,7 @@ impl FileTable {
     pub(crate) fn give(&mut self, name: &Name, bytes: Bytes, now: u64, cause: Cause)
         requires free { opening.busy (blocking OpenKind.Write name.now self.old.session.handles) ≡ None }
         requires there { IsTrue (has self.old.session.files name.now) }
+        // At most 1,048,576 bytes, the most of a file.
         requires small { length bytes ≤ 1048576 }
         requires fits { core.too_long (room_for self.old.session.files name.now self.old.storage.maximum) (length bytes)
             ≡ None }
@@ -228,6 +230,7 @@ impl FileTable {
     fn make(&mut self, name: &Name, bytes: Bytes, now: u64) -> Result<(), PerError>
         requires missing { element_at self.old.session.files name.now ≡ None }
         requires few { opening.too_many self.old.session.files name.now ≡ None }
+        // At most 1,048,576 bytes, the most of a file.
         requires small { length bytes ≤ 1048576 }
         requires fits { core.too_long (room_for self.old.session.files name.now self.old.storage.maximum) (length bytes)
             ≡ None }

@@ -56,8 +56,8 @@ impl Model for FileTable {
 impl FileTable {
     /// A table of these files, whose names and contents take `size` bytes, with no handle and the moment 0.
     pub fn new(alloc: Global, storage: Storage, files: BTreeMap<Name, File>, size: u64) -> FileTable
-        // The storage and the files are within the limits of a storage and what it is allowed, and each element is a
-        // file.
+        // The storage is allowed at most 4,194,304 bytes, the most of any storage; there are at most 1,024 files, and
+        // they take no more than it is allowed. Each element of the map is a file.
         requires allowed { storage.maximum ≤ 4194304 }
         requires few { length files.entries ≤ 1024 }
         requires room { size_of files.entries ≤ storage.maximum }

@@ -79,7 +79,8 @@ impl KeyElement {
         self.len
     }
 
-    /// Whether the key is readable.
+    /// Whether the key is readable: its content is the encoding of a value. Bytes on which too few copies agree are
+    /// unreadable, and so are those that encode no value (`judge`).
     pub fn is_readable(&self) -> bool
         ensures { result ≡ is_readable self.now.content }
     {

@@ -79,6 +79,7 @@ chain_of rules element from to = shortest rules element from to 8 1
 
 -- ---- steps of the search
 
+-- the first of these places, if there are any
 abbrev pub first_place : Option (List ℕ) → Option ℕ
 first_place None = None
 first_place (Some []) = None
