@@ -95,7 +95,7 @@ stands pattern i = (pattern / 2 ^ (i % 64)) % 2 == 1
 abbrev pub grown : List ℕ → ℕ → List ℕ
 grown old n = old ++ replicate (n - length old) 0
 
--- the image with one file made at least n bytes long so
+-- the image with one file made at least n bytes long, with zeros past its old end
 abbrev pub grow_image : Image → ℕ → ℕ → Image
 grow_image image file n f = if f == file then grown (image f) n else image f
 
