@@ -73,8 +73,8 @@ impl<S: System> FolderDisk<S> {
     }
 
     /// Opens the files as a disk, and syncs whatever any process wrote to them, so that nothing is pending. A file that
-    /// cannot be opened counts as one that is not there; where none can, or no byte of any can be read, the folder is
-    /// refused.
+    /// cannot be opened counts as one that is not there. A folder is refused that lists files of which none can be
+    /// opened, or no byte can be read; an empty folder is none of these.
     pub fn open(alloc: Global, system: S) -> Result<FolderDisk<S>, FolderRefused<S>>
         // No failed sync has dropped anything of any file f.
         requires { IsTrue S.told → (f : ℕ) → IsWhole (S.medium system) f }

@@ -21,20 +21,21 @@ pub record PutsText (told : Bool) (place : Place) (generation : ℕ) (text : Lis
   pub any_moment : IsTrue told → Quiet old
       → EachCase (PutStops place generation text old.image) old new
   pub written : new.written ≤ old.written + place.copies * (header + length text + header)
-  -- where a slot's start is blank, only the runs of the text are written that differ, and the blanks
+  -- where zeros stand in place of a slot's header, only the runs of the text are written that differ, and the blanks
   pub differing : IsTrue told → new.written ≤ old.written
       + texts_cost place (own generation) (sealed generation text) old.image place.copies + place.copies * header
   pub time : Elapses old new
 
--- Every copy is brought to a text: it is put where it lacks. No slot that is right already changes, and where every
--- copy holds the text alone, nothing is written.
+-- Every copy is brought to a text: it is put where a copy lacks it. No slot that is right already changes: one that
+-- holds the text, or a blank one of the other parity. Where every copy holds the text alone, nothing is written.
 pub record Brings (told : Bool) (place : Place) (generation : ℕ) (text : List ℕ) (old new : Medium) : Type 0 where
   pub puts : PutsText told place generation text old new
   pub right : IsTrue told → Spares (IsRight old.image place generation text) old.image new.image
   pub already : IsTrue told → IsAlone old.image place generation text → new.written ≡ old.written
 
--- Every text but this one is taken away. Only slots of the place change, and none that is clear already, and at any
--- moment the copies that held the text hold it. At most two blanks are written for each copy.
+-- Every text but this one is taken away. Only slots of the place change, and none that is clear already: one that holds
+-- no other text, or a blank one of the other parity. At any moment the copies that held the text hold it. At most two
+-- blanks are written for each copy.
 pub record Clears (told : Bool) (place : Place) (generation : ℕ) (text : List ℕ) (old new : Medium) : Type 0 where
   pub elsewhere : IsTrue told → Spares (IsNoSlot place) old.image new.image
   pub right : IsTrue told → Spares (IsClear old.image place generation text) old.image new.image
@@ -53,8 +54,8 @@ pub record FormatsRegister (told : Bool) (place : Place) (text : List ℕ) (old 
   pub time : Elapses old new
 
 -- Every copy is brought to the text that stands, which at least m copies hold, if one does. Only slots of the place
--- change, and none that is right already, and a stop at any moment leaves every copy what it held or every copy the
--- text that stood. At most the longest sealed text and a blank are written for each copy.
+-- change, and none that is right already (as in `Brings`), and a stop at any moment leaves every copy what it held or
+-- every copy the text that stood. At most the longest sealed text and a blank are written for each copy.
 pub record OpensRegister (told : Bool) (place : Place) (m : ℕ) (old new : Medium) : Type 0 where
   pub elsewhere : IsTrue told → Spares (IsNoSlot place) old.image new.image
   pub right : IsTrue told

@@ -20,9 +20,9 @@ use disk_model::{Disk, DiskFailed, Place};
 use hash_guard::seal;
 use std::alloc::Global;
 
-/// Brings every copy of the place to this text under this generation: it is written where it lacks, which is made
-/// durable, and then every other slot that verifies is blanked, which is made durable too. It gives the register in
-/// use.
+/// Brings every copy of the place to this text under this generation: it is written where a copy lacks it, which is
+/// made durable, and then every other slot that verifies is blanked, which is made durable too. It gives the register
+/// in use.
 ///
 /// # Errors
 ///
@@ -46,8 +46,9 @@ pub fn adopt<D: Disk>(
     ensures never_corrupt { ¬ (IsErrOf result CellError.Corrupt) }
     ensures faults { CellFaults result (D.medium disk.old) (D.medium disk.new) }
 
-    // Only slots of the place change, and none that is right already; where every copy holds the text alone, nothing is
-    // written. A stop at any moment leaves every copy what it held or every copy the text.
+    // Only slots of the place change, and none that is right already: one that holds the text, or a blank one of the
+    // other parity. Where every copy holds the text alone, nothing is written. A stop at any moment leaves every copy
+    // what it held or every copy the text.
     ensures brings { Brings D.told place generation text.now (D.medium disk.old) (D.medium disk.new) }
 {
     let sealed_text = seal(alloc, generation, text)?;
@@ -84,8 +85,9 @@ pub fn adopt_seen<D: Disk>(
     ensures never_corrupt { ¬ (IsErrOf result CellError.Corrupt) }
     ensures faults { CellFaults result (D.medium disk.old) (D.medium disk.new) }
 
-    // Only slots of the place change, and none that is right already; where every copy holds the text alone, nothing is
-    // written. A stop at any moment leaves every copy what it held or every copy the text.
+    // Only slots of the place change, and none that is right already: one that holds the text, or a blank one of the
+    // other parity. Where every copy holds the text alone, nothing is written. A stop at any moment leaves every copy
+    // what it held or every copy the text.
     ensures brings { Brings D.told place seen.now.generation seen.now.text (D.medium disk.old) (D.medium disk.new) }
 {
     let text = seen.text.as_slice();

@@ -37,8 +37,8 @@ pub fn keep_only<D: Disk>(
     ensures never_corrupt { ¬ (IsErrOf result CellError.Corrupt) }
     ensures faults { CellFaults result (D.medium disk.old) (D.medium disk.new) }
 
-    // Only slots of the place change, and none that is clear already. At any moment the copies that held the text hold
-    // it.
+    // Only slots of the place change, and none that is clear already: one that holds no other text, or a blank one
+    // of the other parity. At any moment the copies that held the text hold it.
     ensures clears { Clears D.told place generation text.now (D.medium disk.old) (D.medium disk.new) }
 {
     let mut room = front_room(alloc)?;

@@ -1,10 +1,12 @@
 //! A register that keeps its text through stops and damage.
 //!
 //! A text with a generation is sealed into one of two slots of each copy of a [`Place`]: into the
-//! slot of the generation's parity. Of the texts that at least m copies hold the one of the greatest
-//! generation stands, and at one generation the one whose first copy is lowest. [`Cell::write`] puts the
-//! next text into the other slots, makes it durable, and only then blanks the old ones, so that a stop at
-//! any moment leaves the old text or the new one in every copy that is not damaged.
+//! slot of the generation's parity. A slot *verifies* where its start is a text under its own hash, and
+//! else it is *blank*, whatever bytes it has; *a blank* is 44 zeros, put over a slot's header. Of the texts
+//! that at least m copies hold the one of the greatest generation stands, and at one generation the one
+//! whose first copy is lowest. [`Cell::write`] puts the next text into the other slots, makes it durable,
+//! and only then blanks the old ones, so that a stop at any moment leaves the old text or the new one in
+//! every copy that is not damaged.
 //!
 //! [`open_cell`] finds the text that stands and brings every copy to it, [`look`] only shows what the
 //! copies hold, [`standing_among`] chooses of that what stands, [`adopt`] brings every copy to a text that

@@ -72,8 +72,8 @@ pub fn open_cell<D: Disk>(
     ensures faults { CellFaults result (D.medium disk.old) (D.medium disk.new) }
     ensures unfailed { IsErrOf result CellError.Corrupt → (D.medium disk.new).faults ≡ (D.medium disk.old).faults }
 
-    // Only slots of the place change, and none that is right already. A stop at any moment leaves every copy what it
-    // held or every copy the text that stood.
+    // Only slots of the place change, and none that is right already: one that holds the text that stands, or a blank
+    // one of the other parity. A stop at any moment leaves every copy what it held or every copy the text that stood.
     ensures opens { OpensRegister D.told place m (D.medium disk.old) (D.medium disk.new) }
     // At most the sealed text and a blank are written for each copy.
     ensures written { IfOk result (λ opened.

@@ -1,4 +1,4 @@
-//! Putting a text into every copy: first where it lacks, then, once that is durable, alone.
+//! Putting a text into every copy: first where a copy lacks it, then, once that is durable, alone.
 
 ghost use Rattle.std.specs.Prelude.{◌≡◌, ◌≤◌, ◌<◌, IsTrue, OnOk, length};
 ghost use Rattle.hash_guard.specs.SealedText.{sealed, max_body};
