@@ -3,7 +3,10 @@
 -- In each `start` is the image when the call began; `now` the one after the index was adopted, or all texts but that of
 -- the salvage were given up; `then` the one after contents were made durable; `after` the state that the call leads to;
 -- `old` and `c` cases of a crash; `taken` says which blocks no write touches; `index` is what the text
--- spells that the copies hold, and `new_index` what the next text spells.
+-- spells that the copies hold, and `new_index` what the next text spells. `shape` is the storage as it is configured;
+-- `text` is one that is held, `next` the one to be written, and `generation` that of `text`, or of `next` where a
+-- storage is rebuilt (`h` and `u`: any generation and text that a copy holds); `view` is what a storage opens at, and
+-- `others` are the views of its other texts that fit.
 use Rattle.std.specs.Prelude.{◌≡◌, ◌⊎◌, ℕ, ◌+◌, ◌*◌, ◌<◌, ◌≤◌, List, [], length, slice_index, map, Bool, true, false}
 use Rattle.std.specs.Prelude.{Option, Some, find, None}
 use Rattle.std.specs.List.{AllByRecursion, AllZip, Contains}

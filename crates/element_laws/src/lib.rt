@@ -13,10 +13,13 @@
 //! [`places_are_clean`] and [`use_is_adopted`] say where the laws begin and end, and [`outcomes_are_refused`] what they
 //! exclude.
 //!
-//! Words of the contracts: a text is *adopted* once every copy holds it and no slot another, and the texts of a corrupt
-//! storage but that of its salvage are *given up* once no copy holds them; a content is *carried* that the next index
-//! leaves in the blocks in which the earlier one has it, and *mended* where it is written again in copies that lack it.
-//! A *case* is one way that a crash may go, and a *piece* is a text in a slot or a content in blocks, with its hash.
+//! Words of the contracts: a *place* is the files of a storage's copies, in each of them two *slots*, which hold texts
+//! of indexes, and an area, whose blocks hold contents. *Scope* is on what enough copies must agree: on the index and
+//! on each content by itself, or on the index and all contents together. A text is *adopted* once every copy holds it
+//! and no slot another, and the texts of a corrupt storage but that of its salvage are *given up* once no copy holds
+//! them; a content is *carried* that the next index leaves in the blocks in which the earlier one has it, and *mended*
+//! where it is written again in copies that lack it. A *case* is one way that a crash may go, and a *piece* is a text
+//! in a slot or a content in blocks, with its hash.
 //!
 //! The premises are that no torn piece passes its hash by chance, where contents are mended in place that no two
 //! contents have the same hash ([`mending_keeps`] alone), and that one storage has one caller at a time.

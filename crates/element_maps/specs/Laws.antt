@@ -1,5 +1,6 @@
--- What comes of the changes that make one map into another. In each law `synced` is the map that the storage holds at
--- the view `v`, `new` the one that it is to hold, and `test` says which bytes a session takes as a value.
+-- What comes of the changes that make one map into another. In each law `shape` is the storage as it is configured,
+-- `synced` the map that it holds at the view `v` (what its copies denote), `new` the one that it is to hold, and `test`
+-- says which bytes a session takes as a value.
 use Rattle.std.specs.Prelude.{◌≡◌, ◌≢◌, ◌↔◌, ◌≤◌, ◌<◌, ◌+◌, ℕ, List, [], Bool, true, IsTrue, ⊤}
 use Rattle.std.specs.List.{All, AllByRecursion}
 use Rattle.per_base.specs.declared.elements.StoreKind.{StoreKind}
@@ -27,19 +28,21 @@ CommittableLaw = (shape : Shape) (test : List ℕ → Bool) (v : View) (synced n
     → IsSync shape test v synced new changes
     → v.generation < greatest_generation → AreCommittable shape v changes
 
--- after the changes from one map to another the storage is the one that both maps say
+-- the view after a commit of the changes from one map to another is `committed`: what the old view and both maps
+-- determine, without the changes
 abbrev pub CommittedLaw : Type 0
 CommittedLaw = (shape : Shape) (test : List ℕ → Bool) (v : View) (synced new : Map) (changes : List Change)
     → IsSync shape test v synced new changes
     → committed_by shape v changes ≡ committed shape v synced new
 
--- after the changes from one map to another the storage holds the new one
+-- after the changes from one map to another the storage holds the new one, if all its values pass the test
 abbrev pub HeldLaw : Type 0
 HeldLaw = (shape : Shape) (test : List ℕ → Bool) (v : View) (synced new : Map) (changes : List Change)
     → IsSync shape test v synced new changes
     → PassesTest test new → synchronised test (committed shape v synced new) ≡ new
 
--- after the changes from one map to another the storage is as it will be read, where all its names are in the grammar
+-- after the changes from one map to another the storage is as it will be read, where each of its names is 1 to 255
+-- ASCII letters, digits or _ - . /
 abbrev pub ReadLaw : Type 0
 ReadLaw = (shape : Shape) (test : List ℕ → Bool) (v : View) (synced new : Map) (changes : List Change)
     → IsSync shape test v synced new changes
@@ -82,7 +85,7 @@ UnchangedNamesLaw = (synced new : Map) (changes : List Change) → MakeInto chan
 
 -- ---- the map of a view
 
--- with no test the map of a view is the view's own
+-- with a test that all bytes pass, the synchronised map of a view is the view's own, `map_of`
 abbrev pub UntestedLaw : Type 0
 UntestedLaw = (v : View) → synchronised (λ bytes. true) v ≡ map_of v
 
@@ -91,13 +94,13 @@ abbrev pub SynchronisedLaw : Type 0
 SynchronisedLaw = (shape : Shape) (test : List ℕ → Bool) (v : View) → IsView shape v
     → IsNext shape (synchronised test v) (synchronised test v)
 
--- elements that are the same by test are equal
+-- comparing two elements (`same_element`) is true exactly where they are equal
 abbrev pub SameLaw : Type 0
 SameLaw = (a b : Element) → IsTrue (same_element a b) ↔ (a ≡ b)
 
 -- ---- the view after a sync
 
--- the test of two maps decides whether they are equal
+-- comparing two maps (`same_map`) is true exactly where they are equal
 abbrev pub DecidesLaw : Type 0
 DecidesLaw = (a b : Map) → (same_map a b ≡ true) ↔ (a ≡ b)
 
@@ -105,7 +108,7 @@ DecidesLaw = (a b : Map) → (same_map a b ≡ true) ↔ (a ≡ b)
 abbrev pub StaysLaw : Type 0
 StaysLaw = (shape : Shape) (v : View) (synced new : Map) → synced ≡ new → view_once_synced shape v synced new ≡ v
 
--- after a sync the view is the next one where something differs
+-- after a sync the view is that after a commit of what differs, where something does
 abbrev pub NextLaw : Type 0
 NextLaw = (shape : Shape) (v : View) (synced new : Map) → synced ≢ new
     → view_once_synced shape v synced new ≡ committed shape v synced new

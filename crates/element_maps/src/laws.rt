@@ -5,10 +5,11 @@ ghost use Rattle.element_maps.specs.Laws.{NothingLaw, ReadLaw, SameLaw, SizeLaw,
 ghost use Rattle.element_maps.specs.Laws.{UnchangedNamesLaw};
 ghost use Rattle.element_maps.specs.Laws.{CommittableLaw, UntestedLaw};
 
-/// Changes that make the map a storage holds into another may be committed (`taken`). The storage is then the one that
-/// both maps say (`committed`) and holds the other (`held`), as a view within its limits (`read`) and with the other's
-/// size (`size`). Only what differs is written (`cost`, `exact_cost`): nothing where both are equal (`nothing`), and no
-/// change names an element that both have alike (`others`).
+/// Changes that make the map a storage holds into another may be committed (`taken`). The view after it is the one that
+/// the old view and both maps determine (`committed`); the storage holds the other map, if its values pass the test
+/// (`held`), as a view within its limits (`read`) and with the other's size (`size`). Only what differs is written
+/// (`cost`, `exact_cost`): nothing where both are equal (`nothing`), and no change names an element that both have
+/// alike (`others`).
 pub fn changes_make_maps()
     ensures taken { CommittableLaw }
     ensures committed { CommittedLaw }
@@ -22,15 +23,16 @@ pub fn changes_make_maps()
 {}
 
 /// With no test of contents the map of a view is the view's own (`untested`); with any it may be the next that the
-/// storage is to hold (`synchronised`). Elements that the test of two elements finds the same are equal (`same`).
+/// storage is to hold (`synchronised`). Elements are equal exactly where comparing them (`same_element`) says so
+/// (`same`).
 pub fn views_are_maps()
     ensures untested { UntestedLaw }
     ensures synchronised { SynchronisedLaw }
     ensures same { SameLaw }
 {}
 
-/// A test decides whether two maps are equal (`decides`), and by it the view after a sync: the old one where nothing
-/// differs (`stays`), and else the next (`next`).
+/// Comparing two maps (`same_map`) decides whether they are equal (`decides`), and by it the view after a sync: the old
+/// one where nothing differs (`stays`), and else the one after the commit of what differs (`next`).
 pub fn syncs_are_decided()
     ensures decides { DecidesLaw }
     ensures stays { StaysLaw }

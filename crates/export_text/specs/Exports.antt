@@ -35,7 +35,7 @@ pub record AreExportable (kind : StoreKind) (contents : List Fresh) : Type 0 whe
   pub each : AllByRecursion (IsExportable kind) contents
   pub ascend : IsStrictlySortedBy name_cmp (names_of contents)
 
--- a name in the grammar and moments within their type, as every element of the program has them
+-- a name (1 to 255 ASCII letters, digits or _ - . /) and moments below 2 ^ 64, as every element of the program has them
 pub record IsExportedElement (f : Fresh) : Type 0 where
   pub name : IsName f.name
   pub info : InfoIsInRange f.info

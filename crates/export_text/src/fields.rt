@@ -118,6 +118,7 @@ pub fn max_len_of(kind: StoreKind) -> u32
     }
 }
 
+/// The length of a content in bytes, in four bytes: no more than the kind allows.
 #[tactic(auto, unfolding(index_text::specs::Reading::len_at))]
 pub fn len_of(kind: StoreKind, bytes: &[u8]) -> Result<(u32, &[u8]), ExportError>
     ensures { Gives (λ x. (x.0, x.1.now)) result (len_at kind bytes.now) }

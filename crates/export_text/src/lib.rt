@@ -3,8 +3,9 @@
 //! An export is the kind of a storage and its elements, each with its name, for a file its info, and its bytes. Its
 //! text is `PERB`, one byte 1, one byte for the kind (1 keys, 2 files), the number of elements in two bytes, and then
 //! element by element one byte for the length of the name and the name, for a file the 26 bytes of its info, the length
-//! of the bytes in four bytes and the bytes; the SHA-256 of all of this ends it. Numbers have their lowest byte
-//! first.
+//! of the bytes in four bytes and the bytes; the SHA-256 of all of this ends it. Numbers have their lowest byte first.
+//! An *info* is when a file was created, last modified and last accessed, in seconds in eight bytes each, and what
+//! caused its creation and its last modification, in one byte each.
 //!
 //! [`write_export`] gives the one text of an export, [`are_exportable`] tells whether there is one, and [`read_export`]
 //! takes exactly the texts of exports apart. Every export that is read keeps the rules: at most 1,024 elements, names

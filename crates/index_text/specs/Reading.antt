@@ -34,7 +34,7 @@ Gives view (Err e) read = FailsToRead e read
 -- A reader takes bytes, and gives what stands at their start with the bytes after it; or None where no such thing
 -- stands there.
 
--- one byte of length, and a name of that many bytes
+-- one byte of length, and that many bytes, which are a name: 1 to 255 ASCII letters, digits or _ - . /
 unfoldable pub name_at : List ℕ → Option (List ℕ × List ℕ)
 name_at bytes = do
   len ← byte_at bytes

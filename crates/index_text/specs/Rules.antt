@@ -29,8 +29,9 @@ is_format format = format == 1 || format == 2
 abbrev pub has_changed : ℕ → ℕ → Bool
 has_changed format changed = format == 2 || changed == 0
 
--- an entry that an index of this format and kind may have: a name in the grammar, a content within the limit of the
--- kind, its hash of 32 bytes, and a block for each 256 bytes of it, the last of which it may fill in part
+-- an entry that an index of this format and kind may have: a name (1 to 255 ASCII letters, digits or _ - . /), a
+-- content within the limit of the kind, its hash of 32 bytes, and a block for each 256 bytes of it, the last of which
+-- it may fill in part
 pub record IsEntry (format : ℕ) (kind : StoreKind) (e : IndexEntry) : Type 0 where
   pub name : IsName e.name
   pub info : IsTrue (has_info kind e.info)
