@@ -11,7 +11,8 @@ use Rattle.run_model.specs.Calls.{Outcome, StepBeside, beside_update}
 use Rattle.run_model.specs.Steps.{reaches_device, after_failure, found_named}
 use Rattle.app_storages.specs.Answers.{CallsTo}
 
--- the row of a call, refused beside an update in progress where it is
+-- the row of a call of application `app` at the moment `now` in seconds, by these converters and what they may answer:
+-- with an update in progress a call that does not go beside it is refused
 abbrev pub HasRow : List Rule → Answers → (app now : ℕ) → Call → (before : Application) → Outcome → Type 0
 HasRow rules answers app now c before outcome = StepBeside rules answers app now before c
     (beside_update (update_in before.stage) c) outcome

@@ -10,7 +10,8 @@
 //!
 //! A *row* is the definition that says of a call what it answers and makes of the application, or why it is refused. By
 //! `cause` and `passes` the count of faults rose where the device failed, and stayed where the call succeeded; `told`
-//! is that the disk's bytes are modelled.
+//! is that the disk's bytes are modelled. The *world* of `run_model` has the moment and eight applications: of each
+//! what the disk denotes, its stage, and the sessions of its open storages.
 #![tactic(auto)]
 
 mod asking;

@@ -73,7 +73,7 @@ impl Running {
         })
     }
 
-    /// Whether the root is to be opened. Does not allocate.
+    /// Whether the application is marked as one whose root is to be opened before its next call. Does not allocate.
     pub fn is_marked(&self) -> bool
         ensures { result ≡ is_to_open (stage_in self.now.stage) }
     {
@@ -177,6 +177,7 @@ impl Running {
             (application (D.medium disk.old).image self.old) (D.medium disk.old).image (D.medium disk.new).image }
         ensures cause { IsErrOf result Stop.Device → Rose (D.medium disk.old).faults (D.medium disk.new).faults }
         ensures passes { OnOk result ((D.medium disk.new).faults ≡ (D.medium disk.old).faults) }
+        // That the device failed is no reply but the error `Device`; every reply has a text; and time goes on.
         ensures unfailed { IfOk result (λ reply. reply.answer ≢ Answer.Error PerError.PhysicalStorageFailure) }
         ensures text { IfOk result (λ reply. HasText reply.answer) }
         ensures time { Elapses (D.medium disk.old) (D.medium disk.new) }

@@ -52,6 +52,7 @@ pub record IsResting (told : Bool) (image : Image) (app : ℕ) (root : Root) (sl
   pub root_at : RootAt told image app root
   pub open_on : AreOpenOn told image app (root_says root) slots
 
--- as the world has it
+-- an application at rest as the world of `run_model` has it: what the image denotes of it, and the sessions of these
+-- open storages
 abbrev pub resting_with : Image → ℕ → OpenSlots → Application
 resting_with image app slots = record { disk = app_at image app; stage = at_rest; sessions = sessions_in slots }

@@ -75,6 +75,7 @@ impl OpenSlots {
             (resting_with (D.medium disk.old).image app self.old) (D.medium disk.old).image (D.medium disk.new).image }
         ensures cause { IsErrOf result Stop.Device → Rose (D.medium disk.old).faults (D.medium disk.new).faults }
         ensures passes { OnOk result ((D.medium disk.new).faults ≡ (D.medium disk.old).faults) }
+        // That the device failed is no reply but the error `Device`; every reply has a text; and time goes on.
         ensures unfailed { IfOk result (λ reply. reply.answer ≢ Answer.Error PerError.PhysicalStorageFailure) }
         ensures text { IfOk result (λ reply. HasText reply.answer) }
         ensures time { Elapses (D.medium disk.old) (D.medium disk.new) }

@@ -22,8 +22,8 @@ impl OpenSlots {
     /// made durable.
     ///
     /// Refusals, the first that holds: `IntegrityCorrupted` with the root where it is bad; `NotInstalled`;
-    /// `StorageNotFound`; `NotOpen`; `ResourceBusy` of the lowest handle where one is open; `LimitReached` with
-    /// `Generations` where files differ and no generation is left.
+    /// `StorageNotFound`; `NotOpen` where the storage is closed; `ResourceBusy` of the lowest handle where one is open;
+    /// `LimitReached` with `Generations` where files differ and no generation is left.
     ///
     /// # Errors
     ///

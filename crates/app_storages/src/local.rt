@@ -21,7 +21,7 @@ impl OpenSlots {
     /// Answers a call on an open storage that touches no disk, at a moment in seconds, of an application at rest.
     ///
     /// Refusals, the first that holds: `IntegrityCorrupted` with the root where it is bad; `NotInstalled`;
-    /// `StorageNotFound`; `NotOpen`; those of the call.
+    /// `StorageNotFound`; `NotOpen` where the storage is closed; those of the call.
     ///
     /// # Errors
     ///

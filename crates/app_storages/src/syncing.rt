@@ -21,7 +21,8 @@ impl OpenSlots {
     /// Makes what the calls see of an open storage of keys durable, of an application at rest.
     ///
     /// Refusals, the first that holds: `IntegrityCorrupted` with the root where it is bad; `NotInstalled`;
-    /// `StorageNotFound`; `NotOpen`; `LimitReached` with `Generations` where keys differ and no generation is left.
+    /// `StorageNotFound`; `NotOpen` where the storage is closed; `LimitReached` with `Generations` where keys differ
+    /// and no generation is left.
     ///
     /// # Errors
     ///
@@ -55,9 +56,9 @@ impl OpenSlots {
 
     /// Makes the working files of an open storage durable through one of its handles, of an application at rest.
     ///
-    /// Refusals, the first that holds: those before `sync`; `NotOpen` too where there is no such handle;
-    /// `IllegalWriteAccess` for one that only reads; `LimitReached` with `Generations` where files differ and no
-    /// generation is left.
+    /// Refusals, the first that holds: `IntegrityCorrupted`, `NotInstalled`, `StorageNotFound` and `NotOpen` as of
+    /// `sync`; `NotOpen` too for a number that no handle has; `IllegalWriteAccess` for a handle that only reads;
+    /// `LimitReached` with `Generations` where files differ and no generation is left.
     ///
     /// # Errors
     ///

@@ -87,9 +87,9 @@ impl Open {
     /// Makes the working files of a whole storage durable through a handle, all at once: only what differs is written,
     /// and where nothing does, the disk is not called.
     ///
-    /// The call is refused, and nothing changes, with `StorageNotFound` for a storage of keys; `NotOpen`;
-    /// `IllegalWriteAccess` for a handle that only reads; `LimitReached` of `Generations` where files differ and no
-    /// generation is left.
+    /// The call is refused, and nothing changes, with `StorageNotFound` for a storage of keys; `NotOpen` for
+    /// a number that no handle has; `IllegalWriteAccess` for a handle that only reads; `LimitReached` of `Generations`
+    /// where files differ and no generation is left.
     ///
     /// # Errors
     ///

@@ -108,6 +108,7 @@ size_given [] = None
 size_given (r ∷ rs) = option_or (number_in r.answer) (size_given rs)
 
 -- the line of a summary: how many lines there were, how many replies were `ok`, another answer, an error, and the size
+-- of the storage, or a dash where no reply gave it
 abbrev pub summary_text : (lines done other errors : ℕ) → (size : Option ℕ) → List ℕ
 summary_text lines done other errors size = codes "lines "
     ++ (decimal lines ++ (codes " ok " ++ (decimal done ++ (codes " other " ++ (decimal other
@@ -118,7 +119,8 @@ abbrev pub summary : (lines : ℕ) → List Reply → List ℕ
 summary lines rs = summary_text lines (count_by is_done rs) (count_by is_other rs) (count_by is_error rs)
     (size_given rs)
 
--- the lines that the number gives, each with its reply and its world from the formatted one on
+-- the lines that the number gives, each with its reply and its world from the formatted one on: the applications as the
+-- disk denotes them and memory keeps them
 pub record Generates (told : Bool) (rules : List Rule) (answers : Answers) (n status : ℕ) (before now : Option (List ℕ))
     (old new : Medium) : Type 0 where
   pub turns : List Turn

@@ -143,6 +143,7 @@ fn handle_each<D: Disk>(
     lines: &[&str],
 ) -> Result<(), AllocError>
     requires { IsRuntime D.told (D.medium disk.old) batch.old.runtime }
+    // These lines come after those that were counted before; below 2 ^ 32 lines no count of replies is at its end.
     ensures counted { OnOk result ((start : D) (before : List (List ℕ))
         → length (before ++ map (λ line. line.now) lines.now) < 2 ^ 32
         → Counted D.told (rules_of migrations.now) (answers_of migrations.now) (D.medium start) before
@@ -169,6 +170,7 @@ fn handle_generated<D: Disk>(
 ) -> Result<(), AllocError>
     requires number { number ≤ 100000 }
     requires memory { IsRuntime D.told (D.medium disk.old) batch.old.runtime }
+    // These lines come after those that were counted before; below 2 ^ 32 lines no count of replies is at its end.
     ensures counted { OnOk result ((start : D) (before : List (List ℕ)) → length before + number < 2 ^ 32
         → Counted D.told (rules_of migrations.now) (answers_of migrations.now) (D.medium start) before
         (memory_of batch.old.runtime) batch.old.tally (D.medium disk.old)
@@ -196,6 +198,7 @@ fn handle_one<D: Disk>(
     line: &[u8],
 ) -> Result<(), AllocError>
     requires { IsRuntime D.told (D.medium disk.old) batch.old.runtime }
+    // The line comes after those that were counted before; below 2 ^ 32 lines no count of replies is at its end.
     ensures counted { OnOk result ((start : D) (before : List (List ℕ)) → length before < 2 ^ 32
         → Counted D.told (rules_of migrations.now) (answers_of migrations.now) (D.medium start) before
         (memory_of batch.old.runtime) batch.old.tally (D.medium disk.old)

@@ -33,7 +33,8 @@ impl Tally {
 
     /// Counts one reply more.
     pub fn count(&mut self, reply: &Reply)
-        // Where these replies were counted before, they are counted with this one after them.
+        // Where these replies were counted before, they are counted with this one after them; below 2 ^ 32 of them no
+        // count is at its end.
         ensures { (replies : List Reply) → length replies < 2 ^ 32 → Tallies replies self.old
             → Tallies (replies ++ reply.now ∷ []) self.new }
     {

@@ -5,8 +5,9 @@
 //! that needs the device begins with that sync. A root that a failure left half written is opened again before the next
 //! call of its application.
 //!
-//! Every command is a step of the world of `run_model`, and a stop at any moment leaves each application between two
-//! worlds that follow each other. Running out of memory ends the run; nothing else does.
+//! Every command is a step of the world of `run_model`, which has the moment, eight applications, each as the disk
+//! denotes it and memory keeps it, and a doubt. A stop at any moment leaves each application between two worlds that
+//! follow each other. Running out of memory ends the run; nothing else does.
 //!
 //! A *doubt* is what a failed command leaves: how much of it was done is not known until a sync. In the contracts
 //! `told` is that the disk's bytes are modelled, and `time` that its moments go on and no count falls.
