@@ -25,6 +25,7 @@ use Rattle.dump_text.specs.declared.dumps.DumpedStorage.{DumpedStorage}
 use Rattle.dump_text.specs.Elements.{dumped_elements_in, dumped_word, member_object, member_text, only_members}
 use Rattle.dump_text.specs.Elements.{read_members}
 
+-- the names of storages, in their order
 abbrev pub dumped_names : List DumpedStorage → List (List ℕ)
 dumped_names storages = map (λ (s : DumpedStorage). s.name) storages
 
@@ -56,6 +57,7 @@ kind_by None = Files
 abbrev pub kind_in : Data → StoreKind
 kind_in d = kind_by (get (codes "keys") d)
 
+-- an element is as its kind is: files have an info and keys none, it is not too long, and a key's bytes are a value's
 abbrev pub is_exportable : StoreKind → Fresh → Bool
 is_exportable kind f = has_info kind f.info && nat_le (length f.bytes) (max_len kind) && is_content kind f.bytes
 
@@ -69,7 +71,7 @@ unfoldable pub exported_text : StoreKind → List Fresh → Option (List ℕ)
 exported_text kind contents = only_if (are_exportable kind contents)
     (export_text (record { kind = kind; contents = contents }))
 
--- its name and its elements, which are its only member
+-- its name and its elements, which are its only member; None where it is no storage
 unfoldable pub dumped_storage_in : (name : List ℕ) → Data → Option DumpedStorage
 dumped_storage_in name d = do
   members ← member_object (dumped_word (kind_in d)) d
@@ -81,6 +83,7 @@ dumped_storage_in name d = do
 
 -- ---- an application
 
+-- whether the storages have the names that this deployment has, in order; without one nothing is asked of them
 abbrev pub said_by : Option DeploymentData → List DumpedStorage → Bool
 said_by (Some d) storages = pointwise bytes_eq (dumped_names storages) (storage_names d)
 said_by None storages = true
@@ -99,7 +102,7 @@ pub record ApplicationData : Type 0 where
 abbrev pub application_data : DumpedApplication → ApplicationData
 application_data d = record { number = d.application; manifest = d.manifest; storages = d.storages.items }
 
--- the number of an application, which is one digit from 0 to 7
+-- the number of an application, which is one digit from 0 to 7, in ASCII 48 to 55
 abbrev pub application_number : (name : List ℕ) → Option ℕ
 application_number [] = None
 application_number (digit ∷ []) = only_if (nat_le 48 digit && nat_le digit 55) (digit - 48)
@@ -114,6 +117,7 @@ dumped_parts_in d = do
   alone ← only_members 2 d
   only_if (are_said manifest storages) (manifest, storages)
 
+-- an application: its number is the name of the member that it is
 unfoldable pub dumped_application_in : (name : List ℕ) → Data → Option ApplicationData
 dumped_application_in name d = do
   number ← application_number name

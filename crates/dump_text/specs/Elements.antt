@@ -20,6 +20,7 @@ use Rattle.serde_json.specs.Find.{as_number, as_object, as_str, as_u64, get}
 
 -- ---- the members of an object
 
+-- the member of this name, where it is a text; a number; an object
 abbrev pub member_text : (name : List ℕ) → Data → Option (List ℕ)
 member_text name d = option_and_then as_str (get name d)
 
@@ -29,6 +30,7 @@ member_number name d = option_and_then as_u64 (option_and_then as_number (get na
 abbrev pub member_object : (name : List ℕ) → Data → Option Members
 member_object name d = option_and_then as_object (get name d)
 
+-- there are members, and this many
 abbrev pub are_so_many : ℕ → Option Members → Bool
 are_so_many count None = false
 are_so_many count (Some members) = nat_eq (members_len members) count
@@ -43,6 +45,7 @@ only_members count d = only_if (has_members count d) tt
 
 -- ---- a file
 
+-- the word for who made or changed a file
 abbrev pub cause_word : Cause → List ℕ
 cause_word Installation = codes "installation"
 cause_word Update = codes "update"
@@ -63,6 +66,7 @@ unfoldable pub cause_said : List ℕ → Option Cause
 cause_said word = first_row ((codes "installation", Installation) ∷ (codes "update", Update) ∷ (codes "reset", Reset)
     ∷ (codes "recovery", Recovery) ∷ (codes "application", Application) ∷ []) word
 
+-- the member of this name, where it is the word of a cause; where it is bytes in hexadecimal
 unfoldable pub member_cause : (name : List ℕ) → Data → Option Cause
 member_cause name d = do
   word ← member_text name d
@@ -73,6 +77,7 @@ member_bytes name d = do
   digits ← member_text name d
   bytes_in digits
 
+-- the info of a file, where each of its five members is there
 unfoldable pub info_in : Data → Option FileInfo
 info_in d = do
   created ← member_number (codes "created") d
@@ -106,6 +111,7 @@ key_in d = do
 
 -- ---- an element
 
+-- the element of this name, a key or a file, where it is one
 unfoldable pub dumped_element_in : StoreKind → (name : List ℕ) → Data → Option Fresh
 dumped_element_in Keys name d = do
   known ← only_if (is_name name) name
@@ -132,6 +138,7 @@ dumped_elements_in kind members = read_members (dumped_element_in kind) members
 abbrev pub IsObjectOf : {A : Type 0} → (List ℕ → Data → Option A) → List A → Data → Type 0
 IsObjectOf read xs d = (members : Members) × (d ≡ object members) × (read_members read members ≡ Some xs)
 
+-- the member of a storage that has its elements
 abbrev pub dumped_word : StoreKind → List ℕ
 dumped_word Keys = codes "keys"
 dumped_word Files = codes "files"

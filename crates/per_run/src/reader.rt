@@ -65,7 +65,9 @@ pub fn feed<D: Disk, K: Sink>(
 ) -> Result<(), Ending>
     requires { IsRuntime D.told (D.medium disk.old) reader.old.runtime }
     // From wherever the reader stood since a start of the runtime (`Reached`), in an input of fewer than 2^63 bytes, it
-    // stands one piece further; or the handling of the lines ended, and so (`Course`).
+    // stands one piece further; or the handling of the lines ended, and so (`Course`). The runtime started on the disk
+    // `start`, when the sink had taken `before`, and `given` is what the reader was fed since; the end of the input was
+    // not seen (`lines_of false`). `AppLaws` is what `applications_stand` of `run_model` shows.
     ensures goes_on { OnOk result ((start : D) (before : Option (List ℕ)) (given : List ℕ)
         → length (given ++ piece.now) < 2 ^ 63
         → Reached D.told (rules_of migrations.now) (answers_of migrations.now) (D.medium start) before given
@@ -121,6 +123,7 @@ pub fn finish<D: Disk, K: Sink>(
     requires { IsRuntime D.told (D.medium disk.old) reader.old.runtime }
     // From wherever the reader stood since a start of the runtime (`Reached`), the handling of the lines ended so
     // (`Course`): all of them are handled, or it was broken off, for the sink only where its count of failures rose.
+    // `start`, `before` and `given` are as in `feed`, and the end of the input was seen (`lines_of true`).
     ensures ends { AppLaws → (start : D) (before : Option (List ℕ)) (given : List ℕ) → length given < 2 ^ 63
         → Reached D.told (rules_of migrations.now) (answers_of migrations.now) (D.medium start) before given
         (K.written sink.old) (memory_of reader.old.runtime) (D.medium disk.old) reader.old.kept.items
