@@ -40,6 +40,7 @@ TornBlockOf block old new = (b p : ℕ) → b ≢ block → IsPageSpared old (pa
 
 -- ---- what is seen of a flash
 
+-- the bytes of the flash's file, which is file 0 of the folder; and the pages that they are
 abbrev pub file_seen : {S : Type 0} → (S → SystemMedium) → FolderView S → List ℕ
 file_seen medium v = (medium v.system).disk.image 0
 

@@ -27,11 +27,13 @@ abbrev pub comma : (number : ℕ) → List ℕ
 comma zero = []
 comma (suc number) = codes ","
 
+-- a number, where there is one
 abbrev pub number_text : Form → Option ℕ → List ℕ
 number_text Lines None = codes "-"
 number_text Json None = codes "null"
 number_text form (Some number) = decimal number
 
+-- the word for the kind of a storage, and whether it may be written
 abbrev pub store_kind_word : StoreKind → List ℕ
 store_kind_word Keys = codes "keys"
 store_kind_word Files = codes "files"
@@ -55,6 +57,7 @@ root_copy Lines app copy = codes "root " ++ decimal app ++ codes " " ++ decimal 
 root_copy Json app copy = comma copy ++ codes "[\"f" ++ decimal (slot (root_place app) copy 0)
     ++ codes "\",\"f" ++ decimal (slot (root_place app) copy 1) ++ codes "\"]"
 
+-- those of all copies of a root
 abbrev pub root_copies : Form → (app : ℕ) → List ℕ
 root_copies form app = flat_map (root_copy form app) (range_with_len 0 copies_of_root)
 
@@ -76,6 +79,7 @@ copy_text Lines app bank name place copy = copy_name app bank name
 copy_text Json app bank name place copy =
     comma copy ++ copy_members (slot place copy 0) (slot place copy 1) (area place copy)
 
+-- those of all copies of a storage
 abbrev pub storage_files : Form → (app bank : ℕ) → (name : List ℕ) → Place → List ℕ
 storage_files form app bank name place = flat_map (copy_text form app bank name place) (range_with_len 0 place.copies)
 
@@ -85,6 +89,7 @@ storage_files form app bank name place = flat_map (copy_text form app bank name 
 abbrev pub held_in : View → Held
 held_in v = record { elements = length v.entries; bytes = size_of v.entries }
 
+-- how the text of a storage begins; `number` is counted from 0, in its version
 unfoldable pub storage_name : Form → (app bank number : ℕ) → (name : List ℕ) → List ℕ
 storage_name Lines app bank number name = codes "storage " ++ decimal app ++ codes " " ++ decimal bank ++ codes " "
     ++ name ++ codes " "
@@ -105,6 +110,7 @@ access_member false = codes "\"readOnly\":false"
 unfoldable pub copies_members : (m n : ℕ) → List ℕ
 copies_members m n = codes ",\"m\":" ++ decimal m ++ codes ",\"n\":" ++ decimal n ++ codes ","
 
+-- how it is configured
 abbrev pub config_text : Form → StorageData → List ℕ
 config_text Lines s = config_words s
 config_text Json s = kind_member s.kind ++ access_member s.read_only ++ copies_members s.m s.n
@@ -128,12 +134,14 @@ corrupt_members maximum =
     codes "\"state\":\"corrupt\",\"elements\":null,\"maximumElements\":1024,\"bytes\":null,\"maximumBytes\":"
     ++ (decimal maximum ++ codes ",\"copies\":[")
 
+-- what it holds, where it opens, and the most that it may, in bytes `maximum` and in elements 1024
 abbrev pub held_text : Form → (maximum : ℕ) → Option Held → List ℕ
 held_text Lines maximum (Some held) = opened_words maximum held.elements held.bytes
 held_text Lines maximum None = corrupt_words maximum
 held_text Json maximum (Some held) = opened_members maximum held.elements held.bytes
 held_text Json maximum None = corrupt_members maximum
 
+-- all that is said of a storage
 abbrev pub storage_text : Form → (app bank number : ℕ) → StorageData → Place → Option Held → List ℕ
 storage_text form app bank number s place held = storage_name form app bank number s.name ++ config_text form s
     ++ held_text form s.maximum held ++ storage_files form app bank s.name place ++ list_end form
@@ -157,6 +165,7 @@ unfoldable pub bad_head : Form → (app : ℕ) → List ℕ
 bad_head Lines app = codes "application " ++ decimal app ++ codes " corrupt\n"
 bad_head Json app = comma app ++ codes "{\"application\":" ++ decimal app ++ codes ",\"state\":\"corrupt\",\"root\":["
 
+-- all that is said of it: where the copies of its root are
 abbrev pub bad_text : Form → (app : ℕ) → List ℕ
 bad_text form app = bad_head form app ++ root_copies form app ++ list_end form
 
@@ -181,6 +190,7 @@ version_facts Lines app bank version previous =
 version_facts Json app bank version previous =
     comma app ++ version_members app bank version ++ number_text Json previous ++ codes ",\"root\":["
 
+-- in JSON, what stands between the lists of an installed application
 abbrev pub between : Form → List ℕ
 between Lines = []
 between Json = codes "],\"storages\":["
@@ -189,6 +199,7 @@ abbrev pub next_list : Form → List ℕ
 next_list Lines = []
 next_list Json = codes "],\"previousStorages\":["
 
+-- how the text of an installed application begins: its versions, and where the copies of its root are
 abbrev pub version_head : Form → (app bank version : ℕ) → (previous : Option ℕ) → List ℕ
 version_head form app bank version previous =
     version_facts form app bank version previous ++ root_copies form app ++ between form
@@ -200,6 +211,7 @@ version_number v = v.deployment.version
 abbrev pub version_by : Form → (app : ℕ) → Named → List State → List ℕ
 version_by form app v states = storages_by form app v.bank 0 v.deployment.storages states
 
+-- those of the previous version, where one is kept
 abbrev pub previous_by : Form → (app : ℕ) → Option Named → List State → List ℕ
 previous_by form app None states = []
 previous_by form app (Some v) states = version_by form app v states
@@ -214,11 +226,13 @@ app_by form app (installed g active previous) states =
     ++ version_by form app active states ++ next_list form
     ++ previous_by form app previous (drop (length active.deployment.storages) states) ++ list_end form
 
+-- all that is said of an application
 unfoldable pub app_text : Form → (app : ℕ) → App → List ℕ
 app_text form app a = app_by form app a.says a.states
 
 -- ---- a disk
 
+-- how the text of a disk begins, and how it ends
 abbrev pub listing_head : Form → List ℕ
 listing_head Lines = []
 listing_head Json = codes "{\"applications\":["

@@ -23,7 +23,8 @@ pub record IsRecovered (app : ℕ) (row : RootRow) (old new : Image) : Type 0 wh
   pub held : IsHeldByAll new app row
   pub clean : IsCleanApp app old → AreCleanAfter old app → IsCleanApp app new
 
--- Every moment of a recovery, however it ends: each may also be one that might have come before it.
+-- Every moment of a recovery, however it ends: a crash leaves what is said here, or what a crash just before the call
+-- might have left (`old.now`).
 pub record RecoveryKeeps (app : ℕ) (old new : Medium) : Type 0 where
   -- only slots of the root change, at the end and at any moment
   pub elsewhere : Spares (IsNoSlot (root_place app)) old.image new.image
