@@ -49,6 +49,7 @@ pub record IsDumped (d : DumpedApplication) : Type 0 where
 
 -- ---- what a text has: a storage
 
+-- the kind, by the member `keys`, where there is one
 abbrev pub kind_by : Option Data → StoreKind
 kind_by (Some d) = Keys
 kind_by None = Files

@@ -3,6 +3,7 @@ use Rattle.std.specs.Prelude.{◌≡◌, Bool, true, false, Option, Some, None, 
 use Rattle.dump_text.specs.declared.errors.DumpError.{DumpError}
 use Rattle.dump_text.specs.declared.errors.DumpError.TheVariants.{NotADump, OutOfMemory}
 
+-- the error is that memory ran out
 abbrev pub is_memory : DumpError → Bool
 is_memory (NotADump why) = false
 is_memory OutOfMemory = true

@@ -33,11 +33,12 @@ number_text Lines None = codes "-"
 number_text Json None = codes "null"
 number_text form (Some number) = decimal number
 
--- the word for the kind of a storage, and whether it may be written
+-- the word for the kind of a storage
 abbrev pub store_kind_word : StoreKind → List ℕ
 store_kind_word Keys = codes "keys"
 store_kind_word Files = codes "files"
 
+-- whether a storage may be written
 abbrev pub access_word : (read_only : Bool) → List ℕ
 access_word true = codes "read-only"
 access_word false = codes "writable"
@@ -73,6 +74,7 @@ unfoldable pub copy_members : (even odd area : ℕ) → List ℕ
 copy_members even odd area = codes "[\"f" ++ (decimal even ++ (codes "\",\"f" ++ (decimal odd ++ (codes "\",\"f"
     ++ (decimal area ++ codes "\"]")))))
 
+-- all of it, of a copy of a storage in this place
 abbrev pub copy_text : Form → (app bank : ℕ) → (name : List ℕ) → Place → (copy : ℕ) → List ℕ
 copy_text Lines app bank name place copy = copy_name app bank name
     ++ copy_words (copy + 1) (slot place copy 0) (slot place copy 1) (area place copy)
@@ -100,6 +102,7 @@ unfoldable pub config_words : StorageData → List ℕ
 config_words s = store_kind_word s.kind ++ codes " " ++ access_word s.read_only ++ codes " m " ++ decimal s.m
     ++ codes " n " ++ decimal s.n ++ codes " "
 
+-- the same in JSON, member by member
 unfoldable pub kind_member : StoreKind → List ℕ
 kind_member kind = codes "\"kind\":\"" ++ store_kind_word kind ++ codes "\","
 
@@ -184,6 +187,7 @@ version_members app bank version = codes "{\"application\":" ++ (decimal app
     ++ (codes ",\"state\":\"installed\",\"version\":" ++ (decimal version ++ (codes ",\"bank\":" ++ (decimal bank
     ++ codes ",\"previous\":")))))
 
+-- the same in either form
 abbrev pub version_facts : Form → (app bank version : ℕ) → (previous : Option ℕ) → List ℕ
 version_facts Lines app bank version previous =
     version_words app bank version ++ number_text Lines previous ++ codes "\n"
@@ -204,6 +208,7 @@ abbrev pub version_head : Form → (app bank version : ℕ) → (previous : Opti
 version_head form app bank version previous =
     version_facts form app bank version previous ++ root_copies form app ++ between form
 
+-- the version's number, as its manifest has it
 abbrev pub version_number : Named → ℕ
 version_number v = v.deployment.version
 

@@ -185,6 +185,7 @@ fn feed_line<D: Disk, K: Sink>(
 /// Puts bytes after the prefix of the line that is kept: one byte more than a line may have, 262,145, is kept of it and
 /// no more.
 pub fn keep(kept: &mut Vec<u8>, bytes: &[u8]) -> Result<(), Ending>
+    // `rest` is all of the line that was read before. Only running out of memory ends it.
     ensures kept { OnOk result ((rest : List ℕ) → kept.old.items ≡ take 262145 rest
         → kept.new.items ≡ take 262145 (rest ++ bytes.now)) }
     ensures memory { IfErr result (λ ending. ending ≡ Ending.OutOfMemory) }

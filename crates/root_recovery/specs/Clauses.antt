@@ -42,6 +42,7 @@ pub record LeavesAll (old new : Medium) : Type 0 where
 
 -- ---- the same of the calls after the sync with which a recovery begins, where nothing is pending
 
+-- Every moment of those calls, however they end.
 pub record RecoveryKeepsSynced (app : ℕ) (old new : Medium) : Type 0 where
   pub elsewhere : Spares (IsNoSlot (root_place app)) old.image new.image
   pub outside : Quiet old → EachCase (IsSettledOn (IsNoSlot (root_place app)) old.image) old new
