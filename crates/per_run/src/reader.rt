@@ -83,7 +83,8 @@ pub fn feed<D: Disk, K: Sink>(
         reader.old.number
         → Course D.told (rules_of migrations.now) (answers_of migrations.now) (ending_of ending) (D.medium start) before
         (lines_of false (given ++ piece.now)) (K.written sink.new) (D.medium disk.new)) }
-    // The runtime stays in use. An ending for the sink comes only where its count of failures rose.
+    // What the runtime keeps in memory stays in use on the disk. An ending for the sink comes only where its count of
+    // failures rose.
     ensures memory { OnOk result (IsRuntime D.told (D.medium disk.new) reader.new.runtime) }
     ensures blames { Blames (K.faults sink.old) (K.faults sink.new) result }
     ensures time { Elapses (D.medium disk.old) (D.medium disk.new) }
