@@ -56,8 +56,9 @@ pub trait Flash {
         ensures cause { OnErr result (Rose (medium self.old).faults (medium self.new).faults) }
         ensures passes { OnOk result ((medium self.new).faults ≡ (medium self.old).faults) };
 
-    /// Programs page `page` of block `block`, which has to be blank. Where the call fails, the page may hold anything, as after a crash; but a text that its
-    /// start then holds under its hash (it *verifies*) is the text of these bytes. A blank page never verifies.
+    /// Programs page `page` of block `block`, which has to be blank. Where the call fails, the page may hold anything,
+    /// as after a crash; but a text that its start then holds under its hash (it *verifies*) is the text of these
+    /// bytes. A blank page never verifies.
     fn program(&mut self, block: u32, page: u32, bytes: &[u8; 512]) -> Result<(), FlashFailed>
         requires block { block < (medium self.old).blocks }
         requires page { page < 64 }

@@ -56,7 +56,8 @@ impl MemFlash {
         })
     }
 
-    /// Plans that the calls with these numbers fail, counted from 0 from now on. It replaces an earlier plan; a stop stays.
+    /// Plans that the calls with these numbers fail, counted from 0 from now on. It replaces an earlier plan; a stop
+    /// (`stop_after`) stays.
     pub fn fail_calls(&mut self, calls: Vec<u64>)
         ensures planned { (k : ℕ) → is_planned self.new k ≡ named_in calls.items k }
         ensures stopped { (k : ℕ) → is_stopped self.new k ≡ is_stopped self.old k }
