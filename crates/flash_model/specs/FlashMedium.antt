@@ -2,7 +2,7 @@
 use Rattle.std.specs.Prelude.{◌≡◌, ◌⊎◌, ℕ, ◌≤◌, Bool, IsTrue}
 use Rattle.flash_model.specs.State.{FlashState, FlashCase, IsStill}
 
--- All that is said of a flash at one moment.
+-- All that is said of a flash at one moment. What a case is, `FlashCase` says (`State`).
 pub record FlashMedium : Type 1 where
   -- how many blocks it has
   pub blocks : ℕ
