@@ -20,6 +20,7 @@ use Rattle.serde_json.specs.Find.{as_number, as_object, as_str, as_u64, get}
 
 -- ---- the members of an object
 
+-- the text, number or object that a member has as its value, where the member is there and is such a one
 abbrev pub member_text : (name : List ℕ) → Data → Option (List ℕ)
 member_text name d = option_and_then as_str (get name d)
 

@@ -1,5 +1,8 @@
 //! Room on raw flash comes back that no application needs any more.
 //!
+//! An application has a root, of which there are three copies and a text *stands* that two hold, and two *banks*: the
+//! files of the storages of one version each, 512 numbers a bank. Eight applications can be on a disk.
+//!
 //! A flash keeps the newest record of each page of each file, whoever needs it. What a wipe, a finish or a version that
 //! is made again gives up is named by no root, but stays there. [`reclaim`] reads the eight roots and takes from the
 //! flash the files of every bank in which no version is. It changes nothing else: at each moment every application

@@ -11,8 +11,8 @@
 //! Words of the laws: `shape` says the *place* of a storage, which is the files of its copies, and how many of these,
 //! `m`, have to agree. A copy keeps the storage's texts in two files, its *slots*, and contents in a third. A *view* is
 //! what a storage opens with: a generation and its elements. Of the records of a page of a file on flash the newest
-//! *counts* (`flash_laws`). A *bank* is one of an application's two sets of storages, and is made again from
-//! generation 1. `old` is before a loss, `new` after it.
+//! *counts* (`flash_laws`). A *bank* is one of an application's two sets of storages; one that was made again
+//! may begin from generation 1. `old` is before a loss, `new` after it.
 #![tactic(auto)]
 
 ghost use Rattle.std.specs.Prelude.{ℕ};
