@@ -84,6 +84,8 @@ dumped_storage_in name d = do
 
 -- ---- an application
 
+-- the storages have the names of those of this deployment, in its order; where there is no deployment
+-- nothing is asked of them
 abbrev pub said_by : Option DeploymentData → List DumpedStorage → Bool
 said_by (Some d) storages = pointwise bytes_eq (dumped_names storages) (storage_names d)
 said_by None storages = true

@@ -106,6 +106,7 @@ abbrev pub exports_of : App → List StorageData → Result (List (List ℕ)) Pe
 exports_of a [] = Ok []
 exports_of a (s ∷ ss) = exporting a s.name >>= λ text. exports_of a ss >>= λ texts. Ok (text ∷ texts)
 
+-- the exports of the storages that a root names which says this, or the refusal
 abbrev pub dumping_over : App → Says → Result (List (List ℕ)) PerError
 dumping_over a nothing = Err (error.IntegrityCorrupted unit.Root)
 dumping_over a (absent g) = Err error.NotInstalled

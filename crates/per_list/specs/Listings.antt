@@ -109,6 +109,7 @@ access_member false = codes "\"readOnly\":false"
 unfoldable pub copies_members : (m n : ℕ) → List ℕ
 copies_members m n = codes ",\"m\":" ++ decimal m ++ codes ",\"n\":" ++ decimal n ++ codes ","
 
+-- the kind, whether it is read-only, and that m of n copies must agree, in this form
 abbrev pub config_text : Form → StorageData → List ℕ
 config_text Lines s = config_words s
 config_text Json s = kind_member s.kind ++ access_member s.read_only ++ copies_members s.m s.n
@@ -163,6 +164,7 @@ unfoldable pub bad_head : Form → (app : ℕ) → List ℕ
 bad_head Lines app = codes "application " ++ decimal app ++ codes " corrupt\n"
 bad_head Json app = comma app ++ codes "{\"application\":" ++ decimal app ++ codes ",\"state\":\"corrupt\",\"root\":["
 
+-- all that is said of an application whose root is bad
 abbrev pub bad_text : Form → (app : ℕ) → List ℕ
 bad_text form app = bad_head form app ++ root_copies form app ++ list_end form
 
@@ -181,6 +183,7 @@ version_members app bank version = codes "{\"application\":" ++ (decimal app
     ++ (codes ",\"state\":\"installed\",\"version\":" ++ (decimal version ++ (codes ",\"bank\":" ++ (decimal bank
     ++ codes ",\"previous\":")))))
 
+-- its version, the bank of that, and the version before, in this form
 abbrev pub version_facts : Form → (app bank version : ℕ) → (previous : Option ℕ) → List ℕ
 version_facts Lines app bank version previous =
     version_words app bank version ++ number_text Lines previous ++ codes "\n"
@@ -197,6 +200,7 @@ abbrev pub next_list : Form → List ℕ
 next_list Lines = []
 next_list Json = codes "],\"previousStorages\":["
 
+-- what stands before the storages of an application with a version: its facts, and the files of the root's copies
 abbrev pub version_head : Form → (app bank version : ℕ) → (previous : Option ℕ) → List ℕ
 version_head form app bank version previous =
     version_facts form app bank version previous ++ root_copies form app ++ between form
