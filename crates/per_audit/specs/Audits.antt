@@ -74,12 +74,14 @@ of_storage app bank s (Opens v others) = damaged_by app (Some bank) (Whole s.nam
 abbrev pub listed_element : (app bank : ℕ) → StorageData → Entry → Listed
 listed_element app bank s e = record { app = app; bank = bank; storage = s.name; element = e.name; changed = e.changed }
 
+-- the elements of a storage in this state; none where it is corrupt
 abbrev pub listed_of : (app bank : ℕ) → StorageData → State → List Listed
 listed_of app bank s (Corrupt salvage others) = []
 listed_of app bank s (Opens v others) = map (listed_element app bank s) v.entries
 
 -- ---- an application
 
+-- the storages of a version, each with its bank
 abbrev pub storages_of : Named → List (ℕ × StorageData)
 storages_of v = map (λ s. (v.bank, s)) v.deployment.storages
 

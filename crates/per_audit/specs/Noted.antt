@@ -66,12 +66,14 @@ abbrev pub of_previous : {A : Type 0} → (ℕ → StorageData → State → Lis
 of_previous f image app None = []
 of_previous f image app (Some v) = of_version f image app v
 
+-- the elements that are listed of an application whose root is seen so
 abbrev pub elements_seen : Image → (app : ℕ) → RootSeen → List Listed
 elements_seen image app bad = []
 elements_seen image app (no_version lacking sole) = []
 elements_seen image app (versions active previous lacking sole) =
     of_version (listed_of app) image app active ++ of_previous (listed_of app) image app previous
 
+-- what is found of an application whose root is seen so
 abbrev pub findings_seen : Image → (app : ℕ) → RootSeen → List Finding
 findings_seen image app bad = finding app None Lost Root (1 ∷ 2 ∷ 3 ∷ []) ∷ []
 findings_seen image app (no_version lacking sole) =

@@ -23,6 +23,7 @@ pub record IsReadFrom (seen : Seen) (says : RootSays) : Type 0 where
   pub rules : IsRoot (root_said says)
   pub spelled : seen.text ≡ root_text (root_said says)
 
+-- the text of which a root was read
 abbrev pub seen_taken : Bor Seen × RootSays → Seen
 seen_taken found = found.0.now
 
@@ -34,6 +35,7 @@ pub record IsTakenOf (seens : List Seen) (seen : Seen) (recovered : Recovered) :
   pub counts : recovered.generation ≡ seen.generation
   pub copies_are : recovered.copies ≡ seen.copies
 
+-- what is chosen among these texts: none where two copies hold a root, or where no text says one
 abbrev pub IsChoice : List Seen → Choice → Type 0
 IsChoice seens Reads = stands_as_root (standing_in agreeing_of_root seens) ≡ Bool.true
 IsChoice seens NoneLeft = (stands_as_root (standing_in agreeing_of_root seens) ≡ false)
