@@ -210,7 +210,8 @@ AllOpenedLaw old now = OpenedUpTo 8 old now → StartKeeps old now
 
 -- ---- a life
 
--- Over any number of jobs of a life, the places of each application are clean, and it stands between two of the pairs.
+-- Over any number of jobs of a life (a run, an audit, an export or an import each), the places of each application are
+-- clean, and it stands between the two states of one of the pairs that the life keeps.
 abbrev pub LifeLaw : {D : Type 0} → (medium : D → Medium) → List Rule → Answers → Type 0
 LifeLaw {D} medium rules answers = (app : ℕ) → app < 8 → (m : D) (pairs : List Pair)
     → Life medium rules answers app m pairs → Known app (medium m) pairs
