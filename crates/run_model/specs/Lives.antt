@@ -80,7 +80,7 @@ pairs_after app entry (w ∷ ws) next earlier = last_pairs app (last_of w ws) ne
 abbrev pub aged : (damaged : List ℕ) → Pair → Pair
 aged damaged p = record { before = p.before; after = p.after; damaged = p.damaged ++ damaged }
 
--- the same of each pair of a list
+-- more files are damaged, in each pair of a list
 abbrev pub all_aged : (damaged : List ℕ) → List Pair → List Pair
 all_aged damaged [] = []
 all_aged damaged (p ∷ ps) = aged damaged p ∷ all_aged damaged ps

@@ -85,7 +85,8 @@ abbrev pub IsMomentOf : ℕ → (w : World) → List World → (next : Disks) �
 IsMomentOf app w [] next c = Between app (disks w) next c ⊎ InDoubt app w.doubt c
 IsMomentOf app w (v ∷ vs) next c = AtMoment app (disks w) (disks v) v.doubt c ⊎ IsMomentOf app v vs next c
 
--- the same of the commands that were answered, with none in progress after them
+-- A crash at some moment of the commands that were answered, through these worlds, from w on: the application stands
+-- between two worlds that follow each other, or in the doubt of one of them.
 abbrev pub IsPast : ℕ → (w : World) → List World → Case → Type 0
 IsPast app w [] c = ⊥
 IsPast app w (v ∷ vs) c = AtMoment app (disks w) (disks v) v.doubt c ⊎ IsPast app v vs c
