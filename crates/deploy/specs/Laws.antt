@@ -15,7 +15,7 @@ abbrev pub RootInUseLaw : Type 0
 RootInUseLaw = (image : Image) (app : ℕ) (root : Root) → IsRootOf app root → IsRootOn image app root
     → app_at image app ≡ app_saying image app (root_says root)
 
--- one of the twelve files of a root
+-- one of the twelve files of a root: four for each of its three copies
 abbrev pub IsRootFile : ℕ → ℕ → Type 0
 IsRootFile app file = (first_file app ≤ file) × (file < first_file app + 12)
 

@@ -67,6 +67,7 @@ abbrev pub IfRegister : Root → Option Cell → Type 0
 IfRegister root None = root_says root ≡ nothing
 IfRegister root (Some cell) = IsRegister root cell
 
+-- the register, if there is one, under which the row leaves no version
 pub record IsEmptied (row : App → Result App PerError) (root : Root) (cell : Option Cell) : Type 0 where
   pub register : IfRegister root cell
   pub leads : LeadsToRoot row (root_says root) (empty_says cell)

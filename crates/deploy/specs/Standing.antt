@@ -15,6 +15,7 @@ pub record IsSpelled (s : Standing) : Type 0 where
   pub rules : IsRoot (root_said s.says)
   pub spelled : s.seen.text ≡ root_text (root_said s.says)
 
+-- where a root was found, it and its text are such
 abbrev pub IfSpelled : Option Standing → Type 0
 IfSpelled None = ⊤
 IfSpelled (Some s) = IsSpelled s

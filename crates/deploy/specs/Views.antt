@@ -27,6 +27,7 @@ root_seen (Absent lacking sole) = no_version lacking sole
 root_seen (Installed s) = versions (record { bank = s.bank; deployment = deployment_data s.active })
     (option_map (λ d. record { bank = 1 - s.bank; deployment = deployment_data d }) s.previous) s.lacking s.sole
 
+-- what is seen of a root that says this, with the copies that lack it and whether its text is sole
 abbrev pub seen_by : Says → (lacking : List ℕ) → (sole : Bool) → RootSeen
 seen_by nothing lacking sole = bad
 seen_by (absent g) lacking sole = no_version lacking sole

@@ -7,7 +7,14 @@
 //! Words of the contracts: a *row* (`deploy_rows`) makes of an application the next one, or says why a call is refused;
 //! what is said of bytes holds where a disk is *told*, its bytes modelled; a disk is *quiet* where nothing is pending;
 //! a place is *clean* where each text held in it is one of its kind and no two have one generation; `time` says that
-//! the disk's moments go on.
+//! the disk's moments go on. A *generation* is a number that rises with each new text of a place, and a *slot* one of
+//! the two files of a copy that take these texts by turns. A *shape* is a storage as a deployment gives it, its *place*
+//! the files of its copies; its initial contents are what it is installed with. An answer `Ok(Some(error))` is a
+//! refusal, which is no failure of the device. `root_app root []` is an application by its root alone, with no word of
+//! its storages: a row whose refusal reads none of them takes it so.
+//!
+//! Of a disk at a moment (a `Medium`), the `image` is what reads give, `written` counts the bytes that were written,
+//! and `faults` the calls that failed; that count *rose* also where it stands at its greatest.
 //!
 //! Limits: eight applications; of each a manifest of at most 65,536 bytes with at most sixteen storages, and one update
 //! at a time; one caller at a time.

@@ -41,8 +41,9 @@ use value_code::encodes;
 /// its salvage (the bytes of the first copy whose content counts), or else what it starts with, or else nothing; of a
 /// storage of which nothing is seen, what it is installed with.
 ///
-/// Refusals, the first that holds: `OutOfStorageSpace` where that is more than the storage may have; `LimitReached`
-/// with `Generations` where no generation is left. Then nothing was written.
+/// The answer is the refusal, or none once it is rebuilt. Refusals, the first that holds: `OutOfStorageSpace` where
+/// that is more than the storage may have; `LimitReached` with `Generations` where no generation is left. Then nothing
+/// was written.
 ///
 /// # Errors
 ///
@@ -102,7 +103,8 @@ pub fn recover_storage<D: Disk>(
 
 /// Rebuilds a closed storage with its initial contents. The infos of its files then have `now`, a moment in seconds.
 ///
-/// It is refused with `LimitReached` and `Generations` where no generation is left: then nothing was written.
+/// The answer is the refusal, or none once it is rebuilt. It is refused with `LimitReached` and `Generations` where no
+/// generation is left: then nothing was written.
 ///
 /// # Errors
 ///
@@ -155,8 +157,9 @@ pub fn reset_storage<D: Disk>(
 
 /// Rebuilds a closed storage with exactly these contents, infos included, under the generation of a reset.
 ///
-/// Refusals, the first that holds: `OutOfStorageSpace` where the contents are more than the storage may have;
-/// `LimitReached` with `Generations` where no generation is left. Then nothing was changed.
+/// The answer is the refusal, or none once it is rebuilt. Refusals, the first that holds: `OutOfStorageSpace` where the
+/// contents are more than the storage may have; `LimitReached` with `Generations` where no generation is left. Then
+/// nothing was changed.
 ///
 /// # Errors
 ///

@@ -361,7 +361,7 @@ fn read_stored<D: Disk>(
 }
 
 impl Staged {
-    /// How many storages remain to be made. Does not allocate.
+    /// How many storages of the next version remain to be made. Does not allocate.
     pub fn remaining(&self) -> u32
         requires { IsStaged self.now.app self.now }
         ensures { result ≡ length (staged_progress self.now).contents - (staged_progress self.now).built }

@@ -90,7 +90,7 @@ version_in_bank bank previous = option_map (λ d. record { bank = bank; deployme
 abbrev pub shapes_in : ℕ → Named → List Shape
 shapes_in app v = shapes_from app v.bank 0 v.deployment.storages
 
--- the same where there may be no version: then there are none
+-- the shapes of all storages of an application's version, by their numbers; none where there is no version
 abbrev pub shapes_if : ℕ → Option Named → List Shape
 shapes_if app None = []
 shapes_if app (Some v) = shapes_in app v

@@ -1,4 +1,5 @@
--- What no call of a deployment does or answers, beside the clause that excludes it: one statement for each mistake.
+-- What no call of a deployment does or answers, beside the clause that excludes it: one statement for each mistake. `g`
+-- is a generation, `o` how a call ended, `c` a case of a crash, and `busy` the name of a storage that is open, if any.
 use Rattle.std.specs.Prelude.{◌≡◌, ◌≢◌, ℕ, ◌<◌, List, Option, Some, None, Result, Err, Bool, IsTrue, IsOk, IsErrOf}
 use Rattle.std.specs.Prelude.{length, slice_get, [], ◌∷◌}
 use Rattle.per_base.specs.declared.errors.PerError.{PerError}

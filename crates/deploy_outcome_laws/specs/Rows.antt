@@ -1,5 +1,6 @@
 -- What no call of a deployment makes of an application, beside the row that excludes it: one statement for each
--- mistake.
+-- mistake. `g` and `h` are generations, `p` is an update in progress, `o` what an update is offered, and `s ∷ ss` are
+-- the storages of the next version; `busy` is the name of a storage that is open, if one is.
 use Rattle.std.specs.Prelude.{◌≡◌, ℕ, ◌≤◌, List, [], ◌∷◌, Option, Some, None, Result, Ok, Err}
 use Rattle.per_base.specs.declared.elements.Content.TheVariants.{Good}
 use Rattle.per_base.specs.declared.elements.Entry.{Entry}

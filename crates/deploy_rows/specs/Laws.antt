@@ -17,15 +17,16 @@ use Rattle.deploy_rows.specs.Rows.{reopened, after}
 abbrev pub InstallLaterLaw : Type 0
 InstallLaterLaw = (now : ℕ) (text : List ℕ) (a b : App) → installing now text a ≡ Ok b → IsLater a b
 
--- the same of a finish, which forgets the previous version
+-- where a finish, which forgets the previous version, is not refused, what it makes comes later
 abbrev pub FinishLaterLaw : Type 0
 FinishLaterLaw = (a b : App) → finishing a ≡ Ok b → IsLater a b
 
--- the same of a rollback to the previous version; busy is the name of an open storage, if one is open
+-- where a rollback to the previous version is not refused, what it makes comes later; busy is the name of an open
+-- storage, if one is open
 abbrev pub RollbackLaterLaw : Type 0
 RollbackLaterLaw = (busy : Option (List ℕ)) (a b : App) → rolling_back busy a ≡ Ok b → IsLater a b
 
--- the same of a wipe, after which nothing is installed
+-- where a wipe, after which nothing is installed, is not refused, what it makes comes later; busy as for a rollback
 abbrev pub WipeLaterLaw : Type 0
 WipeLaterLaw = (busy : Option (List ℕ)) (a b : App) → wiping busy a ≡ Ok b → IsLater a b
 
@@ -33,7 +34,7 @@ WipeLaterLaw = (busy : Option (List ℕ)) (a b : App) → wiping busy a ≡ Ok b
 abbrev pub UpdateLaterLaw : Type 0
 UpdateLaterLaw = (p : InProgress) (a : App) → IsLater a (updated_app p a)
 
--- so does the application once it is opened again: every copy then has the root
+-- the application once its root is opened again comes later: every copy then has the root
 abbrev pub ReopenedLaterLaw : Type 0
 ReopenedLaterLaw = (a : App) → IsLater a (reopened a)
 

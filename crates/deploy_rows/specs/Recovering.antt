@@ -52,7 +52,8 @@ abbrev pub rebuilding : State → List Fresh → Result State PerError
 rebuilding state contents = cond (is_worn_out (salvage_of state)) (Err (error.LimitReached limit.Generations))
     (Ok (fresh_state (next_generation (salvage_of state)) (fresh_map contents)))
 
--- the same, after a refusal where names and contents are together more bytes than the storage may have
+-- a storage in this state is made anew of these contents, which is refused first where names and contents are together
+-- more bytes than the storage may have, and then where no generation is left
 abbrev pub if_contents_fit : StorageData → State → List Fresh → Result State PerError
 if_contents_fit s state contents = cond (nat_lt s.maximum (sum_by fresh_size contents))
     (Err (error.OutOfStorageSpace (sum_by fresh_size contents) s.maximum)) (rebuilding state contents)

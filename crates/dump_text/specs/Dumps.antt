@@ -25,7 +25,7 @@ use Rattle.dump_text.specs.declared.dumps.DumpedStorage.{DumpedStorage}
 use Rattle.dump_text.specs.Elements.{dumped_elements_in, dumped_word, member_object, member_text, only_members}
 use Rattle.dump_text.specs.Elements.{read_members}
 
--- the names of storages, in their order
+-- the names of storages of a dump, in their order
 abbrev pub dumped_names : List DumpedStorage → List (List ℕ)
 dumped_names storages = map (λ (s : DumpedStorage). s.name) storages
 
@@ -58,7 +58,8 @@ kind_by None = Files
 abbrev pub kind_in : Data → StoreKind
 kind_in d = kind_by (get (codes "keys") d)
 
--- an element is as its kind is: files have an info and keys none, it is not too long, and a key's bytes are a value's
+-- whether an element may be in an export: a file has an info and a key none, its bytes are not too many, and those of
+-- a key encode a value
 abbrev pub is_exportable : StoreKind → Fresh → Bool
 is_exportable kind f = has_info kind f.info && nat_le (length f.bytes) (max_len kind) && is_content kind f.bytes
 
@@ -84,7 +85,8 @@ dumped_storage_in name d = do
 
 -- ---- an application
 
--- whether the storages have the names that this deployment has, in order; without one nothing is asked of them
+-- the storages have the names of those of this deployment, in its order; where there is no deployment
+-- nothing is asked of them
 abbrev pub said_by : Option DeploymentData → List DumpedStorage → Bool
 said_by (Some d) storages = pointwise bytes_eq (dumped_names storages) (storage_names d)
 said_by None storages = true
@@ -118,7 +120,7 @@ dumped_parts_in d = do
   alone ← only_members 2 d
   only_if (are_said manifest storages) (manifest, storages)
 
--- an application: its number is the name of the member that it is
+-- an application, whose member has its number as its name
 unfoldable pub dumped_application_in : (name : List ℕ) → Data → Option ApplicationData
 dumped_application_in name d = do
   number ← application_number name

@@ -20,7 +20,7 @@ use Rattle.serde_json.specs.Find.{as_number, as_object, as_str, as_u64, get}
 
 -- ---- the members of an object
 
--- the member of this name, where it is a text; a number; an object
+-- the text, number or object that a member has as its value, where the member is there and is such a one
 abbrev pub member_text : (name : List ℕ) → Data → Option (List ℕ)
 member_text name d = option_and_then as_str (get name d)
 
@@ -77,7 +77,7 @@ member_bytes name d = do
   digits ← member_text name d
   bytes_in digits
 
--- the info of a file, where each of its five members is there
+-- the info that the members of a file say: three times, and what made and what changed it
 unfoldable pub info_in : Data → Option FileInfo
 info_in d = do
   created ← member_number (codes "created") d
@@ -111,7 +111,7 @@ key_in d = do
 
 -- ---- an element
 
--- the element of this name, a key or a file, where it is one
+-- the element whose member has this name, read by the kind of its storage; none where the name is no name of an element
 unfoldable pub dumped_element_in : StoreKind → (name : List ℕ) → Data → Option Fresh
 dumped_element_in Keys name d = do
   known ← only_if (is_name name) name
@@ -138,7 +138,7 @@ dumped_elements_in kind members = read_members (dumped_element_in kind) members
 abbrev pub IsObjectOf : {A : Type 0} → (List ℕ → Data → Option A) → List A → Data → Type 0
 IsObjectOf read xs d = (members : Members) × (d ≡ object members) × (read_members read members ≡ Some xs)
 
--- the member of a storage that has its elements
+-- the name of the member that has the elements of a storage of this kind
 abbrev pub dumped_word : StoreKind → List ℕ
 dumped_word Keys = codes "keys"
 dumped_word Files = codes "files"

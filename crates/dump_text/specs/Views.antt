@@ -3,7 +3,7 @@ use Rattle.std.specs.Prelude.{◌≡◌, Bool, true, false, Option, Some, None, 
 use Rattle.dump_text.specs.declared.errors.DumpError.{DumpError}
 use Rattle.dump_text.specs.declared.errors.DumpError.TheVariants.{NotADump, OutOfMemory}
 
--- the error is that memory ran out
+-- whether memory ran out
 abbrev pub is_memory : DumpError → Bool
 is_memory (NotADump why) = false
 is_memory OutOfMemory = true
@@ -13,7 +13,8 @@ abbrev pub FailsToRead : {Y : Type 0} → DumpError → Option Y → Type 0
 FailsToRead (NotADump why) read = read ≡ None
 FailsToRead OutOfMemory read = ⊤
 
--- what an error says of a writing of what can be written: it is not; memory that ran out says nothing
+-- What an error of a writing says, where `can` is that the thing can be written: `NotADump` that it cannot; memory that
+-- ran out says nothing.
 abbrev pub RefusesToWrite : DumpError → (can : Type 0) → Type 0
 RefusesToWrite (NotADump why) can = ¬ can
 RefusesToWrite OutOfMemory can = ⊤

@@ -26,12 +26,12 @@ found (Some file) call = call file
 abbrev pub current_file_size : Map → List ℕ → Result ℕ PerError
 current_file_size files name = found (element_at files name) (λ file. Ok file.len)
 
--- the info, which every file has, or `FileNotFound` where there is none
+-- the info of a file, which every file has; `FileNotFound` stands for the case of none, which never comes
 abbrev pub info_or : Option FileInfo → Result FileInfo PerError
 info_or None = Err FileNotFound
 info_or (Some info) = Ok info
 
--- the info of the file of this name
+-- the info of the file of this name, also of an unreadable one
 abbrev pub file_info : Map → List ℕ → Result FileInfo PerError
 file_info files name = found (element_at files name) (λ file. info_or file.info)
 

@@ -105,6 +105,7 @@ fn plain() -> OpenMode
     OpenMode::empty()
 }
 
+/// A copy of these bytes; the only error is that memory ran out.
 fn copied(alloc: Global, bytes: &[u8]) -> Result<Vec<u8>, PerError>
     ensures ok { IfOk result (λ copy. copy.items ≡ bytes.now) }
     ensures memory { IfErr result (λ error. error ≡ PerError.OutOfMemory) }

@@ -12,8 +12,9 @@
 //! Words of the contracts: a *session* is the files and the handles; `ok` says what a call answers, by the function of
 //! its name in `specs`; `refused` that an error is the one that is due, or `OutOfMemory` where the call may run out of
 //! memory; `memory` and `due` when it can be that; `storage` and `moment` what becomes of all else of the table; and
-//! `unchanged` that an error changes nothing. A *salvage* is the bytes that are left of an unreadable file. A moment
-//! (`now`) is in seconds.
+//! `unchanged` that an error changes nothing. A file is *unreadable* where too few copies agree on its bytes; its
+//! *salvage* is the bytes that are left then. Its *info* says when it was made, last changed and last opened, and the
+//! causes of its making and its last change. A moment (`now`) is in seconds.
 #![tactic(auto)]
 
 mod by_name;

@@ -280,7 +280,8 @@ pub fn name_len(name: &Name) -> u64
     name.as_str().len() as u64
 }
 
-/// Makes the salvage of an unreadable file its content, where there is a salvage; its length stays.
+/// Makes the salvage of an unreadable file its content, where there is a salvage, and answers whether it did; its
+/// length stays.
 #[tactic(auto, using(crate::specs::lemmas::Named::salvage_len))]
 fn recover(file: &mut File, now: u64) -> bool
     ensures recovered { OnTrue result (file.new ≡ salvaged now file.old) }
@@ -294,11 +295,12 @@ fn recover(file: &mut File, now: u64) -> bool
     file.recover(now)
 }
 
-/// Makes the salvage of the file of this name its content, where it is unreadable and there is a salvage; its length
-/// stays.
+/// Makes the salvage of the file of this name its content, where it is unreadable and there is a salvage, and answers
+/// whether it did; its length stays.
 #[tactic(auto, using(crate::specs::lemmas::Entries::file_set, crate::specs::lemmas::Entries::size_set, std::proofs::lemmas::Map::Steps::set_value_same))]
 pub fn recover_in(files: &mut BTreeMap<Name, File>, name: &Name, now: u64) -> bool
-    // Where there is a salvage it is the content; else nothing changed. Names and sizes stay.
+    // Where there is a salvage it is the content; else nothing changed. Names and sizes stay, and every other file;
+    // what the name has, if anything, is a file.
     ensures recovered { OnTrue result ((old : Element) → element_at files.old.entries name.now ≡ Some old
         → files.new.entries ≡ with_element files.old.entries name.now (salvaged now old)) }
     ensures some { OnTrue result ((old : Element) → element_at files.old.entries name.now ≡ Some old

@@ -235,6 +235,7 @@ impl FileTable {
         self.files.contains_key(name)
     }
 
+    /// Whether there is a file of this name that cannot be read.
     pub(crate) fn is_unreadable(&self, name: &Name) -> bool
         ensures { result ≡ opening.is_unreadable (element_at self.now.session.files name.now) }
     {

@@ -161,6 +161,7 @@ fn has_same_bytes(entry: &Entry, file: &File) -> bool
     entry.len == file.len() && has_same_value(&entry.content, file.content())
 }
 
+/// Whether both contents can be read, and are the same bytes.
 fn has_same_value(old: &Content, new: &Content) -> bool
     ensures { result ≡ differences.same_value old.now new.now }
 {

@@ -14,10 +14,11 @@
 //! function of its name in `file_handles/specs`, of the storage's configuration, the session and the arguments, and it
 //! gives the next session. `refused` says that an error is the one that is due, or `OutOfMemory` where the call may run
 //! out of memory; `memory` and `due` say when it can be that; `beside` that all else of the open storage stays. A
-//! *shape* is a storage as it is configured, its *place* the files of its copies, a *text* an index as copies hold it;
-//! the *salvage* of a file is the bytes that are left where too few copies agree. `told` says that the bytes of a disk
-//! of this type are modelled. A disk is *quiet* where nothing is pending, a place *clean* where nothing on it
-//! contradicts anything.
+//! *shape* is a storage as it is configured, its *place* the files of its copies, a *text* an index as copies hold it.
+//! A file is *unreadable* where too few copies agree on its bytes; its *salvage* is the bytes that are left then, and
+//! its *info* when it was made, last changed and last opened, and the causes of its making and its last change.
+//! `told` says that the bytes of a disk of this type are modelled. A disk is *quiet* where nothing is pending, a place
+//! *clean* where nothing on it contradicts anything.
 //!
 //! Of a disk at a moment (a `Medium`), the `image` is what reads give, `written` counts the bytes that were written,
 //! and `faults` the calls that failed; that count *rose* also where it stands at its greatest. The *view* of a

@@ -1,5 +1,7 @@
 -- What a loss of pages leaves, wherever they lay and whatever lay in them: what did not lie there is as it was, and
--- what did is blank or older. It is said of any number of blocks and of copies, so also of one.
+-- what did is blank or older. It is said of any number of blocks and of copies, so also of one. `old` and `new` are the
+-- pages before and after the loss, of which the first n, 64 for each block, are looked at. A record *counts* that is
+-- the newest of its page of a file (`newest`).
 use Rattle.std.specs.Prelude.{◌≡◌, ◌⊎◌, ℕ, ◌/◌, ◌%◌, ◌<◌, ◌≤◌, Bool, true, Option, Some, None, slice_index}
 use Rattle.flash_model.specs.Pages.{Pages}
 use Rattle.flash_record.specs.PageRecord.{PageRecord, record_in}
@@ -17,7 +19,7 @@ abbrev pub LeavesFileWhole : (old new : Pages) → (n file : ℕ) → Type 0
 LeavesFileWhole old new n file = (page : ℕ) (x : Placed) → newest old file page n ≡ Some x
     → (j : ℕ) × (j < n) × (record_at new j ≡ Some x.says)
 
--- a record of this page that was there, no newer than the one that counted
+-- r is a record of this page that was there before the loss, no newer than the one that counted
 pub record IsNoNewer (old : Pages) (n file page : ℕ) (counted : Placed) (r : PageRecord) : Type 0 where
   pub place : ℕ
   pub within : place < n
@@ -25,23 +27,23 @@ pub record IsNoNewer (old : Pages) (n file page : ℕ) (counted : Placed) (r : P
   pub of_page : is_of file page r ≡ true
   pub number : r.sequence ≤ counted.says.sequence
 
--- What counts of a page: what counted; or that was lost, and nothing does, or a record that was there, no newer than
--- it. Where nothing counted nothing does.
+-- What counts of a page after the loss (`is`) is what counted before (`was`); or that was lost, and nothing counts, or
+-- a record that was there, no newer than it. Where nothing counted nothing does.
 abbrev pub IsPageLeft : (old new : Pages) → (n file page : ℕ) → (was is : Option Placed) → Type 0
 IsPageLeft old new n file page None is = is ≡ None
 IsPageLeft old new n file page (Some x) None = record_at new x.place ≡ None
 IsPageLeft old new n file page (Some x) (Some y) = (y ≡ x)
     ⊎ ((record_at new x.place ≡ None) × IsNoNewer old n file page x y.says)
 
--- the record that counted for this page was lost, and this byte of it is a zero, or that of a record that was there, no
--- newer than it
+-- the record that counted for this page was lost, and `byte`, which is now the byte `at` of the page, is a zero, or
+-- that of a record that was there, no newer than it
 pub record IsOlderByte (old new : Pages) (n file page at byte : ℕ) : Type 0 where
   pub counted : Placed
   pub counted_is : newest old file page n ≡ Some counted
   pub lost : record_at new counted.place ≡ None
   pub is : (byte ≡ 0) ⊎ ((r : PageRecord) × IsNoNewer old n file page counted r × (byte ≡ slice_index r.bytes at))
 
--- a byte of a file is as it was, or older
+-- the byte i of a file is as it was, or older; a page of a file has 256 bytes
 abbrev pub IsKeptByte : (old new : Pages) → (n file i : ℕ) → Type 0
 IsKeptByte old new n file i = (file_byte new n file i ≡ file_byte old n file i)
     ⊎ IsOlderByte old new n file (i / 256) (i % 256) (file_byte new n file i)
@@ -53,7 +55,8 @@ IsKeptLength old new n file = (file_len new n file ≡ 0) ⊎ ((page : ℕ) × (
 
 -- ---- of some copies
 
--- pages were lost, each in a block that held one copy alone, of these; the others are as they were
+-- pages were lost, each in a block that held one copy alone (`own`), of those that `lost` names; all others are as they
+-- were
 abbrev pub LosesOfCopies : (lost : ℕ → Bool) → (n : ℕ) → (old new : Pages) → Type 0
 LosesOfCopies lost n old new = (b p : ℕ) → (new b p ≡ old b p)
     ⊎ ((record_in (new b p) ≡ None) × (own : ℕ) × HoldsOneCopy old n b own × (lost own ≡ true))

@@ -14,7 +14,8 @@ use Rattle.flash_disk.specs.KeepsApart.{LackedRoom}
 use Rattle.guarded_cell.specs.Register.{Holds, IsHeldBy, IsAlone, IsStanding}
 use Rattle.m_of_n.specs.Vote.{voted}
 
--- a place as those of roots and storages are: it begins at a multiple of 32 and has at most 8 copies
+-- a place, the files of a thing's copies, as those of roots and storages are: it begins at a multiple of 32 and has at
+-- most 8 copies
 pub record IsPlaced (place : Place) : Type 0 where
   pub first : place.first % 32 ≡ 0
   pub copies : place.copies ≤ 8
@@ -24,16 +25,16 @@ abbrev pub SparesOtherCopies : (lost : ℕ) → (old new : Image) → Type 0
 SparesOtherCopies lost old new = (place : Place) (copy k : ℕ) → IsPlaced place → copy < place.copies → copy ≢ lost
     → k < 4 → new (place.first + 4 * copy + k) ≡ old (place.first + 4 * copy + k)
 
--- each copy gives the content
+-- each copy gives this content, of this length and hash, from these blocks of its area file
 abbrev pub GiveAll : Image → Place → (blocks : List ℕ) → (len : ℕ) → (hash content : List ℕ) → Type 0
 GiveAll image place blocks len hash content = (copy : ℕ) → copy < place.copies
     → counting (image (area place copy)) blocks len hash ≡ Some content
 
--- The files of one copy may be anything, and all others are as they were. Where m copies have to agree, at least 2 and
--- fewer than there are, a text that each copy holds alone stands, and m copies hold no other; and a content that
+-- The files of the copy `lost` may be anything, and all others are as they were. Where m copies have to agree, at least
+-- 2 and fewer than there are, a text that each copy holds alone stands, and m copies hold no other; and a content that
 -- each copy gives is the vote. Where one copy is enough, the text needs that no copy gives one of a greater generation,
--- as of a bank that was made again from generation 1, and no other stands unless it has the same one; and the content
--- needs that no copy gives another under its hash.
+-- as of a bank (one of an application's two sets of storages) that was made again from generation 1, and no other
+-- stands unless it has the same one; and the content needs that no copy gives another under its hash.
 pub record Outvotes (old new : Image) : Type 0 where
   pub lost : ℕ
   pub spares : SparesOtherCopies lost old new

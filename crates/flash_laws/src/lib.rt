@@ -1,4 +1,12 @@
 //! What lost pages of a flash leave of what was synchronised.
+//!
+//! Words of the laws: a page of flash may be a record of a page of a file (`flash_record`). Of the records of one page
+//! the newest *counts*; two with its greatest number that differ are *rivals*. Pages of flash are numbered through, 64
+//! for each block (`places blocks` of them, or the first `n`). `old` is what they hold before a loss, `new` after it.
+//!
+//! The *place* of a root or storage is its files, four for each copy. Copies are *apart* where in each block records of
+//! one copy alone count (`StandApart`), or those of the others have equal ones in other blocks (`IsApart`). Copies
+//! *outvote* a loss if as many as have to agree still say what all said (`Outvotes`).
 #![tactic(auto)]
 
 ghost use Rattle.std.specs.Prelude.{◌≡◌, ◌==◌, ℕ, Bool, false};

@@ -2,15 +2,15 @@
 use Rattle.std.specs.Prelude.{◌≡◌, ◌⊎◌, ℕ, ◌≤◌, Bool, IsTrue}
 use Rattle.flash_model.specs.State.{FlashState, FlashCase, IsStill}
 
--- All that is said of a flash at one moment.
+-- All that is said of a flash at one moment. What a case is, `FlashCase` says (`State`).
 pub record FlashMedium : Type 1 where
   -- how many blocks it has
   pub blocks : ℕ
   -- its pages, and what was announced to it
   pub state : FlashState
-  -- the clock
+  -- the clock: it never goes back, and moments are its readings
   pub moment : ℕ
-  -- what a crash at this or at some later moment might have left
+  -- `since t c`: a crash at the moment t, or at a later one up to now, might have left the case c
   pub since : ℕ → FlashCase → Type 0
   -- how many calls have failed, up to the greatest u64
   pub faults : ℕ
@@ -23,7 +23,7 @@ pub record IsLawfulFlash (told : Bool) (m : FlashMedium) : Type 0 where
   pub only_now : (c : FlashCase) → m.since m.moment c → IsStill m.state c
 
 -- Time goes on: the cases since t are those from before and those since the start of the call. No count falls, and no
--- block comes or goes.
+-- block comes or goes. `t` is any moment up to the start.
 pub record FlashElapses (old new : FlashMedium) : Type 0 where
   pub later : old.moment ≤ new.moment
   pub nothing_else : (t : ℕ) (c : FlashCase) → t ≤ old.moment → new.since t c → old.since t c ⊎ new.since old.moment c
@@ -32,6 +32,6 @@ pub record FlashElapses (old new : FlashMedium) : Type 0 where
   pub faults : old.faults ≤ new.faults
   pub blocks : new.blocks ≡ old.blocks
 
--- P holds of each case of a crash since the start of a stretch of calls
+-- P holds of each case of a crash since the start of a stretch of calls, from the first flash to the second
 abbrev pub EachFlashCase : (P : FlashCase → Type 0) → FlashMedium → FlashMedium → Type 0
 EachFlashCase P old new = (c : FlashCase) → new.since old.moment c → P c

@@ -40,7 +40,7 @@ pub record IsFresh (flash : MemFlash) : Type 0 where
   pub starved : starved_count flash ≡ 0
   pub orders : HasNoOrders flash
 
--- no page, nothing announced, and no case changed
+-- no page, nothing announced, no case of a crash and no clock changed
 pub record IsUnchanged (old new : FlashMedium) : Type 0 where
   pub blocks : new.blocks ≡ old.blocks
   pub state : new.state ≡ old.state

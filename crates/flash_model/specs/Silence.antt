@@ -13,6 +13,7 @@ silent_flash blocks faults = record {
   faults = faults;
 }
 
+-- it meets the model, since nothing is said of a flash whose type models nothing (`told` is false)
 pub silent_is_lawful : (blocks faults : ℕ) → IsLawfulFlash false (silent_flash blocks faults)
 silent_is_lawful blocks faults = record {
   counts_now = λ told t c le still. absurd (true≢false (sym told));

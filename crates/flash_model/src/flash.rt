@@ -23,7 +23,8 @@ pub struct FlashFailed;
 /// A flash: blocks of 64 pages of 512 bytes, each programmed while it is blank and erased with its block.
 ///
 /// What is said of pages holds where the flash models them, and so what is said of crashes: a flash that models
-/// nothing names no case, which is one outcome of a crash. Whether a flash is modelled is a constant of its type.
+/// nothing names no case (a case, `c` in the clauses, is one outcome of a crash). Whether a flash is modelled is a
+/// constant of its type.
 ///
 /// Limits, which a device has to keep beneath this trait:
 ///
@@ -44,7 +45,7 @@ pub trait Flash {
     fn blocks(&self) -> u32
         ensures { result ≡ (medium self.now).blocks };
 
-    /// Reads a page. No page changes, and a crash meanwhile leaves what there was.
+    /// Reads page `page` of block `block`, both from 0. No page changes, and a crash meanwhile leaves what there was.
     fn read(&mut self, block: u32, page: u32, out: &mut [u8; 512]) -> Result<(), FlashFailed>
         requires block { block < (medium self.old).blocks }
         requires page { page < 64 }
@@ -55,8 +56,9 @@ pub trait Flash {
         ensures cause { OnErr result (Rose (medium self.old).faults (medium self.new).faults) }
         ensures passes { OnOk result ((medium self.new).faults ≡ (medium self.old).faults) };
 
-    /// Programs a blank page. Where the call fails, the page may hold anything, as after a crash; but a text that its
-    /// start then holds under its hash (it *verifies*) is the text of these bytes. A blank page never verifies.
+    /// Programs page `page` of block `block`, which has to be blank. Where the call fails, the page may hold anything,
+    /// as after a crash; but a text that its start then holds under its hash (it *verifies*) is the text of these
+    /// bytes. A blank page never verifies.
     fn program(&mut self, block: u32, page: u32, bytes: &[u8; 512]) -> Result<(), FlashFailed>
         requires block { block < (medium self.old).blocks }
         requires page { page < 64 }
@@ -89,7 +91,7 @@ pub trait Flash {
         ensures passes { OnOk result ((medium self.new).faults ≡ (medium self.old).faults) };
 
     /// Notes that the calls to come serve this write into a file, at the byte `at`. It changes no page; a device has
-    /// nothing to do.
+    /// nothing to do. `file` is a number that the caller gives.
     fn announce(&mut self, file: u32, at: u64, bytes: &[u8]) -> Result<(), FlashFailed>
         ensures state { IsTrue told → OnOk result
             ((medium self.new).state ≡ announce_write (medium self.old).state file at bytes.now) }
@@ -101,7 +103,7 @@ pub trait Flash {
         ensures passes { OnOk result ((medium self.new).faults ≡ (medium self.old).faults) };
 
     /// Notes that the writes announced so far are over, and that what the pages hold is what they left. It changes no
-    /// page; a device has nothing to do.
+    /// page; a device has nothing to do. A crash meanwhile finds the notes from before or from afterwards.
     fn settle(&mut self) -> Result<(), FlashFailed>
         ensures state { IsTrue told → OnOk result ((medium self.new).state ≡ settle_pages (medium self.old).state) }
         ensures failed { IsTrue told → OnErr result ((medium self.new).state ≡ (medium self.old).state) }

@@ -56,7 +56,8 @@ impl MemFlash {
         })
     }
 
-    /// Makes the calls with these numbers fail, counted from 0 from now on. It replaces an earlier plan; a stop stays.
+    /// Plans that the calls with these numbers fail, counted from 0 from now on. It replaces an earlier plan; a stop
+    /// (`stop_after`) stays.
     pub fn fail_calls(&mut self, calls: Vec<u64>)
         ensures planned { (k : ℕ) → is_planned self.new k ≡ named_in calls.items k }
         ensures stopped { (k : ℕ) → is_stopped self.new k ≡ is_stopped self.old k }
@@ -66,7 +67,8 @@ impl MemFlash {
         self.orders.plan(calls);
     }
 
-    /// Lets `k` more calls pass, and makes every call after them fail. It replaces an earlier stop; a plan stays.
+    /// Lets `k` more calls pass, and makes every call after them fail (the *stop*). It replaces an earlier stop; a plan
+    /// of `fail_calls` stays.
     pub fn stop_after(&mut self, k: u64)
         ensures planned { (n : ℕ) → is_planned self.new n ≡ is_planned self.old n }
         ensures stopped { (n : ℕ) → is_stopped self.new n ≡ nat_le k n }
@@ -76,7 +78,7 @@ impl MemFlash {
         self.orders.stop(k);
     }
 
-    /// Takes the plan and the stop away. It changes no byte and does not allocate.
+    /// Takes the plan of `fail_calls` and the stop of `stop_after` away. It changes no byte and does not allocate.
     pub fn restart(&mut self)
         ensures orders { HasNoOrders self.new }
         ensures unchanged { IsUnchanged (mem_flash self.old) (mem_flash self.new) }

@@ -20,10 +20,10 @@ pub enum FlashCall {
     Erase(u32),
 }
 
-/// The pages of one block after the other.
+/// The pages of one block after the other, 64 for each.
 pub type PageList = Vec<[u8; PAGE_BYTES]>;
 
-/// That many blank pages.
+/// A list of `count` blank pages. It fails only where memory runs out.
 pub fn blank_pages(alloc: Global, count: usize) -> Result<PageList, AllocError>
     ensures len { IfOk result (λ pages. vec_len pages ≡ count) }
     ensures blank { IfOk result (λ pages. pages_of pages.items ≡ (λ b p. blank_page)) }
@@ -43,7 +43,7 @@ fn copies_of(alloc: Global, page: &[u8; PAGE_BYTES], count: usize) -> Result<Pag
     Ok(pages)
 }
 
-/// The bytes of a page.
+/// The bytes of page `page` of block `block`, which the list has whole (`within`).
 pub fn page_in(pages: &PageList, block: u32, page: u32) -> [u8; PAGE_BYTES]
     requires page { page < 64 }
     requires within { 64 * block + 64 ≤ vec_len pages.now }
@@ -52,7 +52,7 @@ pub fn page_in(pages: &PageList, block: u32, page: u32) -> [u8; PAGE_BYTES]
     pages[64 * block as usize + page as usize]
 }
 
-/// Sets one page.
+/// Sets page `page` of block `block`, which the list has whole (`within`), to these bytes.
 pub fn set_page(pages: &mut PageList, block: u32, page: u32, bytes: &[u8; PAGE_BYTES])
     requires page { page < 64 }
     requires within { 64 * block + 64 ≤ vec_len pages.old }
@@ -62,7 +62,7 @@ pub fn set_page(pages: &mut PageList, block: u32, page: u32, bytes: &[u8; PAGE_B
     pages[64 * block as usize + page as usize] = *bytes;
 }
 
-/// Makes all pages of a block blank.
+/// Makes all pages of a block blank, which the list has whole.
 pub fn blank_block(pages: &mut PageList, block: u32)
     requires { 64 * block + 64 ≤ vec_len pages.old }
     ensures len { vec_len pages.new ≡ vec_len pages.old }

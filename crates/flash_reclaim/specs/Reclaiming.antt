@@ -18,7 +18,8 @@ use Rattle.flash_disk.specs.Throughout.{UsableSince}
 use Rattle.deploy_laws.specs.Apps.{IsCleanApp, app_at}
 use Rattle.flash_reclaim.specs.Naming.{IsFileGivenUp}
 
--- every application is what it was, and its places are clean where they were
+-- every application is what it was, and its places are clean where they were: no two texts of one generation are held
+-- on them, and no two contents under one entry
 unfoldable pub AppsStand : (old new : Image) → Type 0
 AppsStand old new = (app : ℕ) → app < 8
     → (app_at new app ≡ app_at old app) × (IsCleanApp app old → IsCleanApp app new)

@@ -21,6 +21,7 @@ blank_is_long : nat_le (length_in blank_page) max_body ≡ false
 unfolding length_in blank_page
 blank_is_long = refl
 
+-- a blank page is no record
 pub blank_is_none : record_in blank_page ≡ None
 unfolding record_in
 blank_is_none = ap record_by (too_long blank_page blank_is_long)

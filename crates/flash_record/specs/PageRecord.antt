@@ -13,13 +13,15 @@ pub record PageRecord : Type 0 where
   pub len : ℕ
   pub bytes : List ℕ
 
+-- the first 16 bytes of a body: the file, the page and the length, in 4, 4 and 8 bytes, the lowest first
 abbrev pub record_numbers : ℕ → ℕ → ℕ → List ℕ
 record_numbers file page len = little_bytes 4 file ++ (little_bytes 4 page ++ little_bytes 8 len)
 
+-- the body of a record: its numbers, then the bytes of the file's page
 abbrev pub record_body : ℕ → ℕ → ℕ → List ℕ → List ℕ
 record_body file page len bytes = record_numbers file page len ++ bytes
 
--- what a body says
+-- what a body says, under a sequence number
 abbrev pub body_record : ℕ → List ℕ → PageRecord
 body_record sequence body = record {
   sequence = sequence;
@@ -29,10 +31,11 @@ body_record sequence body = record {
   bytes = drop 16 body;
 }
 
+-- the record that a sealed text is, given as its generation and body: none where the body has not 272 bytes
 abbrev pub record_by : Option (ℕ × List ℕ) → Option PageRecord
 record_by None = None
 record_by (Some text) = if length text.1 == 272 then Some (body_record text.0 text.1) else None
 
--- the record that a page is
+-- the record that a page of flash is: `None` where its start is no sealed text, or one of another length
 unfoldable pub record_in : List ℕ → Option PageRecord
 record_in page = record_by (verified page)

@@ -2,6 +2,7 @@
 use Rattle.flash_record.specs.declared.reading.Record.{Record}
 use Rattle.flash_record.specs.PageRecord.{PageRecord}
 
+-- the same parts, as definitions speak of them
 abbrev pub stated : Record → PageRecord
 stated found = record {
   sequence = found.sequence;

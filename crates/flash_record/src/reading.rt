@@ -31,7 +31,7 @@ pub struct Record<'a> {
     pub bytes: &'a [u8],
 }
 
-/// The record that a page of flash is; `None` exactly where it is none.
+/// The record that a page of flash is; `None` exactly where it is none. `found` is the record that is answered.
 pub fn read_record(page: &[u8]) -> Option<Record<'_>>
     ensures record { MatchOption result (record_in page.now ≡ None)
         (λ found. record_in page.now ≡ Some (stated found)) }

@@ -8,8 +8,9 @@ use byteorder::{ByteOrder, LittleEndian};
 use flash_model::{BLANK_PAGE, PAGE_BYTES};
 use hash_guard::{HEADER, seal_into};
 
-/// The page of flash that keeps these bytes of a file of `len` bytes under this sequence number. After the text, which
-/// has 316 bytes, the other 196 are 255, as in a blank page.
+/// The page of flash that keeps these bytes, the page `page` of the file `file` of `len` bytes, under this sequence
+/// number. After the text, which has 316 bytes (44 of the header and 272 of the body), the other 196 are 255, as in a
+/// blank page.
 pub fn record_page(
     sequence: u64,
     file: u32,

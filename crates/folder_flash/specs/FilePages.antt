@@ -40,9 +40,10 @@ TornBlockOf block old new = (b p : ℕ) → b ≢ block → IsPageSpared old (pa
 
 -- ---- what is seen of a flash
 
--- the bytes of the flash's file, which is file 0 of the folder; and the pages that they are
+-- the bytes of the flash's file, file 0 of the folder, as its system has them
 abbrev pub file_seen : {S : Type 0} → (S → SystemMedium) → FolderView S → List ℕ
 file_seen medium v = (medium v.system).disk.image 0
 
+-- the same as pages
 abbrev pub pages_seen : {S : Type 0} → (S → SystemMedium) → FolderView S → Pages
 pages_seen medium v = file_pages (file_seen medium v)

@@ -29,7 +29,7 @@ pub struct FolderFlash<S: System> {
 }
 
 impl<S: System> FolderFlash<S> {
-    /// The flash of that many blocks in the one file of this disk.
+    /// The flash of that many blocks in the one file of this disk, which contracts see as `file`.
     pub fn new(alloc: Global, disk: FolderDisk<S>, blocks: u32) -> FolderFlash<S>
         ensures file { result.file ≡ disk }
         ensures blocks { result.blocks ≡ blocks }
@@ -59,7 +59,8 @@ impl<S: System> FolderFlash<S> {
         self.file.is_there()
     }
 
-    /// Whether the file has more bytes than the blocks: it was made as a flash of more.
+    /// Whether the file has more bytes than the blocks, of 32,768 bytes each: it was made as a flash of more. The disk
+    /// is only read (`looks`).
     pub fn is_too_long(&mut self) -> Result<bool, FlashFailed>
         // Of the bytes of the file, against blocks of 32,768 bytes. Nothing is written, and the count of faults rises
         // where the call fails.

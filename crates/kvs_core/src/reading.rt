@@ -49,7 +49,8 @@ impl KeySession {
         }
     }
 
-    /// The size of the visible map in bytes: names and encodings, readable or not. Does not allocate.
+    /// The size of the visible map in bytes: of its names, and of its values as they are encoded, readable or not. Does
+    /// not allocate.
     pub fn current_size(&self) -> u64
         ensures { result ≡ size_of self.now.visible }
     {

@@ -114,6 +114,7 @@ impl KeySession {
         self.check_type(name, value)
     }
 
+    /// That a value has this type, or the refusal.
     fn check_configured(&self, stored: &ValueType, value: &Value) -> Result<(), PerError>
         requires { IsTrue (kind_fits (kind_of stored.now)) }
         ensures ok { OnOk result ((rest : Result Map PerError)
@@ -129,6 +130,7 @@ impl KeySession {
         Err(self.differs_from(stored, value))
     }
 
+    /// That a value has the type of the value in a key, if that can be read, or the refusal.
     #[tactic(auto, using(crate::proofs::Contents::kind_stored, crate::proofs::Contents::kind_bad, crate::proofs::Contents::needs_kind, value_code::specs::lemmas::ValueLaws::typed_fits))]
     fn check_stored(&self, key: &KeyElement, value: &Value) -> Result<(), PerError>
         ensures ok { OnOk result ((rest : Result Map PerError)

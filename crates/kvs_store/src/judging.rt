@@ -28,6 +28,7 @@ pub fn judged(alloc: Global, session: &KeySession, view: View) -> Result<View, A
     })
 }
 
+/// Entries, each judged by what the session has of its key.
 fn judge_all(
     alloc: Global,
     session: &KeySession,
@@ -42,6 +43,7 @@ fn judge_all(
     Ok(judged)
 }
 
+/// An entry, unreadable without a salvage where the session has no readable key of its name.
 fn judge(session: &KeySession, entry: Entry) -> Entry
     ensures { result ≡ shown_entry session.now.visible entry }
 {

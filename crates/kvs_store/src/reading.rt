@@ -35,7 +35,8 @@ impl Kvs {
         self.session.all_keys()
     }
 
-    /// The size of what is visible in bytes: names and encodings, readable or not. Does not allocate.
+    /// The size of what is visible in bytes: of its names, and of its values as they are encoded, readable or not. Does
+    /// not allocate.
     pub fn current_size(&self) -> u64
         ensures { result ≡ size_of (kvs_session self.now).visible }
     {

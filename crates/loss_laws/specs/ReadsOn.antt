@@ -15,7 +15,7 @@ abbrev pub OnlyLost : (lost : ℕ) → (lacking : List ℕ) → Type 0
 OnlyLost lost lacking = (copy : ℕ) → Contains lacking (copy + 1) → copy ≡ lost
 
 -- A storage opens under the generation and with the map of this view, which it had, also by any test of contents; no
--- copy lacks it or an element of it but the lost one, and the view after the opening is this one.
+-- copy lacks it or an element of it but the lost one, and the view after the opening, which mends that, is this one.
 pub record ReadsOn (shape : Shape) (lost : ℕ) (was : View) (state : State) : Type 0 where
   pub view : View
   pub others : List View

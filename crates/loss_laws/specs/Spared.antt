@@ -26,17 +26,19 @@ use Rattle.deploy_laws.specs.Places.{root_place}
 abbrev pub SparesPlace : Place → (old new : Pages) → (blocks : ℕ) → Type 0
 SparesPlace place old new blocks = (file : ℕ) → IsOfPlace place file → SparesFile old new (places blocks) file
 
--- each one that counted for a slot of it is
+-- each record that counted for a slot of this place is where it was
 abbrev pub SparesSlots : Place → (old new : Pages) → (blocks : ℕ) → Type 0
 SparesSlots place old new blocks = (copy parity : ℕ) → copy < place.copies → parity < 2
     → SparesFile old new (places blocks) (slot place copy parity)
 
--- contents that count under one entry, before and after, are the same
+-- what copy a gave under one entry's length, hash and blocks (`at`) before, and what copy b gives under them after, is
+-- the same
 abbrev pub KeepTwins : Place → (old new : Image) → Type 0
 KeepTwins place old new = (at : Where) (a b : ℕ) (s t : List ℕ) → a < place.copies → b < place.copies
     → counting_at old place a at ≡ Some s → counting_at new place b at ≡ Some t → t ≡ s
 
--- an element is listed as it was, and if it had a value it has this one or is corrupt
+-- an element is listed as it was, and if it had a value it has this one or is corrupt, with or without bytes that are
+-- left of it (`salvage`)
 pub record IsKeptOrCorrupt (now was : Entry) : Type 0 where
   pub name : now.name ≡ was.name
   pub info : now.info ≡ was.info
@@ -45,8 +47,8 @@ pub record IsKeptOrCorrupt (now was : Entry) : Type 0 where
   pub content : (value : List ℕ) → was.content ≡ Good value
       → (now.content ≡ Good value) ⊎ ((salvage : Option (List ℕ)) × (now.content ≡ Bad salvage))
 
--- A storage opens under the generation that it had, each element as it was or corrupt, or it is corrupt; with element
--- scope it opens.
+-- A storage opens under the generation that it had, each element as it was or corrupt, or it is corrupt as a whole. It
+-- opens where its scope is each element, so that one that is corrupt does not make the whole corrupt.
 pub record ReadsOrRefuses (shape : Shape) (was : View) (state : State) : Type 0 where
   pub view : View
   pub is : (state ≡ Opens view []) ⊎ (state ≡ Corrupt (Some view) [])
@@ -54,7 +56,7 @@ pub record ReadsOrRefuses (shape : Shape) (was : View) (state : State) : Type 0 
   pub generation : view.generation ≡ was.generation
   pub each : AllZip IsKeptOrCorrupt view.entries was.entries
 
--- what a copy holds now some copy held, or it is of a lesser generation than this one
+-- whichever text a copy holds after the loss, some copy held it before, or it is of a lesser generation than this one
 abbrev pub BringsOlder : Place → (generation : ℕ) → (old new : Image) → Type 0
 BringsOlder place generation old new = (copy g : ℕ) (text : List ℕ) → copy < place.copies
     → Holds new place copy g text → (g < generation)
@@ -88,8 +90,9 @@ SparedSlotsLaw = (old new : Pages) (blocks : ℕ) (shape : Shape) (view : View) 
     → store_at (flash_files old blocks) shape ≡ Opens view []
     → ReadsOrRefuses shape view (store_at (flash_files new blocks) shape)
 
--- Whatever was lost, a storage opens older or as it was, with no element otherwise than corrupt, or it is corrupt, if
--- what came up in its slots is older: with one copy too. A bank that was made again may bring up greater generations.
+-- Whatever was lost, a storage that opens does so under a lesser generation, or under its own with each element as it
+-- was or corrupt, if what the loss brought up in its slots is older: with one copy too. A bank that was made again may
+-- bring up greater generations.
 abbrev pub OlderLaw : Type 0
 OlderLaw = (old new : Image) (shape : Shape) (view : View) → 1 ≤ shape.m → KeepTwins shape.place old new
     → BringsOlder shape.place view.generation old new → store_at old shape ≡ Opens view []

@@ -7,6 +7,12 @@
 //! ([`applications_read_on_since`]). On any flash, with any number of copies, what did not lie in the lost pages reads
 //! as before ([`what_lay_elsewhere_reads_on`]), and what did as before, older, or not at all
 //! ([`what_was_lost_reads_older`]).
+//!
+//! Words of the laws: `shape` says the *place* of a storage, which is the files of its copies, and how many of these,
+//! `m`, have to agree. A copy keeps the storage's texts in two files, its *slots*, and contents in a third. A *view* is
+//! what a storage opens with: a generation and its elements. Of the records of a page of a file on flash the newest
+//! *counts* (`flash_laws`). A *bank* is one of an application's two sets of storages; one that was made again
+//! may begin from generation 1. `old` is before a loss, `new` after it.
 #![tactic(auto)]
 
 ghost use Rattle.std.specs.Prelude.{ℕ};

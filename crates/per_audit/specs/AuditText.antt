@@ -14,6 +14,7 @@ element_line l = codes "element " ++ decimal l.app ++ codes " " ++ decimal l.ban
     ++ l.element
     ++ codes " " ++ decimal l.changed ++ codes "\n"
 
+-- the word for a kind of finding
 abbrev pub kind_word : FindingKind → List ℕ
 kind_word Damaged = codes "damaged"
 kind_word Lost = codes "lost"

@@ -21,6 +21,7 @@ use Rattle.per_audit.specs.declared.findings.Listed.{Listed}
 
 -- ---- findings of one unit
 
+-- the finding of this kind on a unit of an application, in this bank if it is in one, with the copies that lack it
 abbrev pub finding : (app : ℕ) → (bank : Option ℕ) → FindingKind → Unit → (copies : List ℕ) → Finding
 finding app bank kind unit copies = record { app = app; bank = bank; unit = unit; kind = kind; copies = copies }
 
@@ -74,15 +75,18 @@ of_storage app bank s (Opens v others) = damaged_by app (Some bank) (Whole s.nam
 abbrev pub listed_element : (app bank : ℕ) → StorageData → Entry → Listed
 listed_element app bank s e = record { app = app; bank = bank; storage = s.name; element = e.name; changed = e.changed }
 
+-- what is listed of a storage: its elements where it opens, and nothing where it is corrupt
 abbrev pub listed_of : (app bank : ℕ) → StorageData → State → List Listed
 listed_of app bank s (Corrupt salvage others) = []
 listed_of app bank s (Opens v others) = map (listed_element app bank s) v.entries
 
 -- ---- an application
 
+-- the storages of a version, each with the version's bank
 abbrev pub storages_of : Named → List (ℕ × StorageData)
 storages_of v = map (λ s. (v.bank, s)) v.deployment.storages
 
+-- those of a version, if there is one
 abbrev pub storages_if : Option Named → List (ℕ × StorageData)
 storages_if None = []
 storages_if (Some v) = storages_of v

@@ -137,6 +137,7 @@ fn list_entries(
     Ok(())
 }
 
+/// An element of a storage as it is listed.
 fn listed(app: u32, bank: u32, config: &StorageConfig, entry: &Entry) -> Result<Listed, AllocError>
     ensures { IfOk result (λ line. line ≡ listed_element app bank (storage_data config.now) entry.now) }
 {
@@ -189,6 +190,7 @@ fn push_view(
     push_elements(alloc, findings, app, bank, config, view.entries.as_slice())
 }
 
+/// Appends what is found of these elements.
 fn push_elements(
     alloc: Global,
     findings: &mut Vec<Finding>,

@@ -25,6 +25,7 @@ impl Audit {
     }
 }
 
+/// Appends the lines of the elements.
 fn push_elements(out: &mut String, elements: &[Listed]) -> Result<(), AllocError>
     ensures { OnOk result (string_bytes out.new ≡ string_bytes out.old ++ flat_map element_line elements.now) }
 {
@@ -34,6 +35,7 @@ fn push_elements(out: &mut String, elements: &[Listed]) -> Result<(), AllocError
     Ok(())
 }
 
+/// Appends the line of an element.
 fn push_element(out: &mut String, element: &Listed) -> Result<(), AllocError>
     ensures { OnOk result (string_bytes out.new ≡ string_bytes out.old ++ element_line element.now) }
 {
@@ -47,6 +49,7 @@ fn push_element(out: &mut String, element: &Listed) -> Result<(), AllocError>
     write!(out, " {changed}\n")
 }
 
+/// Appends the lines of the findings.
 fn push_findings(out: &mut String, findings: &[Finding]) -> Result<(), AllocError>
     ensures { OnOk result (string_bytes out.new ≡ string_bytes out.old ++ flat_map finding_line findings.now) }
 {
@@ -56,6 +59,7 @@ fn push_findings(out: &mut String, findings: &[Finding]) -> Result<(), AllocErro
     Ok(())
 }
 
+/// Appends the line of a finding.
 fn push_finding(out: &mut String, finding: &Finding) -> Result<(), AllocError>
     ensures { OnOk result (string_bytes out.new ≡ string_bytes out.old ++ finding_line finding.now) }
 {
@@ -70,6 +74,7 @@ fn push_finding(out: &mut String, finding: &Finding) -> Result<(), AllocError>
     out.push_str("\n")
 }
 
+/// The word for a kind of finding.
 fn kind_word(kind: FindingKind) -> &'static str
     ensures { result.now ≡ kind_word kind }
 {
@@ -80,6 +85,7 @@ fn kind_word(kind: FindingKind) -> &'static str
     }
 }
 
+/// Appends the number of a bank, or a dash for a root.
 fn push_bank(out: &mut String, bank: Option<u32>) -> Result<(), AllocError>
     ensures { OnOk result (string_bytes out.new ≡ string_bytes out.old ++ number_or_dash bank) }
 {

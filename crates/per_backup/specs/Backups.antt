@@ -64,10 +64,11 @@ abbrev pub export_for : StoreKind → Option Export → Result Export PerError
 export_for kind None = Err error.ExportRejected
 export_for kind (Some x) = cond (is_kind kind x.kind) (Ok x) (Err error.ExportRejected)
 
--- the type with which an element is configured, where it has one, and that of the value that its bytes encode
+-- the type with which an element is configured, where it is
 abbrev pub configured_type : StorageData → List ℕ → Option Kind
 configured_type s name = option_and_then (λ (e : ElementData). e.value_type) (element_named s name)
 
+-- the type of the value that the bytes of an element encode
 abbrev pub exported_type : Fresh → Option Kind
 exported_type f = option_map type_of (decoded f.bytes)
 
@@ -78,7 +79,7 @@ differing None (Some configured) = None
 differing (Some exported) (Some configured) = cond (same_kind exported configured) None
     (Some (mismatch exported configured))
 
--- that refusal for one element of an export
+-- the same of an element of an export
 abbrev pub mismatch_of : StorageData → Fresh → Option PerError
 mismatch_of s f = differing (exported_type f) (configured_type s f.name)
 
@@ -105,7 +106,7 @@ abbrev pub exports_of : App → List StorageData → Result (List (List ℕ)) Pe
 exports_of a [] = Ok []
 exports_of a (s ∷ ss) = exporting a s.name >>= λ text. exports_of a ss >>= λ texts. Ok (text ∷ texts)
 
--- the exports of all storages of the active version, of an application whose root says this, or the refusal
+-- the exports of the storages that a root names which says this, or the refusal
 abbrev pub dumping_over : App → Says → Result (List (List ℕ)) PerError
 dumping_over a nothing = Err (error.IntegrityCorrupted unit.Root)
 dumping_over a (absent g) = Err error.NotInstalled

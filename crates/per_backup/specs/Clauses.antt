@@ -46,8 +46,8 @@ IsViewFor kind v = (shape : Shape) × (shape.kind ≡ kind) × IsView shape v
 
 -- ---- an import
 
--- Every moment of an import, however it ends: a crash leaves what is said here, or what a crash just before the call
--- might have left (`OrBefore`).
+-- Every moment of an import, however it ends: each crash meanwhile may also leave what one before the call might have
+-- left (`OrBefore`).
 pub record ImportKeeps (app : ℕ) (name text : List ℕ) (old new : Medium) : Type 0 where
   -- the storage stands between what it was and what is imported
   pub kept : (f : FoundStorage) → storage_in (app_at old.image app) name None ≡ Ok f

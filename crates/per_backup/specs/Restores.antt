@@ -23,8 +23,8 @@ use Rattle.per_backup.specs.declared.filling.Ready.{Ready}
 abbrev pub restored_to : (app : ℕ) (manifest : List ℕ) (texts : List (List ℕ)) → Image → App
 restored_to app manifest texts image = after (app_at image app) (restoring manifest texts (app_at image app))
 
--- Every moment of a restore, however it ends: a crash leaves what is said here, or what a crash just before the call
--- might have left (`OrBefore`).
+-- Every moment of a restore, however it ends: each crash meanwhile may also leave what one before the call might have
+-- left (`OrBefore`).
 pub record RestoreKeeps (app : ℕ) (manifest : List ℕ) (texts : List (List ℕ)) (old new : Medium) : Type 0 where
   -- the application stands between what it was and what is restored
   pub stands : IsCleanApp app old.image → EachCase (OrBefore old (StandsCase app (app_at old.image app)

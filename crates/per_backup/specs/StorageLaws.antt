@@ -2,7 +2,7 @@
 use Rattle.element_laws.specs.Phases.{UntouchedLaw}
 use Rattle.deploy_laws.specs.Laws.{BesideLaw, NumberLaw, RootMendLaw, StillAppLaw, StoredLaw, StoringLaw, VersionsLaw}
 
--- each law is said in the crate below that shows it
+-- each law as its own crate states it
 pub record BackupLaws : Type 0 where
   -- what a root names, where the storages of a version are stored, and what stays where the files of one change
   pub versions : VersionsLaw

@@ -25,7 +25,8 @@ pub fn exports_come_back()
     said_is_kept();
 }
 
-/// Every refusal of an export, of an import and of a restore has a number, and so a line that says it.
+/// Every refusal of an export, of an import and of a restore has an error number (`error_number` of `per_base`, which
+/// only `OutOfMemory` lacks), and so a line of text that says it.
 pub fn refusals_are_numbered()
     ensures exports { ExportNumbersLaw }
     ensures imports { ImportNumbersLaw }

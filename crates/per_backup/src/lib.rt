@@ -18,6 +18,8 @@
 //! A *row* of `specs/Backups` gives, of an application, what a call makes of it or the refusal. In the contracts `told`
 //! is that a disk's bytes are modelled, `quiet` that nothing is pending on it, and `time` that its moments go on and no
 //! count falls.
+//! A place (the files of the copies of a root or storage) is *clean* where what they hold does not contradict itself:
+//! no two texts of one generation are held, and no two contents under one entry.
 #![tactic(auto)]
 
 mod exporting;

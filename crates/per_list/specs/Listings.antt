@@ -27,7 +27,7 @@ abbrev pub comma : (number : ℕ) → List ℕ
 comma zero = []
 comma (suc number) = codes ","
 
--- a number, where there is one
+-- a number, or a word for none
 abbrev pub number_text : Form → Option ℕ → List ℕ
 number_text Lines None = codes "-"
 number_text Json None = codes "null"
@@ -62,7 +62,7 @@ root_copy Json app copy = comma copy ++ codes "[\"f" ++ decimal (slot (root_plac
 abbrev pub root_copies : Form → (app : ℕ) → List ℕ
 root_copies form app = flat_map (root_copy form app) (range_with_len 0 copies_of_root)
 
--- the two slots and the area of a copy of a storage
+-- the two slots and the area of a copy of a storage: a line in words, or an item of a JSON list
 unfoldable pub copy_name : (app bank : ℕ) → (name : List ℕ) → List ℕ
 copy_name app bank name = codes "copy " ++ decimal app ++ codes " " ++ decimal bank ++ codes " " ++ name
 
@@ -74,14 +74,14 @@ unfoldable pub copy_members : (even odd area : ℕ) → List ℕ
 copy_members even odd area = codes "[\"f" ++ (decimal even ++ (codes "\",\"f" ++ (decimal odd ++ (codes "\",\"f"
     ++ (decimal area ++ codes "\"]")))))
 
--- all of it, of a copy of a storage in this place
+-- the files of a copy of the storage with this place, whichever the form
 abbrev pub copy_text : Form → (app bank : ℕ) → (name : List ℕ) → Place → (copy : ℕ) → List ℕ
 copy_text Lines app bank name place copy = copy_name app bank name
     ++ copy_words (copy + 1) (slot place copy 0) (slot place copy 1) (area place copy)
 copy_text Json app bank name place copy =
     comma copy ++ copy_members (slot place copy 0) (slot place copy 1) (area place copy)
 
--- those of all copies of a storage
+-- those of all of its copies
 abbrev pub storage_files : Form → (app bank : ℕ) → (name : List ℕ) → Place → List ℕ
 storage_files form app bank name place = flat_map (copy_text form app bank name place) (range_with_len 0 place.copies)
 
@@ -113,7 +113,7 @@ access_member false = codes "\"readOnly\":false"
 unfoldable pub copies_members : (m n : ℕ) → List ℕ
 copies_members m n = codes ",\"m\":" ++ decimal m ++ codes ",\"n\":" ++ decimal n ++ codes ","
 
--- how it is configured
+-- the kind, whether it is read-only, and that m of n copies must agree, in this form
 abbrev pub config_text : Form → StorageData → List ℕ
 config_text Lines s = config_words s
 config_text Json s = kind_member s.kind ++ access_member s.read_only ++ copies_members s.m s.n
@@ -137,14 +137,14 @@ corrupt_members maximum =
     codes "\"state\":\"corrupt\",\"elements\":null,\"maximumElements\":1024,\"bytes\":null,\"maximumBytes\":"
     ++ (decimal maximum ++ codes ",\"copies\":[")
 
--- what it holds, where it opens, and the most that it may, in bytes `maximum` and in elements 1024
+-- what it holds and may hold, `maximum` bytes at most; `None` where it is corrupt
 abbrev pub held_text : Form → (maximum : ℕ) → Option Held → List ℕ
 held_text Lines maximum (Some held) = opened_words maximum held.elements held.bytes
 held_text Lines maximum None = corrupt_words maximum
 held_text Json maximum (Some held) = opened_members maximum held.elements held.bytes
 held_text Json maximum None = corrupt_members maximum
 
--- all that is said of a storage
+-- all that is said of the storage of this number of a bank
 abbrev pub storage_text : Form → (app bank number : ℕ) → StorageData → Place → Option Held → List ℕ
 storage_text form app bank number s place held = storage_name form app bank number s.name ++ config_text form s
     ++ held_text form s.maximum held ++ storage_files form app bank s.name place ++ list_end form
@@ -168,7 +168,7 @@ unfoldable pub bad_head : Form → (app : ℕ) → List ℕ
 bad_head Lines app = codes "application " ++ decimal app ++ codes " corrupt\n"
 bad_head Json app = comma app ++ codes "{\"application\":" ++ decimal app ++ codes ",\"state\":\"corrupt\",\"root\":["
 
--- all that is said of it: where the copies of its root are
+-- all that is said of an application whose root is bad
 abbrev pub bad_text : Form → (app : ℕ) → List ℕ
 bad_text form app = bad_head form app ++ root_copies form app ++ list_end form
 
@@ -187,23 +187,24 @@ version_members app bank version = codes "{\"application\":" ++ (decimal app
     ++ (codes ",\"state\":\"installed\",\"version\":" ++ (decimal version ++ (codes ",\"bank\":" ++ (decimal bank
     ++ codes ",\"previous\":")))))
 
--- the same in either form
+-- its version, the bank of that, and the version before, in this form
 abbrev pub version_facts : Form → (app bank version : ℕ) → (previous : Option ℕ) → List ℕ
 version_facts Lines app bank version previous =
     version_words app bank version ++ number_text Lines previous ++ codes "\n"
 version_facts Json app bank version previous =
     comma app ++ version_members app bank version ++ number_text Json previous ++ codes ",\"root\":["
 
--- in JSON, what stands between the lists of an installed application
+-- in JSON, what is between the copies of the root and the storages of the active version
 abbrev pub between : Form → List ℕ
 between Lines = []
 between Json = codes "],\"storages\":["
 
+-- in JSON, what is between these and the storages of the previous version
 abbrev pub next_list : Form → List ℕ
 next_list Lines = []
 next_list Json = codes "],\"previousStorages\":["
 
--- how the text of an installed application begins: its versions, and where the copies of its root are
+-- what stands before the storages of an application with a version: its facts, and the files of the root's copies
 abbrev pub version_head : Form → (app bank version : ℕ) → (previous : Option ℕ) → List ℕ
 version_head form app bank version previous =
     version_facts form app bank version previous ++ root_copies form app ++ between form
@@ -216,7 +217,7 @@ version_number v = v.deployment.version
 abbrev pub version_by : Form → (app : ℕ) → Named → List State → List ℕ
 version_by form app v states = storages_by form app v.bank 0 v.deployment.storages states
 
--- those of the previous version, where one is kept
+-- the same of the previous version, where that is kept
 abbrev pub previous_by : Form → (app : ℕ) → Option Named → List State → List ℕ
 previous_by form app None states = []
 previous_by form app (Some v) states = version_by form app v states
@@ -231,7 +232,7 @@ app_by form app (installed g active previous) states =
     ++ version_by form app active states ++ next_list form
     ++ previous_by form app previous (drop (length active.deployment.storages) states) ++ list_end form
 
--- all that is said of an application
+-- what is said of an application, by what is on the disk of it
 unfoldable pub app_text : Form → (app : ℕ) → App → List ℕ
 app_text form app a = app_by form app a.says a.states
 

@@ -14,7 +14,7 @@ abbrev pub storages_seen : Form → Image → (app bank number : ℕ) → List S
 storages_seen form image app bank number storages =
     storages_by form app bank number storages (map (store_at image) (shapes_from app bank number storages))
 
--- the storages of a version; those of the previous one, where one is kept
+-- all storages of a version
 abbrev pub version_seen : Form → Image → (app : ℕ) → Named → List ℕ
 version_seen form image app v = storages_seen form image app v.bank 0 v.deployment.storages
 
@@ -22,7 +22,7 @@ abbrev pub previous_seen : Form → Image → (app : ℕ) → Option Named → L
 previous_seen form image app None = []
 previous_seen form image app (Some v) = version_seen form image app v
 
--- all that is said of an application
+-- what a listing adds for an application whose root is seen so
 abbrev pub app_seen : Form → Image → (app : ℕ) → RootSeen → List ℕ
 app_seen form image app bad = bad_text form app
 app_seen form image app (no_version lacking sole) = absent_text form app

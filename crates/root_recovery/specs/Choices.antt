@@ -35,7 +35,7 @@ pub record IsTakenOf (seens : List Seen) (seen : Seen) (recovered : Recovered) :
   pub counts : recovered.generation ≡ seen.generation
   pub copies_are : recovered.copies ≡ seen.copies
 
--- the choice is right, of the texts that copies hold: the root reads, or no text says one, or this one is taken
+-- what is chosen among these texts: none where two copies hold a root, or where no text says one
 abbrev pub IsChoice : List Seen → Choice → Type 0
 IsChoice seens Reads = stands_as_root (standing_in agreeing_of_root seens) ≡ Bool.true
 IsChoice seens NoneLeft = (stands_as_root (standing_in agreeing_of_root seens) ≡ false)

@@ -23,8 +23,8 @@ pub record IsRecovered (app : ℕ) (row : RootRow) (old new : Image) : Type 0 wh
   pub held : IsHeldByAll new app row
   pub clean : IsCleanApp app old → AreCleanAfter old app → IsCleanApp app new
 
--- Every moment of a recovery, however it ends: a crash leaves what is said here, or what a crash just before the call
--- might have left (`old.now`).
+-- Every moment of a recovery, however it ends. Each case `c` of a crash meanwhile may also be one that a crash before
+-- the call might have left (`old.now c`).
 pub record RecoveryKeeps (app : ℕ) (old new : Medium) : Type 0 where
   -- only slots of the root change, at the end and at any moment
   pub elsewhere : Spares (IsNoSlot (root_place app)) old.image new.image
@@ -42,7 +42,7 @@ pub record LeavesAll (old new : Medium) : Type 0 where
 
 -- ---- the same of the calls after the sync with which a recovery begins, where nothing is pending
 
--- Every moment of those calls, however they end.
+-- only slots of the root change, and the application is as it was or recovered, as in `RecoveryKeeps`
 pub record RecoveryKeepsSynced (app : ℕ) (old new : Medium) : Type 0 where
   pub elsewhere : Spares (IsNoSlot (root_place app)) old.image new.image
   pub outside : Quiet old → EachCase (IsSettledOn (IsNoSlot (root_place app)) old.image) old new

@@ -4,7 +4,7 @@ use Rattle.guarded_cell.specs.declared.errors.CellError.TheVariants as cell
 use Rattle.root_recovery.specs.declared.errors.RecoveryError.{RecoveryError}
 use Rattle.root_recovery.specs.declared.errors.RecoveryError.TheVariants.{Device, OutOfMemory}
 
--- an error of the calls on the root's copies, as one of a recovery
+-- `Corrupt`, which cannot come, is mapped to anything
 abbrev pub of_cell : CellError → RecoveryError
 of_cell cell.Device = Device
 of_cell cell.Corrupt = OutOfMemory

@@ -31,12 +31,12 @@ is_root_text seen = is_some (root_of seen.text)
 unfoldable pub left_at : Image → ℕ → Option Seen
 left_at image app = find is_root_text (held image (root_place app))
 
--- the row that takes this text, where it says this root
+-- a text that was seen is taken if it says a root
 abbrev pub taking_root : Seen → Option Root → RootRow
 taking_root seen None = none_left
 taking_root seen (Some root) = takes seen.generation root seen.copies
 
--- the row that takes what is left, where something is
+-- the text that is left is taken, where one is
 abbrev pub taking : Option Seen → RootRow
 taking None = none_left
 taking (Some seen) = taking_root seen (root_of seen.text)
@@ -83,7 +83,7 @@ IsHeldByAll image app reads = ⊤
 IsHeldByAll image app none_left = ⊤
 IsHeldByAll image app (takes g root copies) = IsAlone image (root_place app) g (root_text root)
 
--- the most bytes that are written: a text of a root, of at most 131084 bytes after a header, into each of three copies,
--- and blanks
+-- the most bytes that are written: into each of the three copies a root's text, of at most 131,084 bytes, with its
+-- header, and a blank, as long as a header
 abbrev pub most_written : ℕ
 most_written = 3 * (header + 131084 + header)

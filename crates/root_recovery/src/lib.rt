@@ -13,7 +13,9 @@
 //! looked at.
 //!
 //! In the contracts `told` is that a disk's bytes are modelled, `quiet` that nothing is pending on it, and `time` that
-//! its moments go on and no count falls.
+//! its moments go on and no count falls. A *row* says which root is taken, or why none is.
+//! A place (the files of the copies of a root or storage) is *clean* where what they hold does not contradict itself:
+//! no two texts of one generation are held, and no two contents under one entry.
 #![tactic(auto)]
 
 mod choosing;

@@ -51,7 +51,8 @@ pub enum Recovery {
 
 /// Recovers the root of an application that cannot be read: of the roots that copies hold it takes the one of the
 /// greatest generation, at one generation the one whose first copy is lowest, and brings every copy to it. Where the
-/// root reads, or no copy holds one, nothing is changed. It begins with a sync.
+/// root reads (the text that two copies hold says one), or no copy holds one, nothing is changed. It begins with a
+/// sync.
 ///
 /// # Errors
 ///
@@ -78,7 +79,7 @@ pub fn recover_root<D: Disk>(
     ensures passes { OnOk result ((D.medium disk.new).faults ≡ (D.medium disk.old).faults) }
     ensures fed { IsErrOf result RecoveryError.OutOfMemory → (D.medium disk.new).faults ≡ (D.medium disk.old).faults }
     // However it ends, only slots of the root change, at any moment, and the application is as it was or recovered. At
-    // most a root's text and two blanks are written into each of the three copies.
+    // most a root's text with its header and one blank, 44 zeros, are written into each of the three copies.
     ensures keeps { IsTrue D.told → RecoveryKeeps app (D.medium disk.old) (D.medium disk.new) }
     ensures written { (D.medium disk.new).written ≤ (D.medium disk.old).written + most_written }
     ensures time { Elapses (D.medium disk.old) (D.medium disk.new) }

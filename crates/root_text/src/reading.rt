@@ -37,6 +37,7 @@ pub fn read_root(alloc: Global, text: &[u8]) -> Result<RootSays, RootError>
     read_whole(alloc, text)
 }
 
+/// The root that a text says, which must be all of it.
 #[tactic(auto, unfolding(crate::specs::RootText::root_of, crate::specs::RootText::parts_of_text))]
 fn read_whole(alloc: Global, text: &[u8]) -> Result<RootSays, RootError>
     ensures read { Gives root_said result (root_of text.now) }
@@ -50,6 +51,7 @@ fn read_whole(alloc: Global, text: &[u8]) -> Result<RootSays, RootError>
     root_from(alloc, kind, rest)
 }
 
+/// The root after the byte `kind`: 0 is absent and 1 installed.
 #[tactic(auto, unfolding(crate::specs::RootText::root_in, crate::specs::RootText::parts_by))]
 fn root_from(alloc: Global, kind: u8, bytes: &[u8]) -> Result<RootSays, RootError>
     ensures read { Gives root_said result (root_in kind bytes.now) }
@@ -62,6 +64,7 @@ fn root_from(alloc: Global, kind: u8, bytes: &[u8]) -> Result<RootSays, RootErro
     }
 }
 
+/// An absent root, after which nothing may stand.
 fn absent_from(bytes: &[u8]) -> Result<RootSays, RootError>
     ensures read { Gives root_said result (only_if (length bytes.now == 0) absent) }
     ensures memory { ¬ (IsErrOf result RootError.OutOfMemory) }
@@ -72,6 +75,7 @@ fn absent_from(bytes: &[u8]) -> Result<RootSays, RootError>
     Ok(RootSays::Absent)
 }
 
+/// A root with something installed, which all of the bytes say.
 #[tactic(auto, unfolding(crate::specs::RootText::some_root_in))]
 fn installed_from(alloc: Global, bytes: &[u8]) -> Result<RootSays, RootError>
     ensures read { Gives root_said result (some_root_in bytes.now) }
@@ -81,6 +85,7 @@ fn installed_from(alloc: Global, bytes: &[u8]) -> Result<RootSays, RootError>
     root_by(alloc, fields)
 }
 
+/// The root with these parts, where each text is a manifest.
 #[tactic(auto, unfolding(crate::specs::RootText::installed_in))]
 fn root_by(alloc: Global, fields: Fields) -> Result<RootSays, RootError>
     ensures { Gives root_said result (installed_in (parts_seen fields.entry)) }
@@ -90,6 +95,7 @@ fn root_by(alloc: Global, fields: Fields) -> Result<RootSays, RootError>
     Ok(RootSays::Installed(fields.bank as u32, active, previous))
 }
 
+/// The previous version with this text, or none where there is no text.
 #[tactic(auto, unfolding(crate::specs::RootText::previous_in))]
 fn previous_of(alloc: Global, text: Option<&[u8]>) -> Result<Option<VersionText>, RootError>
     ensures { Gives (λ previous. option_map version_said previous) result
@@ -126,6 +132,7 @@ pub(crate) struct Fields<'a> {
     previous: Option<&'a [u8]>,
 }
 
+/// The parts that all of the bytes are.
 #[tactic(auto, unfolding(crate::specs::RootText::parts_in))]
 fn fields_of(bytes: &[u8]) -> Result<Fields, RootError>
     ensures read { Gives parts_seen result (parts_in bytes.now) }
@@ -138,6 +145,7 @@ fn fields_of(bytes: &[u8]) -> Result<Fields, RootError>
     Ok(fields)
 }
 
+/// The parts at the start of the bytes, and what is left after them.
 #[tactic(auto, unfolding(crate::specs::RootText::parts_at))]
 fn fields_at(bytes: &[u8]) -> Result<(Fields, &[u8]), RootError>
     ensures read { Gives (λ x. (parts_seen x.0, x.1.now)) result (parts_at bytes.now) }
@@ -169,6 +177,7 @@ fn text_of(bytes: &[u8]) -> Result<(&[u8], &[u8]), RootError>
     Ok((text, rest))
 }
 
+/// The text of the previous version where the flag is 1, none where it is 0, and what is left after it.
 #[tactic(auto, unfolding(crate::specs::RootText::previous_at, crate::specs::RootText::some_text_at))]
 fn previous_text_of(flag: u8, bytes: &[u8]) -> Result<(Option<&[u8]>, &[u8]), RootError>
     ensures read { Gives (λ x. (option_map borrowed_bytes x.0, x.1.now)) result (previous_at flag bytes.now) }

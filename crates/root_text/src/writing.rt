@@ -49,6 +49,7 @@ pub fn write_installed(
     Ok(text)
 }
 
+/// Appends a part with its length in front, which takes four bytes.
 fn put_text(text: &mut Vec<u8>, part: &[u8]) -> Result<(), AllocError>
     requires { length part.now ≤ 65536 }
     ensures { OnOk result (text.new.items ≡ text.old.items ++ long_text part.now) }

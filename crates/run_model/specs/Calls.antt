@@ -329,7 +329,8 @@ CallStep rules answers app now r (call.UpdateBegin text) outcome = BeginsBy rule
     (with_update_begun r) outcome
 CallStep rules answers app now r other outcome = outcome ≡ concluded r (app_step app r now other)
 
--- the same, after the refusal that an update in progress gives, if it gives one
+-- a call on application r at the moment now may have this outcome: the refusal that an update in progress gives, if it
+-- gives one, and else that of the call by itself (`CallStep`)
 abbrev pub StepBeside : List Rule → Answers → (app now : ℕ) → Application → Call → Option PerError → Outcome → Type 0
 StepBeside rules answers app now r c (Some e) outcome = outcome ≡ answered (answer.Error e) r
 StepBeside rules answers app now r c None outcome = CallStep rules answers app now r c outcome

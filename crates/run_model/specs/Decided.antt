@@ -54,7 +54,7 @@ one_storage g bank version s state = record {
   states = state ∷ [];
 }
 
--- it opens at the view before, or at the one after
+-- it opens at the view before, or at the one after: under its generation, with elements of the same headings
 abbrev pub OpensAsEither : State → View → State → Type 0
 OpensAsEither left before after = (w : View) × (rest : List View) × (left ≡ Opens w rest)
     × (SameHeadings w before ⊎ ((v : View) × (others : List View) × (after ≡ Opens v others) × SameHeadings w v))

@@ -234,7 +234,7 @@ keys_stay c s (call.ResetKey n k) = changes_stays s (kvs.reset_key c s.visible k
 keys_stay c s (call.Discard n) = refl
 keys_stay c s other = tt
 
--- the same of a session of either kind
+-- the answer leaves a session, of keys or of files, with the same as synchronised
 abbrev pub KeepsSynced : Session → Answer × Session → Type 0
 KeepsSynced s a = SameSynced s a.1
 

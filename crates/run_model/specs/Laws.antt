@@ -1,6 +1,8 @@
 -- The statements of the laws. `rules` and `answers` are the stored converters and what they may answer; `w` is a world
 -- before a command and `w'` the one after it; `old`, `now` and `new` are what the model knows of the disk at moments
 -- one after another; `ds` is what is on the disk of each application, `d` a doubt and `c` a call or a case of a crash.
+-- `app`, `other`, `a` and `b` are numbers of applications, `e` is a command, `reply` its answer, and `f` a storage that
+-- was found by its name; `v` is another world, but where it is a view.
 use Rattle.std.specs.Prelude.{◌≡◌, ◌≢◌, ◌⊎◌, ◌<◌, ◌+◌, ℕ, List, [], ◌∷◌, ◌++◌, length, true, false, Option, Some, None}
 use Rattle.std.specs.Prelude.{Ok}
 use Rattle.std.specs.Io.KnownBytes.{Appends}
@@ -110,7 +112,8 @@ StorageFailureLastsLaw rules answers = (w w' : World) (app : ℕ) (c : Call) (re
 -- ---- moments
 
 -- After the last command the root says what it said then, or what the command in progress leads to: nothing from
--- further back.
+-- further back. This is without a doubt, of a root that says something and that no copy lacks; `next` is where the
+-- command in progress leads.
 abbrev pub NotFurtherBackLaw : Type 0
 NotFurtherBackLaw = (app : ℕ) (w : World) (next : Disks) (c : Case) → IsSoundApp app c → w.doubt ≡ None
     → ¬ ((disk_at (disks w) app).says ≡ nothing)
@@ -118,7 +121,8 @@ NotFurtherBackLaw = (app : ℕ) (w : World) (next : Disks) (c : Case) → IsSoun
     → (says_at c.left app ≡ (disk_at (disks w) app).says) ⊎ (says_at c.left app ≡ (disk_at next app).says)
 
 -- A storage whose command failed at the device opens, by what reads then gave, at the view before or at the one
--- after: it is not emptied.
+-- after: it is not emptied. It is the storage `s` of an application that has no other, in its one version, under the
+-- root's generation `g`; it opened at `v`, with `others` as views of the other texts, in as many copies as must agree.
 abbrev pub OpensAsEitherLaw : Type 0
 OpensAsEitherLaw = (app g bank version : ℕ) (s : StorageData) (v : View) (others : List View) (after : State)
     (d : Doubt)
@@ -206,7 +210,8 @@ AllOpenedLaw old now = OpenedUpTo 8 old now → StartKeeps old now
 
 -- ---- a life
 
--- Over any number of jobs of a life, the places of each application are clean, and it stands between two of the pairs.
+-- Over any number of jobs of a life (a run, an audit, an export or an import each), the places of each application are
+-- clean, and it stands between the two states of one of the pairs that the life keeps.
 abbrev pub LifeLaw : {D : Type 0} → (medium : D → Medium) → List Rule → Answers → Type 0
 LifeLaw {D} medium rules answers = (app : ℕ) → app < 8 → (m : D) (pairs : List Pair)
     → Life medium rules answers app m pairs → Known app (medium m) pairs
@@ -221,9 +226,11 @@ LifeStopsLaw {D} medium rules answers = (app : ℕ) → app < 8 → (old new m :
     → (p : Pair) × IsAmong (pairs_of app (medium old) (medium new) job pairs) p
     × Stands app (medium m).image (p.damaged ++ stop.damaged) p.before p.after
 
--- ---- a run
+-- ---- a run: `turns` (`ts`) are its commands so far, `memory` is what the runtime keeps beside the disk, `lines` are
+-- the lines that were handled, of its lines `all`; `before` and `after` are the output before the run and after it
 
--- where each failed reply of a run has its cause in its command, so it is with one such command more
+-- where each failed reply of a run has its cause in its command, so it is with one such command more; here `before` and
+-- `after` are the counts of faults
 abbrev pub BlamedLaw : Type 0
 BlamedLaw = (before : ℕ) (ts : List Turn) (t : Turn) (after : ℕ) → AreBlamed before ts after
     → IsBlamed after t.faults t.reply → AreBlamed before (ts ++ t ∷ []) t.faults
@@ -259,8 +266,8 @@ RunEndsLaw rules answers old now = (ending : Ending) (lines all : List (List ℕ
     now
     → DiskSide rules answers ending lines all turns before after old now
 
--- all that a run promises of the disk follows also where the command of the next line is in progress, after the text of
--- every reply
+-- all that a run promises of the disk follows also where the command `e` of the next line, `text`, is in progress, once
+-- the text of every reply before it is written; `others` are the lines after it
 abbrev pub RunStopsLaw : List Rule → Answers → (old now new : Medium) → Type 0
 RunStopsLaw rules answers old now new = (ending : Ending) (lines all others : List (List ℕ)) (text : List ℕ)
     (turns : List Turn) (before after : Option (List ℕ)) (e : Event)

@@ -56,7 +56,7 @@ abbrev pub IsAmong : List Pair → Pair → Type 0
 IsAmong [] q = ⊥
 IsAmong (p ∷ ps) q = (q ≡ p) ⊎ IsAmong ps q
 
--- nothing is in progress
+-- the one pair of an application while nothing is in progress: it is before and after what the image says
 abbrev pub resting_pairs : Image → (app : ℕ) → List Pair
 resting_pairs image app = fresh_pair (app_at image app) (app_at image app) ∷ []
 
@@ -69,7 +69,7 @@ doubt_pairs app (Some d) = fresh_pair (disk_at d.before app) (disk_at d.after ap
 abbrev pub last_pairs : ℕ → World → (next : Disks) → List Pair
 last_pairs app w next = fresh_pair (disk_at (disks w) app) (disk_at next app) ∷ doubt_pairs app w.doubt
 
--- after a run; one that did not start may have left those of before it
+-- the pairs after a run; one that did not start may have left those of before it (`earlier`)
 abbrev pub pairs_after : ℕ → (entry : World) → (reached : List World) → (next : Disks) → (earlier : List Pair)
     → List Pair
 pairs_after app entry [] next earlier = fresh_pair (disk_at (disks entry) app) (disk_at next app)
@@ -80,7 +80,7 @@ pairs_after app entry (w ∷ ws) next earlier = last_pairs app (last_of w ws) ne
 abbrev pub aged : (damaged : List ℕ) → Pair → Pair
 aged damaged p = record { before = p.before; after = p.after; damaged = p.damaged ++ damaged }
 
--- the same of each pair of a list
+-- more files are damaged, in each pair of a list
 abbrev pub all_aged : (damaged : List ℕ) → List Pair → List Pair
 all_aged damaged [] = []
 all_aged damaged (p ∷ ps) = aged damaged p ∷ all_aged damaged ps
@@ -94,12 +94,12 @@ BeginImaged app (p ∷ ps) = ((start : Image) × (p.before ≡ app_at start app)
 abbrev pub IsRooted : ℕ → Pair → Type 0
 IsRooted app p = ¬ (p.before.says ≡ nothing) → HasEnoughRoot app p.damaged p.before.lacking
 
--- so it does whichever of them it is, and with these files damaged too
+-- each of these pairs has such a root (`IsRooted`), with these files damaged too
 abbrev pub HasRoot : ℕ → (damaged : List ℕ) → List Pair → Type 0
 HasRoot app damaged [] = ⊤
 HasRoot app damaged (p ∷ ps) = IsRooted app (aged damaged p) × HasRoot app damaged ps
 
--- so it is of each pair of which some file is damaged
+-- each of these pairs of which some file is damaged has such a root (`IsRooted`)
 abbrev pub AreRooted : ℕ → List Pair → Type 0
 AreRooted app [] = ⊤
 AreRooted app (p ∷ ps) = ((p.damaged ≡ []) ⊎ IsRooted app p) × AreRooted app ps

@@ -38,7 +38,7 @@ IsDecided app (Some d) = Between app d.before d.after d.case
 
 -- ---- before a run
 
--- so it is of this case of a crash, or it is one that a crash before these calls, at `old`, might have left
+-- P holds of this case of a crash, or it is one that a crash before these calls, at `old`, might have left
 abbrev pub OrBefore : Medium → (Case → Type 0) → Case → Type 0
 OrBefore old P c = old.now c ⊎ P c
 
@@ -85,7 +85,8 @@ abbrev pub IsMomentOf : ℕ → (w : World) → List World → (next : Disks) �
 IsMomentOf app w [] next c = Between app (disks w) next c ⊎ InDoubt app w.doubt c
 IsMomentOf app w (v ∷ vs) next c = AtMoment app (disks w) (disks v) v.doubt c ⊎ IsMomentOf app v vs next c
 
--- the same of the commands that were answered, with none in progress after them
+-- A crash at some moment of the commands that were answered, through these worlds, from w on: the application stands
+-- between two worlds that follow each other, or in the doubt of one of them.
 abbrev pub IsPast : ℕ → (w : World) → List World → Case → Type 0
 IsPast app w [] c = ⊥
 IsPast app w (v ∷ vs) c = AtMoment app (disks w) (disks v) v.doubt c ⊎ IsPast app v vs c
@@ -95,11 +96,11 @@ abbrev pub last_of : World → List World → World
 last_of w [] = w
 last_of w (v ∷ vs) = last_of v vs
 
--- so it is of the doubt of each of these worlds
+-- the doubt of each of these worlds is sound (`IsSoundDoubt`)
 abbrev pub AreSoundDoubts : ℕ → List World → Type 0
 AreSoundDoubts app worlds = AllByRecursion (λ (w : World). IsSoundDoubt app w.doubt) worlds
 
--- so it is of the doubt of each of these worlds
+-- the doubt of each of these worlds is decided (`IsDecided`)
 abbrev pub AreDecided : ℕ → List World → Type 0
 AreDecided app worlds = AllByRecursion (λ (w : World). IsDecided app w.doubt) worlds
 
@@ -114,11 +115,12 @@ abbrev pub IsSideImaged : ℕ → Option Doubt → Type 0
 IsSideImaged app None = Unit {0}
 IsSideImaged app (Some d) = IsImaged app d.before
 
--- of a world, and of what was there before the command that left its doubt
+-- what a world has on the disk of the application, and what was there before the command that left its doubt, is what
+-- some image denotes
 abbrev pub IsWorldImaged : ℕ → World → Type 0
 IsWorldImaged app w = IsImaged app (disks w) × IsSideImaged app w.doubt
 
--- so it is of each of these worlds
+-- each of these worlds is such (`IsWorldImaged`)
 abbrev pub AreImaged : ℕ → List World → Type 0
 AreImaged app worlds = AllByRecursion (λ (w : World). IsWorldImaged app w) worlds
 

@@ -1,5 +1,7 @@
 -- What no call on a storage leaves, beside the clause that excludes it: one statement for each mistake. Where a stop is
--- spoken of, the storage has one element, in every copy.
+-- spoken of, the storage has one element, in every copy: `g` is its generation, `was` what the element held and `is`
+-- what it is to hold. `old` and `new` are the bytes written before and after, `index` is the length of the index, and
+-- `copies` the number of copies; `s` is an open storage, `v` its view, and `others` are views of the other texts.
 use Rattle.std.specs.Prelude.{◌≡◌, ℕ, ◌+◌, ◌-◌, ◌*◌, ◌^◌, ◌<◌, ◌≤◌, List, [], ◌∷◌, length, Bool, IsTrue, Some, None}
 use Rattle.std.specs.Prelude.{Result, IsErrOf}
 use Rattle.std.specs.List.{Contains}

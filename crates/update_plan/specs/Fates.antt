@@ -127,7 +127,7 @@ abbrev pub Renews : Answers → List ℕ → Fate → Result (Option Fresh) PerE
 Renews answers name f (Ok new) = Becomes answers name f new
 Renews answers name f (Err e) = RefusesAs f e
 
--- the same of a call that gave an element
+-- a call gave the element that the name then has, or the refusal
 abbrev pub Retains : Answers → List ℕ → Fate → Result Fresh PerError → Type 0
 Retains answers name f (Ok x) = Becomes answers name f (Some x)
 Retains answers name f (Err e) = RefusesAs f e

@@ -9,6 +9,7 @@ use Rattle.update_plan.specs.Rows as rows
 use Rattle.update_plan.specs.Merging as plain
 use Rattle.update_plan.specs.Merging.{merged}
 
+-- an item: a name with the stored element and the configured one, each if there is one
 abbrev pub item_of : Item → plain.Item
 item_of i = record {
   name = i.name.now;
@@ -17,10 +18,12 @@ item_of i = record {
       option_map (λ c. element_data c.now) i.configured;
 }
 
+-- all items, by the first one and what is left of the stored and of the configured elements after it
 abbrev pub items_by : Option FirstItem → List plain.Item
 items_by None = []
 items_by (Some first) = item_of first.item ∷ merged first.stored.now (map element_data first.configured.now)
 
+-- what an element becomes: nothing, its initial content, or its stored entry
 abbrev pub row_of : Row → rows.Row
 row_of Nothing = rows.nothing
 row_of (Initial bytes) = rows.initial bytes.now

@@ -20,6 +20,7 @@ use Rattle.migrate_fns.specs.Chains.{chain_of}
 use Rattle.migrate_fns.specs.Rules.{Rule}
 use Rattle.update_plan.specs.Fates.{Fate, goes, gets, converted, refused, fate}
 
+-- a storage `s` of this kind and strategy, in one copy and with nothing configured
 abbrev pub storage : StoreKind → CollectionStrategy → StorageData
 storage kind strategy = record {
   name = codes "s";
@@ -34,9 +35,11 @@ storage kind strategy = record {
   elements = [];
 }
 
+-- a configured key `k` of this type
 abbrev pub key : Kind → Option (List ℕ) → Option ElementStrategy → ElementData
 key k initial strategy = record { name = codes "k"; value_type = Some k; initial = initial; strategy = strategy }
 
+-- a stored key `k` of these bytes
 abbrev pub stored : List ℕ → Entry
 stored bytes = record { name = codes "k"; info = None; changed = 1; len = 2; content = Good bytes; lacking = [] }
 
@@ -44,6 +47,7 @@ stored bytes = record { name = codes "k"; info = None; changed = 1; len = 2; con
 abbrev pub rules : List Rule
 rules = record { element = None; from = unsigned_kind two; to = unsigned_kind four } ∷ []
 
+-- what an update at the moment 50 makes of the key `k`
 abbrev pub of_key : Option ElementData → Option Entry → Fate
 of_key c e = fate rules 50 (storage Keys collection.KeepExisting) (codes "k") c e
 

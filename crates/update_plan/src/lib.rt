@@ -9,6 +9,11 @@
 //! It reads the disk nowhere and writes nothing. A stored file that is overwritten changes now, and every other file
 //! that gets its initial content is made now; what is kept keeps its info.
 //!
+//! Words of the contracts: a *fate* is what an update makes of a name: it goes, it gets an element, what is stored of
+//! it is converted, or the update is refused. `rules` are the stored converters (`rules_of`) and `answers` what each
+//! may answer (`answers_of`). A *fresh* element is one that is to be written. `now` is a moment in seconds. The *info*
+//! of a file says when it was made, last changed and last opened, and the causes of its making and its last change.
+//!
 //! [`initial_of`] is this over empty contents, for an installation and for every storage that is rebuilt. What both
 //! give can be made a storage as it is: names ascend, there are at most 1,024, they fit the maximum, and exactly files
 //! have an info.

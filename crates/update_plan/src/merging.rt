@@ -56,6 +56,7 @@ pub(crate) fn first_item<'a>(
     }
 }
 
+/// A name of which something is stored and nothing configured, and what is left of both lists.
 fn stored_alone<'a>(
     entry: &'a Entry,
     stored: &'a [Entry],
@@ -76,6 +77,7 @@ fn stored_alone<'a>(
     }
 }
 
+/// A name of which something is configured and nothing stored, and what is left of both lists.
 fn configured_alone<'a>(
     element: &'a ElementConfig,
     stored: &'a [Entry],

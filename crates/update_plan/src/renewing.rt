@@ -189,6 +189,7 @@ impl Update<'_> {
     }
 }
 
+/// The element's own strategy, if it is configured and has one.
 fn own_strategy(item: Item) -> Option<ElementStrategy>
     ensures { result ≡ strategy_of (item_of item.entry).configured }
 {
@@ -198,6 +199,7 @@ fn own_strategy(item: Item) -> Option<ElementStrategy>
     }
 }
 
+/// The initial content that is configured for it, if one is.
 fn initial_content<'a>(item: Item<'a>) -> Option<&'a Bytes>
     ensures { option_map (λ b. b.now) result ≡ initial_configured (item_of item.entry).configured }
 {
@@ -207,6 +209,7 @@ fn initial_content<'a>(item: Item<'a>) -> Option<&'a Bytes>
     }
 }
 
+/// The type that is configured for it, if one is.
 fn value_type<'a>(item: Item<'a>) -> Option<&'a ValueType>
     ensures { option_map (λ t. kind_of t.now) result ≡ type_configured (item_of item.entry).configured }
 {

@@ -42,6 +42,7 @@ pub(crate) fn row_by<'a>(
     }
 }
 
+/// The initial content, if there is one, and else nothing.
 fn initial_or_nothing(initial: Option<&Bytes>) -> Row<'_>
     ensures { row_of result ≡ initial_or (option_map (λ b. b.now) initial.entry) }
 {
@@ -51,6 +52,7 @@ fn initial_or_nothing(initial: Option<&Bytes>) -> Row<'_>
     }
 }
 
+/// What is stored, and else the initial content, if there is one.
 fn kept_or_initial<'a>(stored: Option<&'a Entry>, initial: Option<&'a Bytes>) -> Row<'a>
     ensures { row_of result ≡ kept_or (option_map (λ e. e.now) stored.entry) true
         (initial_or (option_map (λ b. b.now) initial.entry)) }
@@ -80,6 +82,7 @@ pub(crate) fn initial_info(
     }
 }
 
+/// The info of a stored file that is overwritten: an update changed it now. A key has none.
 fn overwritten_info(info: Option<FileInfo>, now: u64) -> Option<FileInfo>
     ensures { result ≡ option_map (infos.info_changed now Update) info }
 {
