@@ -32,6 +32,7 @@ application image r = as_app (app_at image r.app) (running_in r)
 abbrev pub NoneOpen : OpenSlots → Type 0
 NoneOpen slots = slots.open.items ≡ replicate {A = Option Open} 16 None
 
+-- what is in memory at this stage is in use on the disk; storages are open only where the application is at rest
 abbrev pub IsStageAt : (told : Bool) (image : Image) (app : ℕ) → OpenSlots → Stage → Type 0
 IsStageAt told image app slots ToOpen = NoneOpen slots
 IsStageAt told image app slots (AtRest root) = IsResting told image app root slots

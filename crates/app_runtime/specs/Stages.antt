@@ -32,6 +32,7 @@ stage_root ToOpen = Bad
 stage_root (AtRest root) = root
 stage_root (Updating staged) = staged_root staged
 
+-- the update in progress, where one is
 abbrev pub staged_in : Stage → Option Staged
 staged_in ToOpen = None
 staged_in (AtRest root) = None

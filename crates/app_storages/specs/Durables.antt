@@ -19,6 +19,7 @@ abbrev pub done_or : Option PerError → Answer
 done_or None = answer.Done
 done_or (Some e) = answer.Error e
 
+-- the reply says that it is done, or why it is refused, and reports nothing
 abbrev pub RepliesDone : Reply → Option PerError → Type 0
 RepliesDone reply refused = reply ≡ record { reports = []; answer = done_or refused }
 
@@ -32,6 +33,7 @@ pub record IsShown (o : Open) : Type 0 where
 abbrev pub IsSet : ℕ → Option Open → (was is : OpenSlots) → Type 0
 IsSet number storage was is = is.open.items ≡ slice_set was.open.items number storage
 
+-- the storage that a call made durable is in its slot again, or that which it refused, and the reply says which
 abbrev pub IsPutBack : ℕ → Durable → (was is : OpenSlots) → Reply → Type 0
 IsPutBack number (made.Done later) was is reply = IsShown later × IsSet number (Some later) was is
     × RepliesDone reply None

@@ -56,6 +56,7 @@ pub record IsLost (told : Bool) (app now : ℕ) (root : Root) (c : Call) (was is
     pub memory : IsResting told new.image app root is
     pub cause : Rose old.faults new.faults
 
+-- a call on a storage ended: it was answered, or the device failed, or memory ran out; from the slots `was` to `is`
 abbrev pub EndsSo : (told : Bool) (app now : ℕ) (root : Root) (c : Call) (was is : OpenSlots) (old new : Medium)
     → Result Reply Stop → Type 0
 EndsSo told app now root c was is old new (Ok reply) = IsStorageCallReplied told app now root c was is old new reply

@@ -34,6 +34,7 @@ TellsRefusal e (Ok reply) = (e ≢ error.OutOfMemory) × (reply ≡ record { rep
 TellsRefusal e (Err Device) = ⊥
 TellsRefusal e (Err OutOfMemory) = e ≡ error.OutOfMemory
 
+-- the reply has this answer and no reports, or the refusal is told
 abbrev pub TellsAnswer : Result Answer PerError → Result Reply Stop → Type 0
 TellsAnswer (Ok a) result = result ≡ Ok (record { reports = []; answer = a })
 TellsAnswer (Err e) result = TellsRefusal e result

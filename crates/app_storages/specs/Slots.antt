@@ -18,7 +18,7 @@ use Rattle.app_storages.specs.declared.slots.OpenSlots.{OpenSlots}
 abbrev pub sessions_in : OpenSlots → Sessions
 sessions_in slots = map (option_map session_in) slots.open.items
 
--- what is in a slot
+-- what is in a slot; and in that of this number, counted from 0
 abbrev pub if_there : {A : Type 0} → Option (Option A) → Option A
 if_there None = None
 if_there (Some x) = x

@@ -14,6 +14,7 @@ UsedFrameLaw = (told : Bool) (store : Store) (old new : Image)
     → (IsTrue told → Spares (IsOfPlace (store_shape store).place) old new)
     → IsUsed told old store → IsUsed told new store
 
+-- the laws of storages that calls on an application rely on
 pub record StorageLaws : Type 0 where
   -- what a root in use says, and where its storages are stored
   pub in_use : RootInUseLaw

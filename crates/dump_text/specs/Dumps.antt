@@ -49,6 +49,7 @@ pub record IsDumped (d : DumpedApplication) : Type 0 where
 
 -- ---- what a text has: a storage
 
+-- the kind, by the member `keys`, where there is one
 abbrev pub kind_by : Option Data → StoreKind
 kind_by (Some d) = Keys
 kind_by None = Files
@@ -72,7 +73,7 @@ unfoldable pub exported_text : StoreKind → List Fresh → Option (List ℕ)
 exported_text kind contents = only_if (are_exportable kind contents)
     (export_text (record { kind = kind; contents = contents }))
 
--- its name and its elements, which are its only member
+-- its name and its elements, which are its only member; None where it is no storage
 unfoldable pub dumped_storage_in : (name : List ℕ) → Data → Option DumpedStorage
 dumped_storage_in name d = do
   members ← member_object (dumped_word (kind_in d)) d
@@ -104,7 +105,7 @@ pub record ApplicationData : Type 0 where
 abbrev pub application_data : DumpedApplication → ApplicationData
 application_data d = record { number = d.application; manifest = d.manifest; storages = d.storages.items }
 
--- the number of an application, which is one digit from 0 to 7
+-- the number of an application, which is one digit from 0 to 7, in ASCII 48 to 55
 abbrev pub application_number : (name : List ℕ) → Option ℕ
 application_number [] = None
 application_number (digit ∷ []) = only_if (nat_le 48 digit && nat_le digit 55) (digit - 48)

@@ -30,6 +30,7 @@ member_number name d = option_and_then as_u64 (option_and_then as_number (get na
 abbrev pub member_object : (name : List ℕ) → Data → Option Members
 member_object name d = option_and_then as_object (get name d)
 
+-- there are members, and this many
 abbrev pub are_so_many : ℕ → Option Members → Bool
 are_so_many count None = false
 are_so_many count (Some members) = nat_eq (members_len members) count
@@ -44,6 +45,7 @@ only_members count d = only_if (has_members count d) tt
 
 -- ---- a file
 
+-- the word for who made or changed a file
 abbrev pub cause_word : Cause → List ℕ
 cause_word Installation = codes "installation"
 cause_word Update = codes "update"
@@ -64,6 +66,7 @@ unfoldable pub cause_said : List ℕ → Option Cause
 cause_said word = first_row ((codes "installation", Installation) ∷ (codes "update", Update) ∷ (codes "reset", Reset)
     ∷ (codes "recovery", Recovery) ∷ (codes "application", Application) ∷ []) word
 
+-- the member of this name, where it is the word of a cause; where it is bytes in hexadecimal
 unfoldable pub member_cause : (name : List ℕ) → Data → Option Cause
 member_cause name d = do
   word ← member_text name d

@@ -9,7 +9,8 @@ ghost use Rattle.dump_text.specs.Dumps.{IsInOrder, dumped_names};
 
 use manifest::said_is_kept;
 
-/// An application whose storages are those of its manifest, in that order, is one that a dump gives back (`IsInOrder`).
+/// An application whose storages are those of its manifest, in that order, is one that a dump gives back (`IsInOrder`):
+/// `said` is the deployment that the manifest of `d` says.
 pub fn manifests_are_in_order()
     ensures { (d : DumpedApplication) (said : DeploymentData) → deployment_in d.manifest ≡ Some said
         → dumped_names d.storages.items ≡ storage_names said → IsInOrder d }

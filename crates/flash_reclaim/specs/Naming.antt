@@ -1,4 +1,5 @@
--- Which files the roots of a disk leave free, and which are kept.
+-- Which files the roots of a disk leave free, and which are kept. Each of the eight applications has 4096 files, 32768
+-- in all, and among them two banks of 512 for the storages of its versions.
 use Rattle.std.specs.Prelude.{◌≡◌, ℕ, zero, suc, ◌+◌, ◌*◌, ◌-◌, ◌<◌, ◌≤◌, List, [], ◌∷◌, ◌++◌, Bool, true, false}
 use Rattle.std.specs.Prelude.{Some, None, if◌then◌else◌}
 use Rattle.disk_model.specs.Image.{Image}

@@ -42,7 +42,8 @@ abbrev pub MayTakeNothing : (old : Image) → (new : FlashMedium) → Type 0
 MayTakeNothing old new = (kept : ℕ → Bool) × ((file : ℕ) → kept file ≡ true → ¬ (IsFileGivenUp old file))
     × MayGiveNothing kept new
 
--- A flash whose room was reclaimed, in whole or not at all, and what the disk counted of its own while roots were read.
+-- A flash whose room was reclaimed, in whole or not at all, and how many writes the disk counted that failed though the
+-- flash did not (`own`), while roots were read.
 pub record Reclaims (old new : FlashMedium) (whole : Bool) (own : ℕ) : Type 0 where
   -- each application stands as before, also after a crash at any moment
   pub stands : AppsStandSince old new
@@ -52,7 +53,8 @@ pub record Reclaims (old new : FlashMedium) (whole : Bool) (own : ℕ) : Type 0 
   -- not at all only where nothing may be, or that count is not 0
   pub due : IsFalse whole → MayTakeNothing (files_on old) new ⊎ (0 < own)
   pub own_faults : 0 < own → IsFalse whole
-  -- it can be opened at every moment; no rivals came, and copies stand apart where they did and there was room
+  -- it can be opened at every moment; no rivals came, and from 16 blocks on copies stand apart where they did and there
+  -- was room
   pub opens : UsableSince new old.moment
   pub agreed : IsAgreed old.state.pages (places old.blocks) → IsAgreed new.state.pages (places new.blocks)
   pub apart : 16 ≤ old.blocks → StandApart old.state.pages old.blocks
@@ -60,7 +62,7 @@ pub record Reclaims (old new : FlashMedium) (whole : Bool) (own : ℕ) : Type 0 
   -- no call of it failed
   pub faults : IsTrue whole → new.faults ≡ old.faults
 
--- A flash that is handed back: each application stands as before, and why it was refused.
+-- A flash that is handed back: each application stands as before, and why it was refused. A disk has 4 to 4096 blocks.
 pub record IsFlashRefused (old back : FlashMedium) (error : FlashOpenError) : Type 0 where
   pub stands : AppsStandSince old back
   pub wrong_size : error ≡ WrongSize → (old.blocks < 4) ⊎ (4096 < old.blocks)

@@ -9,6 +9,9 @@
 //! files of every bank in which no version is. It changes nothing else: at each moment every application stands as it
 //! stood, and the flash can be opened.
 //!
+//! Each application has two *banks* of files, for the storages of two versions. The text of a root that *stands* is the
+//! one on which enough of its copies agree.
+//!
 //! It is called between two runs, since no root names the version that an update in progress makes. What is in no bank
 //! is kept, and so is all that an application has while a copy of its root lacks the text that stands or holds another:
 //! a repair may need it. Each call reads every page four times.

@@ -17,8 +17,8 @@ pub struct Reclaimed<F: Flash> {
     pub flash: F,
     /// Whether every file of a bank without a version is empty now; else none was taken.
     pub whole: bool,
-    /// How many faults of its own the disk counted while the roots were read. A read counts none; where there is one,
-    /// no file was taken.
+    /// How many faults of its own, which are writes that failed though the flash did not, the disk counted while the
+    /// roots were read. A read counts none; where there is one, no file was taken.
     pub own_faults: u64,
 }
 
@@ -34,8 +34,8 @@ pub struct Reclaimed<F: Flash> {
 /// Those of an opening ([`FlashDisk::open`]). The flash is handed back, and each application stands on it as before.
 pub fn reclaim<F: Flash>(alloc: Global, flash: F) -> Result<Reclaimed<F>, FlashRefused<F>>
     // Where the flash is modelled each application stands as before, also after a stop at any moment. Either each file
-    // that is given up (`IsFileGivenUp`) is empty and all others are as they were, or none changed, which comes only where
-    // nothing could be taken or the disk counted a fault of its own.
+    // that is given up (`IsFileGivenUp`) is empty and all others are as they were, or none changed, which comes only
+    // where nothing could be taken or the disk counted a fault of its own.
     ensures reclaims { IfOk result (λ reclaimed. ReclaimsTold F.told (F.medium flash) (F.medium reclaimed.flash)
         reclaimed.whole reclaimed.own_faults) }
     // A flash that is refused is handed back with the reason, and each application stands on it as before.

@@ -62,6 +62,8 @@ impl<S: System> FolderFlash<S> {
     /// Whether the file has more bytes than the blocks, of 32,768 bytes each: it was made as a flash of more. The disk
     /// is only read (`looks`).
     pub fn is_too_long(&mut self) -> Result<bool, FlashFailed>
+        // Of the bytes of the file, against blocks of 32,768 bytes. Nothing is written, and the count of faults rises
+        // where the call fails.
         ensures longer { IsTrue S.told → IfOk result (λ is.
             is ≡ nat_lt (32768 * self.old.blocks) (length (file_seen S.medium self.old.file))) }
         ensures looks { OnlyReads (disk_seen S.medium self.old.file) (disk_seen S.medium self.new.file) }

@@ -15,7 +15,7 @@ pub record SeenOdometer (D : Type 0) : Type 0 where
   pub storage : OwnedKeys D
   pub total : ℕ
 
--- the key of the total
+-- the key of the total, which is a `u32`: an unsigned number of four bytes
 abbrev pub the_total : KvsSession → AskedKey
 the_total kvs = asked_of kvs KEY.now (unsigned_kind four)
 

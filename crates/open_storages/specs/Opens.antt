@@ -10,7 +10,7 @@ use Rattle.run_model.specs.Sessions.{Session, FileSession, keys, files}
 use Rattle.open_storages.specs.declared.opens.Open.{Open}
 use Rattle.open_storages.specs.declared.opens.Open.TheVariants.{Keys, Files}
 
--- what is on the disk, and what the calls see
+-- what is on the disk, and what the calls see; of keys, and of files
 abbrev pub keys_of : stored.KvsSession → TwoMaps
 keys_of k = record { synced = k.session.synced; visible = k.session.visible }
 

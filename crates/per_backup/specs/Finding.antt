@@ -17,6 +17,7 @@ use Rattle.run_model.specs.Found.{FoundStorage, storage_in}
 use Rattle.per_backup.specs.declared.finding.Located.{Located}
 use Rattle.per_backup.specs.Clauses.{IsAppSeen}
 
+-- how the storage that was found is configured
 abbrev pub config_of : Located → StorageData
 config_of l = storage_data l.config
 

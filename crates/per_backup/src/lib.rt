@@ -12,6 +12,9 @@
 //! was; one of a restore leaves nothing installed, or all of the application. What was imported or restored is exported
 //! again as the same text, byte for byte.
 //!
+//! A root is *bad* where no two copies of it hold one text, or what they hold is no root's. The storages of a version
+//! are in one of the application's two *banks* of files, 0 or 1.
+//!
 //! A *row* of `specs/Backups` gives, of an application, what a call makes of it or the refusal. In the contracts `told`
 //! is that a disk's bytes are modelled, `quiet` that nothing is pending on it, and `time` that its moments go on and no
 //! count falls.

@@ -33,10 +33,12 @@ number_text Lines None = codes "-"
 number_text Json None = codes "null"
 number_text form (Some number) = decimal number
 
+-- the word for the kind of a storage
 abbrev pub store_kind_word : StoreKind → List ℕ
 store_kind_word Keys = codes "keys"
 store_kind_word Files = codes "files"
 
+-- whether a storage may be written
 abbrev pub access_word : (read_only : Bool) → List ℕ
 access_word true = codes "read-only"
 access_word false = codes "writable"
@@ -89,6 +91,7 @@ storage_files form app bank name place = flat_map (copy_text form app bank name 
 abbrev pub held_in : View → Held
 held_in v = record { elements = length v.entries; bytes = size_of v.entries }
 
+-- how the text of a storage begins; `number` is counted from 0, in its version
 unfoldable pub storage_name : Form → (app bank number : ℕ) → (name : List ℕ) → List ℕ
 storage_name Lines app bank number name = codes "storage " ++ decimal app ++ codes " " ++ decimal bank ++ codes " "
     ++ name ++ codes " "
@@ -99,6 +102,7 @@ unfoldable pub config_words : StorageData → List ℕ
 config_words s = store_kind_word s.kind ++ codes " " ++ access_word s.read_only ++ codes " m " ++ decimal s.m
     ++ codes " n " ++ decimal s.n ++ codes " "
 
+-- the same in JSON, member by member
 unfoldable pub kind_member : StoreKind → List ℕ
 kind_member kind = codes "\"kind\":\"" ++ store_kind_word kind ++ codes "\","
 
@@ -205,6 +209,7 @@ abbrev pub version_head : Form → (app bank version : ℕ) → (previous : Opti
 version_head form app bank version previous =
     version_facts form app bank version previous ++ root_copies form app ++ between form
 
+-- the version's number, as its manifest has it
 abbrev pub version_number : Named → ℕ
 version_number v = v.deployment.version
 
@@ -233,6 +238,7 @@ app_text form app a = app_by form app a.says a.states
 
 -- ---- a disk
 
+-- how the text of a disk begins, and how it ends
 abbrev pub listing_head : Form → List ℕ
 listing_head Lines = []
 listing_head Json = codes "{\"applications\":["

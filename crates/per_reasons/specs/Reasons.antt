@@ -50,10 +50,11 @@ no_line_text line = option_map
 
 -- ---- words that are no call
 
--- how much of the first word is shown
+-- how much of the first word is shown: at most 60 bytes
 abbrev pub shown_length : List ℕ → ℕ
 shown_length text = if nat_lt 60 (leading_length text) then 60 else leading_length text
 
+-- that much of it
 abbrev pub word_shown : List ℕ → List ℕ
 word_shown text = take (shown_length text) text
 
@@ -73,7 +74,7 @@ abbrev pub IsWordText : Option (List ℕ) → (rest text : List ℕ) → Type 0
 IsWordText None rest text = text ≡ codes "it takes fewer words"
 IsWordText (Some needed) rest text = IsNeededText (word_shown rest) (dots_after rest) needed text
 
--- which word is none of the call with this line
+-- which word is none of the call with this line, where it has a flaw: it says so exactly then
 abbrev pub SaysNoCall : List ℕ → Option Flaw → Option (List ℕ) → Type 0
 SaysNoCall line None None = ⊤
 SaysNoCall line (Some flaw) (Some text) = IsWordText (needed_text flaw.needed) (drop (flaw.column - 1) line) text
@@ -108,6 +109,7 @@ pub record IsRuleText (rule : ℕ) (text : List ℕ) : Type 0 where
   pub spelled : text ≡ codes "the manifest breaks rule "
       ++ (decimal rule ++ (place_text part ++ (rule_text rule ++ end_text rule byte)))
 
+-- there is such a text
 abbrev pub NamesRule : ℕ → Option (List ℕ) → Type 0
 NamesRule rule None = ⊥
 NamesRule rule (Some text) = IsRuleText rule text

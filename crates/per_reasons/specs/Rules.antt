@@ -1,6 +1,7 @@
 -- What a manifest breaks, by the number of the rule.
 use Rattle.std.specs.Prelude.{ℕ, List, [], codes, nat_eq, if◌then◌else◌}
 
+-- what the rule of this number forbids, as a refusal says it
 abbrev pub rule_text : ℕ → List ℕ
 rule_text rule =
     if nat_eq rule 1 then codes ": it has more than 65536 bytes" else (

@@ -21,6 +21,7 @@ use value_text::parse_unsigned;
 ///
 /// Memory ran out.
 pub fn why_refused(alloc: Global, answer: &[u8], line: &[u8]) -> Result<Option<String>, AllocError>
+    // Of a bad line the answer and where the line stops being one; of a rejected manifest a text that names the rule.
     ensures bad { IfOk result (λ why. starts_with nat_eq answer.now (codes "bad-line ") ≡ true → IsUtf8 answer.now
         → option_map string_bytes why ≡ explained_text answer.now line.now) }
     ensures rejected { IfOk result (λ why. (rule : ℕ) → rule < 2 ^ 32

@@ -1,4 +1,6 @@
--- What each job promises, and by which statuses it ends.
+-- What each job promises, and by which statuses it ends. Of bytes `before` and `now` are what the sink took before and
+-- has taken now, `left_before` and `left_now` what the source has left, each None where nothing is said of it; `old`
+-- and `new` are the disk. `rules` are the converters of values between types, and `answers` what each may answer.
 use Rattle.std.specs.Prelude.{◌≡◌, ◌≢◌, ◌⊎◌, ◌<◌, ◌≤◌, ℕ, List, [], ◌∷◌, ◌++◌, length, take, Option, Some, None}
 use Rattle.std.specs.Prelude.{Bool, true, false, codes, count_by, not, ◌&&◌, IsTrue, IsFalse, Result, Ok, Err, IsOk}
 use Rattle.std.specs.Prelude.{IsErr}
@@ -81,6 +83,7 @@ pub record Formats (told : Bool) (status : ℕ) (before now : Option (List ℕ))
 
 -- ---- a synthetic workload, generated from a number
 
+-- the answer is `ok`; it is an error; the number that it is, where it is one
 abbrev pub done_in : Answer → Bool
 done_in answer.Done = true
 done_in other = false
@@ -93,6 +96,7 @@ abbrev pub number_in : Answer → Option ℕ
 number_in (answer.Number n) = Some n
 number_in other = None
 
+-- the reply is `ok`; an error; neither
 abbrev pub is_done : Reply → Bool
 is_done r = done_in r.answer
 
@@ -169,6 +173,7 @@ pub record Lists (told : Bool) (form : Form) (status : ℕ) (before now : Option
 abbrev pub error_line : PerError → List ℕ
 error_line e = answer_text (answer.Error e) ++ codes "\n"
 
+-- the text of what was answered, or the line of the refusal
 abbrev pub answered_text : {A : Type 0} → (A → List ℕ) → Result A PerError → List ℕ
 answered_text text (Ok x) = text x
 answered_text text (Err e) = error_line e
@@ -194,7 +199,8 @@ pub record Exports (told : Bool) (app : ℕ) (name : List ℕ) (status : ℕ) (b
 
 -- ---- an import
 
--- these bytes were taken of the input, and its end was seen or not; after as many as are allowed nobody looks for it
+-- these bytes were taken of the input, and its end was seen (`ended`) or not; after as many as are allowed, 67108864
+-- (`INPUT_BYTES`), nobody looks for it
 pub record IsInputTaken (left_before left_now : Option (List ℕ)) (given : List ℕ) (ended : Bool) : Type 0 where
   pub takes : Consumes left_before left_now given
   pub bound : length given ≤ 67108864

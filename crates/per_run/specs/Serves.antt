@@ -28,21 +28,25 @@ pub data Heard : Type 0 where
   answered : (text : List ℕ) → Turn → Heard
   refused : (text : List ℕ) → Heard
 
+-- the line itself
 abbrev pub heard_line : Heard → List ℕ
 heard_line (passed text) = text
 heard_line (answered text t) = text
 heard_line (refused text) = text
 
+-- the line is of the sort that is said of it
 abbrev pub IsHeard : Heard → Type 0
 IsHeard (passed text) = IsLine text line.Nothing
 IsHeard (answered text t) = IsLine text (line.Event t.event)
 IsHeard (refused text) = IsBad text
 
+-- the command of the line with its reply, where it has one
 abbrev pub turn_in : Heard → List Turn
 turn_in (passed text) = []
 turn_in (answered text t) = t ∷ []
 turn_in (refused text) = []
 
+-- the lines themselves
 abbrev pub lines_in : List Heard → List (List ℕ)
 lines_in heard = map heard_line heard
 
@@ -67,6 +71,7 @@ abbrev pub texts_after : (count : ℕ) → List Heard → List ℕ
 texts_after count [] = []
 texts_after count (h ∷ hs) = heard_text (next_line_number count) h ++ texts_after (count + 1) hs
 
+-- what is written of all lines since the start
 abbrev pub heard_texts : List Heard → List ℕ
 heard_texts heard = texts_after 0 heard
 
@@ -158,7 +163,7 @@ pub record Serve (told : Bool) (rules : List Rule) (answers : Answers) (status :
 
 -- ---- the disk that it starts on
 
--- no file of an application has a byte
+-- no file of an application has a byte: eight have 4096 files each
 abbrev pub HasNoBytes : Image → Type 0
 HasNoBytes image = (file : ℕ) → file < 32768 → image file ≡ []
 

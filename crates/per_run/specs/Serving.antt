@@ -21,6 +21,7 @@ use Rattle.per_run.specs.Steps.{Goes, HasNoFeed, ending_of, with_feed}
 
 -- ---- the start
 
+-- the answer is true exactly where P holds
 abbrev pub IsExactly : Bool → Type 0 → Type 0
 IsExactly true P = P
 IsExactly false P = P → ⊥
@@ -66,7 +67,9 @@ pub record Service (told : Bool) (rules : List Rule) (answers : Answers) (ending
 
 -- ---- bytes
 
--- These bytes were taken: all their whole lines are handled, and of the rest a prefix is kept.
+-- The bytes `given` were taken since the runtime started on the disk `start`, when the sink had taken `before`: all
+-- their whole lines are handled, which are `number` (a count that stays at 2^64 - 1), and of the rest a prefix is kept,
+-- of at most 262145 bytes, one more than a line may have.
 pub record Listened (told : Bool) (rules : List Rule) (answers : Answers) (start : Medium) (before : Option (List ℕ))
     (given : List ℕ) (now : Option (List ℕ)) (memory : Memory) (medium : Medium) (kept : List ℕ) (number : ℕ) : Type 0
   where

@@ -1,4 +1,6 @@
--- What the parts of a run keep, from line to line and from byte to byte.
+-- What the parts of a run keep, from line to line and from byte to byte. Of bytes `before` and `now` are what the sink
+-- took before and has taken now, `left_before` and `left_now` what the source has left, each None where nothing is said
+-- of it. `rules` are the converters of values between types, and `answers` what each may answer.
 use Rattle.std.specs.Prelude.{◌≡◌, ◌⊎◌, ◌≤◌, ◌<◌, ℕ, List, [], ◌∷◌, ◌++◌, length, take, Option, Bool, false, IsTrue}
 use Rattle.std.specs.Prelude.{Result, Ok, Err, IsErrOf, IfErr, count_by, ⊤}
 use Rattle.std.specs.List.{AllByRecursion, flat_map}
@@ -112,7 +114,8 @@ IsLineOutcome told medium rules answers text before after old new outcome.OutOfM
 
 -- ---- the run so far
 
--- on a disk whose bytes are modelled: there is a doubt or none, and the run goes on from there
+-- on a disk whose bytes are modelled: there is a doubt (a command failed at the device, and nobody knows how much of it
+-- was done) or none, and the run goes on from there
 abbrev pub IsGoing : List Rule → Answers → (start : Medium) → List Turn → Memory → (now : Medium) → Type 0
 IsGoing rules answers start turns memory now = (doubt : Option Doubt) × IsDoubt memory doubt
     × Going rules answers (world_at start.image) (after_start (world_at start.image)) turns memory doubt start now
@@ -123,7 +126,8 @@ pub record Goes (told : Bool) (rules : List Rule) (answers : Answers) (start : M
   pub blamed : AreBlamed start.faults turns now.faults
   pub disk : IsTrue told → IsGoing rules answers start turns memory now
 
--- These lines were handled since the start of the run: their commands are answered, and the replies written.
+-- These lines were handled since the start of the run: their commands are answered, and the replies written. The
+-- `turns` are those commands, each with its reply.
 pub record Handled (told : Bool) (rules : List Rule) (answers : Answers) (start : Medium) (before : Option (List ℕ))
     (lines : List (List ℕ)) (now : Option (List ℕ))
     (memory : Memory) (medium : Medium) : Type 0 where
@@ -132,7 +136,8 @@ pub record Handled (told : Bool) (rules : List Rule) (answers : Answers) (start 
   pub wrote : Appends before now (replies_text turns)
   pub goes : Goes told rules answers start turns memory medium
 
--- How the handling of lines ended, of the lines `all`.
+-- How the handling of lines ended, of the lines `all`: `lines` are those that were handled, and `turns` their commands,
+-- each with its reply. `start` is the disk when the runtime started, and `before` what the sink had taken then.
 pub record Course (told : Bool) (rules : List Rule) (answers : Answers) (ending : endings.Ending) (start : Medium)
     (before : Option (List ℕ)) (all : List (List ℕ))
     (now : Option (List ℕ)) (medium : Medium) : Type 0 where
@@ -153,7 +158,9 @@ with_feed line = line ++ 10 ∷ []
 abbrev pub HasNoFeed : List ℕ → Type 0
 HasNoFeed bytes = has_feed bytes ≡ false
 
--- These bytes were taken: all their whole lines are handled, and of the rest a prefix is kept.
+-- The bytes `given` were taken since the runtime started on the disk `start`, when the sink had taken `before`: all
+-- their whole lines are handled, which are `number`, and of the rest a prefix is kept, of at most 262145 bytes, one
+-- more than a line may have.
 pub record Reached (told : Bool) (rules : List Rule) (answers : Answers) (start : Medium) (before : Option (List ℕ))
     (given : List ℕ) (now : Option (List ℕ))
     (memory : Memory) (medium : Medium) (kept : List ℕ) (number : ℕ) : Type 0 where
@@ -166,7 +173,8 @@ pub record Reached (told : Bool) (rules : List Rule) (answers : Answers) (start 
   pub number_is : number ≡ length lines
   pub handled : Handled told rules answers start before lines now memory medium
 
--- The input that was read, and what came of it.
+-- The input that was read, of at most 67108864 bytes (`INPUT_BYTES`), and what came of it; `ended` says that its end
+-- was seen.
 pub record RanOverInput (told : Bool) (rules : List Rule) (answers : Answers) (ending : Ending) (start : Medium)
     (left_before left_now before now : Option (List ℕ)) (medium : Medium) : Type 0 where
   pub given : List ℕ
@@ -179,7 +187,7 @@ pub record RanOverInput (told : Bool) (rules : List Rule) (answers : Answers) (e
 
 -- ---- an input that is read whole
 
--- why it was not, after that many bytes
+-- why it was not, after that many bytes, of which 67108864 are allowed (`INPUT_BYTES`)
 abbrev pub IsCut : Ending → (count : ℕ) → Type 0
 IsCut OutOfMemory count = ⊤
 IsCut Source count = count < 67108864
@@ -223,7 +231,7 @@ pub record IsServeBegun (told : Bool) (memory : Memory) (old middle new : Medium
 
 -- ---- jobs
 
--- the number of a synthetic workload is in its range, and so is that of an application
+-- the number that a synthetic workload is generated from is at most 100000, and that of an application below 8
 abbrev pub IsInRange : JobKind → Type 0
 IsInRange (Generate n) = n ≤ 100000
 IsInRange (Export app name) = app < 8

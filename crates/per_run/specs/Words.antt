@@ -22,6 +22,7 @@ use Rattle.per_run.specs.declared.words.WordsError.TheVariants as words_error
 
 -- ---- the command
 
+-- the option of this name: it takes a value (`Set`), or is a flag (`SetTrue`)
 abbrev pub named_rule : List ℕ → ArgAction → Rule
 named_rule name action = record (new_rule name) { long = Some name; action = Some action }
 
@@ -69,7 +70,7 @@ name_of text = only_if (is_name text) text
 
 -- ---- the job, as the matches say it
 
--- the mode of a flag, where it is set
+-- a *mode* is an option that says the kind of job; that of a flag, where it is set
 abbrev pub flagged : JobKind → Bool → List (Option JobKind)
 flagged kind true = Some kind ∷ []
 flagged kind false = []
@@ -79,6 +80,7 @@ abbrev pub valued : (List ℕ → Option JobKind) → Option (List ℕ) → List
 valued mode (Some value) = mode value ∷ []
 valued mode None = []
 
+-- the job of an option with this value, where the value is right: `--generate` with 1 to 100000, and so on
 abbrev pub generate_of : List ℕ → Option JobKind
 generate_of value = option_map Generate (number_in 1 100000 value)
 
@@ -109,6 +111,7 @@ only_mode [] = Some Run
 only_mode (mode ∷ []) = mode
 only_mode (mode ∷ other ∷ others) = None
 
+-- the kind of job that the options ask for, where they ask for one alone
 abbrev pub job_kind_in : List Row → Option JobKind
 job_kind_in rows = only_mode (modes (is_set (first_of (codes "format") rows)) (first_of (codes "generate") rows)
     (is_set (first_of (codes "audit") rows)) (first_of (codes "export") rows) (first_of (codes "import") rows)
@@ -125,6 +128,7 @@ dir_of None = None
 dir_of (Some []) = None
 dir_of (Some (b ∷ dir)) = Some (b ∷ dir)
 
+-- the job that the options ask for: its kind, its flash where one is named, and its folder
 abbrev pub job_in : List Row → Option Job
 job_in rows = do
   kind ← job_kind_in rows

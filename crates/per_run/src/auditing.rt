@@ -20,7 +20,8 @@ pub fn audit_disk<D: Disk, K: Sink>(alloc: Global, sink: &mut K, disk: &mut D) -
     // By the status: what the sink took, before the call and after it; and of the disk that nothing changed.
     ensures job { Audits D.told result (K.written sink.old) (K.written sink.new) (D.medium disk.old)
         (D.medium disk.new) }
-    // A status of a failure comes only where the count of failures rose: 3 of the disk, 6 of the sink.
+    // A status of a failure comes only where the count of failures rose: 3 of the disk, 6 of the sink. The job does not
+    // call the source, so that it is said of any count of it.
     ensures caused { (source : ℕ) → IsCaused JobKind.Audit result
         (record { disk = (D.medium disk.old).faults; source = source; sink = K.faults sink.old })
         (record { disk = (D.medium disk.new).faults; source = source; sink = K.faults sink.new }) }

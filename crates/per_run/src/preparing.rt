@@ -22,6 +22,7 @@ const FILES: u32 = 32_768;
 ///
 /// `Device` where the disk fails, and `OutOfMemory`.
 pub fn prepare<D: Disk>(alloc: Global, disk: &mut D) -> Result<Runtime, Stop>
+    // What is in memory is in use on the disk.
     ensures memory { IfOk result (IsRuntime D.told (D.medium disk.new)) }
     // The runtime started on the disk that was there, or on one that was empty and is formatted; or it did not start.
     ensures readied { IfOk result (λ r. IsReadied D.told D.medium (memory_of r) disk.old disk.new) }

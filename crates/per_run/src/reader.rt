@@ -65,7 +65,9 @@ pub fn feed<D: Disk, K: Sink>(
 ) -> Result<(), Ending>
     requires { IsRuntime D.told (D.medium disk.old) reader.old.runtime }
     // From wherever the reader stood since a start of the runtime (`Reached`), in an input of fewer than 2^63 bytes, it
-    // stands one piece further; or the handling of the lines ended, and so (`Course`).
+    // stands one piece further; or the handling of the lines ended, and so (`Course`). The runtime started on the disk
+    // `start`, when the sink had taken `before`, and `given` is what the reader was fed since; the end of the input was
+    // not seen (`lines_of false`). `AppLaws` is what `applications_stand` of `run_model` shows.
     ensures goes_on { OnOk result ((start : D) (before : Option (List ℕ)) (given : List ℕ)
         → length (given ++ piece.now) < 2 ^ 63
         → Reached D.told (rules_of migrations.now) (answers_of migrations.now) (D.medium start) before given
@@ -81,7 +83,8 @@ pub fn feed<D: Disk, K: Sink>(
         reader.old.number
         → Course D.told (rules_of migrations.now) (answers_of migrations.now) (ending_of ending) (D.medium start) before
         (lines_of false (given ++ piece.now)) (K.written sink.new) (D.medium disk.new)) }
-    // The runtime stays in use. An ending for the sink comes only where its count of failures rose.
+    // What the runtime keeps in memory stays in use on the disk. An ending for the sink comes only where its count of
+    // failures rose.
     ensures memory { OnOk result (IsRuntime D.told (D.medium disk.new) reader.new.runtime) }
     ensures blames { Blames (K.faults sink.old) (K.faults sink.new) result }
     ensures time { Elapses (D.medium disk.old) (D.medium disk.new) }
@@ -121,6 +124,7 @@ pub fn finish<D: Disk, K: Sink>(
     requires { IsRuntime D.told (D.medium disk.old) reader.old.runtime }
     // From wherever the reader stood since a start of the runtime (`Reached`), the handling of the lines ended so
     // (`Course`): all of them are handled, or it was broken off, for the sink only where its count of failures rose.
+    // `start`, `before` and `given` are as in `feed`, and the end of the input was seen (`lines_of true`).
     ensures ends { AppLaws → (start : D) (before : Option (List ℕ)) (given : List ℕ) → length given < 2 ^ 63
         → Reached D.told (rules_of migrations.now) (answers_of migrations.now) (D.medium start) before given
         (K.written sink.old) (memory_of reader.old.runtime) (D.medium disk.old) reader.old.kept.items
@@ -182,6 +186,7 @@ fn feed_line<D: Disk, K: Sink>(
 /// Puts bytes after the prefix of the line that is kept: one byte more than a line may have, 262,145, is kept of it and
 /// no more.
 pub fn keep(kept: &mut Vec<u8>, bytes: &[u8]) -> Result<(), Ending>
+    // `rest` is all of the line that was read before. Only running out of memory ends it.
     ensures kept { OnOk result ((rest : List ℕ) → kept.old.items ≡ take 262145 rest
         → kept.new.items ≡ take 262145 (rest ++ bytes.now)) }
     ensures memory { IfErr result (λ ending. ending ≡ Ending.OutOfMemory) }

@@ -21,6 +21,7 @@ idle = record { stage = at_rest; sessions = none_open }
 abbrev pub fresh : memory.Memory
 fresh = record { now = 0; apps = replicate 8 idle; in_doubt = false }
 
+-- the first `count` applications are in memory, each in use and with no storage open, and no call of the disk failed
 pub record AreOpened (told : Bool) (count : ℕ) (apps : List Running) (old now : Medium) : Type 0 where
   pub many : length apps ≡ count
   pub each : (app : ℕ) (a : Running) → slice_get apps app ≡ Some a
@@ -36,6 +37,7 @@ HasBegun told old new (Ok apps) = AreOpened told 8 apps.items old new
 HasBegun told old new (Err Device) = Rose old.faults new.faults
 HasBegun told old new (Err OutOfMemory) = ⊤
 
+-- a start ended so
 pub record IsBegun (told : Bool) (old new : Medium) (result : Result (Vec Running Global) Stop) : Type 0 where
   pub end : HasBegun told old new result
   pub keeps : IsTrue told → StartKeeps old new

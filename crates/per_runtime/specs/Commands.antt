@@ -23,6 +23,7 @@ abbrev pub CallsDevice : (told : Bool) → Image → Runtime → ℕ → Call �
 CallsDevice told image r app c calls = IsTrue told → (a : Running) → slice_get r.apps.items app ≡ Some a
     → calls_device (application image a) c ≡ calls
 
+-- the event `e` was answered: `r` is the runtime before it and `r'` after it
 pub record IsReplied (told : Bool) (rules : List Rule) (answers : Answers) (e : Event) (r r' : Runtime)
     (old new : Medium) (reply : Reply) : Type 0 where
   pub memory : IsRuntime told new r'
@@ -31,7 +32,7 @@ pub record IsReplied (told : Bool) (rules : List Rule) (answers : Answers) (e : 
   pub stepped : IsTrue told → (doubt : Option Doubt) → IsDoubt (memory_of r) doubt
       → Stepped rules answers e reply (memory_of r) (memory_of r') doubt old new
 
--- `Untouched` says that the disk is as it was
+-- the event `e` was answered, or memory ran out, which alone ends the run; `Untouched` says that the disk is as it was
 pub record IsCommand (told : Bool) (rules : List Rule) (answers : Answers) (e : Event) (r r' : Runtime)
     (Untouched : Type 0) (old new : Medium) (result : Result Reply Stop) : Type 0 where
   pub end : IfEnded result (IsReplied told rules answers e r r' old new) ⊥

@@ -42,6 +42,8 @@ abbrev pub IsLedTo : List Rule → Answers → (app now : ℕ) → Call → (bef
 IsLedTo rules answers app now c before next = (next ≡ before.disk)
     ⊎ ((outcome : Outcome) × AppStep rules answers app now before c outcome × (next ≡ outcome.1.disk))
 
+-- a call ended in the middle: the application is between what it was and `next`, which is what the call leads to or
+-- what it was
 pub record IsCallInProgress (rules : List Rule) (answers : Answers) (app now : ℕ) (c : Call) (before : Application)
     (old new : Medium) : Type 0 where
   pub next : App
@@ -49,6 +51,7 @@ pub record IsCallInProgress (rules : List Rule) (answers : Answers) (app now : �
   pub later : IsLater before.disk next
   pub calls : CallsTo app next old new
 
+-- the call `c` was answered, at the moment `now` in seconds: `a` is the application before it and `a'` after it
 pub record IsCommandAnswered (told : Bool) (rules : List Rule) (answers : Answers) (now : ℕ) (c : Call) (a a' : Running)
     (old new : Medium) (reply : Reply) : Type 0 where
   pub app : a'.app ≡ a.app
@@ -62,6 +65,7 @@ pub record IsCommandAnswered (told : Bool) (rules : List Rule) (answers : Answer
       (application new.image a') reply
       old new
 
+-- the device failed in the call `c`
 pub record IsFailed (told : Bool) (rules : List Rule) (answers : Answers) (now : ℕ) (c : Call) (a a' : Running)
     (old new : Medium) : Type 0 where
   pub app : a'.app ≡ a.app
@@ -71,7 +75,7 @@ pub record IsFailed (told : Bool) (rules : List Rule) (answers : Answers) (now :
       (application new.image a')
   pub progress : IsTrue told → IsCallInProgress rules answers a.app now c (application old.image a) old new
 
--- `Untouched` says that the disk is as it was
+-- the call `c` was answered, or the device failed, or memory ran out; `Untouched` says that the disk is as it was
 pub record IsHandled (told : Bool) (rules : List Rule) (answers : Answers) (now : ℕ) (c : Call) (a a' : Running)
     (Untouched : Type 0) (old new : Medium) (result : Result Reply Stop) : Type 0 where
   pub end : IfEnded result (IsCommandAnswered told rules answers now c a a' old new)

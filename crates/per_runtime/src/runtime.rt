@@ -49,6 +49,7 @@ impl Runtime {
         requires event { IsEvent event.now }
         requires memory { IsRuntime D.told (D.medium disk.old) self.old }
 
+        // What is in memory stays in use on the disk, and the answer has a text.
         ensures memory { IfOk result (λ reply. IsRuntime D.told (D.medium disk.new) self.new) }
         ensures text { IfOk result (λ reply. HasText reply.answer) }
         // In whatever doubt the memory is, the reply and the world after it are a step of the world before (`Stepped`).

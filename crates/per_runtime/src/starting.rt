@@ -23,6 +23,7 @@ const APPS: u32 = 8;
 ///
 /// `Device` where the disk fails, and `OutOfMemory`.
 pub fn start<D: Disk>(alloc: Global, disk: &mut D) -> Result<Runtime, Stop>
+    // What is in memory is in use on the disk.
     ensures memory { IfOk result (IsRuntime D.told (D.medium disk.new)) }
     // A start that ends well has opened every root, and keeps in memory what a fresh runtime does.
     ensures starts { IsTrue D.told → IfOk result (λ r. Starts (memory_of r) (D.medium disk.old) (D.medium disk.new)) }
@@ -30,6 +31,7 @@ pub fn start<D: Disk>(alloc: Global, disk: &mut D) -> Result<Runtime, Stop>
 
     // However it ends, at each moment each application stands between what it was and itself with its root mended.
     ensures stopped { IsTrue D.told → StartKeeps (D.medium disk.old) (D.medium disk.new) }
+    // The count of faults rose where the device failed, and stayed where the call succeeded.
     ensures cause { IsErrOf result Stop.Device → Rose (D.medium disk.old).faults (D.medium disk.new).faults }
     ensures passes { OnOk result ((D.medium disk.new).faults ≡ (D.medium disk.old).faults) }
     ensures time { Elapses (D.medium disk.old) (D.medium disk.new) }

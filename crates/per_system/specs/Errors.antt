@@ -5,7 +5,8 @@ use Rattle.std.specs.declared.io.ErrorKind.TheVariants.{Interrupted, OutOfMemory
 use Rattle.std.specs.declared.io.ErrorKind.TheVariants.{InvalidInput}
 use Rattle.std.specs.IoError.{error_kind, raw_os_error}
 
--- The call was interrupted, or not allowed, or the system lacks memory or descriptors: nothing is said of the file.
+-- The call was interrupted, or not allowed, or the system lacks memory or descriptors (`ENFILE` is 23, `EMFILE` 24):
+-- nothing is said of the file.
 abbrev pub SaysNothing : Error → Type 0
 SaysNothing error = (error_kind error ≡ Interrupted) ⊎ ((error_kind error ≡ OutOfMemory)
     ⊎ ((error_kind error ≡ PermissionDenied) ⊎ ((error_kind error ≡ ReadOnlyFilesystem)

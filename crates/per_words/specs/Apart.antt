@@ -1,4 +1,5 @@
--- The words of a shell, told apart: options with their values, what is named, and the operands after the word `--`.
+-- The words of a shell, told apart: options with their values, what is named, and the operands after the word `--`. How
+-- a word is read depends on those before it: a definition that takes a role takes that of the (first) word.
 use Rattle.std.specs.Prelude.{ℕ, List, [], ◌∷◌, codes, Bool, true, false, not, ◌&&◌, ◌||◌, nat_eq, if◌then◌else◌}
 use Rattle.std.specs.Prelude.{Option, Some, None}
 use Rattle.std.specs.List.{list_any, starts_with}
@@ -11,7 +12,7 @@ use Rattle.per_words.specs.declared.words.WordRole.TheVariants as reading
 abbrev pub is_option : List ℕ → Bool
 is_option word = starts_with nat_eq word (codes "--")
 
--- the next word belongs to this one
+-- the next word belongs to this one, as the value of an option
 abbrev pub takes_value : List ℕ → Bool
 takes_value = is_among (codes "--dir" ∷ codes "--flash" ∷ codes "--generate" ∷ codes "--export" ∷ codes "--import"
     ∷ codes "--list" ∷ codes "--recover-root" ∷ [])
@@ -54,10 +55,12 @@ is_help reading.Word word = bytes_eq word (codes "--help")
 is_help reading.Value word = bytes_eq word (codes "--help")
 is_help reading.Operand word = false
 
+-- some word asks for it
 abbrev pub asks_help : WordRole → List (List ℕ) → Bool
 asks_help r [] = false
 asks_help r (w ∷ ws) = if is_help r w then true else asks_help (reading_after r w) ws
 
+-- an option of a run without a value
 abbrev pub is_flag : List ℕ → Bool
 is_flag = is_among (codes "--format" ∷ codes "--audit" ∷ codes "--serve" ∷ [])
 

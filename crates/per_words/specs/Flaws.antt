@@ -19,6 +19,7 @@ use Rattle.per_words.specs.Words.{application_digit, is_among}
 abbrev pub leading_length : List ℕ → ℕ
 leading_length text = position_or_len (λ byte. nat_eq byte 32) text
 
+-- the bytes before the first space, all where there is none; and whether there is one
 abbrev pub leading_word : List ℕ → List ℕ
 leading_word text = take (leading_length text) text
 
@@ -31,6 +32,7 @@ after_space text = drop (suc (leading_length text)) text
 
 -- ---- what a call takes
 
+-- calls that take nothing; a manifest; a storage; a storage and an element; a storage and a handle; these and a number
 abbrev pub takes_nothing : List ℕ → Bool
 takes_nothing = is_among (codes "status" ∷ codes "finish" ∷ codes "rollback" ∷ codes "wipe" ∷ codes "update-next"
     ∷ codes "update-commit" ∷ codes "update-abort" ∷ [])
@@ -124,6 +126,7 @@ unmet_after None text = Some (needed.CallWord, length text)
 unmet_after (Some []) text = if has_space text then Some (needed.End, length text - leading_length text) else None
 unmet_after (Some (n ∷ others)) text = if has_space text then unmet (n ∷ others) (after_space text) else Some (n, 0)
 
+-- the same, of the text of a call from its word on, and of a whole line
 abbrev pub unmet_in_call : List ℕ → Option (Needed × ℕ)
 unmet_in_call text = unmet_after (needed_after (leading_word text)) text
 
@@ -134,11 +137,11 @@ unmet_in_line text =
     if not (meets needed.Application (leading_word text)) then Some (needed.Application, length text) else (
     if has_space text then unmet_in_call (after_space text) else Some (needed.CallWord, 0))))
 
--- the column is counted from 1
+-- the flaw at a place of a text of this size; its column is counted from 1
 abbrev pub flaw_at : ℕ → Needed × ℕ → Flaw
 flaw_at size place = record { needed = place.0; column = suc size - place.1 }
 
--- where a text that is no line stops being one; one that is too long after as many bytes as a line may have
+-- where a text that is no line stops being one; one that is too long after as many bytes as a line may have, 262144
 abbrev pub flaw_in : List ℕ → Option Flaw
 flaw_in line = option_map (flaw_at (length line)) (if nat_lt 262144 (length line)
     then Some (needed.End, length line - 262144) else unmet_in_line line)

@@ -7,6 +7,7 @@ use Rattle.value_text.specs.Texts.{hex_text}
 use Rattle.per_words.specs.declared.showing.Shown.{Shown}
 use Rattle.per_words.specs.declared.showing.Shown.TheVariants as shown
 
+-- the line begins with the word
 abbrev pub begins : List ℕ → List ℕ → Bool
 begins word line = is_some (literal_at word line)
 

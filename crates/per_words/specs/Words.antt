@@ -17,14 +17,15 @@ use Rattle.per_words.specs.declared.kinds.CallKind.TheVariants as kind
 
 -- ---- lines
 
--- the digit of an application, and each word after a space
+-- the digit of an application, in ASCII, and each word after a space, which is 32
 abbrev pub line_with : ℕ → List (List ℕ) → List ℕ
 line_with digit words = digit ∷ flat_map (λ word. 32 ∷ word) words
 
--- lines as they are read: each with a line feed
+-- lines as they are read: each with a line feed, which is 10
 abbrev pub fed_lines : List (List ℕ) → List ℕ
 fed_lines lines = flat_map (λ line. line ++ 10 ∷ []) lines
 
+-- the line has a command
 abbrev pub is_event : Line → Bool
 is_event line.Nothing = false
 is_event line.End = false
@@ -60,6 +61,7 @@ takes_manifest = is_among (codes "install" ∷ codes "update" ∷ [])
 abbrev pub is_of_application : List ℕ → Bool
 is_of_application = is_among (codes "status" ∷ codes "finish" ∷ codes "rollback" ∷ codes "wipe" ∷ [])
 
+-- calls of a storage that is closed; that read keys; that change them; that read files; that change them
 abbrev pub is_of_closed : List ℕ → Bool
 is_of_closed = is_among (codes "recover-storage" ∷ codes "reset-storage" ∷ [])
 
@@ -86,7 +88,7 @@ call_kind call =
     if reads_files call then Some kind.ReadsFiles else (
     if changes_files call then Some kind.ChangesFiles else None))))
 
--- the word of the call in a line
+-- the word of the call in a line: `ls` is `files` there
 abbrev pub call_word : List ℕ → List ℕ
 call_word call = if bytes_eq call (codes "ls") then codes "files" else call
 
@@ -97,7 +99,7 @@ abbrev pub application_digit : List ℕ → Option ℕ
 application_digit (digit ∷ []) = if is_application_digit digit then Some digit else None
 application_digit other = None
 
--- the digit of an application and a storage, with a colon between them
+-- the digit of an application and a storage, with a colon, which is 58, between them
 abbrev pub place_in : List ℕ → Option (ℕ × List ℕ)
 place_in (digit ∷ colon ∷ storage) =
     if is_application_digit digit && nat_eq colon 58 then Some (digit, storage) else None
@@ -152,6 +154,7 @@ cut_by size zero bytes = bytes ∷ []
 cut_by size (suc cuts) bytes =
     if nat_le (length bytes) size then bytes ∷ [] else take size bytes ∷ cut_by size cuts (drop size bytes)
 
+-- the bytes cut into pieces of this size, as often as is needed
 abbrev pub cut_up : ℕ → List ℕ → List (List ℕ)
 cut_up size bytes = cut_by size (length bytes) bytes
 
@@ -159,7 +162,7 @@ cut_up size bytes = cut_by size (length bytes) bytes
 abbrev pub piece_line : ℕ → List ℕ → List ℕ → List ℕ
 piece_line digit storage piece = line_with digit (codes "write" ∷ storage ∷ codes "1" ∷ hex_text piece ∷ [])
 
--- the content becomes that of the file: in one line, or piece by piece
+-- the content becomes that of the file: in one line, or in pieces of 65536 bytes
 abbrev pub writing_lines : ℕ → List ℕ → List ℕ → List ℕ → List (List ℕ)
 writing_lines digit storage file content =
     if nat_le (length content) 65536
@@ -173,5 +176,6 @@ unfoldable pub file_lines : ℕ → List ℕ → List ℕ → List ℕ → List 
 file_lines digit storage file content = opening_lines kind.ChangesFiles digit storage
     ++ (writing_lines digit storage file content ++ durable_lines kind.ChangesFiles digit storage)
 
+-- the same, to an application and a storage as the shell names them; None where they are no such words
 abbrev pub content_lines : List ℕ → List ℕ → List ℕ → Option (List (List ℕ))
 content_lines target file content = place_in target >>= λ place. Some (file_lines place.0 place.1 file content)

@@ -27,6 +27,8 @@ pub fn call_lines(
     target: &[u8],
     arguments: &[&[u8]],
 ) -> Result<Vec<u8>, LineError>
+    // What is given has the lines that `call_lines` says, each one of an event. It is refused where that says none or
+    // says one that is none of an event.
     ensures lines { IfOk result (λ text. (lines : List (List ℕ))
         × (call_lines call.now target.now (map (λ word. word.now) arguments.now) ≡ Some lines)
         × AreFed lines text.items) }
@@ -61,6 +63,8 @@ pub fn manifest_lines(
     target: &[u8],
     manifest: &[u8],
 ) -> Result<Vec<u8>, LineError>
+    // What is given has the lines that `manifest_lines` says, each one of an event. It is refused where that says none
+    // or says one that is none of an event.
     ensures lines { IfOk result (λ text. (lines : List (List ℕ))
         × (manifest_lines call.now target.now manifest.now ≡ Some lines) × AreFed lines text.items) }
     ensures refused { IsErrOf result LineError.NotALine → IfSome (manifest_lines call.now target.now manifest.now)

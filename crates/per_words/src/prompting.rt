@@ -16,7 +16,8 @@ use crate::screens::SCREEN;
 use crate::showing::{after, begins};
 use std::alloc::{AllocError, Global};
 
-/// The application and the call of a line, as a prompt shows them.
+/// The application and the word of the call with which a line begins, as a prompt shows them; none where it has no two
+/// words, or the first is no application.
 pub fn call_shown(line: &[u8]) -> Option<&[u8]>
     ensures { Finds (λ shown. shown.now) result (call_shown line.now) }
 {

@@ -40,6 +40,8 @@ pub fn content_lines(
     file: &[u8],
     content: &[u8],
 ) -> Result<Vec<u8>, LineError>
+    // What is given has the lines that `content_lines` says, each one of an event. It is refused where that says none
+    // or says one that is none of an event.
     ensures lines { IfOk result (λ text. (lines : List (List ℕ))
         × (content_lines target.now file.now content.now ≡ Some lines) × AreFed lines text.items) }
     ensures refused { IsErrOf result LineError.NotALine → IfSome (content_lines target.now file.now content.now)

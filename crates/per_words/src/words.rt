@@ -55,7 +55,7 @@ pub fn named_words<'a>(alloc: Global, words: &'a [String]) -> Result<Vec<&'a [u8
     Ok(named)
 }
 
-/// Whether help is asked for.
+/// Whether help is asked for: the word `--help` is among the words before the operands.
 pub fn asks_help(words: &[String]) -> bool
     ensures { result ≡ asks_help WordRole.Word (map string_bytes words.now) }
 {
@@ -69,7 +69,7 @@ pub fn asks_help(words: &[String]) -> bool
     false
 }
 
-/// The first word that a run does not know.
+/// The first word that a run does not know: it is neither an option of one nor the value of an option, or an operand.
 pub fn unknown_in(words: &[String]) -> Option<&[u8]>
     ensures { Finds (λ word. word.now) result (unknown_in WordRole.Word (map string_bytes words.now)) }
 {
