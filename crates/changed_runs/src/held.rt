@@ -1,4 +1,4 @@
-//! A buffer of runs that were read from a file.
+//! A buffer of runs that were read from a file. In its clauses `old` is what the file held at an earlier moment.
 
 ghost use Rattle.std.specs.Prelude.{◌≡◌, ◌≤◌, ◌-◌, min, length, take, drop, IsTrue, IfOk, OnOk, OnErr};
 ghost use Rattle.per_base.specs.Causes.{Rose};

@@ -2,7 +2,8 @@
 //!
 //! What is installed stands in the application's root, a register of three copies ([`Root`]). A version is in one of
 //! two banks of storages; the next one is made in the other bank, and only then is the root written, once. So a stop at
-//! any moment leaves the application as it was or as the call leads to.
+//! any moment leaves the application as it was or as the call leads to. To *finish* an update is to forget the version
+//! before it; until then it can be rolled back to.
 //!
 //! Words of the contracts: a *row* (`deploy_rows`) makes of an application the next one, or says why a call is refused;
 //! what is said of bytes holds where a disk is *told*, its bytes modelled; a disk is *quiet* where nothing is pending;

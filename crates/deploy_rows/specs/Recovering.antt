@@ -46,13 +46,13 @@ abbrev pub is_worn_out : Option View → Bool
 is_worn_out None = false
 is_worn_out (Some v) = is_worn v
 
--- a storage in this state is made anew of these contents, under the generation after the one that it had, and this is
+-- a storage in this state is rebuilt from these contents, under the generation after the one that it had, and this is
 -- refused where none is left
 abbrev pub rebuilding : State → List Fresh → Result State PerError
 rebuilding state contents = cond (is_worn_out (salvage_of state)) (Err (error.LimitReached limit.Generations))
     (Ok (fresh_state (next_generation (salvage_of state)) (fresh_map contents)))
 
--- a storage in this state is made anew of these contents, which is refused first where names and contents are together
+-- a storage in this state is rebuilt from these contents, which is refused first where names and contents are together
 -- more bytes than the storage may have, and then where no generation is left
 abbrev pub if_contents_fit : StorageData → State → List Fresh → Result State PerError
 if_contents_fit s state contents = cond (nat_lt s.maximum (sum_by fresh_size contents))

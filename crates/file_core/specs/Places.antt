@@ -118,7 +118,7 @@ origin_place Beginning cursor size = 0
 origin_place Current cursor size = cursor.position
 origin_place End cursor size = size
 
--- the position that is so many bytes (`offset`, which may be negative) from its origin, and the cursor there;
+-- the position that is `offset` bytes, which may be negative, from its origin, and the cursor there;
 -- `InvalidPosition` where it is below 0 or above the size
 abbrev pub move_position : Cursor → ℕ → Origin → ℤ → Result (ℕ × Cursor) PerError
 move_position cursor size origin offset =

@@ -26,7 +26,7 @@ found (Some file) call = call file
 abbrev pub current_file_size : Map → List ℕ → Result ℕ PerError
 current_file_size files name = found (element_at files name) (λ file. Ok file.len)
 
--- the info of a file, which every file has; `FileNotFound` stands for the case of none, which never comes
+-- the info of a file, which every file has; `FileNotFound` where there were none, which never comes
 abbrev pub info_or : Option FileInfo → Result FileInfo PerError
 info_or None = Err FileNotFound
 info_or (Some info) = Ok info

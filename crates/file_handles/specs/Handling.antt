@@ -55,7 +55,7 @@ abbrev pub read_line : Session → ℕ → ℕ → Result (List ℕ × Session) 
 read_line s number delimiter = at_handle s number (λ handle file.
     moving s number handle (places.read_line handle.cursor (readable_bytes file.content) delimiter))
 
--- the position that is so many bytes from its origin, which the handle then has
+-- the position at this offset in bytes from its origin, which the handle then has
 abbrev pub move_position : Session → ℕ → Origin → ℤ → Result (ℕ × Session) PerError
 move_position s number origin offset = at_handle s number
     (λ handle file. moving s number handle (places.move_position handle.cursor file.len origin offset))

@@ -10,12 +10,12 @@ use Rattle.per_base.specs.declared.elements.FileInfo.{FileInfo}
 use Rattle.index_text.specs.declared.entries.IndexEntry.{IndexEntry}
 use Rattle.index_text.specs.declared.entries.Index.{Index}
 
--- the byte that stands for a kind of storage
+-- the byte that denotes a kind of storage
 abbrev pub store_kind_code : StoreKind → ℕ
 store_kind_code Keys = 1
 store_kind_code Files = 2
 
--- the byte that stands for what caused the creation or last modification of a file
+-- the byte that denotes what caused the creation or last modification of a file
 abbrev pub cause_code : Cause → ℕ
 cause_code Installation = 1
 cause_code Update = 2

@@ -42,7 +42,7 @@ pub fn write_index(alloc: Global, index: &Index) -> Result<Vec<u8>, AllocError>
     Ok(text)
 }
 
-/// The byte that stands for a kind of storage in a text: 1 for keys, 2 for files.
+/// The byte that denotes a kind of storage in a text: 1 for keys, 2 for files.
 pub fn kind_byte(kind: StoreKind) -> u8
     ensures { result ≡ store_kind_code kind }
 {

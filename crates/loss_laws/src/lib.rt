@@ -4,8 +4,8 @@
 //! (`Outvotes`). So a storage of which at least two copies, and fewer than there are, have to agree reads as before
 //! ([`storages_read_on`]), and so do each root ([`roots_read_on`]) and each application ([`applications_read_on`]), if
 //! they were whole: each copy held them, with nothing beside. So it is at any moment of a run
-//! ([`applications_read_on_since`]). On any flash, with any number of copies, what did not lie in the lost pages reads
-//! as before ([`what_lay_elsewhere_reads_on`]), and what did as before, older, or not at all
+//! ([`applications_read_on_since`]). On any flash, with any number of copies, what was not in the lost pages reads
+//! as before ([`what_lay_elsewhere_reads_on`]), and what was as before, older, or not at all
 //! ([`what_was_lost_reads_older`]).
 //!
 //! Words of the laws: `shape` says the *place* of a storage, which is the files of its copies, and how many of these,

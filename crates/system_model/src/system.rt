@@ -21,7 +21,7 @@ use std::io;
 ///
 /// In the clauses f is the number of a file, i that of a byte in it, n how many bytes, and c a case of a power loss.
 /// `Looks` says of a call that it changed no byte, and that no power loss leaves anything new; the clauses `time`, that
-/// the clock and the counts do not go back.
+/// neither the clock goes back nor the counts of failures and of written bytes.
 pub trait System {
     /// A file that is open.
     type File: Drop;

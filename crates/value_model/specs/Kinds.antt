@@ -91,7 +91,7 @@ signed_code two = 7
 signed_code four = 8
 signed_code eight = 9
 
--- the bytes that stand for a type: a scalar type is one byte from 1 to 11; a list is 12 and its item type's code; a
+-- the bytes that denote a type: a scalar type is one byte from 1 to 11; a list is 12 and its item type's code; a
 -- group of fields is 13, a byte that says how many members it has, and their codes in order
 abbrev mutual
   pub type_code : Kind → List ℕ
