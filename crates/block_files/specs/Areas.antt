@@ -1,5 +1,5 @@
 -- What the blocks of an area hold: the bytes of a content, read from blocks or put into them. An area file is a row of
--- blocks of 256 bytes, numbered from 0; a content is stored in a list of them, in order, and the last one may be filled in
+-- blocks of 256 bytes, numbered from 0; a content is stored in a list of them, in order, the last one filled in
 -- part. `file` is the bytes of an area file.
 use Rattle.std.specs.Prelude.{◌≡◌, ℕ, ◌+◌, ◌-◌, ◌*◌, ◌<◌, min, List, [], ◌∷◌, ◌++◌, length, take, drop, replicate}
 use Rattle.std.specs.Prelude.{slice_index, flat_map, Bool, true, false, ◌&&◌, ◌||◌, nat_eq, nat_le}

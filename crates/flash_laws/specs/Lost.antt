@@ -1,5 +1,5 @@
 -- What a loss of pages leaves, wherever they were and whatever was in them: what was elsewhere is as it was, and
--- what was there is blank or older. It is said of any number of blocks and of copies, so also of one. `old` and `new` are the
+-- what was there blank or older. It is said of any number of blocks and of copies, so also of one. `old`, `new` are the
 -- pages before and after the loss, of which the first n, 64 for each block, are looked at. A record *counts* that is
 -- the newest of its page of a file (`newest`).
 use Rattle.std.specs.Prelude.{◌≡◌, ◌⊎◌, ℕ, ◌/◌, ◌%◌, ◌<◌, ◌≤◌, Bool, true, Option, Some, None, slice_index}
