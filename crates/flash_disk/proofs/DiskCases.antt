@@ -11,15 +11,15 @@ use Rattle.disk_model.specs.Written.{put_none, put_image_here, put_image_elsewhe
 use Rattle.flash_model.specs.State.{Announced, FlashCase, IsStill}
 use Rattle.flash_model.specs.FlashMedium.{FlashMedium, IsLawfulFlash, FlashElapses, EachFlashCase}
 use Rattle.flash_disk.specs.FlashFiles.{flash_files}
-use Rattle.flash_disk.specs.FlashDiskMedium.{put_announced, disk_case, still_case, IsCaseOf, files_told}
+use Rattle.flash_disk.specs.FlashDiskMedium.{put_announced, disk_case, IsCaseOf, files_told}
 use Rattle.flash_disk.specs.FlashDiskMedium.{flash_disk_medium}
 use Rattle.flash_disk.specs.FlashDiskLaws.{told_moment, same_case}
 pub use Rattle.flash_disk.specs.FlashDiskLaws.{told_files, disk_is_lawful}
 use Rattle.flash_disk.specs.Throughout.{KeepsUsable, KeepsAgreed}
 use Rattle.flash_disk.proofs.Parts.{torn_refl}
-use Rattle.flash_disk.specs.KeepsApart.{KeepsApart}
+use Rattle.flash_disk.specs.KeepsApart.{ApartSince}
+use Rattle.flash_disk.specs.Looks.{still_case}
 use Rattle.flash_disk.proofs.Throughout.{usable_since, agreed_since}
-use Rattle.flash_disk.proofs.Holding.{apart_since}
 
 -- the same pages, the same files
 same_files : (told : Bool) (m m' : FlashMedium) → (IsTrue told → m'.state.pages ≡ m.state.pages)
@@ -93,8 +93,8 @@ module _ (told : Bool) (m m' : FlashMedium) (own own' written written' : ℕ) wh
   -- time goes on as it does for the flash
   pub disk_elapses : (IsTrue told → FlashElapses m m') → m.faults + own ≤ m'.faults + own' → written ≤ written'
       → (IsTrue told → KeepsUsable m m') → (IsTrue told → KeepsAgreed m m')
-      → (copy : ℕ) → (IsTrue told → KeepsApart copy m m') → Elapses start end
-  disk_elapses time faults more usable agreed copy apart = record {
+      → (IsTrue told → (t : ℕ) → t ≤ m.moment → ApartSince m t → ApartSince m' t) → Elapses start end
+  disk_elapses time faults more usable agreed apart = record {
     later = later told time;
     nothing_else = λ t c le past.
         let on = time past.0 in
@@ -136,7 +136,7 @@ module _ (told : Bool) (m m' : FlashMedium) (own own' written written' : ℕ) wh
     gave = files_since time;
     opens = λ t le was tells. usable_since m m' (time tells) (usable tells) t (le_of t tells le) (was tells);
     agrees = λ t le was tells. agreed_since m m' (time tells) (agreed tells) t (le_of t tells le) (was tells);
-    apart = λ t le was tells. apart_since m m' (time tells) copy (apart tells) t (le_of t tells le) (was tells);
+    apart = λ t le was tells. apart tells t (le_of t tells le) (was tells);
     faults = faults;
     written = more;
   }

@@ -7,7 +7,8 @@ use Rattle.disk_model.specs.Medium.{Medium}
 use Rattle.flash_model.specs.State.{FlashCase, IsStill}
 use Rattle.flash_model.specs.FlashMedium.{FlashMedium, FlashElapses, EachFlashCase}
 use Rattle.flash_disk.specs.FlashFiles.{flash_files}
-use Rattle.flash_disk.specs.FlashDiskMedium.{put_announced, disk_case, still_case, flash_disk_medium}
+use Rattle.flash_disk.specs.FlashDiskMedium.{put_announced, disk_case, flash_disk_medium}
+use Rattle.flash_disk.specs.Looks.{still_case}
 use Rattle.flash_disk.specs.FlashDiskLaws.{told_moment, same_case}
 use Rattle.flash_disk.specs.Writes.{WritesInto, with_write}
 use Rattle.flash_disk.proofs.DiskCases.{put_after}

@@ -1,12 +1,12 @@
 -- Blocks that hold one copy alone go on doing so, whatever is lost of what does not count and whatever of that copy
 -- comes; and so the copies of a flash stay apart.
 use Rattle.std.proofs.Common.{◌≡◌, ◌⊎◌, ℕ, ◌+◌, ◌/◌, ◌≤◌, Bool, refl, sym, ap, subst, ◌∙◌, inl, inr}
-use Rattle.std.proofs.Common.{Result, Ok, Err, ⊎_elim, arith}
+use Rattle.std.proofs.Common.{List, Result, Ok, Err, ⊎_elim, arith}
 use Rattle.std.specs.Prelude.{Option, Some, None, OnOk, OnErr, IsTrue, nat_eq}
 use Rattle.std.proofs.lemmas.Bool.{cases_eq, and_parts, eqb-true}
 use Rattle.std.proofs.lemmas.Option.{same_Some}
-use Rattle.flash_model.specs.Pages.{Pages}
-use Rattle.flash_model.specs.State.{FlashState, IsStill}
+use Rattle.flash_model.specs.Pages.{Pages, IsPlain}
+use Rattle.flash_model.specs.State.{FlashState, FlashCase, IsStill, announce_write}
 use Rattle.flash_model.specs.FlashMedium.{FlashMedium, IsLawfulFlash, FlashElapses, EachFlashCase}
 use Rattle.flash_record.specs.PageRecord.{PageRecord}
 use Rattle.flash_disk.specs.declared.table.FilePage.{FilePage}
@@ -20,7 +20,8 @@ use Rattle.flash_disk.specs.Does.{Does}
 use Rattle.flash_disk.specs.Apart.{copy_of, IsApart, HoldsOneCopy, KeepsHeld, StandApart, HasNoRoom}
 use Rattle.flash_disk.specs.LedApart.{LeadsOnly, LeadsSome}
 use Rattle.flash_disk.specs.KeepsApart.{MayMix, StaysApart, KeepsApart, HasHome, LackedRoom, StandsOrLacked, ApartSince}
-use Rattle.flash_disk.specs.FlashDiskMedium.{still_case}
+use Rattle.flash_disk.specs.Looks.{KeepsPages, still_case}
+use Rattle.flash_disk.specs.Writes.{WritesInto}
 use Rattle.flash_disk.proofs.Programming.{placed, either}
 use Rattle.flash_disk.proofs.Growing.{by_page}
 use Rattle.flash_disk.proofs.Standing.{SaysAlike, said_before, is_newest_of, HasSameRecords, records_newest}
@@ -213,13 +214,13 @@ none_apart copy told m lawful = look_apart copy m m refl (λ c past. lawful.only
 
 module _ (copy : ℕ) (a b c : FlashMedium) (first : FlashElapses a b) (second : FlashElapses b c) where
   pub mix_early : MayMix copy a b → MayMix copy a c
-  mix_early mix = (mix.0, second.keeps a.moment mix.0 first.later mix.1, mix.2)
+  mix_early mix = (mix.0, second.keeps a.moment (still_case mix.0) first.later mix.1, mix.2)
 
   mix_late : MayMix copy b c → MayMix copy a c
   mix_late mix = (
     mix.0,
-    second.adds a.moment mix.0 first.later mix.1,
-    subst (λ k. HasNoRoom mix.0.left k copy) first.blocks mix.2,
+    second.adds a.moment (still_case mix.0) first.later mix.1,
+    subst (λ k. HasNoRoom mix.0.pages k copy) first.blocks mix.2,
   )
 
   module _ (early : KeepsApart copy a b) (P : Type 0) (given : 16 ≤ a.blocks → StandApart a.state.pages a.blocks
@@ -261,24 +262,18 @@ module _ (copy : ℕ) (a b c : FlashMedium) (first : FlashElapses a b) (second :
       (λ mix. inr (mix_early mix))
       (early.now many stand)
 
--- what stood apart since a moment does so after calls of one copy, as long as there was room
-module _ (a b : FlashMedium) (time : FlashElapses a b) (copy : ℕ) (kept : KeepsApart copy a b) (t : ℕ)
-    (le : t ≤ a.moment) (was : ApartSince a t) where
+-- what stood apart since a moment does so after calls that change no page, or that write a file as long as there is room
+module _ (a b : FlashMedium) (time : FlashElapses a b) (t : ℕ) (le : t ≤ a.moment) (was : ApartSince a t) where
   still_lacked : LackedRoom a t → LackedRoom b t
-  still_lacked lacked = (
-    lacked.0,
-    lacked.1,
-    time.keeps t lacked.1 le lacked.2,
-    subst (λ k. HasNoRoom lacked.1.left k lacked.0) (sym time.blocks) lacked.3,
-  )
-
-  now_lacked : MayMix copy a b → LackedRoom b t
-  now_lacked mix = (
-    copy,
-    mix.0,
-    time.adds t mix.0 le mix.1,
-    subst (λ k. HasNoRoom mix.0.left k copy) (sym time.blocks) mix.2,
-  )
+  still_lacked lacked = record {
+    between = lacked.between;
+    past = time.keeps t (still_case lacked.between) le lacked.past;
+    earlier = lacked.earlier;
+    write = lacked.write;
+    last = lacked.last;
+    no_room = subst (λ k. HasNoRoom lacked.between.pages k (copy_of lacked.write.file)) (sym time.blocks)
+        lacked.no_room;
+  }
 
   stood_before : (pages : Pages) → StandsOrLacked a t pages → StandsOrLacked b t pages
   stood_before pages stands = ⊎_elim
@@ -286,30 +281,68 @@ module _ (a b : FlashMedium) (time : FlashElapses a b) (copy : ℕ) (kept : Keep
       (λ lacked. inr (still_lacked lacked))
       stands
 
-  stays_after : (pages : Pages) → StaysApart copy a b pages → StandsOrLacked b t pages
-  stays_after pages stays = ⊎_elim
-      (λ stood. ⊎_elim
-      (λ stand. inl (subst (StandApart pages) (sym time.blocks) stand))
-      (λ mix. inr (now_lacked mix))
-      (stays was.many stood))
-      (λ lacked. inr (still_lacked lacked))
-      was.now
-
-  pub apart_since : ApartSince b t
-  apart_since = record {
+  since_then : StandsOrLacked b t b.state.pages
+      → ((c : FlashCase) → b.since a.moment c → IsPlain c.before c.whole c.left → StandsOrLacked b t c.left)
+      → ApartSince b t
+  since_then now during = record {
     many = subst (λ (k : ℕ). 16 ≤ k) (sym time.blocks) was.many;
-    now = stays_after b.state.pages kept.now;
+    now = now;
     during = λ c past plain. ⊎_elim
         (λ early. stood_before c.left (was.during c early plain))
-        (λ since. stays_after c.left (kept.during c since plain))
+        (λ since. during c since plain)
         (time.nothing_else t c le past);
   }
+
+  pub keeps_since : KeepsPages a b → ApartSince b t
+  keeps_since keeps = since_then (same b.state.pages keeps.now) (λ c since plain. same c.left (keeps.during c since))
+    where
+      same : (pages : Pages) → pages ≡ a.state.pages → StandsOrLacked b t pages
+      same pages is = subst (StandsOrLacked b t) (sym is) (stood_before a.state.pages was.now)
+
+  module _ (file at : ℕ) (bytes : List ℕ) (writes : WritesInto file at bytes a b) where
+    -- there was no room on pages on which the write was announced
+    announced_lacked : (s : FlashState) → b.since a.moment (still_case s)
+        → s.announced ≡ (announce_write a.state file at bytes).announced
+        → HasNoRoom s.pages a.blocks (copy_of file) → LackedRoom b t
+    announced_lacked s past announced none = record {
+      between = s;
+      past = time.adds t (still_case s) le past;
+      earlier = a.state.announced;
+      write = record { file = file; at = at; bytes = bytes };
+      last = announced;
+      no_room = subst (λ k. HasNoRoom s.pages k (copy_of file)) (sym time.blocks) none;
+    }
+
+    mix_lacked : b.since a.moment (still_case (announce_write a.state file at bytes)) → MayMix (copy_of file) a b
+        → LackedRoom b t
+    mix_lacked first mix = ⊎_elim
+        (λ still. announced_lacked (announce_write a.state file at bytes) first refl
+        (subst (λ p. HasNoRoom p a.blocks (copy_of file)) still.left mix.2))
+        (λ leaves. announced_lacked mix.0 mix.1 leaves.announced mix.2)
+        (writes.during (still_case mix.0) mix.1)
+
+    stays_after : b.since a.moment (still_case (announce_write a.state file at bytes)) → (pages : Pages)
+        → StaysApart (copy_of file) a b pages → StandsOrLacked b t pages
+    stays_after first pages stays = ⊎_elim
+        (λ stood. ⊎_elim
+        (λ stand. inl (subst (StandApart pages) (sym time.blocks) stand))
+        (λ mix. inr (mix_lacked first mix))
+        (stays was.many stood))
+        (λ lacked. inr (still_lacked lacked))
+        was.now
+
+    pub apart_since : KeepsApart (copy_of file) a b → ApartSince b t
+    apart_since kept = ⊎_elim
+        keeps_since
+        (λ first. since_then (stays_after first b.state.pages kept.now)
+        (λ c since plain. stays_after first c.left (kept.during c since plain)))
+        writes.first
 
 -- there is no room at this moment
 pub no_room_now : (copy : ℕ) (told : Bool) (m now : FlashMedium) → IsLawfulFlash told m → IsTrue told
     → FlashElapses m now → HasNoRoom m.state.pages m.blocks copy → MayMix copy m now
 no_room_now copy told m now lawful tells time room = (
-  still_case m.state,
+  m.state,
   time.keeps m.moment (still_case m.state) (omega arith) (lawful.counts_now tells m.moment (still_case m.state)
       (omega arith) (record { before = refl; whole = refl; left = refl; settled = refl; announced = refl })),
   room,

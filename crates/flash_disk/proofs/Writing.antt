@@ -1,8 +1,9 @@
 -- Writes into files, page by page: what each step finds, and what the steps make of the files together.
-use Rattle.std.proofs.Common.{◌≡◌, ◌⊎◌, ℕ, ◌+◌, ◌-◌, ◌*◌, ◌/◌, ◌%◌, ◌<◌, ◌≤◌, Bool, false, List, Result, Ok, Err, OnOk}
+use Rattle.std.proofs.Common.{◌≡◌, ◌⊎◌, ℕ, ◌+◌, ◌-◌, ◌*◌, ◌/◌, ◌%◌, ◌<◌, ◌≤◌, Bool, true, false, List, Result, Ok, Err}
+use Rattle.std.proofs.Common.{OnOk, OnErr}
 use Rattle.std.proofs.Common.{length, take, drop, max, get_or, cond, sym, refl, ap, ◌∙◌, subst, inl, inr, ⊎_elim, arith}
 use Rattle.std.proofs.Common.{eq-eqb, true≢false}
-use Rattle.std.specs.Prelude.{min, is_err, IsSome, Option, Some, None, nat_eq, ◌&&◌}
+use Rattle.std.specs.Prelude.{min, is_err, IsTrue, IsSome, Option, Some, None, nat_eq, ◌&&◌}
 use Rattle.std.proofs.lemmas.Bool.{cases_lt, cases_eq, ne_eqb, and_from, and_left, and_right, lt-ltb, le-ltb}
 use Rattle.std.proofs.lemmas.List.{get_or_past}
 use Rattle.disk_model.specs.Image.{Image, TornImage, put_image}
@@ -23,6 +24,7 @@ use Rattle.flash_disk.specs.Standing.{IsAgreed, IsStrayless, StaysAgreed, Denote
 use Rattle.flash_disk.specs.Sound.{files_on, IsSoundLayer, Sound, MayBeAdded, IsDescribedBy, PendsAt, FitsIn, LeavesPut}
 use Rattle.flash_disk.specs.Sound.{ShowsZeros}
 use Rattle.flash_disk.specs.Sound.{ShowsPage, WipesPage}
+use Rattle.flash_disk.specs.Looks.{still_case}
 use Rattle.flash_disk.specs.Writes.{LeavesTorn, with_write, WritesInto}
 use Rattle.flash_disk.proofs.Entering.{sound_usable}
 use Rattle.flash_disk.proofs.Reading.{len_is}
@@ -37,6 +39,25 @@ on_ok_both (Err e) from p q = q
 pub no_error : {T E P : Type 0} (r : Result T E) → is_err r ≡ false → OnOk r P → P
 no_error (Ok x) none p = p
 no_error (Err e) none p = absurd (true≢false none)
+
+pub is_error : {T E P : Type 0} (r : Result T E) → is_err r ≡ true → OnErr r P → P
+is_error (Ok x) some p = absurd (true≢false (sym some))
+is_error (Err e) some p = p
+
+-- a write that was not announced
+pub none_written : (a b : FlashMedium) (file at : ℕ) (bytes : List ℕ) → b.state ≡ a.state
+    → EachFlashCase (IsStill a.state) a b → WritesInto file at bytes a b
+none_written a b file at bytes same looks = record {
+  now = inl same;
+  during = λ c past. inl (looks c past);
+  first = inl (record { now = ap (λ (s : FlashState). s.pages) same; during = λ c past. (looks c past).left });
+}
+
+pub fault_written : {F : Type 0} (told : Bool) (medium : F → FlashMedium) (a b : F) → b ≡ a
+    → IsLawfulFlash told (medium a) → (file at : ℕ) (bytes : List ℕ) → WritesInto file at bytes (medium a) (medium b)
+fault_written told medium a b same lawful file at bytes =
+    subst (λ f. WritesInto file at bytes (medium a) (medium f)) (sym same)
+    (none_written (medium a) (medium a) file at bytes refl (λ c past. lawful.only_now c past))
 
 -- ---- what a sound layer has
 
@@ -510,11 +531,11 @@ module _ (file at : ℕ) (bytes : List ℕ) where
     with_announced = ap (λ (t : FlashState). t.announced) state
 
     -- and what comes after it is the write
-    pub writes_into : (s : LayerState) → IsSoundLayer a s → EachFlashCase (λ x. IsStill a.state x
-        ⊎ IsStill b.state x) a b
+    pub writes_into : (told : Bool) → IsTrue told → IsLawfulFlash told b → (s : LayerState) → IsSoundLayer a s
+        → EachFlashCase (λ x. IsStill a.state x ⊎ IsStill b.state x) a b
         → (d : FlashMedium) → FlashElapses b d → Does (LeavesTorn file at (length bytes) b) b d
         → WritesInto file at bytes a d
-    writes_into s sound cases d second does = record {
+    writes_into told tells lawful s sound cases d second does = record {
       now = inr (
         does.settled ∙ settled_announced,
         does.announced ∙ with_announced,
@@ -536,4 +557,8 @@ module _ (file at : ℕ) (bytes : List ℕ) where
             left = λ plain. torn_announced x.left (leaves.left plain);
           })))
           (second.nothing_else a.moment x time.later past);
+      first = inr (second.keeps a.moment (still_case (announce_write a.state file at bytes)) time.later
+          (lawful.counts_now tells a.moment (still_case (announce_write a.state file at bytes)) time.later
+          (subst (λ z. IsStill z (still_case (announce_write a.state file at bytes))) (sym state)
+          (record { before = refl; whole = refl; left = refl; settled = refl; announced = refl }))));
     }

@@ -1,4 +1,5 @@
--- Copies that are kept apart: no block holds what counts of two of them, so that the loss of a block costs one.
+-- Copies that are kept apart: no block holds what counts of two of them, so that the loss of a block costs one. Pages
+-- are numbered through: a block has 64, and page j is in block j / 64.
 use Rattle.std.specs.Prelude.{◌≡◌, ◌≢◌, ◌⊎◌, ℕ, ◌+◌, ◌*◌, ◌/◌, ◌%◌, ◌<◌, None, Some}
 use Rattle.disk_model.specs.Damage.{AtLeast}
 use Rattle.flash_model.specs.Pages.{Pages}
@@ -6,7 +7,8 @@ use Rattle.flash_record.specs.PageRecord.{record_in}
 use Rattle.flash_disk.specs.Newest.{Placed, record_at, newest, places, IsSpare}
 use Rattle.flash_disk.specs.FlashFiles.{flash_files}
 
--- which copy a file is of: a place has four files for each copy, and begins at a multiple of 32
+-- which copy a file is of, from 0 to 7: a place has 4 files for each of at most 8 copies, and begins at a multiple of
+-- 32
 abbrev pub copy_of : ℕ → ℕ
 copy_of file = file / 4 % 8
 
@@ -39,7 +41,7 @@ abbrev pub Counts : Pages → (n place : ℕ) → Type 0
 Counts pages n place = (file page : ℕ) × (x : Placed) × (newest pages file page n ≡ Some x)
     × (record_at pages place ≡ Some x.says)
 
--- fewer than 8 pages of a block hold no such record
+-- at least 57 of the 64 pages of a block hold such a record, so that fewer than 8 of them hold none
 abbrev pub IsPacked : Pages → (n block : ℕ) → Type 0
 IsPacked pages n block = AtLeast (λ p. Counts pages n (64 * block + p)) 64 57
 

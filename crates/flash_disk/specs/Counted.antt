@@ -8,9 +8,11 @@ use Rattle.flash_disk.specs.declared.table.Newest.{Newest}
 use Rattle.flash_disk.specs.declared.table.Table.{Table}
 use Rattle.flash_disk.specs.Known.{known, page_len, limit_of, load_known}
 
+-- 1 where an entry leads into a block, else 0
 abbrev pub leads_into : ℕ → Newest → ℕ
 leads_into block entry = if entry.place.block == block then 1 else 0
 
+-- the same of an entry that may be missing, which is 0
 abbrev pub had_in : ℕ → Option Newest → ℕ
 had_in block entry = unwrap_or (option_map (leads_into block) entry) 0
 
@@ -18,6 +20,7 @@ had_in block entry = unwrap_or (option_map (leads_into block) entry) 0
 abbrev pub entries_in : Table → ℕ → ℕ
 entries_in table block = sum_by (leads_into block) (values table.newest)
 
+-- 1 where an entry leads into the first few pages of a block, else 0
 abbrev pub lies_below : (block done : ℕ) → Newest → ℕ
 lies_below block done entry = if (entry.place.block == block && nat_lt entry.place.page done) then 1 else 0
 
@@ -36,7 +39,8 @@ pub record IsInside (blocks : ℕ) (entry : Newest) : Type 0 where
   pub place : entry.place.block < blocks
   pub twin : IfSome entry.twin (λ twin. twin.block < blocks)
 
--- every entry of a table leads into one of these blocks, and into each block as many lead as the table counts
+-- every entry of a table leads into one of these blocks, and into each block as many lead as the table counts; there
+-- are 4 to 4,096 blocks, of 64 pages each, and entries for at most as many pages as all blocks but two have
 pub record IsCountedTable (blocks : ℕ) (table : Table) : Type 0 where
   pub some : 4 ≤ blocks
   pub few : blocks ≤ 4096

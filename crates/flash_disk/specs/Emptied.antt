@@ -5,7 +5,7 @@ use Rattle.flash_model.specs.Pages.{Pages, blank_page, TornBlock}
 use Rattle.flash_record.specs.PageRecord.{PageRecord, record_in}
 use Rattle.flash_disk.specs.Newest.{record_at}
 
--- each page of a block is blank
+-- each of the 64 pages of a block is blank
 abbrev pub IsEmptyBlock : Pages → ℕ → Type 0
 IsEmptyBlock pages block = (p : ℕ) → p < 64 → pages block p ≡ blank_page
 

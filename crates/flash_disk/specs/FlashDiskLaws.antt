@@ -9,7 +9,8 @@ use Rattle.flash_disk.specs.FlashFiles.{flash_files}
 use Rattle.flash_disk.specs.Newest.{places, IsUsable}
 use Rattle.flash_disk.specs.Standing.{IsAgreed}
 use Rattle.flash_disk.specs.Apart.{StandApart}
-use Rattle.flash_disk.specs.FlashDiskMedium.{put_announced, disk_case, still_case, files_told, flash_disk_medium}
+use Rattle.flash_disk.specs.FlashDiskMedium.{put_announced, disk_case, files_told, flash_disk_medium}
+use Rattle.flash_disk.specs.Looks.{still_case}
 
 not_modelled : {X : Type 0} → IsTrue false → X
 not_modelled t = absurd (true≢false (sym t))

@@ -9,6 +9,7 @@ use Rattle.flash_model.specs.State.{Announced, FlashState, FlashCase}
 use Rattle.flash_model.specs.FlashMedium.{FlashMedium}
 use Rattle.flash_disk.specs.FlashFiles.{flash_files}
 use Rattle.flash_disk.specs.FlashView.{FlashView}
+use Rattle.flash_disk.specs.Looks.{still_case}
 use Rattle.flash_disk.specs.Newest.{places}
 use Rattle.flash_disk.specs.Standing.{IsAgreed}
 use Rattle.flash_disk.specs.Throughout.{KeepsUsable, KeepsAgreed, UsableSince, AgreedSince}
@@ -26,17 +27,6 @@ disk_case blocks c = record {
   base = flash_files c.settled blocks;
   full = put_announced (flash_files c.settled blocks) c.announced;
   left = flash_files c.left blocks;
-}
-
--- the case of a crash between two calls
-abbrev pub still_case : FlashState → FlashCase
-still_case s = record {
-  before = s.pages;
-  whole = s.pages;
-  left = s.pages;
-  settled = s.settled;
-  announced =
-      s.announced;
 }
 
 -- a case of the flash in which no page passes its hash by chance

@@ -18,10 +18,11 @@ abbrev pub byte_in : Option Placed → ℕ → ℕ
 byte_in None i = 0
 byte_in (Some x) i = slice_index x.says.bytes i
 
--- the byte of a file in a place, as long as the file reaches there
+-- byte i of a file, as long as the file reaches there: a page of a file has 256 bytes
 abbrev pub file_byte : Pages → (n file i : ℕ) → ℕ
 file_byte pages n file i = byte_in (newest pages file (i / 256) n) (i % 256)
 
+-- whether there is a record, and it is in place i
 abbrev pub lies_at : ℕ → Option Placed → Bool
 lies_at i None = false
 lies_at i (Some x) = x.place == i

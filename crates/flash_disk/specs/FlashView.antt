@@ -21,7 +21,7 @@ view_code {F} code =
     (λ v. (v.flash, (v.sequence, (v.own, v.written))))
     (λ p. record { flash = p.0; sequence = p.1.0; own = p.1.1.0; written = p.1.1.1 }) (λ _. refl)
 
--- what is known of the flash fits it, and no more bytes were written than records with these numbers hold
+-- what is known of the flash fits it, and no more bytes were written than records with these numbers hold, 256 each
 pub record FitsFlash (told : Bool) (m : FlashMedium) (s : LayerState) (written : ℕ) : Type 0 where
   pub described : IsTrue told → IsDescribedBy m s
   pub counted : written ≤ 256 * s.sequence

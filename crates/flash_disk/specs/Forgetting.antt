@@ -37,7 +37,8 @@ pub record GivesUp (kept : ℕ → Bool) (old new : FlashMedium) : Type 0 where
   pub now : Forgets kept old.blocks old.state.pages new.state.pages
   pub during : EachFlashCase (LeavesForgetting kept old new) old new
 
--- a block has the record that is counted for a page of a file that is kept: the newest one of the page, or an equal one
+-- a block has, among its 64 places, the record that is counted for a page of a file that is kept: the newest one of
+-- the page, or an equal one
 pub record CountsInBlock (kept : ℕ → Bool) (pages : Pages) (blocks : ℕ) (counting : (file page : ℕ) → ℕ) (block : ℕ)
     : Type 0 where
   pub file : ℕ
@@ -73,7 +74,7 @@ abbrev pub NeedsBlock : (kept : ℕ → Bool) → Table → (block : ℕ) → Ty
 NeedsBlock kept table block = (key : FilePage) × (entry : Newest) × (kept key.file ≡ true)
     × (known table key ≡ Some entry) × (entry.place.block ≡ block)
 
--- a block that is not the spare one, and to which no entry of a file that is kept leads
+-- a block that is not the spare one, and to none of whose 64 pages an entry of a file that is kept leads
 pub record MayBeFreed (kept : ℕ → Bool) (blocks : ℕ) (s : LayerState) (block : ℕ) : Type 0 where
   pub within : block < blocks
   pub apart : block ≢ s.spare
@@ -94,7 +95,8 @@ pub record IsFreeBlock (pages : Pages) (blocks : ℕ) (s : LayerState) (block : 
   pub apart : block ≢ s.spare
   pub empty : IsEmptyBlock pages block
 
--- meanwhile what is kept is copied from the first few pages of a block to the start of another
+-- meanwhile what is kept is copied from the first few pages of a block to the start of another, the rest of whose 64
+-- pages is blank
 pub record IsMovingKept (kept : ℕ → Bool) (pages : Pages) (blocks : ℕ) (s : LayerState) (from to done count : ℕ)
     : Type 0 where
   pub forgetting : IsForgetting kept pages blocks s

@@ -1,17 +1,18 @@
 -- That the calls of a disk keep the copies apart: when a write of a file may mix them.
-use Rattle.std.specs.Prelude.{◌⊎◌, ℕ, ◌≤◌}
+use Rattle.std.specs.Prelude.{◌≡◌, ◌⊎◌, ℕ, ◌≤◌, List, [], ◌∷◌, ◌++◌}
 use Rattle.flash_model.specs.Pages.{Pages, IsPlain}
-use Rattle.flash_model.specs.State.{FlashCase}
+use Rattle.flash_model.specs.State.{Announced, FlashState, FlashCase}
 use Rattle.flash_model.specs.FlashMedium.{FlashMedium}
+use Rattle.flash_disk.specs.Looks.{still_case}
 use Rattle.flash_disk.specs.Newest.{places}
-use Rattle.flash_disk.specs.Apart.{StandApart, HasNoRoom, HoldsOneCopy}
+use Rattle.flash_disk.specs.Apart.{copy_of, StandApart, HasNoRoom, HoldsOneCopy}
 
--- At some moment of a call no block but the spare one had room for a copy. Then its next record may come to be in a
--- block of others.
+-- At some moment of a disk's call, between two calls of its flash, no block but the spare one had room for a copy. Then
+-- the copy's next record may come to be in a block of others.
 abbrev pub MayMix : (copy : ℕ) → (old new : FlashMedium) → Type 0
-MayMix copy old new = (c : FlashCase) × new.since old.moment c × HasNoRoom c.left old.blocks copy
+MayMix copy old new = (s : FlashState) × new.since old.moment (still_case s) × HasNoRoom s.pages old.blocks copy
 
--- on enough blocks, copies that stand apart do so afterwards, or there was no room for this one
+-- on enough blocks, which are 16, copies that stand apart do so afterwards, or there was no room for this one
 abbrev pub StaysApart : (copy : ℕ) → (old new : FlashMedium) → Pages → Type 0
 StaysApart copy old new pages = 16 ≤ old.blocks → StandApart old.state.pages old.blocks
     → StandApart pages old.blocks ⊎ MayMix copy old new
@@ -25,16 +26,22 @@ pub record KeepsApart (copy : ℕ) (old new : FlashMedium) : Type 0 where
 
 -- ---- the same from a moment on
 
--- at some moment since this one no block but the spare one had room for some copy
-abbrev pub LackedRoom : FlashMedium → ℕ → Type 0
-LackedRoom m t = (copy : ℕ) × (c : FlashCase) × m.since t c × HasNoRoom c.left m.blocks copy
+-- At some moment since this one, between two calls of the flash, no block but the spare one had room for the copy whose
+-- file the write goes into that was announced last.
+pub record LackedRoom (m : FlashMedium) (t : ℕ) : Type 0 where
+  pub between : FlashState
+  pub past : m.since t (still_case between)
+  pub earlier : List Announced
+  pub write : Announced
+  pub last : between.announced ≡ earlier ++ write ∷ []
+  pub no_room : HasNoRoom between.pages m.blocks (copy_of write.file)
 
--- the copies stand apart on these pages, or there was no room for one
+-- the copies stand apart on these pages, or there was no room for one that was written
 abbrev pub StandsOrLacked : FlashMedium → ℕ → Pages → Type 0
 StandsOrLacked m t pages = StandApart pages m.blocks ⊎ LackedRoom m t
 
 -- there are enough blocks, and the copies stand apart now and after a crash at any moment since this one, if no page
--- passes its hash by chance and as long as there was room for each copy
+-- passes its hash by chance and as long as there was room for each copy that was written
 pub record ApartSince (m : FlashMedium) (t : ℕ) : Type 0 where
   pub many : 16 ≤ m.blocks
   pub now : StandsOrLacked m t m.state.pages

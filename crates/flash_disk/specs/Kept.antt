@@ -25,7 +25,7 @@ spares_record kept (Some r) = kept r.file
 abbrev pub only_kept : (kept : ℕ → Bool) → Pages → Pages
 only_kept kept pages b p = if spares_record kept (record_in (pages b p)) then pages b p else blank_page
 
--- no page of a block has a record of a file that is given up
+-- none of the 64 pages of a block has a record of a file that is given up
 abbrev pub HoldsKept : (kept : ℕ → Bool) → Pages → (block : ℕ) → Type 0
 HoldsKept kept pages block = (p : ℕ) → p < 64 → spares_record kept (record_in (pages block p)) ≡ true
 

@@ -8,6 +8,7 @@ use Rattle.flash_disk.specs.declared.table.FilePage.{FilePage}
 use Rattle.flash_disk.specs.declared.table.Newest.{Newest}
 use Rattle.flash_disk.specs.declared.table.Table.{Table}
 
+-- whether two are one page of one file
 abbrev pub same_page : FilePage → FilePage → Bool
 same_page a b = nat_eq a.file b.file && nat_eq a.page b.page
 
@@ -31,10 +32,11 @@ limit_of table = table.limit
 abbrev pub HasCapacity : Table → Type 0
 HasCapacity table = table.limit ≤ hash_map_len table.newest + spare table.newest
 
--- how long a file is by a table of lengths, and by the table
+-- how long a file is by a table of lengths
 abbrev pub len_in : {S : Type 0} → HashMap ℕ ℕ S → ℕ → ℕ
 len_in lens file = unwrap_or (get nat_eq lens file) 0
 
+-- a table of lengths has one for this file
 abbrev pub HasLenIn : {S : Type 0} → HashMap ℕ ℕ S → ℕ → Type 0
 HasLenIn lens file = IsSome (get nat_eq lens file)
 
@@ -42,6 +44,7 @@ HasLenIn lens file = IsSome (get nat_eq lens file)
 abbrev pub HasLen : Table → ℕ → Type 0
 HasLen table file = HasLenIn table.lens file
 
+-- how long a file is by the table
 abbrev pub len_known : Table → ℕ → ℕ
 len_known table file = len_in table.lens file
 
@@ -78,6 +81,7 @@ abbrev pub Lengthens : Table → Table → ℕ → ℕ → Type 0
 Lengthens old new file len = (f : ℕ) → len_known new f
     ≡ (if f == file then max (len_known old f) len else len_known old f)
 
+-- every file is as long as it was
 abbrev pub SameLens : Table → Table → Type 0
 SameLens old new = (f : ℕ) → len_known new f ≡ len_known old f
 
@@ -96,7 +100,8 @@ pub record IsEmptyTable (table : Table) : Type 0 where
   pub lens : (file : ℕ) → len_known table file ≡ 0
   pub len_room : table.limit ≤ spare table.lens
 
--- the bytes of a record that an entry says, other than zeros, end within its file or by this byte
+-- the bytes of a record that an entry says, other than zeros, end within its file or by this byte; records are of pages
+-- below 2^32, each of 256 bytes
 abbrev pub IsFilledUpTo : {S : Type 0} → HashMap ℕ ℕ S → FilePage → Newest → ℕ → Type 0
 IsFilledUpTo lens key entry end = key.page < 4294967296 → 0 < entry.filled
     → (256 * key.page + entry.filled ≤ len_in lens key.file) ⊎ (256 * key.page + entry.filled ≤ end)

@@ -12,6 +12,7 @@ use Rattle.flash_disk.specs.Known.{known, page_len, limit_of, len_known, HasCapa
 use Rattle.flash_disk.specs.Standing.{IsRivalled}
 use Rattle.flash_disk.specs.FlashFiles.{file_byte, file_len, IsFileLen}
 
+-- the number of a place of the flash: they are counted through, 64 for each block
 abbrev pub number : FlashPage → ℕ
 number place = 64 * place.block + place.page
 
@@ -34,7 +35,7 @@ Unrivalled pages n x = (j : ℕ) (q : PageRecord) → j < n → record_at pages 
     → is_of x.says.file x.says.page q ≡ true
     → q.sequence ≡ x.says.sequence → q ≡ x.says
 
--- while the flash is learnt an entry is that of the newest record itself
+-- while the flash is learnt an entry is that of the newest record itself; records are of pages below 2^32
 pub record Learns (pages : Pages) (n : ℕ) (entry : Newest) (x : Placed) : Type 0 where
   pub leads : EntryLeadsTo pages entry x
   pub place : number entry.place ≡ x.place
@@ -43,6 +44,7 @@ pub record Learns (pages : Pages) (n : ℕ) (entry : Newest) (x : Placed) : Type
   pub rivals : IsTrue entry.rivalled → IsRivalled pages n x
   pub page : x.says.page < 4294967296
 
+-- a page has an entry where it has a record, and only there, and the entry is such
 abbrev pub LearnsOf : Pages → ℕ → Option Newest → Option Placed → Type 0
 LearnsOf pages n None None = Unit {0}
 LearnsOf pages n None (Some x) = ⊥
@@ -88,6 +90,7 @@ pub record Led (pages : Pages) (n : ℕ) (entry : Newest) (x : Placed) : Type 0 
   pub within : number entry.place < n
   pub leads : EntryLeadsTo pages entry x
 
+-- a page has an entry where it has a record, and only there, and the entry leads to one that is equal to the newest
 abbrev pub LedOf : Pages → ℕ → Option Newest → Option Placed → Type 0
 LedOf pages n None None = Unit {0}
 LedOf pages n None (Some x) = ⊥
@@ -104,6 +107,7 @@ pub record IsLeavingBlock (pages : Pages) (n block : ℕ) (entry : Newest) (x : 
   pub page : x.says.page < 4294967296
   pub moved : (number entry.place ≡ x.place) ⊎ (entry.place.block ≢ block)
 
+-- a page has an entry where it has a record, and only there, and the entry is such
 abbrev pub LeavesOf : Pages → (n block : ℕ) → Option Newest → Option Placed → Type 0
 LeavesOf pages n block None None = Unit {0}
 LeavesOf pages n block None (Some x) = ⊥
@@ -135,7 +139,7 @@ pub record KnowsLengths (pages : Pages) (n : ℕ) (table : Table) : Type 0 where
   pub led : IsLed pages n table
   pub lens : (file : ℕ) → IsFileLen pages n file (len_known table file)
 
--- the bytes of a page of a file, with zeros past the end of the file
+-- the 256 bytes of a page of a file, with zeros past the end of the file
 abbrev pub IsContent : Pages → ℕ → FilePage → List ℕ → Type 0
 IsContent pages n key bytes = (j : ℕ) → j < 256
     → slice_index bytes j ≡ (if nat_lt (256 * key.page + j) (file_len pages n key.file) then file_byte pages n key.file

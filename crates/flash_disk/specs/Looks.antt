@@ -1,7 +1,23 @@
--- Calls of a flash that only look, and the opening of a disk, which looks and then settles.
+-- A flash between two of its calls; calls that only look; and the opening of a disk, which looks and then settles.
 use Rattle.std.specs.Prelude.{◌≡◌, ◌⊎◌, Bool, IsTrue}
-use Rattle.flash_model.specs.State.{IsStill, settle_pages}
+use Rattle.flash_model.specs.State.{FlashState, FlashCase, IsStill, settle_pages}
 use Rattle.flash_model.specs.FlashMedium.{FlashMedium, FlashElapses, EachFlashCase}
+
+-- the case of a crash between two calls
+abbrev pub still_case : FlashState → FlashCase
+still_case s = record {
+  before = s.pages;
+  whole = s.pages;
+  left = s.pages;
+  settled = s.settled;
+  announced =
+      s.announced;
+}
+
+-- no page changed in some calls, and a crash meanwhile leaves the pages as they were
+pub record KeepsPages (old new : FlashMedium) : Type 0 where
+  pub now : new.state.pages ≡ old.state.pages
+  pub during : EachFlashCase (λ c. c.left ≡ old.state.pages) old new
 
 -- the flash is as it was, and so is what a crash meanwhile leaves
 pub record LeavesFlashAlone (told : Bool) (old new : FlashMedium) : Type 0 where

@@ -29,7 +29,8 @@ abbrev pub HasKey : FilePage → List (FilePage × Newest) → Type 0
 HasKey key [] = ⊥
 HasKey key (e ∷ es) = (same_page e.0 key ≡ true) ⊎ HasKey key es
 
--- of the first few pages of a block the newest records are copied to the start of the spare one
+-- Of the first few pages of a block the newest records are copied to the start of the spare one, the rest of whose 64
+-- pages is blank; the block that was filled is full.
 pub record IsMoving (pages : Pages) (blocks : ℕ) (s : LayerState) (from to done : ℕ) : Type 0 where
   pub sound : Sound pages blocks s
   pub agreed : IsFalse s.has_rivals

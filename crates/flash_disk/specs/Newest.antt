@@ -13,6 +13,7 @@ pub record Placed : Type 0 where
   pub place : ℕ
   pub says : PageRecord
 
+-- whether a record is of this page of this file
 abbrev pub is_of : ℕ → ℕ → PageRecord → Bool
 is_of file page r = r.file == file && r.page == page
 
@@ -21,6 +22,7 @@ abbrev pub newer : Option Placed → Placed → Option Placed
 newer None r = Some r
 newer (Some best) r = if nat_lt best.says.sequence r.says.sequence then Some r else Some best
 
+-- the newest record of a page once place i is looked at too: what it holds, and the newest one of those before it
 abbrev pub with_record : ℕ → ℕ → ℕ → Option PageRecord → Option Placed → Option Placed
 with_record file page i None best = best
 with_record file page i (Some r) best = if is_of file page r then newer best (record { place = i; says = r }) else best
@@ -59,7 +61,7 @@ pub record IsNeeded (pages : Pages) (n : ℕ) (x : Placed) : Type 0 where
 abbrev pub IsSpare : Pages → ℕ → ℕ → Type 0
 IsSpare pages n block = (x : Placed) → IsNeeded pages n x → x.place / 64 ≢ block
 
--- a disk keeps at most that many pages on a flash
+-- a disk keeps at most that many pages on a flash: as many as all blocks but two have, 64 each
 abbrev pub page_limit : ℕ → ℕ
 page_limit blocks = 64 * (blocks - 2)
 
@@ -90,6 +92,7 @@ pub record IsNewest (pages : Pages) (file page n : ℕ) (x : Placed) : Type 0 wh
 abbrev pub HasNone : Pages → (file page n : ℕ) → Type 0
 HasNone pages file page n = (j : ℕ) (r : PageRecord) → j < n → record_at pages j ≡ Some r → is_of file page r ≡ true → ⊥
 
+-- what makes this the newest record of a page in the first n places, or that there is none
 abbrev pub IsNewestOf : Pages → (file page n : ℕ) → Option Placed → Type 0
 IsNewestOf pages file page n None = HasNone pages file page n
 IsNewestOf pages file page n (Some x) = IsNewest pages file page n x

@@ -8,6 +8,8 @@ use Rattle.disk_model.specs.Image.{Image}
 abbrev pub in_range : (at n i : ℕ) → Bool
 in_range at n i = nat_le at i && nat_lt i (at + n)
 
+-- a file has these bytes from byte `at` on, is of this length, which is no less than before, and is else as it was,
+-- with zeros where it had nothing; every other file is as it was
 pub record PutPart (file at : ℕ) (bytes : List ℕ) (len : ℕ) (old new : Image) : Type 0 where
   pub others : (f : ℕ) → f ≢ file → new f ≡ old f
   pub long : length (new file) ≡ len

@@ -1,4 +1,5 @@
--- What a disk over flash keeps in memory, and how it fits what the pages hold.
+-- What a disk over flash keeps in memory, and how it fits what the pages hold. A block has 64 pages, and a page of a
+-- file 256 bytes.
 use Rattle.std.specs.Prelude.{◌≡◌, ◌≢◌, ◌⊎◌, ℕ, ◌/◌, ◌%◌, ◌+◌, ◌*◌, ◌<◌, ◌≤◌, ◌==◌, ◌&&◌, List, Option, Some, None}
 use Rattle.std.specs.Prelude.{IsTrue, IsFalse, length, vec_capacity, slice_index, if◌then◌else◌}
 use Rattle.std.specs.HashMap.{spare}
@@ -21,6 +22,7 @@ use Rattle.flash_disk.specs.PutPart.{PutOrNot}
 use Rattle.flash_disk.specs.Apart.{copy_of, KeepsHeld}
 use Rattle.flash_disk.specs.Emptied.{IsEmptyBlock}
 
+-- the files of a flash
 abbrev pub files_on : FlashMedium → Image
 files_on m = flash_files m.state.pages m.blocks
 
@@ -50,7 +52,7 @@ pub record Sound (pages : Pages) (blocks : ℕ) (s : LayerState) : Type 0 where
   pub measured : (key : FilePage) (entry : Newest) → known s.table key ≡ Some entry → HasLen s.table key.file
   pub counted : IsCountedTable blocks s.table
   pub count : page_len s.table ≡ page_count pages (places blocks)
-  -- there is memory for what is moved out of a block
+  -- there is memory for what is moved out of a block, which may be a record in each of its 64 pages
   pub memory : 64 ≤ vec_capacity s.moved
   -- the spare block may be erased
   pub within : s.spare < blocks
@@ -61,6 +63,7 @@ pub record Sound (pages : Pages) (blocks : ℕ) (s : LayerState) : Type 0 where
   pub fresh : s.fill < 64 → HasFreshPage pages blocks s
   pub empty : IsTrue s.cleared → IsEmptyBlock pages s.spare
 
+-- what is kept fits the pages of a flash
 abbrev pub IsSoundLayer : FlashMedium → LayerState → Type 0
 IsSoundLayer m s = Sound m.state.pages m.blocks s
 
@@ -71,6 +74,7 @@ pub record MayBeAdded (pages : Pages) (blocks : ℕ) (s : LayerState) (file page
   pub zeros : (j : ℕ) → j < 256 → len ≤ 256 * page + j → slice_index bytes j ≡ 0
   pub grows : MayGrow pages (places blocks) file page len
 
+-- the same of the pages of a flash
 abbrev pub FitsIn : FlashMedium → LayerState → (file page len : ℕ) → List ℕ → Type 0
 FitsIn m s file page len bytes = MayBeAdded m.state.pages m.blocks s file page len bytes
 
@@ -95,6 +99,7 @@ pub record Pends (sure pages : Pages) (blocks : ℕ) (s : LayerState) (place : F
   pub elsewhere : TornPage place.block place.page sure pages
   pub may_enter : (r : PageRecord) → record_at pages (number place) ≡ Some r → Enters sure pages blocks s place r
 
+-- the pages are those of which what is kept is sure, but for what the page that is unsure, if one is, may hold
 abbrev pub PendsAt : Pages → Pages → ℕ → LayerState → Option FlashPage → Type 0
 PendsAt sure pages blocks s None = pages ≡ sure
 PendsAt sure pages blocks s (Some place) = Pends sure pages blocks s place

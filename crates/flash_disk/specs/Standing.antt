@@ -52,7 +52,7 @@ pub record DenotesFiles (old : FlashMedium) (pages : Pages) : Type 0 where
 abbrev pub IsStrayless : Pages → (n from : ℕ) → Type 0
 IsStrayless pages n from = (file i : ℕ) → file_len pages n file ≤ i → from ≤ i → file_byte pages n file i ≡ 0
 
--- a file may grow to this length by a record of this page of it: no other byte past its end shows
+-- a file may grow to this length by a record of this page of it, of 256 bytes: no other byte past its end shows
 abbrev pub MayGrow : Pages → (n file page len : ℕ) → Type 0
 MayGrow pages n file page len = (i : ℕ) → file_len pages n file ≤ i → i < len → i / 256 ≢ page
     → file_byte pages n file i ≡ 0

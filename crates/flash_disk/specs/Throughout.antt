@@ -20,7 +20,8 @@ pub record KeepsAgreed (old new : FlashMedium) : Type 0 where
 
 -- ---- the same from a moment on
 
--- it can be opened now, and after a crash at any moment since this one; nor are its blocks too few or too many
+-- it can be opened now, and after a crash at any moment since this one; nor has it fewer than 4 blocks or more than
+-- 4,096
 pub record UsableSince (m : FlashMedium) (t : ℕ) : Type 0 where
   pub many : 4 ≤ m.blocks
   pub few : m.blocks ≤ 4096

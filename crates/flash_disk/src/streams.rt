@@ -60,6 +60,8 @@ impl Streams {
     /// The page that is to be filled next with a record of a file. Where each copy has a block of its own, the last
     /// record of the file's copy is in its block; where it is not, no page of the block is.
     pub fn next_of(&self, table: &Table, file: u32) -> FlashPage
+        // On 16 blocks or more, where it is one of the 64 pages of its block and not past them, some newest record in
+        // the block is of the file's copy.
         ensures { 16 ≤ table.now.blocks → result.page < 64 → LeadsSome table.now (copy_of file) result.block }
     {
         let copy = self.stream_of(file) as usize;
@@ -92,9 +94,15 @@ impl Streams {
     /// is `spare` where no other leaves a page, or where each leaves fewer than 8 and less than a quarter of those that
     /// another block would; and on a flash of few blocks.
     pub fn lightest(&self, table: &Table, file: u32, spare: u32) -> u32
+        // A block other than the spare one has newest records in fewer than its 64 pages, all of the file's copy.
         ensures own { result ≢ spare → (result < table.now.blocks) × (load_known table.now result < 64)
             × LeadsOnly table.now (copy_of file) result }
+
+        // On 16 blocks or more each page of a file has one entry in the table, so that a block's count is of pages.
         ensures unique { 16 ≤ table.now.blocks → HasOneEach table.now }
+
+        // There, where it is the spare one, each other block whose newest records are all of that copy has 57 or more,
+        // so that fewer than 8 of its 64 pages are left.
         ensures none { 16 ≤ table.now.blocks → table.now.blocks ≤ 4096 → result ≡ spare
             → (block : ℕ) → block < table.now.blocks → block ≢ spare → LeadsOnly table.now (copy_of file) block
             → 57 ≤ load_known table.now block }
@@ -137,7 +145,7 @@ impl Streams {
         }
     }
 
-    // The stream of a file's copy.
+    // The stream of a file's copy, of 8; on a flash of fewer than 16 blocks all copies go on in one.
     fn stream_of(&self, file: u32) -> u8
         ensures { result < 8 }
     {

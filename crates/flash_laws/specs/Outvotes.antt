@@ -62,7 +62,8 @@ pub record Outvotes (old new : Image) : Type 0 where
 
 -- ---- from a moment on
 
--- whatever pages of one block are lost of these the copies outvote, or at some moment there was no room for one
+-- whatever pages of one block are lost of these the copies outvote, or at some moment there was no room for one that
+-- was written
 abbrev pub OutlastsLoss : FlashMedium → ℕ → Pages → Type 0
 OutlastsLoss m t pages = (block : ℕ) (new : Pages) → LosesPages block pages new
     → Outvotes (flash_files pages m.blocks) (flash_files new m.blocks) ⊎ LackedRoom m t

@@ -36,7 +36,7 @@ pub fn lost_pages_are_outvoted()
 
 /// So it is now and after a crash at any moment since one when the flash, of 16 blocks or more, had no rivals and the
 /// copies stood apart: each loss of pages of one block is outvoted then, unless at some moment there was no room for a
-/// copy. The calls of a disk keep both (`Elapses`), from its opening on (`IsJustOpened`).
+/// copy that was written. The calls of a disk keep both (`Elapses`), from its opening on (`IsJustOpened`).
 pub fn lost_pages_are_outvoted_since<F: Flash>()
     ensures { (flash : F) (t : ℕ) → AgreedSince (F.medium flash) t → ApartSince (F.medium flash) t
         → OutlastsSince (F.medium flash) t }

@@ -9,14 +9,14 @@ use Rattle.disk_model.specs.Medium.{Elapses, IsIdle}
 use Rattle.flash_model.specs.Pages.{Pages, IsPlain}
 use Rattle.flash_model.specs.State.{FlashCase}
 use Rattle.flash_model.specs.FlashMedium.{FlashMedium}
-use Rattle.flash_disk.specs.Apart.{HasNoRoom, StandApart}
+use Rattle.flash_disk.specs.Apart.{HasNoRoom, StandApart, copy_of}
 use Rattle.flash_disk.specs.FlashDiskLaws.{told_files, told_moment}
 use Rattle.flash_disk.specs.FlashDiskMedium.{disk_case, disk_seen}
 use Rattle.flash_disk.specs.FlashFiles.{flash_files}
 use Rattle.flash_disk.specs.FlashView.{FlashView}
 use Rattle.flash_disk.specs.Forgetting.{Forgets, GivesUp, IsFullOfKept, MayGiveNothing}
-use Rattle.flash_disk.specs.KeepsApart.{ApartSince, StandsOrLacked}
-use Rattle.flash_disk.specs.Looks.{LeavesFlashAlone, OpensFlash}
+use Rattle.flash_disk.specs.KeepsApart.{ApartSince, LackedRoom, StandsOrLacked}
+use Rattle.flash_disk.specs.Looks.{LeavesFlashAlone, OpensFlash, still_case}
 use Rattle.flash_disk.specs.Newest.{IsUnusable, IsUsable, places}
 use Rattle.flash_disk.specs.Sound.{files_on}
 use Rattle.flash_disk.specs.Standing.{HasRivals, IsAgreed, StaysAgreed}
@@ -234,16 +234,22 @@ module _ {F : Type 0} (told : Bool) (tells : IsTrue told) (medium : F → FlashM
             (λ before. usable.during c before plain) (λ forgets. forgets.usable));
       }
 
+      -- where there was no room there was none
+      lacked_still : LackedRoom mid start.moment → LackedRoom now start.moment
+      lacked_still lacked = record {
+        between = lacked.between;
+        past = gives.time.keeps start.moment (still_case lacked.between) later lacked.past;
+        earlier = lacked.earlier;
+        write = lacked.write;
+        last = lacked.last;
+        no_room = subst (λ b. HasNoRoom lacked.between.pages b (copy_of lacked.write.file)) (sym gives.time.blocks)
+            lacked.no_room;
+      }
+
       pub given_apart : (StandApart mid.state.pages mid.blocks → StandApart now.state.pages now.blocks)
           → StandsOrLacked mid start.moment mid.state.pages → StandsOrLacked now start.moment now.state.pages
       given_apart stays = ⊎_elim (λ stand. inl (stays stand))
-          (λ lacked. inr (
-            lacked.0,
-            lacked.1,
-            gives.time.keeps start.moment lacked.1 later lacked.2,
-            subst (λ b. HasNoRoom lacked.1.left b lacked.0) (sym gives.time.blocks)
-                lacked.3,
-          ))
+          (λ lacked. inr (lacked_still lacked))
 
       -- what kept it from giving up anything still does
       stuck_still : now.state.pages ≡ mid.state.pages → MayGiveNothing kept mid → MayGiveNothing kept now

@@ -53,8 +53,8 @@ pub record Reclaims (old new : FlashMedium) (whole : Bool) (own : ℕ) : Type 0 
   -- not at all only where nothing may be, or that count is not 0
   pub due : IsFalse whole → MayTakeNothing (files_on old) new ⊎ (0 < own)
   pub own_faults : 0 < own → IsFalse whole
-  -- it can be opened at every moment; no rivals came, and from 16 blocks on copies stand apart where they did and there
-  -- was room
+  -- it can be opened at every moment; no rivals came, and from 16 blocks on copies stand apart where they did and what
+  -- was written had room
   pub opens : UsableSince new old.moment
   pub agreed : IsAgreed old.state.pages (places old.blocks) → IsAgreed new.state.pages (places new.blocks)
   pub apart : 16 ≤ old.blocks → StandApart old.state.pages old.blocks

@@ -9,7 +9,7 @@ use Rattle.flash_disk.specs.KeepsApart.{LackedRoom}
 use Rattle.loss_laws.specs.ReadsOn.{AppsReadOn}
 
 -- whatever pages of one block are lost of these the applications read on, or at some moment there was no room for a
--- copy
+-- copy that was written
 abbrev pub ReadOnAfterLoss : FlashMedium → ℕ → Pages → Type 0
 ReadOnAfterLoss m t pages = (block : ℕ) (new : Pages) → LosesPages block pages new
     → AppsReadOn (flash_files pages m.blocks) (flash_files new m.blocks) ⊎ LackedRoom m t

@@ -50,7 +50,8 @@ pub fn applications_read_on()
 }
 
 /// If since a moment copies outvote each loss of pages of one block, then after such a loss, now or after a crash at
-/// any moment since, what was whole reads as before ([`applications_read_on`]), or there was once no room for a copy.
+/// any moment since, what was whole reads as before ([`applications_read_on`]), or there was once no room for a copy
+/// that was written.
 pub fn applications_read_on_since<F: Flash>()
     ensures { (flash : F) (t : ℕ) → OutlastsSince (F.medium flash) t → ReadOnSince (F.medium flash) t }
 {

@@ -80,8 +80,8 @@ LeavesFiles told medium flash opened disk c =
 -- After a stop at any moment since the flash was handed in it can be opened again, and has the files that the job's
 -- promise speaks of, as far as no page passes its hash by chance: it is refused neither for its size nor for what its
 -- pages hold. If it had no rivals it goes on taking writes. If it has 16 blocks or more and the copies stood apart they
--- do so, also at the end, unless at some moment there was no room for one. So where both are, the copies outvote each
--- loss of pages of one block, and what was whole is read as before.
+-- do so, also at the end, unless at some moment there was no room for one that was written. So where both are, the
+-- copies outvote each loss of pages of one block, and what was whole is read as before.
 pub record OpensAgain {F : Type 0} (told : Bool) (medium : F → FlashMedium) (flash : F)
     (opened disk : FlashView F) : Type 0 where
   pub usable : UsableSince (medium disk.flash) (medium flash).moment

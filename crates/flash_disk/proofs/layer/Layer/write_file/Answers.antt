@@ -2,6 +2,7 @@ use Rattle.std.proofs.Common.{length, sym, inl, inr, ◌∙◌, ⊎_elim, arith,
 use Rattle.flash_disk.proofs.Failing.{wants_too_many, not_begun}
 use Rattle.flash_disk.specs.Apart.{copy_of}
 use Rattle.flash_disk.proofs.Holding.{fault_apart}
+use Rattle.flash_disk.proofs.Writing.{fault_written}
 use Rattle.flash_disk.proofs.layer.Layer.write_file.Goals as goal
 
 pub returns-then-not-has_room-clause-own : goal.returns-then-not-has_room-clause-own
@@ -31,3 +32,14 @@ returns-then-not-has_room-clause-apart g c told =
     fault_apart (copy_of c.args.file) g.F.Flash.told g.F.Flash.medium c.args.self.now.flash
     c.fault-then-not-has_room.new.self.flash c.fault-then-not-has_room.ensures.flash
     (g.met.F.Flash.lawful c.args.self.now.flash)
+
+pub returns-in_default-clause-writes : goal.returns-in_default-clause-writes
+returns-in_default-clause-writes g c told =
+    fault_written g.F.Flash.told g.F.Flash.medium c.args.self.now.flash c.fault.new.self.flash c.fault.ensures.flash
+    (g.met.F.Flash.lawful c.args.self.now.flash) c.args.file c.args.at c.args.bytes.now
+
+pub returns-then-not-has_room-clause-writes : goal.returns-then-not-has_room-clause-writes
+returns-then-not-has_room-clause-writes g c told =
+    fault_written g.F.Flash.told g.F.Flash.medium c.args.self.now.flash c.fault-then-not-has_room.new.self.flash
+    c.fault-then-not-has_room.ensures.flash (g.met.F.Flash.lawful c.args.self.now.flash)
+    c.args.file c.args.at c.args.bytes.now

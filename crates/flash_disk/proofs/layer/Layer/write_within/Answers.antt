@@ -1,12 +1,22 @@
-use Rattle.std.proofs.Common.{length, refl, sym, ◌∙◌, arith}
+use Rattle.std.proofs.Common.{length, refl, sym, ◌∙◌, subst, ⊎_elim, arith}
 use Rattle.std.proofs.lemmas.Result.{on_ok_weaker}
-use Rattle.flash_disk.proofs.Writing.{on_ok_both, no_error, wipes_torn, wipes_then, len_wiped, grows_wiped}
-use Rattle.flash_disk.proofs.Writing.{sound_announced, writes_into}
+use Rattle.flash_model.specs.State.{IsStill}
+use Rattle.flash_disk.proofs.Writing.{on_ok_both, no_error, is_error, none_written, wipes_torn, wipes_then, len_wiped}
+use Rattle.flash_disk.proofs.Writing.{grows_wiped, sound_announced, writes_into}
 use Rattle.flash_disk.proofs.Stretches.{elapses_then}
 use Rattle.flash_disk.proofs.Failing.{allowed, takes_pages}
 use Rattle.flash_disk.specs.Apart.{copy_of}
 use Rattle.flash_disk.proofs.Holding.{failed_apart, apart_then}
 use Rattle.flash_disk.proofs.layer.Layer.write_within.Goals as goal
+
+pub returns-then-is_err-clause-writes : goal.returns-then-is_err-clause-writes
+returns-then-is_err-clause-writes g c told =
+    let a = g.F.Flash.medium c.args.self.now.flash in
+    let b = g.F.Flash.medium c.announce.new.self in
+    let same = is_error c.announce.result (sym c.is_err.ensures.value ∙ c.if-is_err.true)
+    (c.announce.ensures.failed told) in
+    none_written a b c.args.file c.args.at c.args.bytes.now same
+    (λ x past. ⊎_elim (λ is. is) (λ is. subst (λ z. IsStill z x) same is) (c.announce.ensures.during x past))
 
 pub returns-in_err-wipe_strays-clause-writes : goal.returns-in_err-wipe_strays-clause-writes
 returns-in_err-wipe_strays-clause-writes g c told =
@@ -17,7 +27,8 @@ returns-in_err-wipe_strays-clause-writes g c told =
     let e = c.wipe_strays.ensures in
     let announced = no_error c.announce.result (sym c.is_err.ensures.value ∙ c.if-is_err.false)
     (c.announce.ensures.state told) in
-    writes_into c.args.file c.args.at c.args.bytes.now a b announced c.announce.ensures.time s
+    writes_into c.args.file c.args.at c.args.bytes.now a b announced c.announce.ensures.time g.F.Flash.told told
+    (g.met.F.Flash.lawful c.announce.new.self) s
     (c.requires.ready.sound told)
     c.announce.ensures.during w (e.adds.accounts.time told)
     (wipes_torn c.args.file c.args.at c.args.bytes.now b w (e.adds.accounts.time told) (e.does told))
@@ -67,7 +78,8 @@ returns-clause-writes g c told =
     let f = c.write_pages.ensures in
     let announced = no_error c.announce.result (sym c.is_err.ensures.value ∙ c.if-is_err.false)
     (c.announce.ensures.state told) in
-    writes_into c.args.file c.args.at c.args.bytes.now a b announced c.announce.ensures.time s
+    writes_into c.args.file c.args.at c.args.bytes.now a b announced c.announce.ensures.time g.F.Flash.told told
+    (g.met.F.Flash.lawful c.announce.new.self) s
     (c.requires.ready.sound told)
     c.announce.ensures.during d
     (elapses_then b w d (e.adds.accounts.time told) (f.adds.accounts.time told))
