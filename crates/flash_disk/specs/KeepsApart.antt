@@ -8,7 +8,7 @@ use Rattle.flash_disk.specs.Newest.{places}
 use Rattle.flash_disk.specs.Apart.{copy_of, StandApart, HasNoRoom, HoldsOneCopy}
 
 -- At some moment of a disk's call, between two calls of its flash, no block but the spare one had room for a copy. Then
--- the copy's next record may come to be in a block of others.
+-- the call may put records of any copies into one block.
 abbrev pub MayMix : (copy : ℕ) → (old new : FlashMedium) → Type 0
 MayMix copy old new = (s : FlashState) × new.since old.moment (still_case s) × HasNoRoom s.pages old.blocks copy
 

@@ -19,9 +19,9 @@
 //! stand apart, as on a blank flash, every write leaves them so, also at any moment of it, unless at some moment no
 //! block but the spare one has room for the copy: each other holds what counts of another, or fewer than 8 of its pages
 //! hold nothing that counts. Then the block with the fewest records may be moved, whatever they are of, and copies mix:
-//! else wear would have no bound. Where they stand
-//! apart, the loss of pages of one block costs files of one copy ([`lost_pages_cost_one_copy`]); a disk says of its
-//! flash whether they are ([`FlashDisk::keeps_copies_apart`]). An opening goes on after the newest record of each copy,
+//! else wear would have no bound. Where they stand apart, with no rivals, the loss of pages of one block costs files of
+//! one copy ([`lost_pages_cost_one_copy`]); a disk says of its flash that they do only where they do
+//! ([`FlashDisk::keeps_copies_apart`]). An opening goes on after the newest record of each copy,
 //! but for one page that a stop may have torn. [`erase_all`] makes a flash blank. [`FlashDisk::forget`] takes from it
 //! the records of files that nobody names any more, so that what they took is room again.
 //!
