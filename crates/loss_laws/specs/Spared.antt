@@ -68,18 +68,20 @@ abbrev pub IsSameOrOlder : (now was : View) → Type 0
 IsSameOrOlder now was = (now.generation < was.generation)
     ⊎ ((now.generation ≡ was.generation) × AllZip IsKeptOrCorrupt now.entries was.entries)
 
--- what a copy holds now is of a lesser generation than this text, or is this text, or this copy held it
+-- whichever text a copy holds after the loss, it is of a lesser generation than this text, or it is this text, or the
+-- same copy held it before
 abbrev pub BringsNoNewer : Place → (generation : ℕ) → List ℕ → (old new : Image) → Type 0
 BringsNoNewer place generation text old new = (copy g : ℕ) (t : List ℕ) → copy < place.copies
     → Holds new place copy g t → (g < generation) ⊎ (((g ≡ generation) × (t ≡ text)) ⊎ Holds old place copy g t)
 
--- a root says what this text says, which stands: two copies hold it, and no two hold one of a greater generation
+-- a root says what this text says, and this text stands: two copies hold it, and no two hold one of a greater
+-- generation
 pub record SaysText (app : ℕ) (image : Image) (generation : ℕ) (text : List ℕ) : Type 0 where
   pub stands : IsStanding image (root_place app) agreeing_of_root generation text
   pub says : says_at image app ≡ says_by generation (root_of text)
 
--- A root at which this text stood says what it said, and the text stands still; or what one of a lesser generation
--- says, which stands; or nothing, and none stands.
+-- A root whose text this was says what it said, and the text stands still; or it says what one of a lesser generation
+-- says, which stands; or nothing, and no text stands.
 abbrev pub IsSameOrOlderRoot : (app generation : ℕ) → List ℕ → (old new : Image) → Type 0
 IsSameOrOlderRoot app generation text old new =
     (SaysText app new generation text × (says_at new app ≡ says_at old app))
@@ -117,14 +119,16 @@ OlderLaw = (old new : Image) (shape : Shape) (view : View) → 1 ≤ shape.m →
     → BringsOlder shape.place view.generation old new → store_at old shape ≡ Opens view []
     → (now : View) (others : List View) → store_at new shape ≡ Opens now others → IsSameOrOlder now view
 
--- Whatever was lost, a root says what it said, or what an older text says, or nothing, if what came up in its slots is
--- older. A greater generation that one copy held, which was no majority, may not have come up in another.
+-- Whatever was lost, a root says what it said by the text that stood, or what one of a lesser generation says, which two
+-- copies hold, or nothing, if what the loss brought up in its slots is older. A text of a greater generation that one
+-- copy held may stay in this copy, and not come up in another.
 abbrev pub OlderRootsLaw : Type 0
 OlderRootsLaw = (old new : Image) (app g : ℕ) (text : List ℕ)
     → IsStanding old (root_place app) agreeing_of_root g text → BringsNoNewer (root_place app) g text old new
     → IsSameOrOlderRoot app g text old new
 
--- After any loss of pages that is asked only of slots that lost a record that counted.
+-- After any loss of pages of a flash with this many blocks that is asked only of the slots of which a record that
+-- counted was lost: a text t that a copy holds in one is of a lesser generation h than g, or it is the text that stood.
 abbrev pub LostRootsLaw : Type 0
 LostRootsLaw = (old new : Pages) (blocks app g : ℕ) (text : List ℕ) → LosesAnyPages old new
     → IsStanding (flash_files old blocks) (root_place app) agreeing_of_root g text
