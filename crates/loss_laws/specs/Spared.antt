@@ -119,9 +119,9 @@ OlderLaw = (old new : Image) (shape : Shape) (view : View) → 1 ≤ shape.m →
     → BringsOlder shape.place view.generation old new → store_at old shape ≡ Opens view []
     → (now : View) (others : List View) → store_at new shape ≡ Opens now others → IsSameOrOlder now view
 
--- Whatever was lost, a root says what it said by the text that stood, or what one of a lesser generation says, which two
--- copies hold, or nothing, if what the loss brought up in its slots is older. A text of a greater generation that one
--- copy held may stay in this copy, and not come up in another.
+-- Whatever was lost, a root at which a text stood, of generation g, says what it said, or what one of a lesser
+-- generation says, which two copies hold, or nothing, if what the loss brought up in its slots is older. A text of a
+-- greater generation that one copy held may stay in this copy, but not come up in another.
 abbrev pub OlderRootsLaw : Type 0
 OlderRootsLaw = (old new : Image) (app g : ℕ) (text : List ℕ)
     → IsStanding old (root_place app) agreeing_of_root g text → BringsNoNewer (root_place app) g text old new
