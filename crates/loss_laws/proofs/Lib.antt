@@ -1,6 +1,7 @@
 mod Apps
 mod Contents
 mod Lists
+mod Older
 mod Roots
 mod Silent
 mod Since

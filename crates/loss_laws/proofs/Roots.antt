@@ -57,7 +57,7 @@ module _ (image : Image) (place : Place) (lost m g : ℕ) (text : List ℕ) (two
 
 -- ---- a root that is whole
 
-says_is : (image : Image) (app : ℕ) → says_at image app ≡ says_in (standing image (root_place app) 2)
+pub says_is : (image : Image) (app : ℕ) → says_at image app ≡ says_in (standing image (root_place app) 2)
 unfolding says_at
 says_is image app = refl
 

@@ -12,15 +12,16 @@ use Rattle.flash_disk.specs.Emptied.{LosesAnyPages}
 use Rattle.flash_disk.specs.FlashFiles.{flash_files}
 use Rattle.flash_disk.specs.Newest.{places}
 use Rattle.flash_laws.specs.Lost.{SparesFile}
-use Rattle.guarded_cell.specs.Register.{Holds}
+use Rattle.guarded_cell.specs.Register.{HasNoStanding, Holds, IsStanding, own}
 use Rattle.block_files.specs.Aside.{Where}
 use Rattle.element_state.specs.Clean.{counting_at}
 use Rattle.element_state.specs.declared.shapes.Shape.{Shape}
 use Rattle.element_state.specs.declared.shapes.View.{View}
 use Rattle.element_state.specs.States.{State, Corrupt, Opens, store_at}
 use Rattle.element_laws.specs.Phases.{IsOfPlace}
-use Rattle.deploy_laws.specs.Apps.{says_at}
-use Rattle.deploy_laws.specs.Places.{root_place}
+use Rattle.root_text.specs.RootText.{root_of}
+use Rattle.deploy_laws.specs.Apps.{nothing, says_at, says_by}
+use Rattle.deploy_laws.specs.Places.{agreeing_of_root, copies_of_root, root_place}
 
 -- each record that counted for a file of this place is where it was
 abbrev pub SparesPlace : Place → (old new : Pages) → (blocks : ℕ) → Type 0
@@ -67,6 +68,26 @@ abbrev pub IsSameOrOlder : (now was : View) → Type 0
 IsSameOrOlder now was = (now.generation < was.generation)
     ⊎ ((now.generation ≡ was.generation) × AllZip IsKeptOrCorrupt now.entries was.entries)
 
+-- whichever text a copy holds after the loss, it is of a lesser generation than this text, or it is this text, or the
+-- same copy held it before
+abbrev pub BringsNoNewer : Place → (generation : ℕ) → List ℕ → (old new : Image) → Type 0
+BringsNoNewer place generation text old new = (copy g : ℕ) (t : List ℕ) → copy < place.copies
+    → Holds new place copy g t → (g < generation) ⊎ (((g ≡ generation) × (t ≡ text)) ⊎ Holds old place copy g t)
+
+-- a root says what this text says, and this text stands: two copies hold it, and no two hold one of a greater
+-- generation
+pub record SaysText (app : ℕ) (image : Image) (generation : ℕ) (text : List ℕ) : Type 0 where
+  pub stands : IsStanding image (root_place app) agreeing_of_root generation text
+  pub says : says_at image app ≡ says_by generation (root_of text)
+
+-- A root whose text this was says what it said, and the text stands still; or it says what one of a lesser generation
+-- says, which stands; or nothing, and no text stands.
+abbrev pub IsSameOrOlderRoot : (app generation : ℕ) → List ℕ → (old new : Image) → Type 0
+IsSameOrOlderRoot app generation text old new =
+    (SaysText app new generation text × (says_at new app ≡ says_at old app))
+    ⊎ (((g : ℕ) × (t : List ℕ) × (g < generation) × SaysText app new g t)
+    ⊎ (HasNoStanding new (root_place app) agreeing_of_root × (says_at new app ≡ nothing)))
+
 -- ---- the laws
 
 -- a storage of whose files no record that counted was lost reads as before
@@ -97,3 +118,20 @@ abbrev pub OlderLaw : Type 0
 OlderLaw = (old new : Image) (shape : Shape) (view : View) → 1 ≤ shape.m → KeepTwins shape.place old new
     → BringsOlder shape.place view.generation old new → store_at old shape ≡ Opens view []
     → (now : View) (others : List View) → store_at new shape ≡ Opens now others → IsSameOrOlder now view
+
+-- Whatever was lost, a root at which a text stood, of generation g, says what it said, or what one of a lesser
+-- generation says, which two copies hold, or nothing, if what the loss brought up in its slots is older. A text of a
+-- greater generation that one copy held may stay in this copy, but not come up in another.
+abbrev pub OlderRootsLaw : Type 0
+OlderRootsLaw = (old new : Image) (app g : ℕ) (text : List ℕ)
+    → IsStanding old (root_place app) agreeing_of_root g text → BringsNoNewer (root_place app) g text old new
+    → IsSameOrOlderRoot app g text old new
+
+-- After any loss of pages of a flash with this many blocks that is asked only of the slots of which a record that
+-- counted was lost: a text t that a copy holds in one is of a lesser generation h than g, or it is the text that stood.
+abbrev pub LostRootsLaw : Type 0
+LostRootsLaw = (old new : Pages) (blocks app g : ℕ) (text : List ℕ) → LosesAnyPages old new
+    → IsStanding (flash_files old blocks) (root_place app) agreeing_of_root g text
+    → ((copy h : ℕ) (t : List ℕ) → copy < copies_of_root → Holds (flash_files new blocks) (root_place app) copy h t
+    → (h < g) ⊎ (((h ≡ g) × (t ≡ text)) ⊎ SparesFile old new (places blocks) (slot (root_place app) copy (own h))))
+    → IsSameOrOlderRoot app g text (flash_files old blocks) (flash_files new blocks)

@@ -19,7 +19,8 @@ ghost use Rattle.std.specs.Prelude.{ℕ};
 ghost use Rattle.flash_laws.specs.Outvotes.{OutlastsSince};
 ghost use Rattle.loss_laws.specs.Laws.{AloneRootsLaw, AppsLaw, RootsLaw, StoragesLaw, StoragesOfOneLaw};
 ghost use Rattle.loss_laws.specs.Since.{ReadOnSince};
-ghost use Rattle.loss_laws.specs.Spared.{OlderLaw, SparedRootsLaw, SparedSlotsLaw, SparedStoragesLaw};
+ghost use Rattle.loss_laws.specs.Spared.{LostRootsLaw, OlderLaw, OlderRootsLaw};
+ghost use Rattle.loss_laws.specs.Spared.{SparedRootsLaw, SparedSlotsLaw, SparedStoragesLaw};
 
 use deploy_laws::roots_say;
 use element_laws::places_stand_apart;
@@ -72,7 +73,12 @@ pub fn what_lay_elsewhere_reads_on()
 }
 
 /// Where a loss reached the slots of a storage that no other copy outvotes, as with one copy, it opens as it was or
-/// older, or is corrupt, if what came up in its slots is older.
+/// older, or is corrupt, if what came up in its slots is older. So does a root say what it said, or what an older text
+/// says on which two copies agree, or nothing; of a loss of pages that is asked only of the slots that it reached.
 pub fn what_was_lost_reads_older()
-    ensures { OlderLaw }
-{}
+    ensures storages { OlderLaw }
+    ensures roots { OlderRootsLaw }
+    ensures lost { LostRootsLaw }
+{
+    only_what_lay_there_is_lost();
+}
