@@ -102,7 +102,7 @@ impl<F: Flash> Disk for FlashDisk<F> {
         ensures empty { IsTrue F.told → OnOk result (0 < length bytes.now
             → HasEmptyBlock (F.medium self.new.flash).state.pages (F.medium self.new.flash).blocks) }
 
-        // Where the copies stand apart (in no block records of two count) they do at every moment, if the file's has room.
+        // Copies that stand apart (in no block records of two count) do so at every moment, if the file's has room.
         ensures apart { IsTrue F.told → KeepsApart (copy_of file) (F.medium self.old.flash) (F.medium self.new.flash) }
     {
         if bytes.is_empty() {
