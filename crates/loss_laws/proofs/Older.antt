@@ -103,8 +103,11 @@ module _ (old new : Image) (app g : ℕ) (text : List ℕ) (stood : IsStanding o
       ⊎_elim inl
       (λ no.
       let same : h ≡ g = omega (arith, le, no) in
-      inr (same, one_text old (root_place app) 2 g t text (omega arith)
-      (subst (λ (x : ℕ). IsHeldBy old (root_place app) 2 x t) same held) stood.enough))
+      inr (
+        same,
+        one_text old (root_place app) 2 g t text (omega arith)
+            (subst (λ (x : ℕ). IsHeldBy old (root_place app) 2 x t) same held) stood.enough,
+      ))
       (cases_lt h g))
       (all_or (IsItOrOlder h t) (λ c. Holds new (root_place app) c h t) (λ c. Holds old (root_place app) c h t) 3 2
       (λ c lt v. ⊎_elim (λ less. inl (inl less)) (λ more. ⊎_elim (λ same. inl (inr same)) inr more) (brings c h t lt v))
