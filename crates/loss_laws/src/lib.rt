@@ -74,7 +74,7 @@ pub fn what_lay_elsewhere_reads_on()
 
 /// Where a loss reached the slots of a storage that no other copy outvotes, as with one copy, it opens as it was or
 /// older, or is corrupt, if what came up in its slots is older. A root then says what it said, or what an older text
-/// says that two copies hold, or nothing; of a loss of pages of a flash that is asked only of the slots that it reached.
+/// says that two copies hold, or nothing; of lost pages of a flash that is asked only of slots that they reached.
 pub fn what_was_lost_reads_older()
     ensures storages { OlderLaw }
     ensures roots { OlderRootsLaw }
