@@ -124,9 +124,11 @@ pub(crate) fn say<R: Files + Screen>(rt: &R, alloc: Global, ended: &Ended<'_>) -
         6 => say_stream(rt, alloc, "standard output", ended.sink),
         7 => rt.eprintln("per: the first 67108864 bytes of the input have no line `end`"),
         8 | 9 if !ended.has_files => say_of_folder(rt, alloc, ended.dir, ended.flash),
-        8 if ended.has_damage => rt.eprintln("per: the audit found something; its lines say what"),
+        8 if ended.has_damage => rt.eprintln(
+            "per: the audit found something damaged or lost; its lines say what",
+        ),
         8 => rt.eprintln(
-            "per: the audit found nothing damaged or lost; an opening settles the rest",
+            "per: unsettled only: nothing is damaged or lost, and the next opening settles it",
         ),
         9 => rt.eprintln(
             "per: the export, import or recovery was refused; the line written says why",
