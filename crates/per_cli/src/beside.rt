@@ -1,4 +1,9 @@
 //! The files of a folder beside a run of this process that holds it: they are read, and none is changed.
+//!
+//! What a call that failed says of a file is what the run takes it for: a file that cannot be opened counts as not
+//! there, and a page that cannot be read as zeros. But where the system lacks descriptors or memory, was interrupted or
+//! does not allow it, the call says nothing of the file, and fails: else an older copy could be taken for what is
+//! stored. A disk over these files then closes others and asks again, and where that does not help it fails.
 
 ghost use Rattle.std.specs.Prelude.{◌≡◌, IfOk};
 
@@ -13,8 +18,7 @@ use system_model::{Reading, System};
 /// How many bytes the system reads as one, and cannot read as one.
 const PAGE_BYTES: u64 = 4096;
 
-/// The files of a folder. What the run wrote is read at once, durable or not; what cannot be opened counts as not
-/// there.
+/// The files of a folder. What the run wrote is read at once, durable or not.
 #[derive(Drop)]
 pub(crate) struct Beside<'a, R: Files<File = File>> {
     pub(crate) rt: &'a R,
@@ -53,14 +57,14 @@ impl<'a, R: Files<File = File>> System for Beside<'a, R> {
     fn is_file(&mut self, file: u32) -> io::Result<bool> {
         match fs::metadata(self.rt, self.path_of(file)?.as_str()) {
             Ok(found) => Ok(found.is_file()),
-            Err(_) => Ok(false),
+            Err(error) => unless_outside(error, false),
         }
     }
 
     fn open(&mut self, file: u32) -> io::Result<Option<BesideFile>> {
         match self.opened(file) {
             Ok(found) => Ok(Some(found)),
-            Err(_) => Ok(None),
+            Err(error) => unless_outside(error, None),
         }
     }
 
@@ -77,7 +81,10 @@ impl<'a, R: Files<File = File>> System for Beside<'a, R> {
     fn read(&mut self, file: &BesideFile, at: u64, out: &mut [u8]) -> io::Result<Reading> {
         match file.file.read_at(out, at) {
             Ok(count) => Ok(Reading::Bytes(count)),
-            Err(_) => Ok(Reading::Unreadable((PAGE_BYTES - at % PAGE_BYTES) as usize)),
+            Err(error) => {
+                let rest = (PAGE_BYTES - at % PAGE_BYTES) as usize;
+                unless_outside(error, Reading::Unreadable(rest))
+            }
         }
     }
 
@@ -128,3 +135,24 @@ impl<'a, R: Files<File = File>> Beside<'a, R> {
 fn unchangeable() -> io::Error {
     io::Error::from(io::ErrorKind::ReadOnlyFilesystem)
 }
+
+/// The answer of a call that failed for a reason of the file's own; the failure itself where the reason is outside it.
+fn unless_outside<T: Drop>(error: io::Error, answer: T) -> io::Result<T>
+    ensures { IfOk result (λ given. given ≡ answer) }
+{
+    match error.kind() {
+        io::ErrorKind::Interrupted
+        | io::ErrorKind::OutOfMemory
+        | io::ErrorKind::PermissionDenied
+        | io::ErrorKind::ReadOnlyFilesystem => Err(error),
+        _ => match error.raw_os_error() {
+            Some(TOO_MANY_IN_SYSTEM | TOO_MANY_OPEN) => Err(error),
+            _ => Ok(answer),
+        },
+    }
+}
+
+/// The numbers of the errors where the system, or the process, has no descriptor left.
+const TOO_MANY_IN_SYSTEM: i32 = 23;
+
+const TOO_MANY_OPEN: i32 = 24;

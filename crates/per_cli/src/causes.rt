@@ -90,6 +90,17 @@ pub(crate) fn say_answered<R: Screen>(
     )
 }
 
+/// Says that the key or storage for which something was refused is not named, since a call failed that looks for it.
+pub(crate) fn say_unnamed<R: Screen>(
+    rt: &R,
+    alloc: Global,
+    dir: &str,
+    failure: Failure,
+) -> io::Result<()> {
+    let fault = Some(Fault::System(failure));
+    say_failure(rt, alloc, "the key or storage cannot be named", dir, fault)
+}
+
 /// Says that a folder is not formatted, since files of others are in it.
 pub(crate) fn say_foreign<R: Screen>(
     rt: &R,
@@ -124,9 +135,11 @@ pub(crate) fn say<R: Files + Screen>(rt: &R, alloc: Global, ended: &Ended<'_>) -
         6 => say_stream(rt, alloc, "standard output", ended.sink),
         7 => rt.eprintln("per: the first 67108864 bytes of the input have no line `end`"),
         8 | 9 if !ended.has_files => say_of_folder(rt, alloc, ended.dir, ended.flash),
-        8 if ended.has_damage => rt.eprintln("per: the audit found something; its lines say what"),
+        8 if ended.has_damage => rt.eprintln(
+            "per: the audit found something damaged or lost; its lines say what",
+        ),
         8 => rt.eprintln(
-            "per: the audit found nothing damaged or lost; an opening settles the rest",
+            "per: unsettled only: nothing is damaged or lost, and the next opening settles it",
         ),
         9 => rt.eprintln(
             "per: the export, import or recovery was refused; the line written says why",

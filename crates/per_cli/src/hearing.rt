@@ -1,4 +1,4 @@
-//! What was read of an input, so that the line that a reply answers can be found.
+//! What was read of an input, so that the line that a reply answers can be found, or the text that an import takes.
 
 ghost use Rattle.std.specs.Prelude.{◌≤◌, length};
 
@@ -8,8 +8,11 @@ use std::alloc::Global;
 use std::cell::{Cell, Ref, RefCell};
 use std::io::{self, Read};
 
+/// How many bytes are kept of an input that is kept as a whole: more than a text that may be imported has.
+const WHOLE_BYTES: usize = 8_388_608;
+
 /// The part of the input that was read last, with the line before it that it goes on with, and how far its lines are
-/// answered.
+/// answered; or all of the input.
 #[derive(Drop)]
 pub(crate) struct LastRead {
     text: RefCell<Vec<u8>>,
@@ -19,18 +22,21 @@ pub(crate) struct LastRead {
     place: Cell<usize>,
     /// How many lines are answered from there on.
     answered: Cell<usize>,
-    /// Whether memory ran out for a part.
+    /// Whether a part is missing: memory ran out for it, or it is too much.
     is_torn: Cell<bool>,
+    /// Whether all is kept.
+    is_whole: bool,
 }
 
 impl LastRead {
-    pub(crate) fn new(alloc: Global) -> LastRead {
+    pub(crate) fn new(alloc: Global, is_whole: bool) -> LastRead {
         LastRead {
             text: RefCell::new(Vec::new(alloc)),
             part: Cell::new(0),
             place: Cell::new(0),
             answered: Cell::new(0),
             is_torn: Cell::new(false),
+            is_whole,
         }
     }
 
@@ -39,11 +45,23 @@ impl LastRead {
         let Ok(mut text) = self.text.try_borrow_mut() else {
             return;
         };
+        if self.is_whole {
+            self.add(&mut *text, part);
+            return;
+        }
         keep_begun(&mut *text, self.part.get());
         self.part.set(text.len());
         self.place.set(0);
         self.answered.set(0);
         if text.extend_from_slice(part).is_err() {
+            self.is_torn.set(true);
+        }
+    }
+
+    /// Adds a part to the whole.
+    fn add(&self, text: &mut Vec<u8>, part: &[u8]) {
+        let is_enough = part.len() > WHOLE_BYTES.saturating_sub(text.len());
+        if self.is_torn.get() || is_enough || text.extend_from_slice(part).is_err() {
             self.is_torn.set(true);
         }
     }
@@ -113,18 +131,18 @@ fn is_answered(line: &[u8]) -> bool {
     }
 }
 
-/// An input of which each part that is read is noted, where it has lines.
+/// An input of which each part that is read is noted, where it has lines, or is a text that is imported.
 #[derive(Drop)]
 pub(crate) struct NotedInput<'a, I: Read + Drop> {
     pub(crate) input: I,
-    pub(crate) has_lines: bool,
+    pub(crate) is_noted: bool,
     pub(crate) last: &'a LastRead,
 }
 
 impl<'a, I: Read + Drop> Read for NotedInput<'a, I> {
     fn read(&mut self, out: &mut [u8]) -> io::Result<usize> {
         let count = self.input.read(out)?;
-        if self.has_lines {
+        if self.is_noted {
             self.last.note_part(&out[..count]);
         }
         Ok(count)

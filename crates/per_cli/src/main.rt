@@ -14,8 +14,8 @@
 //! in it, with 5 where what it takes cannot be read, and with 9 where it was refused. The status is 3 or 11 too where
 //! the file of a flash cannot be looked at, or has more bytes than its blocks.
 //!
-//! At a terminal the lines of a run are asked for ([`asking`]), and what is said on standard error fits 80 columns
-//! ([`saying`]).
+//! At a terminal the lines of a run are asked for ([`asking`]), and a listing, and what is said on standard error, fits
+//! 80 columns ([`saying`]).
 #![tactic(auto)]
 
 mod asking;

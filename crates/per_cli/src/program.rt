@@ -2,9 +2,9 @@
 
 use crate::causes::{Ended, Fault, has_folder, say, say_foreign, say_of_folder};
 use crate::hearing::{LastRead, NotedInput};
-use crate::saying::Screen;
+use crate::saying::{Rows, Screen};
 use crate::telling::Telling;
-use crate::trying::Place;
+use crate::trying::{Import, Place};
 use crate::{NO_DISK, NO_MEMORY, WRONG_SIZE};
 use flash_disk::{FlashOpenError, erase_all};
 use flash_model::Flash;
@@ -26,8 +26,8 @@ use std::rt::Files;
 use system_model::{Failure, System};
 
 /// The folder that is named, for what it is held, whether it is formatted or audited, whether lines are to be handled
-/// in it or what is in it is to be said, whether it may be formatted for them, whether a person is asked for them, and
-/// how many blocks its flash has, where it has one.
+/// in it or what is in it is to be said, whether it may be formatted for them, what is imported, whether a person is
+/// asked for lines, and how many blocks its flash has, where it has one.
 #[derive(Drop)]
 struct Target {
     dir: String,
@@ -37,6 +37,7 @@ struct Target {
     takes_lines: bool,
     lists: bool,
     formats_blank: bool,
+    imports: Option<Import>,
     is_asked: bool,
     flash: Option<u32>,
 }
@@ -137,10 +138,11 @@ fn run_with<R: Files<File = File> + Screen, I: Read + Drop, O: Write + Drop>(
         Err(_) => return no_memory(rt),
     };
     let notes = Notes::new();
-    let last = LastRead::new(alloc);
+    let is_import = target.imports.is_some();
+    let last = LastRead::new(alloc, is_import);
     let input = NotedInput {
         input,
-        has_lines: target.takes_lines,
+        is_noted: target.takes_lines || is_import,
         last: &last,
     };
     let has_damage = Cell::new(false);
@@ -194,8 +196,13 @@ fn run_noting<'a, R: Files<File = File> + Screen, I: Read + Drop, O: Write + Dro
         notes,
         otherwise: target.flash.map(|_| Fault::Full),
         last,
+        import: target.imports.as_ref(),
         has_damage: target.audits.then_some(has_damage),
-        output,
+        output: Rows {
+            alloc,
+            is_broken: target.lists && rt.has_output_screen(),
+            output,
+        },
     });
     let kind = device_kind_of(target);
     let outcome = match HostSystem::hold(rt, alloc, dir, kind, target.access) {
@@ -401,6 +408,7 @@ fn target_of(
             let lists = matches!(job.kind, JobKind::Listing(_));
             let formats_blank = matches!(job.kind, JobKind::Serve);
             let flash = job.flash;
+            let imports = import_of(job.kind);
             let dir = job.dir.into_string();
             let copy = dir.clone()?;
             let target = Target {
@@ -411,6 +419,7 @@ fn target_of(
                 takes_lines,
                 lists,
                 formats_blank,
+                imports,
                 is_asked,
                 flash,
             };
@@ -426,11 +435,30 @@ fn target_of(
                 takes_lines: false,
                 lists: false,
                 formats_blank: false,
+                imports: None,
                 is_asked,
                 flash: None,
             };
             Ok((target, dir))
         }
         Err(WordsError::OutOfMemory) => Err(AllocError),
+    }
+}
+
+/// What a job imports.
+fn import_of(kind: JobKind) -> Option<Import> {
+    match kind {
+        JobKind::Import(application, storage) => Some(Import {
+            application: u32::from(application),
+            storage,
+        }),
+        JobKind::Run
+        | JobKind::Serve
+        | JobKind::Format
+        | JobKind::Generate(_)
+        | JobKind::Audit
+        | JobKind::Listing(_)
+        | JobKind::Export(_, _)
+        | JobKind::RecoverRoot(_) => None,
     }
 }

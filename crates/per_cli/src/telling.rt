@@ -1,12 +1,12 @@
 //! The output of a run: why the disk failed, and why a line was refused, is told where it is answered.
 
-use crate::causes::{Fault, say_answered};
+use crate::causes::{Fault, say_answered, say_unnamed};
 use crate::hearing::LastRead;
 use crate::saying::{Screen, say};
-use crate::trying::{Place, why_not_updated_in};
+use crate::trying::{Import, Place, Refused, why_unfit_in};
 use per_reasons::why_refused;
 use per_system::Notes;
-use std::alloc::{AllocError, Global};
+use std::alloc::Global;
 use std::cell::Cell;
 use std::fs::File;
 use std::io::{self, Write};
@@ -25,8 +25,10 @@ pub(crate) struct Telling<'a, R: Files<File = File> + Screen, O: Write + Drop> {
     pub(crate) notes: &'a Notes,
     /// Why the disk failed, where no call of the system did.
     pub(crate) otherwise: Option<Fault>,
-    /// The lines that are answered.
+    /// The lines that are answered, or the text that is imported.
     pub(crate) last: &'a LastRead,
+    /// Where the text is imported to, where it is.
+    pub(crate) import: Option<&'a Import>,
     /// Where it is noted that a line of an audit says that something is damaged or lost.
     pub(crate) has_damage: Option<&'a Cell<bool>>,
     pub(crate) output: O,
@@ -66,25 +68,36 @@ impl<'a, R: Files<File = File> + Screen, O: Write + Drop> Telling<'a, R, O> {
         let _ = say_answered(self.rt, self.alloc, dir, news.or(self.otherwise));
     }
 
-    /// Says why the line was refused, where it is known and there is more to say.
+    /// Says why the line or the text was refused, where it is known and there is more to say.
     #[cold]
     #[inline(never)]
     fn say_why(&self, answer: &[u8]) -> io::Result<()> {
         let Some(text) = self.last.text() else {
             return Ok(());
         };
-        let line = self.last.next_line(text.as_slice());
-        match self.why(answer, line) {
-            Ok(Some(why)) => say(self.rt, self.alloc, format!(in self.alloc; "per: {why}")),
-            Ok(None) | Err(_) => Ok(()),
+        match self.import {
+            Some(import) => self.say_unfit(answer, Refused::Import(import, text.as_slice())),
+            None => self.say_why_of(answer, self.last.next_line(text.as_slice())),
         }
     }
 
-    /// Why the line was refused: by what it says, or by what is stored.
-    fn why(&self, answer: &[u8], line: &[u8]) -> Result<Option<String>, AllocError> {
+    /// Says why this line was refused: by what it says, or by what is stored.
+    fn say_why_of(&self, answer: &[u8], line: &[u8]) -> io::Result<()> {
         match why_refused(self.alloc, answer, line)? {
-            Some(why) => Ok(Some(why)),
-            None => why_not_updated_in(self.rt, self.alloc, self.place, answer, line),
+            Some(why) => say(self.rt, self.alloc, format!(in self.alloc; "per: {why}")),
+            None => self.say_unfit(answer, Refused::Update(line)),
+        }
+    }
+
+    /// Says for which key or storage it was refused, or that this cannot be looked at, and why.
+    fn say_unfit(&self, answer: &[u8], refused: Refused<'_>) -> io::Result<()> {
+        let notes = Notes::new();
+        match why_unfit_in(self.rt, self.alloc, self.place, refused, answer, &notes)? {
+            Some(why) => say(self.rt, self.alloc, format!(in self.alloc; "per: {why}")),
+            None => match notes.last() {
+                Some(failure) => say_unnamed(self.rt, self.alloc, self.place.dir, failure),
+                None => Ok(()),
+            },
         }
     }
 }

@@ -9,7 +9,7 @@ use std::alloc::{AllocError, Global};
 const FIRST_OF_ELEMENTS: u32 = 19;
 
 /// The lists of storages of a manifest, each with the word for a list of elements of its storages.
-pub(crate) const LISTS: [(&str, &str); 2] = [
+const LISTS: [(&str, &str); 2] = [
     ("keyValueStorages", "keyValuePairs"),
     ("fileStorages", "files"),
 ];
@@ -199,7 +199,7 @@ impl Rejected<'_> {
 }
 
 /// The list that the value has under this word.
-pub(crate) fn things<'a>(value: &'a Value, word: &str) -> &'a [Value] {
+fn things<'a>(value: &'a Value, word: &str) -> &'a [Value] {
     match value.get(word).and_then(Value::as_array) {
         Some(list) => list.as_slice(),
         None => &[],

@@ -1,84 +1,151 @@
 //! For which key or storage a manifest is refused that does not fit what is stored.
 
-use crate::blame::{LISTS, things};
 use crate::refusals::manifest_of_line;
+use crate::sizes::size_of;
+use crate::stored::{element_of, is_kept};
 use crate::words::split;
-use deployment_model::{CollectionStrategy, ElementConfig, ElementStrategy, StorageConfig};
+use deployment_model::{ElementConfig, StorageConfig};
 use export_text::{Export, ExportError, read_export};
 use manifest::read_manifest;
-use per_base::{Fresh, Name, StoreKind};
-use serde_json::Value;
+use migrate_fns::Migrations;
+use per_base::{Bytes, Fresh, Name, StoreKind};
 use std::alloc::{AllocError, Global};
 use value_code::decode;
-use value_model::DecodeError;
-use value_text::parse_type;
+use value_model::{DecodeError, ValueType};
+use value_text::{parse_type, parse_unsigned};
 
-/// How many keys a trial has at most, so that its manifest is no longer than one may be.
-const TRIED_KEYS: usize = 128;
-
-/// Why a manifest does not fit what is stored.
-#[derive(Clone, Copy, Debug, PartialEq, Eq)]
-pub enum Unfit {
+/// What an answer says of a manifest that does not fit what is stored.
+#[derive(Drop)]
+enum Unfit<'a> {
     /// It says another type of a key, to which no converter leads.
-    Type,
+    Type(Types<'a>),
     /// It allows a storage fewer bytes than its contents have.
-    Size,
+    Size { needed: u64, allowed: u64 },
 }
 
-/// An application of which updates are tried. A trial changes nothing.
-pub trait Trial {
-    /// Why an update to this manifest is refused; nothing where it is not, or for another reason, or cannot be tried.
-    fn unfit(&mut self, manifest: &[u8]) -> Option<Unfit>;
+/// The type of what is stored, the one that the manifest says, and the text of that.
+#[derive(Drop)]
+struct Types<'a> {
+    stored: ValueType,
+    asked: ValueType,
+    text: &'a str,
+}
+
+/// What looking at a storage of the manifest shows.
+#[derive(Drop)]
+enum Look {
+    /// It is not the one that was refused.
+    Fits,
+    /// It is, and this is said of it.
+    Refused(String),
+    /// It cannot be read.
+    Unread,
+}
+
+/// That a storage cannot be read.
+#[derive(Clone, Copy, Debug)]
+pub struct Unread;
+
+/// The storages of an application. Reading one changes nothing.
+pub trait Storages {
+    /// The text of the export of the storage of this name; nothing where there is no such storage.
+    ///
+    /// # Errors
+    ///
+    /// It is there and cannot be read, as a whole or in an element.
+    fn export_of(&mut self, storage: &Name) -> Result<Option<Bytes>, Unread>;
 }
 
 /// The application whose update, in this line, was answered so, where its manifest does not fit what is stored.
 pub fn unfit_update(answer: &[u8], line: &[u8]) -> Option<u32> {
-    let _ = unfit_of(answer)?;
     let _ = manifest_of_line(line)?;
+    if !is_unfit(answer) {
+        return None;
+    }
     match split(line)? {
         ([digit], _) if *digit >= b'0' && *digit <= b'7' => Some(u32::from(*digit - b'0')),
         _ => None,
     }
 }
 
-/// For which key or storage the update in this line was answered so, in words; nothing where no trial shows it.
+/// Whether a manifest that was answered so does not fit what is stored.
+pub fn is_unfit(answer: &[u8]) -> bool {
+    answer.starts_with(b"error 7 DataTypeMismatch ")
+        || answer.starts_with(b"error 10 OutOfStorageSpace ")
+}
+
+/// For which key or storage the update in this line was answered so, in words, by the storages before it.
 ///
-/// An update is planned storage by storage, in the order of their names and each by itself. So the storage is the first
-/// of which an update to it alone is refused so. In it each key is planned by itself, and the key is the first of which
-/// an update that keeps it alone is refused so.
+/// An update is planned storage by storage, in the order of their names, and in each key by key. The answer has the two
+/// types of the first key that is refused, or the bytes of the first storage that is too large: so it is the first of
+/// these types, or of these bytes. Each storage is read once at most, and none that comes after.
+///
+/// Nothing where that is not seen. Above all the search ends at a storage that cannot be read: what is refused may be
+/// in it, and then no later one is the first.
 ///
 /// # Errors
 ///
 /// Memory ran out.
-pub fn why_not_updated<T: Trial>(
+pub fn why_not_updated<S: Storages>(
     alloc: Global,
     answer: &[u8],
     line: &[u8],
-    trial: &mut T,
+    migrations: &Migrations,
+    storages: &mut S,
 ) -> Result<Option<String>, AllocError> {
-    let (Some((unfit, asked)), Some(manifest)) = (unfit_of(answer), manifest_of_line(line)) else {
+    let (Some(unfit), Some(manifest)) = (unfit_of(alloc, answer), manifest_of_line(line)) else {
         return Ok(None);
     };
-    let (Ok(value), Ok(deployment)) = (
-        Value::from_slice(alloc, manifest),
-        read_manifest(alloc, manifest),
-    ) else {
+    let Ok(deployment) = read_manifest(alloc, manifest) else {
         return Ok(None);
     };
-    let version = deployment.version;
     for storage in deployment.storages.as_slice() {
-        let text = text_of_storage(alloc, version, storage, &value)?;
-        if trial.unfit(text.as_bytes()) == Some(unfit) {
-            return match unfit {
-                Unfit::Type => {
-                    let key = refused_key(alloc, version, storage, asked, trial)?;
-                    said_of_key(alloc, asked, &storage.name, key.as_ref())
-                }
-                Unfit::Size => said_of_storage(alloc, asked, &storage.name),
-            };
+        match looked_at(alloc, &unfit, storage, migrations, storages)? {
+            Look::Fits => {}
+            Look::Refused(why) => return Ok(Some(why)),
+            Look::Unread => return Ok(None),
         }
     }
     Ok(None)
+}
+
+/// What a storage shows of which the update is refused, or another. Of a new name, or one that was of the other kind,
+/// nothing is kept, and what a manifest itself gives fits it.
+fn looked_at<S: Storages>(
+    alloc: Global,
+    unfit: &Unfit<'_>,
+    storage: &StorageConfig,
+    migrations: &Migrations,
+    storages: &mut S,
+) -> Result<Look, AllocError> {
+    if !may_be(unfit, storage, true) {
+        return Ok(Look::Fits);
+    }
+    match storages.export_of(&storage.name) {
+        Ok(Some(text)) => look_into(alloc, unfit, storage, migrations, text.as_slice()),
+        Ok(None) => Ok(Look::Fits),
+        Err(Unread) => Ok(Look::Unread),
+    }
+}
+
+/// The same of one with this export.
+fn look_into(
+    alloc: Global,
+    unfit: &Unfit<'_>,
+    storage: &StorageConfig,
+    migrations: &Migrations,
+    text: &[u8],
+) -> Result<Look, AllocError> {
+    let Some(export) = export_in(alloc, text)? else {
+        return Ok(Look::Unread);
+    };
+    if !is_same_kind(storage.kind, export.kind) {
+        return Ok(Look::Fits);
+    }
+    match why_of(alloc, unfit, storage, &export, Some(migrations))? {
+        Some(why) => Ok(Look::Refused(why)),
+        None => Ok(Look::Fits),
+    }
 }
 
 /// For which key or storage an application of this manifest is not restored with these exports of its storages, by this
@@ -93,47 +160,155 @@ pub fn why_not_restored(
     manifest: &[u8],
     exports: &[&[u8]],
 ) -> Result<Option<String>, AllocError> {
-    let Some((unfit, asked)) = unfit_of(answer) else {
+    let Some(unfit) = unfit_of(alloc, answer) else {
         return Ok(None);
     };
     let Ok(deployment) = read_manifest(alloc, manifest) else {
         return Ok(None);
     };
     for (storage, export) in deployment.storages.as_slice().iter().zip(exports) {
-        let export = match read_export(alloc, *export) {
-            Ok(export) => export,
-            Err(ExportError::NotAnExport) => return Ok(None),
-            Err(ExportError::OutOfMemory) => return Err(AllocError),
-        };
-        match unfit {
-            Unfit::Type => {
-                let key = mismatched(alloc, storage, &export)?;
-                if key.is_some() {
-                    return said_of_key(alloc, asked, &storage.name, key);
-                }
-            }
-            Unfit::Size if is_too_large(storage, &export) => {
-                return said_of_storage(alloc, asked, &storage.name);
-            }
-            Unfit::Size => {}
+        let why = why_not_filled(alloc, &unfit, storage, *export)?;
+        if why.is_some() {
+            return Ok(why);
         }
     }
     Ok(None)
 }
 
-/// Why a manifest was answered so, where it does not fit, and the type or the number of bytes that it says.
-fn unfit_of(answer: &[u8]) -> Option<(Unfit, &str)> {
-    let (unfit, carried) = match answer.strip_prefix(b"error 7 DataTypeMismatch ") {
-        Some(types) => (Unfit::Type, types),
-        None => (
-            Unfit::Size,
-            answer.strip_prefix(b"error 10 OutOfStorageSpace ")?,
-        ),
+/// For which key, or that for its size, the storage of this name is not rebuilt from the text of an export, by this
+/// answer and the manifest of the application, in words; nothing for another answer.
+///
+/// # Errors
+///
+/// Memory ran out.
+pub fn why_not_imported(
+    alloc: Global,
+    answer: &[u8],
+    manifest: &[u8],
+    name: &Name,
+    text: &[u8],
+) -> Result<Option<String>, AllocError> {
+    let Some(unfit) = unfit_of(alloc, answer) else {
+        return Ok(None);
     };
-    let (_, asked) = split(carried)?;
-    match str::from_utf8(asked) {
-        Ok(asked) => Some((unfit, asked)),
+    let Ok(deployment) = read_manifest(alloc, manifest) else {
+        return Ok(None);
+    };
+    for storage in deployment.storages.as_slice() {
+        if storage.name == *name {
+            return why_not_filled(alloc, &unfit, storage, text);
+        }
+    }
+    Ok(None)
+}
+
+/// Why a storage may not have the contents of an export, as they are.
+fn why_not_filled(
+    alloc: Global,
+    unfit: &Unfit<'_>,
+    storage: &StorageConfig,
+    text: &[u8],
+) -> Result<Option<String>, AllocError> {
+    if !may_be(unfit, storage, false) {
+        return Ok(None);
+    }
+    match export_in(alloc, text)? {
+        Some(export) => why_of(alloc, unfit, storage, &export, None),
+        None => Ok(None),
+    }
+}
+
+/// The export that a text spells, where it spells one.
+fn export_in(alloc: Global, text: &[u8]) -> Result<Option<Export>, AllocError> {
+    match read_export(alloc, text) {
+        Ok(export) => Ok(Some(export)),
+        Err(ExportError::NotAnExport) => Ok(None),
+        Err(ExportError::OutOfMemory) => Err(AllocError),
+    }
+}
+
+/// What an answer says of a manifest that does not fit; nothing for another answer, or where there is no memory for it.
+fn unfit_of(alloc: Global, answer: &[u8]) -> Option<Unfit<'_>> {
+    match answer.strip_prefix(b"error 7 DataTypeMismatch ") {
+        Some(types) => Some(Unfit::Type(types_of(alloc, types)?)),
+        None => sizes_of(answer.strip_prefix(b"error 10 OutOfStorageSpace ")?),
+    }
+}
+
+/// The types that an answer has.
+fn types_of(alloc: Global, types: &[u8]) -> Option<Types<'_>> {
+    let (stored, text) = split(types)?;
+    let Ok(stored) = parse_type(alloc, stored) else {
+        return None;
+    };
+    let Ok(asked) = parse_type(alloc, text) else {
+        return None;
+    };
+    match str::from_utf8(text) {
+        Ok(text) => Some(Types {
+            stored,
+            asked,
+            text,
+        }),
         Err(_) => None,
+    }
+}
+
+/// The numbers of bytes that an answer has.
+fn sizes_of<'a>(sizes: &[u8]) -> Option<Unfit<'a>> {
+    let (needed, allowed) = split(sizes)?;
+    match (
+        parse_unsigned(u64::MAX, needed),
+        parse_unsigned(u64::MAX, allowed),
+    ) {
+        (Ok(needed), Ok(allowed)) => Some(Unfit::Size { needed, allowed }),
+        _ => None,
+    }
+}
+
+/// Whether the answer may speak of the storage, by the manifest alone.
+fn may_be(unfit: &Unfit<'_>, storage: &StorageConfig, is_update: bool) -> bool {
+    match unfit {
+        Unfit::Type(types) => has_asked(types, storage, is_update),
+        Unfit::Size { allowed, .. } => storage.maximum == *allowed,
+    }
+}
+
+/// Whether the manifest says the type of a key of the storage, which an update keeps, where it is one.
+fn has_asked(types: &Types<'_>, storage: &StorageConfig, is_update: bool) -> bool {
+    for element in storage.elements.as_slice() {
+        if is_asked(types, element) && (!is_update || is_kept(storage, Some(element))) {
+            return true;
+        }
+    }
+    false
+}
+
+fn is_same_kind(one: StoreKind, other: StoreKind) -> bool {
+    one == other
+}
+
+/// What is said of a storage that is refused so with what an export has: as it is, or as an update with these
+/// converters makes it; nothing of one that is not.
+fn why_of(
+    alloc: Global,
+    unfit: &Unfit<'_>,
+    storage: &StorageConfig,
+    export: &Export,
+    migrations: Option<&Migrations>,
+) -> Result<Option<String>, AllocError> {
+    match unfit {
+        Unfit::Type(types) => match refused_key(alloc, types, storage, export, migrations)? {
+            Some(key) => said_of_key(alloc, types.text, &storage.name, key),
+            None => Ok(None),
+        },
+        Unfit::Size { needed, allowed } => {
+            if size_of(alloc, storage, export, migrations)? == *needed {
+                said_of_storage(alloc, *allowed, &storage.name)
+            } else {
+                Ok(None)
+            }
+        }
     }
 }
 
@@ -141,150 +316,32 @@ fn said_of_key(
     alloc: Global,
     asked: &str,
     storage: &Name,
-    key: Option<&Name>,
+    key: &Name,
 ) -> Result<Option<String>, AllocError> {
-    let Some(key) = key else {
-        return Ok(None);
-    };
     let (storage, key) = (storage.as_str(), key.as_str());
     Ok(Some(format!(in alloc; "the manifest says {asked} of {storage}:{key}")?))
 }
 
 fn said_of_storage(
     alloc: Global,
-    allowed: &str,
+    allowed: u64,
     storage: &Name,
 ) -> Result<Option<String>, AllocError> {
     let storage = storage.as_str();
     Ok(Some(format!(in alloc; "the manifest allows {allowed} bytes to {storage}")?))
 }
 
-/// The text of a manifest that has one storage, as this one has it.
-fn text_of_storage(
+/// The first key of an export that is refused for these types.
+fn refused_key<'a>(
     alloc: Global,
-    version: u32,
-    storage: &StorageConfig,
-    manifest: &Value,
-) -> Result<String, AllocError> {
-    let list = list_of(storage.kind);
-    let mut text = format!(in alloc; "{{\"version\":{version},\"{list}\":[")?;
-    for value in things(manifest, list) {
-        if value.get("name").and_then(Value::as_str) == Some(storage.name.as_str()) {
-            text.push_str(value.to_string(alloc)?.as_str())?;
-        }
-    }
-    text.push_str("]}")?;
-    Ok(text)
-}
-
-/// The word for the list of the storages of this kind.
-fn list_of(kind: StoreKind) -> &'static str {
-    let [(keys, _), (files, _)] = LISTS;
-    match kind {
-        StoreKind::Keys => keys,
-        StoreKind::Files => files,
-    }
-}
-
-/// The first key of this type in a storage of which an update that keeps it alone is refused for its type.
-fn refused_key<T: Trial>(
-    alloc: Global,
-    version: u32,
-    storage: &StorageConfig,
-    asked: &str,
-    trial: &mut T,
-) -> Result<Option<Name>, AllocError> {
-    let keys = kept_keys(alloc, storage, asked)?;
-    let mut from: usize = 0;
-    let mut to = keys.len();
-    for _ in 0..keys.len() {
-        let half = to.saturating_sub(from) / 2;
-        let middle = from.saturating_add(half.min(TRIED_KEYS));
-        if middle == from {
-            break;
-        }
-        let some = keys.as_slice().get(from..middle).unwrap_or(&[]);
-        let text = text_of_keys(alloc, version, storage, asked, some)?;
-        if trial.unfit(text.as_bytes()) == Some(Unfit::Type) {
-            to = middle;
-        } else {
-            from = middle;
-        }
-    }
-    let Some(key) = keys.as_slice().get(from) else {
-        return Ok(None);
-    };
-    let alone = keys
-        .as_slice()
-        .get(from..from.saturating_add(1))
-        .unwrap_or(&[]);
-    let text = text_of_keys(alloc, version, storage, asked, alone)?;
-    if trial.unfit(text.as_bytes()) == Some(Unfit::Type) {
-        Ok(Some(key.copy()?))
-    } else {
-        Ok(None)
-    }
-}
-
-/// The keys of this type that an update keeps in a storage, in their order.
-fn kept_keys(alloc: Global, storage: &StorageConfig, asked: &str) -> Result<Vec<Name>, AllocError> {
-    let mut keys = Vec::new(alloc);
-    let Ok(asked) = parse_type(alloc, asked.as_bytes()) else {
-        return Ok(keys);
-    };
-    for element in storage.elements.as_slice() {
-        let has_type = matches!(&element.value_type, Some(given) if given.is_same(&asked));
-        if has_type && is_kept(storage, element) {
-            keys.push(element.name.copy()?)?;
-        }
-    }
-    Ok(keys)
-}
-
-/// Whether an update keeps what is stored of the element.
-fn is_kept(storage: &StorageConfig, element: &ElementConfig) -> bool {
-    match element.strategy {
-        Some(strategy) => matches!(strategy, ElementStrategy::KeepExisting),
-        None => matches!(storage.strategy, CollectionStrategy::KeepExisting),
-    }
-}
-
-/// The text of a manifest by which an update keeps, of all that is stored, these keys of the storage, as this type.
-fn text_of_keys(
-    alloc: Global,
-    version: u32,
-    storage: &StorageConfig,
-    asked: &str,
-    keys: &[Name],
-) -> Result<String, AllocError> {
-    let (list, elements) = LISTS[0];
-    let name = storage.name.as_str();
-    let mut text = format!(in alloc;
-        "{{\"version\":{version},\"{list}\":[{{\"name\":\"{name}\",\"updateStrategy\":\"delete\",\"{elements}\":["
-    )?;
-    for (at, key) in keys.iter().enumerate() {
-        if at > 0 {
-            text.push(',')?;
-        }
-        let key = key.as_str();
-        let element = format!(in alloc;
-            "{{\"name\":\"{key}\",\"type\":\"{asked}\",\"updateStrategy\":\"keepExisting\"}}"
-        )?;
-        text.push_str(element.as_str())?;
-    }
-    text.push_str("]}]}")?;
-    Ok(text)
-}
-
-/// The first key of an export whose value is of another type than the storage says.
-fn mismatched<'a>(
-    alloc: Global,
+    types: &Types<'_>,
     storage: &'a StorageConfig,
     export: &Export,
+    migrations: Option<&Migrations>,
 ) -> Result<Option<&'a Name>, AllocError> {
     for fresh in export.contents.as_slice() {
-        for element in storage.elements.as_slice() {
-            if element.name == fresh.name && has_other_type(alloc, element, fresh)? {
+        if let Some(element) = element_of(storage, &fresh.name) {
+            if is_refused(alloc, types, storage, element, fresh, migrations)? {
                 return Ok(Some(&element.name));
             }
         }
@@ -292,28 +349,45 @@ fn mismatched<'a>(
     Ok(None)
 }
 
-/// Whether the value of a key is of another type than is said of it.
-fn has_other_type(
+/// Whether this key is refused for these types.
+fn is_refused(
     alloc: Global,
+    types: &Types<'_>,
+    storage: &StorageConfig,
     element: &ElementConfig,
     fresh: &Fresh,
+    migrations: Option<&Migrations>,
 ) -> Result<bool, AllocError> {
-    let Some(value_type) = &element.value_type else {
+    if !is_asked(types, element) {
         return Ok(false);
-    };
+    }
+    if let Some(migrations) = migrations {
+        if !is_kept(storage, Some(element)) || is_led(alloc, types, migrations, &element.name)? {
+            return Ok(false);
+        }
+    }
     match decode(alloc, fresh.bytes.as_slice()) {
-        Ok(value) => Ok(!value.has_type(value_type)),
+        Ok(value) => Ok(value.has_type(&types.stored)),
         Err(DecodeError::NotAValue) => Ok(false),
         Err(DecodeError::OutOfMemory) => Err(AllocError),
     }
 }
 
-/// Whether names and contents of an export are more than the storage may have.
-fn is_too_large(storage: &StorageConfig, export: &Export) -> bool {
-    let mut size: u64 = 0;
-    for fresh in export.contents.as_slice() {
-        size = size.saturating_add(fresh.name.as_str().len() as u64);
-        size = size.saturating_add(fresh.bytes.len() as u64);
+/// Whether the manifest says the type of this key.
+fn is_asked(types: &Types<'_>, element: &ElementConfig) -> bool {
+    match &element.value_type {
+        Some(value_type) => value_type.is_same(&types.asked),
+        None => false,
     }
-    size > storage.maximum
+}
+
+/// Whether converters lead from the one type to the other.
+fn is_led(
+    alloc: Global,
+    types: &Types<'_>,
+    migrations: &Migrations,
+    key: &Name,
+) -> Result<bool, AllocError> {
+    let chain = migrations.find_chain(alloc, key, &types.stored, &types.asked)?;
+    Ok(chain.is_some())
 }
