@@ -99,10 +99,9 @@ fn length_kept(
         return Ok(fresh.bytes.len());
     };
     match decode(alloc, fresh.bytes.as_slice()) {
-        Ok(value) if !value.has_type(to) => {
-            length_converted(alloc, &fresh.name, &value, to, migrations)
-        }
-        Ok(_) | Err(DecodeError::NotAValue) => Ok(fresh.bytes.len()),
+        Ok(value) if value.has_type(to) => Ok(fresh.bytes.len()),
+        Ok(value) => length_converted(alloc, &fresh.name, &value, to, migrations),
+        Err(DecodeError::NotAValue) => Ok(fresh.bytes.len()),
         Err(DecodeError::OutOfMemory) => Err(AllocError),
     }
 }
