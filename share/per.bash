@@ -7,7 +7,7 @@ _per() {
         [ "${COMP_WORDS[place]}" != -- ] || return 0
     done
     if [ "$before" = --dir ]; then
-        # What stands for itself in a shell is quoted, and a slash ends a folder.
+        # Names are quoted for a shell, and a slash ends a folder.
         compopt -o filenames 2>/dev/null
         mapfile -t COMPREPLY < <(compgen -d -- "$word")
     elif [ "$before" = --list ]; then

@@ -13,7 +13,8 @@ abbrev pub changed_below : List ℕ → List ℕ → ℕ → ℕ
 changed_below bytes was zero = 0
 changed_below bytes was (suc n) = changed_below bytes was n + cond (is_changed bytes was n) 1 0
 
--- how many parts of the new content `bytes` differ from those of the old one, `was`: so many blocks are written
+-- how many parts of the new content `bytes` differ from those of the old one, `was`, which
+-- is how many blocks are written
 abbrev pub changed_blocks : List ℕ → List ℕ → ℕ
 changed_blocks bytes was = changed_below bytes was (blocks_for (length bytes))
 

@@ -42,7 +42,7 @@ opened_of (Corrupt salvage others) = None
 
 -- ---- what holds of all that is read, whether or not the disk is modelled
 
--- an element that was read by an entry of an index, from so many copies: a content as long as the entry says, and the
+-- an element that was read by an entry of an index, from this many copies: a content as long as the entry says, and the
 -- copies that lack it, counted from 1 and ascending
 pub record IsReadBy (copies : ℕ) (e : IndexEntry) (f : Entry) : Type 0 where
   pub name : f.name ≡ e.name

@@ -39,7 +39,7 @@ has_it v (Some x) false e is = cc
 not_both : (b : Bool) → b ≡ true → b ≡ false → ⊥
 not_both b one two = cc
 
--- so many copies as must agree give no other text
+-- as many copies as must agree give no other text
 abbrev pub GivesOnly : Image → Shape → Where → List ℕ → Type 0
 GivesOnly image shape at text = (other : List ℕ)
     → AtLeast (λ c. CopyGives (gift_of image shape at) c other) shape.place.copies shape.m → other ≡ text

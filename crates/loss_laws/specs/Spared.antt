@@ -1,4 +1,4 @@
--- What is read where pages were lost, by what lay in them: on any number of blocks, and with any number of copies.
+-- What is read where pages were lost, by what they held: on any number of blocks, and with any number of copies.
 use Rattle.std.specs.Prelude.{◌≡◌, ◌⊎◌, ◌<◌, ◌≤◌, ℕ, List, [], Option, Some}
 use Rattle.std.specs.List.{AllZip}
 use Rattle.per_base.specs.declared.elements.Content.TheVariants.{Bad, Good}

@@ -22,6 +22,6 @@ holders copies text = count_by (is_text text) copies
 abbrev pub first_agreed : ℕ → List (Option (List ℕ)) → List (Option (List ℕ)) → Option (List ℕ)
 first_agreed m copies some = find (λ text. nat_le m (holders copies text)) (filter_map (λ copy. copy) some)
 
--- the first text, in order of copies, that at least m copies are; none where no text has so many
+-- the first text, in order of copies, that at least m copies are; none where no text has m copies
 unfoldable pub voted : ℕ → List (Option (List ℕ)) → Option (List ℕ)
 voted m copies = first_agreed m copies copies

@@ -19,7 +19,7 @@ pub record FolderState : Type 1 where
   pub lost : ℕ → ℕ → Type 0
   -- which names a power loss leaves
   pub named : ℕ → Type 0
-  -- by file and number: a power loss leaves no fewer bytes of the file than so many
+  -- by file and number: a power loss leaves no fewer bytes of the file than this number
   pub sure : ℕ → ℕ → Type 0
 
 -- what a power loss may leave (`left`) of a file whose name it leaves, and which reads give as `image`: no fewer bytes

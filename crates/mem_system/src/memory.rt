@@ -116,7 +116,7 @@ impl MemSystem {
         MemSystem::holding(self.alloc, copy_of(&self.files)?, self.unreadable.clone()?)
     }
 
-    /// The folder after a power loss after so many of the changes, which are counted as by `changes`. Of each write
+    /// The folder after a power loss after this number of changes, which are counted as by `changes`. Of each write
     /// that was not synced there, two bits of the seed, from the lowest on and over again after 32 writes, say what is
     /// left: nothing, all, the first half or the second; of each name that was not, whether it is. What a sync failed
     /// to write is lost.

@@ -10,9 +10,9 @@
 //! list of 1 to 8 that lead from one type to another, one after the other, and of these the least by places (those of
 //! its converters, counted from 0, compared one by one); none exactly where there is none. It first numbers the types
 //! of the converters, each compared with those of its fingerprint (a number made of the type) alone, and then goes back
-//! from the wanted type, level by level, over numbers alone. A level is the types from which so many converters lead
-//! there; it holds each type once, so hundreds of converters cost no exhaustive walk. A [`Chain`] is such a list, and
-//! answers what its stored functions, one after the other, may answer.
+//! from the wanted type, level by level, over numbers alone. A level is the types from which equally many converters
+//! lead there; it holds each type once, so hundreds of converters cost no exhaustive walk. A [`Chain`] is such a list,
+//! and answers what its stored functions, one after the other, may answer.
 //!
 //! [`u8_to_u16`] and its like are functions to be stored: they keep the number, in twice the bytes.
 #![tactic(auto)]

@@ -9,7 +9,7 @@ abbrev pub HandsBack : {T : Type 0} → T → Fault T → Type 0 → Type 0
 HandsBack given Device P = ⊤
 HandsBack given (OutOfMemory same) P = (same ≡ given) × P
 
--- the call failed because the device did, not for want of memory
+-- the call failed because the device did, not because memory ran out
 abbrev pub IsDeviceFault : {T : Type 0} → Fault T → Type 0
 IsDeviceFault Device = ⊤
 IsDeviceFault (OutOfMemory given) = ⊥

@@ -28,7 +28,7 @@ use Rattle.per_run.specs.Jobs.{IsCaused, JobDone}
 
 -- ---- the opening
 
--- a flash of so many blocks is too small or too large to be a disk
+-- a flash with this number of blocks is too small or too large to be a disk
 abbrev pub IsWrongSize : (blocks : ℕ) → Type 0
 IsWrongSize blocks = (blocks < 4) ⊎ (4096 < blocks)
 
