@@ -22,6 +22,7 @@ pub mod ReadStored
 pub mod ReadsAlone
 pub mod Recoveries
 pub mod Rescued
+pub mod RootLens
 pub mod RowsInUse
 pub mod Settled
 pub mod StagedMore

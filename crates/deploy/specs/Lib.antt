@@ -14,4 +14,5 @@ pub mod Beginning
 pub mod Laws
 pub mod Recovered
 pub mod Updates
+pub mod Written
 pub mod Remaining
