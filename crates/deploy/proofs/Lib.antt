@@ -12,6 +12,7 @@ pub mod InstallRow
 pub mod Leaves
 pub mod Lone
 pub mod LoneRows
+pub mod MadePlaces
 pub mod MadeStorages
 pub mod NextRoots
 pub mod NextVersion

@@ -15,4 +15,5 @@ pub mod Laws
 pub mod Recovered
 pub mod Updates
 pub mod Written
+pub mod Making
 pub mod Remaining
