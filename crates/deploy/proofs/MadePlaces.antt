@@ -1,11 +1,11 @@
 -- Storages that are made one after another: in whose places, and what they cost.
-use Rattle.std.proofs.Common.{◌≡◌, ℕ, zero, suc, ◌+◌, ◌*◌, ◌-◌, ◌<◌, ◌≤◌, List, [], ◌∷◌, length, get_or, take, drop, Bool}
+use Rattle.std.proofs.Common.{◌≡◌, ℕ, zero, suc, ◌+◌, ◌*◌, ◌<◌, ◌≤◌, List, [], ◌∷◌, length, get_or, take, drop, Bool}
 use Rattle.std.proofs.Common.{IsTrue, refl, sym, ap, ◌∙◌, subst, arith}
-use Rattle.std.specs.Prelude.{Option, None, Result, Ok, Err, map}
+use Rattle.std.specs.Prelude.{Option, None, Result, Ok, map}
 use Rattle.per_base.specs.declared.elements.Fresh.{Fresh}
 use Rattle.per_base.specs.declared.errors.PerError.{PerError}
 use Rattle.disk_model.specs.Frame.{IsSettledOn, Spares}
-use Rattle.disk_model.specs.Medium.{EachCase, Elapses, IsIdle, IsLawful, Medium, Quiet}
+use Rattle.disk_model.specs.Medium.{EachCase, Elapses, IsIdle, Medium, Quiet}
 use Rattle.disk_model.specs.Place.{IsOutside}
 use Rattle.deployment_model.specs.Conditions.{IsStorage}
 use Rattle.deployment_model.specs.Data.{DeploymentData, StorageData, deployment_data, storage_data}
@@ -15,7 +15,6 @@ use Rattle.element_store.specs.Plans.{blocks_of_all}
 use Rattle.root_text.specs.declared.versions.VersionText.{VersionText}
 use Rattle.deploy_laws.specs.Places.{cut_copies, shapes_from, shapes_in, storage_shape}
 use Rattle.deploy_rows.specs.Rows.{deployment_of, initial_all}
-use Rattle.deploy.specs.declared.roots.Installed.{Installed}
 use Rattle.deploy.specs.declared.roots.Root.{Root}
 use Rattle.deploy.specs.declared.updating.Staged.{Staged}
 use Rattle.deploy.specs.Building.{offered_in, staged_root, staged_text}
@@ -24,7 +23,7 @@ use Rattle.deploy.specs.Making.{IsBesideMade, IsInNone, cost_by, install_cost, m
 use Rattle.deploy.specs.Making.{storages_said}
 use Rattle.deploy.specs.Roots.{SaysDeployment, free_bank, previous_texts, root_texts}
 use Rattle.deploy.specs.Written.{root_cost}
-use Rattle.deploy.proofs.Leaves.{leaves_less, leaves_none, leaves_on}
+use Rattle.deploy.proofs.Leaves.{leaves_less, leaves_on}
 use Rattle.deploy.proofs.OneUpdate.{leaves_then}
 use Rattle.deploy.proofs.Told.{told_read}
 
@@ -182,7 +181,8 @@ module _ (told : Bool) (app bank k : ℕ) (ds : List StorageConfig) (cs : List (
 
 -- ---- and then the root
 
-pub made_places : (told : Bool) (app : ℕ) (shapes : List Shape) (old mid : Medium) → Leaves told (IsInNone shapes) old mid
+pub made_places : (told : Bool) (app : ℕ) (shapes : List Shape) (old mid : Medium)
+    → Leaves told (IsInNone shapes) old mid
     → Leaves told (IsBesideMade app shapes) old mid
 made_places told app shapes old mid leaves = leaves_less told (IsInNone shapes) (IsBesideMade app shapes) old mid
     (λ f none. none.1) leaves
@@ -210,8 +210,8 @@ module _ (manifest : List ℕ) (v : VersionText) (said : deployment_of manifest 
       Leaves told (IsBesideMade app (shapes_from app bank 0 (storages_by r))) old new) (sym said) leaves
 
   pub said_written : (now was is : ℕ) → v.text ≡ manifest
-      → is ≤ was + (making_costs (map storage_data v.deployment.storages) (initial_all now (deployment_data v.deployment))
-      + root_cost (v.text ∷ []))
+      → is ≤ was + (making_costs (map storage_data v.deployment.storages)
+      (initial_all now (deployment_data v.deployment)) + root_cost (v.text ∷ []))
       → is ≤ was + install_cost now manifest
   said_written now was is text le = subst (λ (r : Result DeploymentData PerError). is ≤ was + cost_by now manifest r)
       (sym said)
@@ -219,8 +219,8 @@ module _ (manifest : List ℕ) (v : VersionText) (said : deployment_of manifest 
       (initial_all now (deployment_data v.deployment)) + root_cost (t ∷ []))) text le)
 
 -- the storages of an update that began
-pub led_places : (told : Bool) (app : ℕ) (r : Root) (manifest : List ℕ) (s : Staged) (old mid new : Medium) → s.app ≡ app
-    → staged_root s ≡ r → staged_text s ≡ manifest → SaysDeployment s.version
+pub led_places : (told : Bool) (app : ℕ) (r : Root) (manifest : List ℕ) (s : Staged) (old mid new : Medium)
+    → s.app ≡ app → staged_root s ≡ r → staged_text s ≡ manifest → SaysDeployment s.version
     → Elapses old mid → Elapses mid new → (Quiet old → IsIdle old mid) → mid.image ≡ old.image
     → Leaves told (IsBesideMade s.app (drop s.built (shapes_in s.app (offered_in s)))) mid new
     → Leaves told (IsBesideMade app (shapes_from app (free_bank r) 0 (storages_said manifest))) old new

@@ -1,5 +1,5 @@
 -- How long the text of a root is.
-use Rattle.std.proofs.Common.{◌≡◌, ℕ, ◌+◌, ◌*◌, ◌≤◌, ◌<◌, List, [], ◌∷◌, length, Bool, Option, None, Some, refl, ap}
+use Rattle.std.proofs.Common.{◌≡◌, ℕ, ◌+◌, ◌*◌, ◌≤◌, ◌<◌, [], ◌∷◌, length, Bool, Option, None, Some, refl, ap}
 use Rattle.std.proofs.Common.{◌∙◌, subst, arith}
 use denote.Ref.{Bor}
 use Rattle.std.specs.Int.{w32, to_le_bytes}
@@ -21,7 +21,7 @@ use Rattle.deploy.specs.declared.roots.Installed as parts
 use Rattle.deploy.specs.declared.roots.Root.{Root}
 use Rattle.deploy.specs.declared.roots.Root.TheVariants.{Absent, Bad, Installed}
 use Rattle.deploy.specs.Leaving.{IfRegister, IsRegisterAt}
-use Rattle.deploy.specs.Laws.{RootLenLaw, kept_manifests}
+use Rattle.deploy.specs.Laws.{RootLenLaw}
 use Rattle.deploy.specs.Roots.{previous_texts, root_texts}
 use Rattle.deploy.specs.Written.{format_cost, greatest_cost, root_cost, root_len}
 

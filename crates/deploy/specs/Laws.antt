@@ -1,6 +1,6 @@
 -- A root in use and an update in progress: what the image says of the application, and what leaves them in use. The
 -- statements of the laws.
-use Rattle.std.specs.Prelude.{◌≡◌, ◌<◌, ◌+◌, ◌≤◌, ℕ, ◌∷◌, List, [], length, Option, None, Some, Bool, IsTrue}
+use Rattle.std.specs.Prelude.{◌≡◌, ◌<◌, ◌+◌, ◌≤◌, ℕ, ◌∷◌, List, [], length, None, Some, Bool, IsTrue}
 use Rattle.disk_model.specs.Frame.{Spares}
 use Rattle.disk_model.specs.Image.{Image}
 use Rattle.root_text.specs.RootText.{Version, root_text}

@@ -17,8 +17,8 @@ root_cost manifests = 3 * (root_len manifests + 88)
 abbrev pub WritesRoot : List (List ℕ) → (old new : Medium) → Type 0
 WritesRoot manifests old new = new.written ≤ old.written + root_cost manifests
 
--- what the formatting of a root costs, which then keeps no manifest: in each copy the text with its head, and a blank of
--- 44 bytes in both slots before it
+-- what the formatting of a root costs, which then keeps no manifest: in each copy its text with a head, and before that
+-- a blank of 44 bytes in both slots
 abbrev pub format_cost : ℕ
 format_cost = root_cost [] + 3 * 44
 

@@ -198,7 +198,8 @@ fn install_version<D: Disk>(
     ensures passes { OnOk result ((D.medium disk.new).faults ≡ (D.medium disk.old).faults) }
     ensures fed { IsErrOf result Stop.OutOfMemory → (D.medium disk.new).faults ≡ (D.medium disk.old).faults }
     ensures outside { Leaves D.told (IsBesideNext app 0) (D.medium disk.old) (D.medium disk.new) }
-    ensures places { Leaves D.told (IsBesideMade app (shapes_from app 0 0 (map storage_data version.deployment.storages)))
+    ensures places { Leaves D.told (IsBesideMade app
+        (shapes_from app 0 0 (map storage_data version.deployment.storages)))
         (D.medium disk.old) (D.medium disk.new) }
     ensures written { (D.medium disk.new).written ≤ (D.medium disk.old).written
         + (making_costs (map storage_data version.deployment.storages)
@@ -257,7 +258,8 @@ pub fn install_filled<D: Disk>(
     // Only slots of the root and files of these storages in bank 0 change, and at any moment nothing is installed or
     // the whole version, filled.
     ensures outside { Leaves D.told (IsBesideNext app 0) (D.medium disk.old) (D.medium disk.new) }
-    ensures places { Leaves D.told (IsBesideMade app (shapes_from app 0 0 (map storage_data version.deployment.storages)))
+    ensures places { Leaves D.told (IsBesideMade app
+        (shapes_from app 0 0 (map storage_data version.deployment.storages)))
         (D.medium disk.old) (D.medium disk.new) }
     // No more is written than these storages cost, and then the root.
     ensures written { (D.medium disk.new).written ≤ (D.medium disk.old).written

@@ -84,10 +84,10 @@ pub fn update<D: Disk>(
     ensures places { Leaves D.told (IsBesideMade app (shapes_from app (free_bank root) 0 (storages_said manifest.now)))
         (D.medium disk.old) (D.medium disk.new) }
     // No more is written than these storages cost with the contents that the update begins with, and then the root.
-    ensures written { WritesUpdate
+    ensures written { WritesUpdate D.told
         (BeginsUpdate (rules_of migrations.now) (answers_of migrations.now) now (option_map (λ n. n.now) busy.entry)
         manifest.now)
-        root manifest.now (D.medium disk.old) (D.medium disk.new) }
+        app root manifest.now (D.medium disk.old) (D.medium disk.new) }
     ensures any_moment { IsTrue D.told → LeadsTo app
         (UpdateMayLead (rules_of migrations.now) (answers_of migrations.now) now (option_map (λ n. n.now) busy.entry)
         manifest.now

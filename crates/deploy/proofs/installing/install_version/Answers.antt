@@ -1,4 +1,4 @@
-use Rattle.std.proofs.Common.{◌+◌, ◌≤◌, ℕ, List, [], ◌∷◌, ap, ◌∙◌, subst}
+use Rattle.std.proofs.Common.{◌+◌, ◌≤◌, List, [], ◌∷◌, ap, ◌∙◌, subst}
 use Rattle.std.specs.Prelude.{map}
 use Rattle.per_base.specs.declared.elements.Fresh.{Fresh}
 use Rattle.disk_model.specs.Laws.{elapses_none}

@@ -11,8 +11,9 @@ use Rattle.deploy.specs.declared.roots.Root.{Root}
 use Rattle.deploy.specs.Roots.{RootAt, root_texts}
 use Rattle.deploy.specs.Building.{staged_progress, staged_root}
 use Rattle.deploy.proofs.MadePlaces.{led_places, led_written}
-use Rattle.deploy.proofs.OneUpdate.{begins_ready, clause_from, clause_of, is_refused, leads_led, leads_nowhere, leaves_led}
-use Rattle.deploy.proofs.OneUpdate.{leaves_read, never, never_ok, none_ok, not_ok, of_app, over_root, root_refused, same_error}
+use Rattle.deploy.proofs.OneUpdate.{begins_ready, clause_from, clause_of, is_refused, leads_led, leads_nowhere}
+use Rattle.deploy.proofs.OneUpdate.{leaves_led, leaves_read, never, never_ok, none_ok, not_ok, of_app, over_root}
+use Rattle.deploy.proofs.OneUpdate.{root_refused, same_error}
 use Rattle.deploy.proofs.OneUpdate.{same_refused, staged_at, updated_not, updated_so, was_offered}
 use Rattle.deploy.proofs.updating_whole.update.Goals as goal
 
@@ -389,10 +390,11 @@ returns-in_err-next-in-Ready-clause-places g c =
     c.in_ok-begun.begun c.in_ok-begun.ensures.begins c.in_ok-begun.ensures.staged c.in_ok-begun.ensures.image
     c.in-Ready.staged c.in-Ready.is in
     led_places g.D.Disk.told c.args.app c.args.root c.args.manifest.now c.in-Ready.staged
-    (g.D.Disk.medium c.args.disk.now) (g.D.Disk.medium c.begin_update.new.disk) (g.D.Disk.medium c.commit_update.new.disk)
-    same_app over (c.in_ok-begun.ensures.text c.in-Ready.staged (ap Ok c.in-Ready.is)) at.memory.offers
-    c.in_ok-begun.ensures.time c.in_err-next-in-Ready.ensures.time c.in_ok-begun.ensures.idle c.in_ok-begun.ensures.image
-    c.in_err-next-in-Ready.ensures.places
+    (g.D.Disk.medium c.args.disk.now) (g.D.Disk.medium c.begin_update.new.disk)
+    (g.D.Disk.medium c.commit_update.new.disk) same_app over
+    (c.in_ok-begun.ensures.text c.in-Ready.staged (ap Ok c.in-Ready.is)) at.memory.offers
+    c.in_ok-begun.ensures.time c.in_err-next-in-Ready.ensures.time c.in_ok-begun.ensures.idle
+    c.in_ok-begun.ensures.image c.in_err-next-in-Ready.ensures.places
 
 pub returns-in_err-next-in-Ready-clause-written : goal.returns-in_err-next-in-Ready-clause-written
 returns-in_err-next-in-Ready-clause-written g c =
@@ -410,6 +412,7 @@ returns-in_err-next-in-Ready-clause-written g c =
     inr (
       c.in_ok-begun.ensures.begins.0,
       staged_progress c.in-Ready.staged,
+      c.in_ok-begun.ensures.begins.1,
       ready,
       led_written (staged_progress c.in-Ready.staged).deployment.storages (staged_progress c.in-Ready.staged).contents
           c.in-Ready.staged.built _ (c.args.manifest.now ∷ root_texts c.args.root) _ _ _
@@ -436,10 +439,11 @@ returns-in_ok-next-in-Ready-clause-places g c =
     c.in_ok-begun.begun c.in_ok-begun.ensures.begins c.in_ok-begun.ensures.staged c.in_ok-begun.ensures.image
     c.in-Ready.staged c.in-Ready.is in
     led_places g.D.Disk.told c.args.app c.args.root c.args.manifest.now c.in-Ready.staged
-    (g.D.Disk.medium c.args.disk.now) (g.D.Disk.medium c.begin_update.new.disk) (g.D.Disk.medium c.commit_update.new.disk)
-    same_app over (c.in_ok-begun.ensures.text c.in-Ready.staged (ap Ok c.in-Ready.is)) at.memory.offers
-    c.in_ok-begun.ensures.time c.in_ok-next-in-Ready.ensures.time c.in_ok-begun.ensures.idle c.in_ok-begun.ensures.image
-    c.in_ok-next-in-Ready.ensures.places
+    (g.D.Disk.medium c.args.disk.now) (g.D.Disk.medium c.begin_update.new.disk)
+    (g.D.Disk.medium c.commit_update.new.disk) same_app over
+    (c.in_ok-begun.ensures.text c.in-Ready.staged (ap Ok c.in-Ready.is)) at.memory.offers
+    c.in_ok-begun.ensures.time c.in_ok-next-in-Ready.ensures.time c.in_ok-begun.ensures.idle
+    c.in_ok-begun.ensures.image c.in_ok-next-in-Ready.ensures.places
 
 pub returns-in_ok-next-in-Ready-clause-written : goal.returns-in_ok-next-in-Ready-clause-written
 returns-in_ok-next-in-Ready-clause-written g c =
@@ -457,6 +461,7 @@ returns-in_ok-next-in-Ready-clause-written g c =
     inr (
       c.in_ok-begun.ensures.begins.0,
       staged_progress c.in-Ready.staged,
+      c.in_ok-begun.ensures.begins.1,
       ready,
       led_written (staged_progress c.in-Ready.staged).deployment.storages (staged_progress c.in-Ready.staged).contents
           c.in-Ready.staged.built _ (c.args.manifest.now ∷ root_texts c.args.root) _ _ _

@@ -31,10 +31,10 @@ returns-in-Absent-clause-long c = absent_len c.args.says c.in-Absent.is
 
 pub returns-in-Installed-clause-long : goal.returns-in-Installed-clause-long
 returns-in-Installed-clause-long c = said_len (record {
-      cell = c.args.cell;
-      bank = c.in-Installed.bank;
-      active = c.in-Installed.active;
-      previous =
-          c.in-Installed.previous;
-    })
+  cell = c.args.cell;
+  bank = c.in-Installed.bank;
+  active = c.in-Installed.active;
+  previous =
+      c.in-Installed.previous;
+})
     c.args.says c.in-Installed.is
