@@ -1,7 +1,7 @@
 //! What is kept in memory of one application, and its calls.
 
-ghost use Rattle.std.specs.Prelude.{◌≡◌, ◌≢◌, ◌<◌, ◌&&◌, ◌||◌, ℕ, List, Bool, Err, IfOk, IsErrOf, IsTrue, None, Ok};
-ghost use Rattle.std.specs.Prelude.{OnOk, Some, false, true};
+ghost use Rattle.std.specs.Prelude.{◌≡◌, ◌≢◌, ◌≤◌, ◌<◌, ◌+◌, ◌&&◌, ◌||◌, ℕ, List, Bool, Err, IfOk, IsErrOf, IsTrue};
+ghost use Rattle.std.specs.Prelude.{None, Ok, OnOk, Some, false, true};
 ghost use Rattle.per_base.specs.Causes.{Rose};
 ghost use Rattle.per_base.specs.declared.errors.PerError.{PerError};
 ghost use Rattle.disk_model.specs.Frame.{Spares};
@@ -12,6 +12,7 @@ ghost use Rattle.guarded_cell.specs.Register.{IsAlone};
 ghost use Rattle.migrate_fns.specs.Stored.{answers_of, rules_of};
 ghost use Rattle.command_text.specs.declared.replies.Answer.{Answer};
 ghost use Rattle.command_text.specs.Replies.{HasText};
+ghost use Rattle.deploy.specs.Written.{greatest_cost};
 ghost use Rattle.deploy_laws.specs.Apps.{App, app_at};
 ghost use Rattle.deploy_laws.specs.Places.{root_place};
 ghost use Rattle.deploy_laws.specs.Stands.{IsLater};
@@ -119,6 +120,8 @@ impl Running {
             → CallsTo self.old.app next (D.medium disk.old) (D.medium disk.new) }
         ensures slots { IsTrue D.told
             → Spares (IsNoSlot (root_place self.old.app)) (D.medium disk.old).image (D.medium disk.new).image }
+        // No more is written than the longest root costs.
+        ensures written { (D.medium disk.new).written ≤ (D.medium disk.old).written + greatest_cost }
         ensures quiet { OnOk result (Quiet (D.medium disk.new)) }
         ensures cause { IsErrOf result Stop.Device → Rose (D.medium disk.old).faults (D.medium disk.new).faults }
         ensures passes { OnOk result ((D.medium disk.new).faults ≡ (D.medium disk.old).faults) }

@@ -12,6 +12,7 @@ pub mod InstallRow
 pub mod Leaves
 pub mod Lone
 pub mod LoneRows
+pub mod MadePlaces
 pub mod MadeStorages
 pub mod NextRoots
 pub mod NextVersion
@@ -22,6 +23,7 @@ pub mod ReadStored
 pub mod ReadsAlone
 pub mod Recoveries
 pub mod Rescued
+pub mod RootLens
 pub mod RowsInUse
 pub mod Settled
 pub mod StagedMore

@@ -180,7 +180,7 @@ module _ (rules : List Rule) (answers : fns.Answers) (now : ℕ) (busy : Option 
       ready : StagedAt told mid.image app s × (staged_root s ≡ r)
       ready = subst (λ (x : Begin). IsUpdateBegun told mid.image app r x) is begun
 
-      of_app : s.app ≡ app
+      pub of_app : s.app ≡ app
       of_app = ready.0.memory.of_app
 
       pub staged_at : StagedAt told mid.image s.app s
@@ -189,7 +189,7 @@ module _ (rules : List Rule) (answers : fns.Answers) (now : ℕ) (busy : Option 
       pub over_root : staged_root s ≡ r
       over_root = ready.1
 
-      begins_ready : Row (root_app r begins.0) (Ok (staged_progress s))
+      pub begins_ready : Row (root_app r begins.0) (Ok (staged_progress s))
       begins_ready = subst (λ (x : Begin). Row (root_app r begins.0) (begun_as x)) is begins.2
 
       pub was_offered : IsOk (offered busy text (root_app r []))

@@ -1,14 +1,17 @@
 -- A root in use and an update in progress: what the image says of the application, and what leaves them in use. The
 -- statements of the laws.
-use Rattle.std.specs.Prelude.{◌≡◌, ◌<◌, ◌+◌, ◌≤◌, ℕ, Bool, IsTrue}
+use Rattle.std.specs.Prelude.{◌≡◌, ◌<◌, ◌+◌, ◌≤◌, ℕ, ◌∷◌, List, [], length, None, Some, Bool, IsTrue}
 use Rattle.disk_model.specs.Frame.{Spares}
 use Rattle.disk_model.specs.Image.{Image}
+use Rattle.root_text.specs.RootText.{Version, root_text}
+use Rattle.root_text.specs.RootText as text
 use Rattle.deploy_laws.specs.Apps.{app_at, app_saying}
 use Rattle.deploy_laws.specs.Places.{IsFileOf, first_file}
 use Rattle.deploy.specs.declared.roots.Root.{Root}
 use Rattle.deploy.specs.declared.updating.Staged.{Staged}
 use Rattle.deploy.specs.Building.{StagedAt}
 use Rattle.deploy.specs.Roots.{IsRootOf, IsRootOn, RootAt, root_says}
+use Rattle.deploy.specs.Written.{root_len}
 
 -- the application is what its root says, with the states of the storages that it names, and no copy lacks the root
 abbrev pub RootInUseLaw : Type 0
@@ -29,3 +32,13 @@ RootFrameLaw = (told : Bool) (app : ℕ) (old new : Image) (root : Root) → app
 abbrev pub StagedFrameLaw : Type 0
 StagedFrameLaw = (told : Bool) (app : ℕ) (old new : Image) (s : Staged) → (IsTrue told → Spares (IsFileOf app) old new)
     → StagedAt told old app s → StagedAt told new app s
+
+-- the manifests that a root's text keeps, the active version's first
+abbrev pub kept_manifests : text.Root → List (List ℕ)
+kept_manifests text.absent = []
+kept_manifests (text.installed bank active None) = active.text ∷ []
+kept_manifests (text.installed bank active (Some previous)) = active.text ∷ previous.text ∷ []
+
+-- the text of a root is as long as `root_len` has it of the manifests that it keeps
+abbrev pub RootLenLaw : Type 0
+RootLenLaw = (r : text.Root) → length (root_text r) ≡ root_len (kept_manifests r)

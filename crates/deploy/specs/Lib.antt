@@ -14,4 +14,6 @@ pub mod Beginning
 pub mod Laws
 pub mod Recovered
 pub mod Updates
+pub mod Written
+pub mod Making
 pub mod Remaining

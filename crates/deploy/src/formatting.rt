@@ -1,6 +1,6 @@
 //! Roots that are formatted.
 
-ghost use Rattle.std.specs.Prelude.{◌≡◌, ◌<◌, ℕ, IfOk, IsErrOf, IsTrue, OnOk};
+ghost use Rattle.std.specs.Prelude.{◌≡◌, ◌≤◌, ◌<◌, ◌+◌, ◌*◌, ℕ, [], IfOk, IsErrOf, IsTrue, OnOk};
 ghost use Rattle.per_base.specs.Causes.{Rose};
 ghost use Rattle.disk_model.specs.Frame.{Spares};
 ghost use Rattle.disk_model.specs.Medium.{EachCase, Elapses, Quiet};
@@ -12,6 +12,7 @@ ghost use Rattle.deploy_laws.specs.Apps.{IsCleanApp, app_at, root_sole};
 ghost use Rattle.deploy_laws.specs.Places.{root_place};
 ghost use Rattle.deploy_rows.specs.Rows.{empty_app};
 ghost use Rattle.deploy.specs.Clauses.{IsNoRootSlot, Leaves};
+ghost use Rattle.deploy.specs.Written.{format_cost};
 
 use crate::errors::Stop;
 use deploy_laws::{files_lie_apart, root_place, roots_say};
@@ -44,6 +45,8 @@ pub fn format_all<D: Disk>(alloc: Global, disk: &mut D) -> Result<(), Stop>
     // Only slots of roots change.
     ensures outside { Leaves D.told (λ file. (app : ℕ) → app < 8 → IsNoRootSlot app file) (D.medium disk.old)
         (D.medium disk.new) }
+    // No more is written than eight roots cost that are formatted.
+    ensures written { (D.medium disk.new).written ≤ (D.medium disk.old).written + 8 * format_cost }
     ensures time { Elapses (D.medium disk.old) (D.medium disk.new) }
 {
     roots_say();
@@ -72,6 +75,7 @@ pub(crate) fn format_root<D: Disk>(alloc: Global, disk: &mut D, app: u32) -> Res
         → EachCase (FormatStops (root_place app) 1 (root_text absent)
         (D.medium disk.old).image)
         (D.medium disk.old) (D.medium disk.new) }
+    ensures written { (D.medium disk.new).written ≤ (D.medium disk.old).written + format_cost }
     ensures time { Elapses (D.medium disk.old) (D.medium disk.new) }
 {
     one_root();

@@ -1,7 +1,7 @@
 //! Installing a first version.
 
 ghost use Rattle.std.specs.Prelude.{◌≡◌, ◌≤◌, ◌<◌, ◌+◌, ◌⊎◌, [], ◌∷◌, Err, IfOk, IsErrOf, IsOk, IsTrue, None, Ok, OnOk};
-ghost use Rattle.std.specs.Prelude.{length, map, option_map, take, ◌≢◌};
+ghost use Rattle.std.specs.Prelude.{drop, length, map, option_map, take, ◌≢◌};
 ghost use Rattle.std.specs.Option.{ForSome};
 ghost use Rattle.per_base.specs.Causes.{Rose};
 ghost use Rattle.per_base.specs.declared.errors.PerError.{PerError};
@@ -15,14 +15,17 @@ ghost use Rattle.update_plan.specs.Plans.{AllFit};
 ghost use Rattle.deploy_laws.specs.Apps.{IsCleanApp, app_at};
 ghost use Rattle.deploy_laws.specs.Places.{root_place, shapes_from};
 ghost use Rattle.deploy_laws.specs.Stands.{StandsThroughout};
-ghost use Rattle.deploy_rows.specs.Rows.{AnswersRow, after, installed_app, installing};
+ghost use Rattle.deploy_rows.specs.Rows.{AnswersRow, after, initial_all, installed_app, installing};
 ghost use Rattle.deploy.specs.Clauses.{IsBesideNext, Leaves};
 ghost use Rattle.deploy.specs.Filled.{filled_app};
 ghost use Rattle.deploy.specs.Made.{AreMade};
+ghost use Rattle.deploy.specs.Making.{IsBesideMade, install_cost, making_costs, storages_said};
 ghost use Rattle.deploy.specs.Next.{next_app, root_before};
 ghost use Rattle.deploy.specs.Refusals.{AllocatesNothing};
 ghost use Rattle.deploy.specs.Remaining.{IsBesideCommit};
-ghost use Rattle.deploy.specs.Roots.{IsRootCell, RootAt, SaysDeployment, root_app, root_says, root_texts};
+ghost use Rattle.deploy.specs.Roots.{IsRootCell, RootAt, SaysDeployment, previous_texts, root_app, root_says};
+ghost use Rattle.deploy.specs.Roots.{root_texts};
+ghost use Rattle.deploy.specs.Written.{root_cost};
 
 use crate::errors::Stop;
 use crate::making::{create_rest, initial_contents};
@@ -83,9 +86,13 @@ pub fn install<D: Disk>(
     ensures passes { OnOk result ((D.medium disk.new).faults ≡ (D.medium disk.old).faults) }
     ensures fed { IsErrOf result Stop.OutOfMemory → (D.medium disk.new).faults ≡ (D.medium disk.old).faults }
 
-    // Only slots of the root and files of bank 0 change, and at any moment the application stands as before or as
-    // after.
+    // Only slots of the root and files of the manifest's storages in bank 0 change, and at any moment the application
+    // stands as before or as after.
     ensures outside { Leaves D.told (IsBesideNext app 0) (D.medium disk.old) (D.medium disk.new) }
+    ensures places { Leaves D.told (IsBesideMade app (shapes_from app 0 0 (storages_said manifest.now)))
+        (D.medium disk.old) (D.medium disk.new) }
+    // No more is written than these storages cost, and then the root.
+    ensures written { (D.medium disk.new).written ≤ (D.medium disk.old).written + install_cost now manifest.now }
     ensures any_moment { IsTrue D.told → StandsThroughout app
         (after (app_at (D.medium disk.old).image app) (installing now manifest.now
         (app_at (D.medium disk.old).image app)))
@@ -139,6 +146,9 @@ fn install_first<D: Disk>(
     ensures passes { OnOk result ((D.medium disk.new).faults ≡ (D.medium disk.old).faults) }
     ensures fed { IsErrOf result Stop.OutOfMemory → (D.medium disk.new).faults ≡ (D.medium disk.old).faults }
     ensures outside { Leaves D.told (IsBesideNext app 0) (D.medium disk.old) (D.medium disk.new) }
+    ensures places { Leaves D.told (IsBesideMade app (shapes_from app 0 0 (storages_said manifest.now)))
+        (D.medium disk.old) (D.medium disk.new) }
+    ensures written { (D.medium disk.new).written ≤ (D.medium disk.old).written + install_cost now manifest.now }
     ensures any_moment { IsTrue D.told → StandsThroughout app
         (after (app_at (D.medium disk.old).image app) (installing now manifest.now
         (app_at (D.medium disk.old).image app)))
@@ -188,6 +198,12 @@ fn install_version<D: Disk>(
     ensures passes { OnOk result ((D.medium disk.new).faults ≡ (D.medium disk.old).faults) }
     ensures fed { IsErrOf result Stop.OutOfMemory → (D.medium disk.new).faults ≡ (D.medium disk.old).faults }
     ensures outside { Leaves D.told (IsBesideNext app 0) (D.medium disk.old) (D.medium disk.new) }
+    ensures places { Leaves D.told (IsBesideMade app
+        (shapes_from app 0 0 (map storage_data version.deployment.storages)))
+        (D.medium disk.old) (D.medium disk.new) }
+    ensures written { (D.medium disk.new).written ≤ (D.medium disk.old).written
+        + (making_costs (map storage_data version.deployment.storages)
+        (initial_all now (deployment_data version.deployment)) + root_cost (version.text ∷ [])) }
     ensures any_moment { IsTrue D.told → StandsThroughout app
         (installed_app (generation_of cell) now (deployment_data version.deployment))
         (D.medium disk.old) (D.medium disk.new) }
@@ -239,9 +255,15 @@ pub fn install_filled<D: Disk>(
     ensures passes { OnOk result ((D.medium disk.new).faults ≡ (D.medium disk.old).faults) }
     ensures fed { IsErrOf result Stop.OutOfMemory → (D.medium disk.new).faults ≡ (D.medium disk.old).faults }
 
-    // Only slots of the root and files of bank 0 change, and at any moment nothing is installed or the whole version,
-    // filled.
+    // Only slots of the root and files of these storages in bank 0 change, and at any moment nothing is installed or
+    // the whole version, filled.
     ensures outside { Leaves D.told (IsBesideNext app 0) (D.medium disk.old) (D.medium disk.new) }
+    ensures places { Leaves D.told (IsBesideMade app
+        (shapes_from app 0 0 (map storage_data version.deployment.storages)))
+        (D.medium disk.old) (D.medium disk.new) }
+    // No more is written than these storages cost, and then the root.
+    ensures written { (D.medium disk.new).written ≤ (D.medium disk.old).written
+        + (making_costs (map storage_data version.deployment.storages) contents.now + root_cost (version.text ∷ [])) }
     ensures any_moment { IsTrue D.told → StandsThroughout app
         (filled_app (generation_of cell) (deployment_data version.deployment) contents.now)
         (D.medium disk.old) (D.medium disk.new) }
@@ -306,6 +328,13 @@ pub(crate) fn make_version<D: Disk>(
     // before or as after.
     ensures outside { Leaves D.told (IsBesideCommit app bank built (length contents.now)) (D.medium disk.old)
         (D.medium disk.new) }
+    ensures places { Leaves D.told (IsBesideMade app
+        (drop built (shapes_from app bank 0 (map storage_data version.now.deployment.storages))))
+        (D.medium disk.old) (D.medium disk.new) }
+    // No more is written than they cost, and then the root.
+    ensures written { (D.medium disk.new).written ≤ (D.medium disk.old).written
+        + (making_costs (drop built (map storage_data version.now.deployment.storages)) (drop built contents.now)
+        + root_cost (version.now.text ∷ previous_texts (option_map (λ v. v.now) previous.entry))) }
     ensures any_moment { IsTrue D.told → StandsThroughout app
         (next_app (generation_of cell + 1) bank (version_said version.now)
         (option_map (λ v. version_said v.now) previous.entry) contents.now

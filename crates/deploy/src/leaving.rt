@@ -15,6 +15,7 @@ ghost use Rattle.deploy.specs.Leaving.{IsLone, IsRootRefused, lone_says, refused
 ghost use Rattle.deploy.specs.Refusals.{AllocatesNothing};
 ghost use Rattle.deploy.specs.Roots.{AreParts, IsRootCell, IsRootOf, RootAt, SaysDeployment, root_app, root_says};
 ghost use Rattle.deploy.specs.Roots.{root_texts};
+ghost use Rattle.deploy.specs.Written.{WritesRoot};
 
 use crate::errors::Stop;
 use crate::installing::worn_out;
@@ -71,6 +72,8 @@ pub fn finish<D: Disk>(alloc: Global, disk: &mut D, root: Root) -> Result<Outcom
         → StandsThroughout app
         (after (app_at (D.medium disk.old).image app) (finishing (app_at (D.medium disk.old).image app)))
         (D.medium disk.old) (D.medium disk.new) }
+    // At most the root that comes is written, once.
+    ensures written { WritesRoot (take 1 (root_texts root)) (D.medium disk.old) (D.medium disk.new) }
     ensures time { Elapses (D.medium disk.old) (D.medium disk.new) }
 {
     roots_say();
@@ -141,6 +144,8 @@ pub fn rollback<D: Disk>(
         (after (app_at (D.medium disk.old).image app) (rolling_back (option_map (λ n. n.now) busy.entry)
         (app_at (D.medium disk.old).image app)))
         (D.medium disk.old) (D.medium disk.new) }
+    // At most the root that comes is written, once.
+    ensures written { WritesRoot (drop 1 (root_texts root)) (D.medium disk.old) (D.medium disk.new) }
     ensures time { Elapses (D.medium disk.old) (D.medium disk.new) }
 {
     roots_say();
@@ -326,6 +331,8 @@ impl Lone {
             → AreClean (D.medium disk.old).image (shapes_named app (lone_says self))
             → StandsThroughout app (app_saying (D.medium disk.old).image app (lone_says self)) (D.medium disk.old)
             (D.medium disk.new) }
+        ensures written { (app : ℕ) → IsRootCell app self.cell
+            → WritesRoot (self.version.text ∷ []) (D.medium disk.old) (D.medium disk.new) }
         ensures time { Elapses (D.medium disk.old) (D.medium disk.new) }
     {
         roots_say();

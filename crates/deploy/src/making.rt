@@ -1,9 +1,10 @@
 //! Storages that are made in a bank, one after another.
 
-ghost use Rattle.std.specs.Prelude.{◌≡◌, ◌≤◌, ◌<◌, IfOk, OnOk, IsErrOf, IsTrue, length, map, take};
+ghost use Rattle.std.specs.Prelude.{◌≡◌, ◌≤◌, ◌<◌, ◌+◌, IfOk, OnOk, IsErrOf, IsTrue, drop, length, map, take};
 ghost use Rattle.per_base.specs.Causes.{Rose};
 ghost use Rattle.per_base.specs.declared.elements.Cause.TheVariants as cause;
 ghost use Rattle.disk_model.specs.Medium.{Elapses, Quiet};
+ghost use Rattle.disk_model.specs.Place.{IsOutside};
 ghost use Rattle.deployment_model.specs.Conditions.{IsDeployment, IsStorage};
 ghost use Rattle.deployment_model.specs.Data.{deployment_data, storage_data};
 ghost use Rattle.index_text.specs.Contents.{AreContents};
@@ -14,6 +15,7 @@ ghost use Rattle.deploy_laws.specs.Places.{IsBeside, shapes_from, storage_shape}
 ghost use Rattle.deploy_rows.specs.Rows.{initial_all};
 ghost use Rattle.deploy.specs.Clauses.{Leaves};
 ghost use Rattle.deploy.specs.Made.{AreMade};
+ghost use Rattle.deploy.specs.Making.{IsInNone, making_cost, making_costs};
 ghost use Rattle.deploy.specs.Remaining.{IsBesideRest};
 
 use crate::errors::Stop;
@@ -75,6 +77,12 @@ pub(crate) fn create_rest<D: Disk>(
     // Only files of the storages that remain change.
     ensures outside { Leaves D.told (IsBesideRest app bank built (length contents.now)) (D.medium disk.old)
         (D.medium disk.new) }
+    ensures places { Leaves D.told (IsInNone
+        (drop built (shapes_from app bank 0 (map storage_data deployment.now.storages))))
+        (D.medium disk.old) (D.medium disk.new) }
+    // No more is written than they cost.
+    ensures written { (D.medium disk.new).written ≤ (D.medium disk.old).written
+        + making_costs (drop built (map storage_data deployment.now.storages)) (drop built contents.now) }
     ensures time { Elapses (D.medium disk.old) (D.medium disk.new) }
 {
     files_lie_apart();
@@ -121,6 +129,10 @@ pub(crate) fn create_one<D: Disk>(
 
     // Only files of the storage change.
     ensures outside { Leaves D.told (IsBeside app bank number) (D.medium disk.old) (D.medium disk.new) }
+    ensures place { Leaves D.told (IsOutside (storage_shape app bank number (storage_data config.now)).place)
+        (D.medium disk.old) (D.medium disk.new) }
+    ensures written { (D.medium disk.new).written
+        ≤ (D.medium disk.old).written + making_cost (storage_data config.now) contents.now }
     ensures time { Elapses (D.medium disk.old) (D.medium disk.new) }
 {
     files_lie_apart();

@@ -1,6 +1,7 @@
 //! Opening a root.
 
-ghost use Rattle.std.specs.Prelude.{◌≡◌, ◌<◌, ℕ, List, IfOk, IsErrOf, IsTrue, Ok, OnOk, Some};
+ghost use Rattle.std.specs.Prelude.{◌≡◌, ◌≤◌, ◌<◌, ◌+◌, ◌*◌, ℕ, List, IfOk, IsErrOf, IsTrue, Ok, OnOk, Some};
+ghost use Rattle.std.specs.Prelude.{length};
 ghost use Rattle.per_base.specs.Causes.{Rose};
 ghost use Rattle.disk_model.specs.Frame.{Spares};
 ghost use Rattle.disk_model.specs.Image.{Image};
@@ -17,8 +18,9 @@ ghost use Rattle.deploy_laws.specs.Apps.{IsCleanApp, app_at, says_at, says_by};
 ghost use Rattle.deploy_laws.specs.Places.{root_place};
 ghost use Rattle.deploy_rows.specs.Rows.{reopened};
 ghost use Rattle.deploy.specs.Clauses.{IsNoRootSlot, Leaves, StandsOnTheWay};
-ghost use Rattle.deploy.specs.Roots.{RootAt, root_says};
+ghost use Rattle.deploy.specs.Roots.{RootAt, root_says, root_texts};
 ghost use Rattle.deploy.specs.Standing.{IsSpelled};
+ghost use Rattle.deploy.specs.Written.{WritesRoot, greatest_cost, root_len};
 
 use crate::errors::Stop;
 use crate::roots::{Installed, Root};
@@ -71,6 +73,9 @@ pub fn open_root<D: Disk>(alloc: Global, disk: &mut D, app: u32) -> Result<Root,
     // come to next.
     ensures outside { Leaves D.told (IsNoRootSlot app) (D.medium disk.old) (D.medium disk.new) }
     ensures any_moment { IsTrue D.told → StandsOnTheWay app (D.medium disk.old) (D.medium disk.new) }
+    // At most the root that comes is written, once; where the call fails, no more than the longest root costs.
+    ensures written { IfOk result (λ root. WritesRoot (root_texts root) (D.medium disk.old) (D.medium disk.new)) }
+    ensures at_most { (D.medium disk.new).written ≤ (D.medium disk.old).written + greatest_cost }
     ensures time { Elapses (D.medium disk.old) (D.medium disk.new) }
 {
     roots_say();
@@ -123,8 +128,11 @@ fn bring_to<D: Disk>(
         → EachCase (PutStops (root_place app) standing.seen.generation standing.seen.text
         (D.medium disk.old).image)
         (D.medium disk.old) (D.medium disk.new) }
+    ensures written { IfOk result (λ root. WritesRoot (root_texts root) (D.medium disk.old) (D.medium disk.new)) }
+    ensures at_most { (D.medium disk.new).written ≤ (D.medium disk.old).written + greatest_cost }
     ensures time { Elapses (D.medium disk.old) (D.medium disk.new) }
 {
+    one_root();
     let Standing {
         seen,
         slots,
@@ -144,6 +152,7 @@ impl Root {
         ensures memory { (app : ℕ) → IsRootCell app cell → IsRoot (root_said says) → IsRootOf app result }
         ensures disk { (image : Image) (app : ℕ) → CellAt image cell (root_text (root_said says))
             → IsRootOn image app result }
+        ensures long { length (root_text (root_said says)) ≡ root_len (root_texts result) }
     {
         said_is_kept();
         match says {

@@ -1,7 +1,7 @@
 //! Updates: the next version is made in the other bank, storage by storage, and then the root is written once.
 
 ghost use Rattle.std.specs.Prelude.{◌≡◌, ◌≤◌, ◌<◌, ◌-◌, ℕ, List, [], ◌∷◌, Err, IfOk, IsErrOf, IsOk, IsTrue, None, Ok};
-ghost use Rattle.std.specs.Prelude.{OnOk, length, map, option_map, ◌≢◌};
+ghost use Rattle.std.specs.Prelude.{OnOk, drop, length, map, option_map, take, ◌+◌, ◌≢◌};
 ghost use Rattle.std.specs.List.{AllByRecursion};
 ghost use Rattle.per_base.specs.Causes.{Rose};
 ghost use Rattle.per_base.specs.declared.errors.PerError.{PerError};
@@ -12,16 +12,18 @@ ghost use Rattle.element_state.specs.States.{State, store_at};
 ghost use Rattle.migrate_fns.specs.Stored.{answers_of, rules_of};
 ghost use Rattle.update_plan.specs.Plans.{ArePresent, IsStoredOf};
 ghost use Rattle.deploy_laws.specs.Apps.{IsCleanApp, app_at};
-ghost use Rattle.deploy_laws.specs.Places.{IsBeside, shapes_from, storage_shape};
+ghost use Rattle.deploy_laws.specs.Places.{IsBeside, shapes_from, shapes_in, storage_shape};
 ghost use Rattle.deploy_laws.specs.Stands.{StandsThroughout};
 ghost use Rattle.deploy_rows.specs.Rows.{BeginsUpdate, BeginsWith, contents_of, offered, one_more, updated_app};
 ghost use Rattle.deploy.specs.Beginning.{AreReadContents, IsOffered, offer_of};
-ghost use Rattle.deploy.specs.Building.{IsStaged, IsUpdateBegun, StagedAt, begun_as, staged_progress};
+ghost use Rattle.deploy.specs.Building.{IsStaged, IsUpdateBegun, StagedAt, begun_as, offered_in, staged_progress};
 ghost use Rattle.deploy.specs.Building.{staged_root, staged_text};
 ghost use Rattle.deploy.specs.Clauses.{IsNoRootSlot, Leaves};
+ghost use Rattle.deploy.specs.Making.{IsBesideMade, IsInNone, making_costs};
 ghost use Rattle.deploy.specs.Refusals.{AllocatesNothing};
 ghost use Rattle.deploy.specs.Remaining.{IsBesideCommit};
 ghost use Rattle.deploy.specs.Roots.{RootAt, SaysDeployment, free_bank, root_app, root_says, root_texts};
+ghost use Rattle.deploy.specs.Written.{root_cost};
 
 use crate::errors::Stop;
 use crate::installing::{make_version, worn_out};
@@ -420,6 +422,13 @@ impl Staged {
         // Only files of that storage change, and at any moment the application stands as it was.
         ensures outside { Leaves D.told (IsBeside self.app (free_bank (staged_root self)) (staged_progress self).built)
             (D.medium disk.old) (D.medium disk.new) }
+        ensures places { Leaves D.told (IsInNone
+            (take 1 (drop (staged_progress self).built (shapes_in self.app (offered_in self)))))
+            (D.medium disk.old) (D.medium disk.new) }
+        // No more is written than that storage costs.
+        ensures written { (D.medium disk.new).written ≤ (D.medium disk.old).written + making_costs
+            (take 1 (drop (staged_progress self).built (staged_progress self).deployment.storages))
+            (drop (staged_progress self).built (staged_progress self).contents) }
         ensures any_moment { IsTrue D.told
             → StandsThroughout self.app (app_at (D.medium disk.old).image self.app) (D.medium disk.old)
             (D.medium disk.new) }
@@ -480,6 +489,14 @@ impl Staged {
             (length (staged_progress self).contents)) (D.medium disk.old) (D.medium disk.new) }
         ensures root_alone { length (staged_progress self).contents ≤ (staged_progress self).built
             → Leaves D.told (IsNoRootSlot self.app) (D.medium disk.old) (D.medium disk.new) }
+        ensures places { Leaves D.told (IsBesideMade self.app
+            (drop (staged_progress self).built (shapes_in self.app (offered_in self))))
+            (D.medium disk.old) (D.medium disk.new) }
+        // No more is written than these storages cost, and then the root.
+        ensures written { (D.medium disk.new).written ≤ (D.medium disk.old).written + (making_costs
+            (drop (staged_progress self).built (staged_progress self).deployment.storages)
+            (drop (staged_progress self).built (staged_progress self).contents)
+            + root_cost (staged_text self ∷ root_texts (staged_root self))) }
         ensures any_moment { IsTrue D.told → StandsThroughout self.app
             (updated_app (staged_progress self) (app_at (D.medium disk.old).image self.app)) (D.medium disk.old)
             (D.medium disk.new) }

@@ -6,8 +6,10 @@ ghost use Rattle.per_base.specs.declared.errors.PerError.{PerError};
 ghost use Rattle.disk_model.specs.Medium.{Elapses, Quiet};
 ghost use Rattle.migrate_fns.specs.Stored.{answers_of, rules_of};
 ghost use Rattle.deploy_laws.specs.Apps.{IsCleanApp, app_at};
+ghost use Rattle.deploy_laws.specs.Places.{shapes_from};
 ghost use Rattle.deploy_rows.specs.Rows.{BeginsUpdate, UpdateMayLead, offered};
 ghost use Rattle.deploy.specs.Clauses.{IsBesideNext, Leaves};
+ghost use Rattle.deploy.specs.Making.{IsBesideMade, WritesUpdate, storages_said};
 ghost use Rattle.deploy.specs.Refusals.{AllocatesNothing};
 ghost use Rattle.deploy.specs.Roots.{RootAt, free_bank, root_app, root_texts};
 ghost use Rattle.deploy.specs.Updates.{IsUpdated, LeadsTo};
@@ -75,9 +77,17 @@ pub fn update<D: Disk>(
     ensures passes { OnOk result ((D.medium disk.new).faults ≡ (D.medium disk.old).faults) }
     ensures fed { IsErrOf result Stop.OutOfMemory → (D.medium disk.new).faults ≡ (D.medium disk.old).faults }
 
-    // Only slots of the root and files of the other bank change, and at any moment the application stands as before or
-    // as one next application, to which the update may lead and which is there where it ends well.
+    // Only slots of the root and files of the manifest's storages in the other bank change, and at any moment the
+    // application stands as before or as one next application, to which the update may lead and which is there where
+    // it ends well.
     ensures outside { Leaves D.told (IsBesideNext app (free_bank root)) (D.medium disk.old) (D.medium disk.new) }
+    ensures places { Leaves D.told (IsBesideMade app (shapes_from app (free_bank root) 0 (storages_said manifest.now)))
+        (D.medium disk.old) (D.medium disk.new) }
+    // No more is written than these storages cost with the contents that the update begins with, and then the root.
+    ensures written { WritesUpdate D.told
+        (BeginsUpdate (rules_of migrations.now) (answers_of migrations.now) now (option_map (λ n. n.now) busy.entry)
+        manifest.now)
+        app root manifest.now (D.medium disk.old) (D.medium disk.new) }
     ensures any_moment { IsTrue D.told → LeadsTo app
         (UpdateMayLead (rules_of migrations.now) (answers_of migrations.now) now (option_map (λ n. n.now) busy.entry)
         manifest.now

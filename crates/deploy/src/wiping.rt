@@ -1,7 +1,7 @@
 //! Wiping an application.
 
 ghost use Rattle.std.specs.Prelude.{◌≡◌, ◌<◌, ◌+◌, ◌^◌, ◌⊎◌, ℕ, List, [], Err, IfErr, IfOk, IsErrOf, IsOk, IsTrue};
-ghost use Rattle.std.specs.Prelude.{None, Ok, OnOk, option_map, ◌≢◌};
+ghost use Rattle.std.specs.Prelude.{None, Ok, OnOk, option_map, ◌*◌, ◌≢◌, ◌≤◌};
 ghost use Rattle.per_base.specs.Causes.{Rose};
 ghost use Rattle.per_base.specs.declared.errors.PerError.{PerError};
 ghost use Rattle.disk_model.specs.Frame.{Spares};
@@ -17,6 +17,7 @@ ghost use Rattle.deploy_rows.specs.Rows.{AnswersRow, after, wiping};
 ghost use Rattle.deploy.specs.Clauses.{IsNoRootSlot, Leaves};
 ghost use Rattle.deploy.specs.Leaving.{IsEmptied, IsRegisterAt, IsRootRefused, empty_says, register_of};
 ghost use Rattle.deploy.specs.Roots.{RootAt, root_app, root_says};
+ghost use Rattle.deploy.specs.Written.{WritesRoot, format_cost, root_len};
 
 use crate::errors::Stop;
 use crate::formatting::format_root;
@@ -83,6 +84,9 @@ pub fn wipe<D: Disk>(
         (after (app_at (D.medium disk.old).image app) (wiping (option_map (λ n. n.now) busy.entry)
         (app_at (D.medium disk.old).image app)))
         (D.medium disk.old) (D.medium disk.new) }
+    // At most an empty root is written, once, and one that was bad is formatted.
+    ensures written { root ≢ Root.Bad → WritesRoot [] (D.medium disk.old) (D.medium disk.new) }
+    ensures at_most { (D.medium disk.new).written ≤ (D.medium disk.old).written + format_cost }
     ensures time { Elapses (D.medium disk.old) (D.medium disk.new) }
 {
     roots_say();
@@ -161,6 +165,8 @@ fn empty<D: Disk>(
     ensures any_moment { IsTrue D.told
         → StandsThroughout app (app_saying (D.medium disk.old).image app (empty_says register)) (D.medium disk.old)
         (D.medium disk.new) }
+    ensures written { register ≢ None → WritesRoot [] (D.medium disk.old) (D.medium disk.new) }
+    ensures at_most { (D.medium disk.new).written ≤ (D.medium disk.old).written + format_cost }
     ensures time { Elapses (D.medium disk.old) (D.medium disk.new) }
 {
     roots_say();
@@ -200,6 +206,8 @@ fn write_none<D: Disk>(alloc: Global, disk: &mut D, cell: Cell) -> Result<Cell, 
         → EachCase (PutStops (place_of cell) (generation_of cell + 1) (root_text absent)
         (D.medium disk.old).image)
         (D.medium disk.old) (D.medium disk.new) }
+    ensures written { (D.medium disk.new).written
+        ≤ (D.medium disk.old).written + (place_of cell).copies * (root_len [] + 88) }
     ensures time { Elapses (D.medium disk.old) (D.medium disk.new) }
 {
     one_root();

@@ -1,6 +1,7 @@
 //! The text of a root, as versions are read and written.
 
-ghost use Rattle.std.specs.Prelude.{◌≡◌, ◌≤◌, ◌<◌, ◌+◌, ◌^◌, ℕ, List, IfOk, IsErrOf, IsTrue, OnOk, option_map};
+ghost use Rattle.std.specs.Prelude.{◌≡◌, ◌≤◌, ◌<◌, ◌+◌, ◌*◌, ◌^◌, ℕ, List, ◌∷◌, IfOk, IsErrOf, IsTrue, OnOk};
+ghost use Rattle.std.specs.Prelude.{option_map};
 ghost use Rattle.std.specs.Option.{ForSome};
 ghost use Rattle.per_base.specs.Causes.{Rose};
 ghost use Rattle.disk_model.specs.Frame.{Spares};
@@ -13,8 +14,9 @@ ghost use Rattle.deployment_model.specs.Data.{deployment_data};
 ghost use Rattle.root_text.specs.RootText.{IsVersion, installed, root_text};
 ghost use Rattle.root_text.specs.Views.{version_said};
 ghost use Rattle.deploy_rows.specs.Rows.{deployment_of};
-ghost use Rattle.deploy.specs.Roots.{SaysDeployment};
+ghost use Rattle.deploy.specs.Roots.{SaysDeployment, previous_texts};
 ghost use Rattle.deploy.specs.Versions.{TellsRow};
+ghost use Rattle.deploy.specs.Written.{root_len};
 
 use crate::errors::Stop;
 use disk_model::Disk;
@@ -78,6 +80,9 @@ pub(crate) fn write_version<D: Disk>(
         (root_text (installed bank (version_said active.now) (option_map (λ v. version_said v.now) previous.entry)))
         (D.medium disk.old).image)
         (D.medium disk.old) (D.medium disk.new) }
+    // Into each copy the text is written once, with its head, and a blank.
+    ensures written { (D.medium disk.new).written ≤ (D.medium disk.old).written + (place_of cell).copies
+        * (root_len (active.now.text ∷ previous_texts (option_map (λ v. v.now) previous.entry)) + 88) }
     ensures time { Elapses (D.medium disk.old) (D.medium disk.new) }
 {
     one_root();

@@ -13,6 +13,7 @@ use Rattle.disk_model.specs.Place.{IsNoSlot}
 use Rattle.disk_model.specs.lemmas.Frames.{settled_on}
 use Rattle.deploy.specs.declared.errors.Stop.{Stop}
 use Rattle.deploy.specs.declared.errors.Stop.TheVariants.{Device, OutOfMemory}
+use Rattle.deploy.specs.Written.{greatest_cost}
 use Rattle.deploy_laws.specs.Apps.{App, app_at, IsCleanApp}
 use Rattle.deploy_laws.specs.Places.{IsFileOf, root_place}
 use Rattle.deploy_laws.specs.Stands.{IsLater, StandsCase, same_root}
@@ -110,6 +111,7 @@ none_opened laws told old now quiet nothing time passes = record {
   opened = λ tells. open_none laws old now time nothing quiet;
   quiet = quiet;
   passes = passes;
+  written = let same = nothing.written in omega (arith, same);
   time = time;
 }
 
@@ -128,8 +130,8 @@ pub one_opened : AppLaws → StaysInUse → (told : Bool) (a : ℕ) (apps : List
     → a < 8 → AreOpened told a apps old now
     → b.app ≡ a → IsRunning told new.image b → running_in b ≡ idle → (IsTrue told → OpensRoot a now new)
     → (IsTrue told → IsOnTheWay a now new) → Quiet new → Elapses now new
-    → new.faults ≡ now.faults → AreOpened told (a + 1) (apps ++ b ∷ []) old new
-one_opened laws stays told a apps b old now new lt are number used rests opens way quiet time passes = record {
+    → new.faults ≡ now.faults → new.written ≤ now.written + greatest_cost → AreOpened told (a + 1) (apps ++ b ∷ []) old new
+one_opened laws stays told a apps b old now new lt are number used rests opens way quiet time passes cost = record {
   many = length_more apps b ∙ ap (λ (n : ℕ). n + 1) are.many;
   each = λ k x there. ⊎_elim
       (λ was. before k x was)
@@ -139,6 +141,7 @@ one_opened laws stays told a apps b old now new lt are number used rests opens w
   opened = λ tells. open_next laws a old now new lt (are.opened tells) (opens tells);
   quiet = quiet;
   passes = passes ∙ are.passes;
+  written = let before = are.written in omega (arith, before, cost);
   time = elapses_on are.time time;
 }
   where
@@ -221,5 +224,15 @@ all_begun laws told count apps old now all are = let eight : AreOpened told 8 ap
     subst (λ (n : ℕ). AreOpened told n apps.items old now) all are in record {
       end = eight;
       keeps = λ tells. opened_keeps laws 8 old now (eight.opened tells);
+      written = eight.written;
       time = eight.time;
     }
+
+-- ---- what is written
+
+pub unsynced_written : (old new : Medium) → OnlyReads old new → new.written ≤ old.written + 8 * greatest_cost
+unsynced_written old new reads = let same = reads.written in omega (arith, same)
+
+pub some_written : (was mid now app : ℕ) → app < 8 → mid ≤ was + app * greatest_cost → now ≤ mid + greatest_cost
+    → now ≤ was + 8 * greatest_cost
+some_written was mid now app lt before cost = omega (arith, lt, before, cost)

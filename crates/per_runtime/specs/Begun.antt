@@ -1,11 +1,12 @@
 -- The start on its way: the roots below some number are opened.
-use Rattle.std.specs.Prelude.{◌≡◌, ℕ, List, length, replicate, Bool, false, IsTrue, Some, Result, Ok, Err, Vec}
-use Rattle.std.specs.Prelude.{slice_get, ⊤}
+use Rattle.std.specs.Prelude.{◌≡◌, ◌≤◌, ◌+◌, ◌*◌, ℕ, List, length, replicate, Bool, false, IsTrue, Some, Result, Ok}
+use Rattle.std.specs.Prelude.{Err, Vec, slice_get, ⊤}
 use Rattle.std.specs.declared.alloc.Global.{Global}
 use Rattle.per_base.specs.Causes.{Rose}
 use Rattle.disk_model.specs.Medium.{Medium, Quiet, Elapses}
 use Rattle.deploy.specs.declared.errors.Stop.{Stop}
 use Rattle.deploy.specs.declared.errors.Stop.TheVariants.{Device, OutOfMemory}
+use Rattle.deploy.specs.Written.{greatest_cost}
 use Rattle.run_model.specs.Runtimes.{StartKeeps}
 use Rattle.run_model.specs.Runtimes as memory
 use Rattle.run_model.specs.Starting.{OpenedUpTo}
@@ -21,7 +22,8 @@ idle = record { stage = at_rest; sessions = none_open }
 abbrev pub fresh : memory.Memory
 fresh = record { now = 0; apps = replicate 8 idle; in_doubt = false }
 
--- the first `count` applications are in memory, each in use and with no storage open, and no call of the disk failed
+-- the first `count` applications are in memory, each in use and with no storage open, no more is written than their
+-- roots cost, and no call of the disk failed
 pub record AreOpened (told : Bool) (count : ℕ) (apps : List Running) (old now : Medium) : Type 0 where
   pub many : length apps ≡ count
   pub each : (app : ℕ) (a : Running) → slice_get apps app ≡ Some a
@@ -29,6 +31,7 @@ pub record AreOpened (told : Bool) (count : ℕ) (apps : List Running) (old now 
   pub opened : IsTrue told → OpenedUpTo count old now
   pub quiet : Quiet now
   pub passes : now.faults ≡ old.faults
+  pub written : now.written ≤ old.written + count * greatest_cost
   pub time : Elapses old now
 
 -- by how the start ends
@@ -41,4 +44,5 @@ HasBegun told old new (Err OutOfMemory) = ⊤
 pub record IsBegun (told : Bool) (old new : Medium) (result : Result (Vec Running Global) Stop) : Type 0 where
   pub end : HasBegun told old new result
   pub keeps : IsTrue told → StartKeeps old new
+  pub written : new.written ≤ old.written + 8 * greatest_cost
   pub time : Elapses old new

@@ -1,8 +1,9 @@
 //! The start: eight roots are opened, one after another.
 
-ghost use Rattle.std.specs.Prelude.{◌≡◌, IfOk, IsErrOf, IsTrue, OnOk};
+ghost use Rattle.std.specs.Prelude.{◌≡◌, ◌≤◌, ◌+◌, ◌*◌, IfOk, IsErrOf, IsTrue, OnOk};
 ghost use Rattle.per_base.specs.Causes.{Rose};
 ghost use Rattle.disk_model.specs.Medium.{Elapses};
+ghost use Rattle.deploy.specs.Written.{greatest_cost};
 ghost use Rattle.run_model.specs.Runtimes.{StartKeeps, Starts};
 ghost use Rattle.per_runtime.specs.Begun.{IsBegun, fresh};
 ghost use Rattle.per_runtime.specs.Memories.{IsRuntime, memory_of};
@@ -31,6 +32,8 @@ pub fn start<D: Disk>(alloc: Global, disk: &mut D) -> Result<Runtime, Stop>
 
     // However it ends, at each moment each application stands between what it was and itself with its root mended.
     ensures stopped { IsTrue D.told → StartKeeps (D.medium disk.old) (D.medium disk.new) }
+    // No more is written than the eight longest roots cost.
+    ensures written { (D.medium disk.new).written ≤ (D.medium disk.old).written + 8 * greatest_cost }
     // The count of faults rose where the device failed, and stayed where the call succeeded.
     ensures cause { IsErrOf result Stop.Device → Rose (D.medium disk.old).faults (D.medium disk.new).faults }
     ensures passes { OnOk result ((D.medium disk.new).faults ≡ (D.medium disk.old).faults) }

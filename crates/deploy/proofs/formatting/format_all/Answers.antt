@@ -1,6 +1,7 @@
 use Rattle.std.proofs.Common.{◌<◌, refl, ◌∙◌, ⊎_elim, inl, inr, arith}
 use Rattle.disk_model.specs.Laws.{elapses_none, elapses_on}
 use Rattle.deploy.proofs.Formatted.{empty_clean, empty_is, empty_settled, formatted, none_left, one_left, one_more}
+use Rattle.deploy.proofs.RootLens.{all_cost, none_written, one_more_cost, some_cost}
 use Rattle.deploy.proofs.formatting.format_all.Goals as goal
 
 pub loop-app-init : goal.loop-app-init
@@ -8,6 +9,7 @@ loop-app-init g c = record {
   empty = λ tells app lt. absurd (omega (arith, lt));
   quiet = λ some. ⊎_elim (λ le. absurd (omega (arith, le))) (λ quiet. quiet) some;
   passes = refl;
+  written = none_written _ _;
   outside = none_left g.D.Disk.told (g.D.Disk.medium c.args.disk.now) (g.met.D.Disk.lawful c.args.disk.now);
   time = elapses_none (g.met.D.Disk.lawful c.args.disk.now);
 }
@@ -27,6 +29,7 @@ loop-app-preserved g c =
           (formatted new.image app c.in_ok-_cell._cell c.in_ok-_cell.ensures.cell (c.in_ok-_cell.ensures.held tells));
       quiet = λ some. c.in_ok-_cell.ensures.quiet;
       passes = c.in_ok-_cell.ensures.passes ∙ it.passes;
+      written = one_more_cost old.written mid.written new.written app it.written c.format_root.ensures.written;
       outside = one_left g.D.Disk.told app lt old mid new it.time c.format_root.ensures.time it.outside
           (λ quiet. it.quiet (inr quiet))
           c.format_root.ensures.elsewhere c.format_root.ensures.any_moment;
@@ -60,3 +63,10 @@ returns-clause-clean g c = λ tells app lt.
 
 pub returns-clause-quiet : goal.returns-clause-quiet
 returns-clause-quiet g c = c.loop-app.invariant.quiet (inl (omega arith))
+
+pub returns-in_err-_cell-clause-written : goal.returns-in_err-_cell-clause-written
+returns-in_err-_cell-clause-written g c = let lt : c.loop-app.app < 8 = omega arith in
+    some_cost _ _ _ c.loop-app.app lt c.loop-app.invariant.written c.format_root.ensures.written
+
+pub returns-clause-written : goal.returns-clause-written
+returns-clause-written g c = all_cost _ _ c.loop-app.app (omega arith) c.loop-app.invariant.written

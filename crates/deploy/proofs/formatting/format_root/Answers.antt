@@ -3,6 +3,7 @@ use Rattle.guarded_cell.specs.Cells.{CellAt}
 use Rattle.root_text.specs.RootText.{absent, root_text}
 use Rattle.deploy_laws.specs.Places.{root_place}
 use Rattle.deploy.proofs.AtRest.{unformatted}
+use Rattle.deploy.proofs.RootLens.{formatted_cost, none_written, placed_cost, root_len_is}
 use Rattle.deploy.proofs.Settled.{cell_at, formats_at, spares_at}
 use Rattle.deploy.proofs.formatting.format_root.Goals as goal
 
@@ -49,3 +50,16 @@ returns-clause-any_moment g c = λ tells quiet. formats_at c.root_place.result c
     c.deref.result.now (root_text absent) (g.D.Disk.medium c.args.disk.now) (g.D.Disk.medium c.format_cell.new.disk)
     (c.deref.ensures.value ∙ c.in_ok-text.ensures.text)
     (c.format_cell.ensures.formats.any_moment tells quiet)
+
+pub returns-in_err-text-clause-written : goal.returns-in_err-text-clause-written
+returns-in_err-text-clause-written g c = none_written _ _
+
+pub returns-in_err-cell-clause-written : goal.returns-in_err-cell-clause-written
+returns-in_err-cell-clause-written g c = formatted_cost _ _ (length c.deref.result.now)
+    (placed_cost _ c.args.app _ _ _ c.root_place.ensures c.format_cell.ensures.formats.written)
+    (ap length (c.deref.ensures.value ∙ c.in_ok-text.ensures.text) ∙ root_len_is absent)
+
+pub returns-clause-written : goal.returns-clause-written
+returns-clause-written g c = formatted_cost _ _ (length c.deref.result.now)
+    (placed_cost _ c.args.app _ _ _ c.root_place.ensures c.format_cell.ensures.formats.written)
+    (ap length (c.deref.ensures.value ∙ c.in_ok-text.ensures.text) ∙ root_len_is absent)

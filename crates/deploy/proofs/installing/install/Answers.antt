@@ -8,6 +8,8 @@ use Rattle.deploy.specs.declared.roots.Root.TheVariants as root
 use Rattle.deploy.specs.Roots.{root_app, root_says}
 use Rattle.deploy.proofs.Due.{install_takes}
 use Rattle.deploy.proofs.InstallRow.{over_bad, over_installed}
+use Rattle.deploy.proofs.Leaves.{leaves_none}
+use Rattle.deploy.proofs.RootLens.{none_written}
 use Rattle.deploy.proofs.Unmoved.{answered, app_after, later_after, row_given, says_still, stands_still}
 use Rattle.deploy.proofs.installing.install.Goals as goal
 
@@ -67,3 +69,23 @@ pub returns-in-Absent-clause-due : goal.returns-in-Absent-clause-due
 returns-in-Absent-clause-due g c = λ e refusal none. absurd
     (install_takes c.args.now (generation_of c.in-Absent.cell) c.args.manifest.now (root_app c.args.root [])
     (ap root_says c.in-Absent.is) e refusal none)
+
+pub returns-in-Bad-clause-places : goal.returns-in-Bad-clause-places
+returns-in-Bad-clause-places g c = leaves_none g.D.Disk.told _ (g.D.Disk.medium c.args.disk.now)
+    (g.met.D.Disk.lawful c.args.disk.now)
+
+pub returns-in-Bad-clause-written : goal.returns-in-Bad-clause-written
+returns-in-Bad-clause-written g c = none_written _ _
+
+pub returns-in-Installed-clause-places : goal.returns-in-Installed-clause-places
+returns-in-Installed-clause-places g c = leaves_none g.D.Disk.told _ (g.D.Disk.medium c.args.disk.now)
+    (g.met.D.Disk.lawful c.args.disk.now)
+
+pub returns-in-Installed-clause-written : goal.returns-in-Installed-clause-written
+returns-in-Installed-clause-written g c = none_written _ _
+
+pub returns-in-Absent-clause-places : goal.returns-in-Absent-clause-places
+returns-in-Absent-clause-places g c = c.install_first.ensures.places
+
+pub returns-in-Absent-clause-written : goal.returns-in-Absent-clause-written
+returns-in-Absent-clause-written g c = c.install_first.ensures.written

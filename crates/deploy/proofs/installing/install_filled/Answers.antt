@@ -66,3 +66,15 @@ returns-clause-root g c = root_written g.D.Disk.told (g.D.Disk.medium c.make_ver
           None;
     })
     c.in_ok-cell.ensures.next (omega arith) c.requires.version tt c.in_ok-cell.ensures.held
+
+pub returns-in_err-cell-clause-places : goal.returns-in_err-cell-clause-places
+returns-in_err-cell-clause-places g c = c.in_err-cell.ensures.places
+
+pub returns-in_err-cell-clause-written : goal.returns-in_err-cell-clause-written
+returns-in_err-cell-clause-written g c = c.in_err-cell.ensures.written
+
+pub returns-clause-places : goal.returns-clause-places
+returns-clause-places g c = c.in_ok-cell.ensures.places
+
+pub returns-clause-written : goal.returns-clause-written
+returns-clause-written g c = c.in_ok-cell.ensures.written

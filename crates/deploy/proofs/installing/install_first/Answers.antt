@@ -1,5 +1,5 @@
 use Rattle.std.proofs.Common.{◌≡◌, [], None, refl, ap, sym, ◌∙◌, subst, arith}
-use Rattle.std.specs.Prelude.{OnOk, Result, Err}
+use Rattle.std.specs.Prelude.{IfOk, OnOk, Result, Err}
 use Rattle.per_base.specs.declared.errors.PerError.{PerError}
 use Rattle.guarded_cell.specs.Cells.{generation_of}
 use Rattle.deployment_model.specs.Data.{deployment_data}
@@ -13,6 +13,9 @@ use Rattle.deploy.specs.Roots.{root_app, root_says}
 use Rattle.deploy.specs.Versions.{TellsRow}
 use Rattle.deploy.proofs.FirstVersion.{if_ok, says_absent}
 use Rattle.deploy.proofs.InstallRow.{installs, rejected, worn_out}
+use Rattle.deploy.proofs.Leaves.{leaves_none}
+use Rattle.deploy.proofs.MadePlaces.{said_places, said_written}
+use Rattle.deploy.proofs.RootLens.{none_written}
 use Rattle.deploy.proofs.Unmoved.{answered, app_after, later_after, led_after, led_answers, led_is_ok}
 use Rattle.deploy.proofs.Unmoved.{led_never_refused, says_still, stands_still}
 use Rattle.deploy.proofs.installing.install_first.Goals as goal
@@ -160,3 +163,37 @@ returns-clause-any_moment g c = λ tells. subst (λ (b : App).
     (deployment_data c.in-Ok.version.deployment) (subst
     (λ (r : Result VersionText PerError). TellsRow (deployment_of c.args.manifest.now) r) c.in-Ok.is
     c.in_ok-version.ensures.told) (omega arith))) (c.install_version.ensures.any_moment tells)
+
+pub returns-in_err-version-clause-places : goal.returns-in_err-version-clause-places
+returns-in_err-version-clause-places g c = leaves_none g.D.Disk.told _ (g.D.Disk.medium c.args.disk.now)
+    (g.met.D.Disk.lawful c.args.disk.now)
+
+pub returns-in_err-version-clause-written : goal.returns-in_err-version-clause-written
+returns-in_err-version-clause-written g c = none_written _ _
+
+pub returns-in-Err-clause-places : goal.returns-in-Err-clause-places
+returns-in-Err-clause-places g c = leaves_none g.D.Disk.told _ (g.D.Disk.medium c.args.disk.now)
+    (g.met.D.Disk.lawful c.args.disk.now)
+
+pub returns-in-Err-clause-written : goal.returns-in-Err-clause-written
+returns-in-Err-clause-written g c = none_written _ _
+
+pub returns-then-generation-clause-places : goal.returns-then-generation-clause-places
+returns-then-generation-clause-places g c = leaves_none g.D.Disk.told _ (g.D.Disk.medium c.args.disk.now)
+    (g.met.D.Disk.lawful c.args.disk.now)
+
+pub returns-then-generation-clause-written : goal.returns-then-generation-clause-written
+returns-then-generation-clause-written g c = none_written _ _
+
+pub returns-clause-places : goal.returns-clause-places
+returns-clause-places g c = said_places c.args.manifest.now c.in-Ok.version
+    (subst (λ (r : Result VersionText PerError). TellsRow (deployment_of c.args.manifest.now) r) c.in-Ok.is
+    c.in_ok-version.ensures.told) g.D.Disk.told c.args.app 0 (g.D.Disk.medium c.args.disk.now)
+    (g.D.Disk.medium c.install_version.new.disk) c.install_version.ensures.places
+
+pub returns-clause-written : goal.returns-clause-written
+returns-clause-written g c = said_written c.args.manifest.now c.in-Ok.version
+    (subst (λ (r : Result VersionText PerError). TellsRow (deployment_of c.args.manifest.now) r) c.in-Ok.is
+    c.in_ok-version.ensures.told) c.args.now _ _
+    (subst (λ (r : Result VersionText PerError). IfOk r (λ v. v.text ≡ c.args.manifest.now)) c.in-Ok.is
+    c.in_ok-version.ensures.text) c.install_version.ensures.written

@@ -1,13 +1,18 @@
-use Rattle.std.proofs.Common.{ap, ◌∙◌, subst}
+use Rattle.std.proofs.Common.{◌+◌, ◌≤◌, List, [], ◌∷◌, ap, ◌∙◌, subst}
+use Rattle.std.specs.Prelude.{map}
+use Rattle.per_base.specs.declared.elements.Fresh.{Fresh}
 use Rattle.disk_model.specs.Laws.{elapses_none}
 use Rattle.guarded_cell.specs.Cells.{generation_of}
-use Rattle.deployment_model.specs.Data.{deployment_data}
+use Rattle.deployment_model.specs.Data.{deployment_data, storage_data}
 use Rattle.deploy_laws.specs.Apps.{App}
 use Rattle.deploy_laws.specs.Stands.{StandsThroughout}
 use Rattle.deploy.specs.Clauses.{IsBesideNext}
+use Rattle.deploy.specs.Making.{making_costs}
+use Rattle.deploy.specs.Written.{root_cost}
 use Rattle.deploy.proofs.FirstVersion.{comes_later}
 use Rattle.deploy.proofs.InstallRow.{filled_installs}
 use Rattle.deploy.proofs.Leaves.{leaves_none}
+use Rattle.deploy.proofs.RootLens.{none_written}
 use Rattle.deploy.proofs.Unmoved.{stands_still}
 use Rattle.deploy.proofs.installing.install_version.Goals as goal
 
@@ -51,3 +56,22 @@ pub returns-clause-says : goal.returns-clause-says
 returns-clause-says g c = c.in_ok-root.ensures.says ∙ ap (λ (a : App). a.says)
     (filled_installs (generation_of c.args.cell) c.args.now (deployment_data c.args.version.deployment)
     c.deref.result.now (c.deref.ensures.value ∙ c.in_ok-contents.ensures.contents))
+
+pub returns-in_err-contents-clause-places : goal.returns-in_err-contents-clause-places
+returns-in_err-contents-clause-places g c = leaves_none g.D.Disk.told _ (g.D.Disk.medium c.args.disk.now)
+    (g.met.D.Disk.lawful c.args.disk.now)
+
+pub returns-in_err-contents-clause-written : goal.returns-in_err-contents-clause-written
+returns-in_err-contents-clause-written g c = none_written _ _
+
+pub returns-in_err-root-clause-written : goal.returns-in_err-root-clause-written
+returns-in_err-root-clause-written g c = subst (λ (cs : List (List Fresh)).
+    (g.D.Disk.medium c.install_filled.new.disk).written ≤ (g.D.Disk.medium c.args.disk.now).written
+    + (making_costs (map storage_data c.args.version.deployment.storages) cs + root_cost (c.args.version.text ∷ [])))
+    (c.deref.ensures.value ∙ c.in_ok-contents.ensures.contents) c.in_err-root.ensures.written
+
+pub returns-clause-written : goal.returns-clause-written
+returns-clause-written g c = subst (λ (cs : List (List Fresh)).
+    (g.D.Disk.medium c.install_filled.new.disk).written ≤ (g.D.Disk.medium c.args.disk.now).written
+    + (making_costs (map storage_data c.args.version.deployment.storages) cs + root_cost (c.args.version.text ∷ [])))
+    (c.deref.ensures.value ∙ c.in_ok-contents.ensures.contents) c.in_ok-root.ensures.written

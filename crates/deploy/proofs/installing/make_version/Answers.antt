@@ -14,9 +14,11 @@ use Rattle.root_text.specs.RootText as text
 use Rattle.root_text.specs.Views.{version_said}
 use Rattle.deploy.specs.Next.{root_before}
 use Rattle.deploy.proofs.InUse.{cell_alone}
+use Rattle.deploy.proofs.MadePlaces.{both_written, made_places, rooted_places, some_more}
 use Rattle.deploy.proofs.MadeStorages.{outside_rest}
 use Rattle.deploy.proofs.NextVersion.{app_after, clean_after, if_behind, leaves_making, leaves_next, leaves_writing}
 use Rattle.deploy.proofs.NextVersion.{on_written, root_kept, stands_making, stands_written}
+use Rattle.deploy.proofs.RootLens.{placed_cost}
 use Rattle.deploy.proofs.installing.make_version.Goals as goal
 
 pub returns-in_err-create_rest-clause-outside : goal.returns-in_err-create_rest-clause-outside
@@ -152,3 +154,33 @@ write_version-requires-clause-held g c = λ tells. (
       c.requires.fit c.in_ok-create_rest.ensures.outside).at_the_end tells) c.requires.cell.place
       (c.requires.held tells),
 )
+
+pub returns-in_err-create_rest-clause-places : goal.returns-in_err-create_rest-clause-places
+returns-in_err-create_rest-clause-places g c = made_places g.D.Disk.told c.args.app _ (g.D.Disk.medium c.args.disk.now)
+    (g.D.Disk.medium c.create_rest.new.disk) c.in_err-create_rest.ensures.places
+
+pub returns-in_err-create_rest-clause-written : goal.returns-in_err-create_rest-clause-written
+returns-in_err-create_rest-clause-written g c = some_more _ _ _ _ c.in_err-create_rest.ensures.written
+
+pub returns-clause-places : goal.returns-clause-places
+returns-clause-places g c = rooted_places g.D.Disk.told c.args.app _ (g.D.Disk.medium c.args.disk.now)
+    (g.D.Disk.medium c.create_rest.new.disk) (g.D.Disk.medium c.write_version.new.disk)
+    c.in_ok-create_rest.ensures.time c.write_version.ensures.time c.in_ok-create_rest.ensures.quiet
+    c.in_ok-create_rest.ensures.places
+    (leaves_writing g.D.Disk.told c.args.app (generation_of c.args.cell + 1)
+    (root_text (text.installed c.args.bank (version_said c.args.version.now)
+    (option_map (λ (v : Bor VersionText). version_said v.now) c.args.previous)))
+    (g.D.Disk.medium c.create_rest.new.disk) (g.D.Disk.medium c.write_version.new.disk)
+    (subst (λ (p : Place). IsTrue g.D.Disk.told → Spares (IsNoSlot p)
+    (g.D.Disk.medium c.create_rest.new.disk).image (g.D.Disk.medium c.write_version.new.disk).image)
+    c.requires.cell.place c.write_version.ensures.elsewhere)
+    (subst (λ (p : Place). IsTrue g.D.Disk.told → Quiet (g.D.Disk.medium c.create_rest.new.disk)
+    → EachCase (PutStops p (generation_of c.args.cell + 1)
+    (root_text (text.installed c.args.bank (version_said c.args.version.now)
+    (option_map (λ (v : Bor VersionText). version_said v.now) c.args.previous)))
+    (g.D.Disk.medium c.create_rest.new.disk).image) (g.D.Disk.medium c.create_rest.new.disk)
+    (g.D.Disk.medium c.write_version.new.disk)) c.requires.cell.place c.write_version.ensures.any_moment))
+
+pub returns-clause-written : goal.returns-clause-written
+returns-clause-written g c = both_written _ _ _ _ _ c.in_ok-create_rest.ensures.written
+    (placed_cost _ c.args.app _ _ _ c.requires.cell.place c.write_version.ensures.written)

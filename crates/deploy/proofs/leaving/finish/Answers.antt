@@ -1,4 +1,4 @@
-use Rattle.std.proofs.Common.{◌≡◌, [], ◌∷◌, refl, take}
+use Rattle.std.proofs.Common.{◌≡◌, [], ◌∷◌, ℕ, List, refl, subst, take}
 use Rattle.disk_model.specs.Laws.{elapses_none}
 use Rattle.deploy_laws.specs.Apps.{app_at}
 use Rattle.deploy_rows.specs.Rows.{after, finishing}
@@ -6,6 +6,8 @@ use Rattle.deploy.specs.declared.roots.Outcome.{Outcome}
 use Rattle.deploy.specs.Clauses.{IsNoRootSlot}
 use Rattle.deploy.specs.Leaving.{lone_says}
 use Rattle.deploy.specs.Roots.{root_texts}
+use Rattle.deploy.specs.Written.{WritesRoot}
+use Rattle.deploy.proofs.RootLens.{none_written}
 use Rattle.deploy.proofs.RowsInUse.{led_answers, led_app, led_ok, led_says, led_stands, led_text, led_unchanged}
 use Rattle.deploy.proofs.RowsInUse.{next_clean, not_refused, refused_answers, refused_app, refused_root, refused_says}
 use Rattle.deploy.proofs.RowsInUse.{refused_text}
@@ -172,3 +174,12 @@ returns-in-Ok-clause-any_moment g c = λ tells app lt at.
 
 pub returns-in-Ok-clause-time : goal.returns-in-Ok-clause-time
 returns-in-Ok-clause-time g c = c.write.ensures.time
+
+pub returns-in-Ok-clause-written : goal.returns-in-Ok-clause-written
+returns-in-Ok-clause-written g c = subst (λ (ms : List (List ℕ)).
+    WritesRoot ms (g.D.Disk.medium c.args.disk.now) (g.D.Disk.medium c.write.new.disk)) c.in-Ok.ensures.text
+    (c.write.ensures.written c.requires.root.0
+    (c.in-Ok.ensures.lone.register.of_root c.requires.root.0 c.requires.root.2.memory))
+
+pub returns-in-Err-clause-written : goal.returns-in-Err-clause-written
+returns-in-Err-clause-written g c = none_written _ _

@@ -1,4 +1,4 @@
-use Rattle.std.proofs.Common.{◌≡◌, [], ◌∷◌, drop, option_map, refl}
+use Rattle.std.proofs.Common.{◌≡◌, [], ◌∷◌, ℕ, List, drop, option_map, refl, subst}
 use Rattle.disk_model.specs.Laws.{elapses_none}
 use Rattle.deploy_laws.specs.Apps.{app_at}
 use Rattle.deploy_rows.specs.Rows.{after, rolling_back}
@@ -7,6 +7,8 @@ use Rattle.deploy.specs.declared.leaving.Lone.{Lone}
 use Rattle.deploy.specs.Clauses.{IsNoRootSlot}
 use Rattle.deploy.specs.Leaving.{IsLone, IsRootRefused, lone_says}
 use Rattle.deploy.specs.Roots.{root_texts}
+use Rattle.deploy.specs.Written.{WritesRoot}
+use Rattle.deploy.proofs.RootLens.{none_written}
 use Rattle.deploy.proofs.RowsInUse.{err_of, led_answers, led_app, led_ok, led_says, led_stands, led_text, led_unchanged}
 use Rattle.deploy.proofs.RowsInUse.{next_clean, not_refused, ok_of, refused_answers, refused_app, refused_root}
 use Rattle.deploy.proofs.RowsInUse.{refused_says, refused_text}
@@ -241,3 +243,20 @@ returns-in-Ok-clause-any_moment g c =
 
 pub returns-in-Ok-clause-time : goal.returns-in-Ok-clause-time
 returns-in-Ok-clause-time g c = c.write.ensures.time
+
+pub returns-in-Ok-clause-written : goal.returns-in-Ok-clause-written
+returns-in-Ok-clause-written g c =
+    let texts = drop 1 (root_texts c.args.root) in
+    let previous = ok_of (λ (l : Lone). l.version.text ∷ [] ≡ texts) c.in_ok-lone.field-0 c.in-Ok.lone c.in-Ok.is
+    c.in_ok-lone.ensures.text in
+    let lone = ok_of (IsLone (rolling_back (option_map (λ n. n.now) c.args.busy)) c.args.root) c.in_ok-lone.field-0
+    c.in-Ok.lone c.in-Ok.is c.in_ok-lone.ensures.lone in
+    subst (λ (ms : List (List ℕ)). WritesRoot ms (g.D.Disk.medium c.args.disk.now) (g.D.Disk.medium c.write.new.disk))
+    previous
+    (c.write.ensures.written c.requires.root.0 (lone.register.of_root c.requires.root.0 c.requires.root.2.memory))
+
+pub returns-in-Err-clause-written : goal.returns-in-Err-clause-written
+returns-in-Err-clause-written g c = none_written _ _
+
+pub returns-in_err-lone-clause-written : goal.returns-in_err-lone-clause-written
+returns-in_err-lone-clause-written g c = none_written _ _

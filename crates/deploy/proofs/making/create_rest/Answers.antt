@@ -1,10 +1,13 @@
-use Rattle.std.proofs.Common.{◌≡◌, ◌<◌, ◌≤◌, List, length, get_or, ap, refl, sym, subst, arith}
+use Rattle.std.proofs.Common.{◌≡◌, ◌+◌, ◌<◌, ◌≤◌, List, length, get_or, ap, refl, sym, subst, arith}
 use Rattle.per_base.specs.declared.elements.Fresh.{Fresh}
 use Rattle.deployment_model.specs.Data.{storage_data}
 use Rattle.deployment_model.specs.declared.configs.StorageConfig.{StorageConfig}
 use Rattle.index_text.specs.Contents.{AreContents}
 use Rattle.element_state.specs.States.{fresh_map, fresh_state, store_at}
 use Rattle.deploy_laws.specs.Places.{storage_shape}
+use Rattle.deploy.specs.Making.{making_cost}
+use Rattle.deploy.proofs.Leaves.{leaves_none}
+use Rattle.deploy.proofs.MadePlaces.{more_places, more_written, part_written}
 use Rattle.deploy.proofs.MadeStorages.{few_contents, made_all, making_more, making_none, more_outside, more_time}
 use Rattle.deploy.proofs.MadeStorages.{storage_fits, storage_keeps}
 use Rattle.deploy.proofs.making.create_rest.Goals as goal
@@ -20,6 +23,8 @@ loop-number-init g c = record {
   making = making_none g.D.Disk.told c.args.app c.args.bank c.args.built c.args.deployment.now.storages
       c.args.contents.now
       (g.D.Disk.medium c.args.disk.now) (g.met.D.Disk.lawful c.args.disk.now) c.requires.made;
+  places = leaves_none g.D.Disk.told _ (g.D.Disk.medium c.args.disk.now) (g.met.D.Disk.lawful c.args.disk.now);
+  written = omega arith;
 }
 
 pub bounds-as_slice-number : goal.bounds-as_slice-number
@@ -105,6 +110,20 @@ loop-number-preserved g c =
           ≡ fresh_state 1 (fresh_map fs))
           c.as_slice-in-loop-number.ensures (c.in_ok-create_one.ensures.made tells))
           c.in_ok-create_one.ensures.clean c.in_ok-create_one.ensures.quiet c.in_ok-create_one.ensures.passes;
+      places = more_places g.D.Disk.told c.args.app c.args.bank c.args.built c.loop-number.number
+          c.args.deployment.now.storages c.args.contents.now
+          (g.D.Disk.medium c.args.disk.now) (g.D.Disk.medium c.loop-number.disk) new c.index-as_slice-number.result
+          c.index-contents-number.result from (omega (arith, same, within)) within here c.index-contents-number.is
+          c.loop-number.invariant.places c.loop-number.invariant.making.time c.in_ok-create_one.ensures.time
+          c.loop-number.invariant.making.quiet c.in_ok-create_one.ensures.place;
+      written = more_written g.D.Disk.told c.args.app c.args.bank c.args.built c.loop-number.number
+          c.args.deployment.now.storages c.args.contents.now
+          (g.D.Disk.medium c.args.disk.now) (g.D.Disk.medium c.loop-number.disk) new c.index-as_slice-number.result
+          c.index-contents-number.result from (omega (arith, same, within)) within here c.index-contents-number.is
+          c.loop-number.invariant.written
+          (subst (λ (fs : List Fresh). new.written ≤ (g.D.Disk.medium c.loop-number.disk).written
+          + making_cost (storage_data c.index-as_slice-number.result) fs) c.as_slice-in-loop-number.ensures
+          c.in_ok-create_one.ensures.written);
     }
 
 pub returns-clause-made : goal.returns-clause-made
@@ -116,3 +135,40 @@ returns-clause-made g c = λ tells.
     made_all (g.D.Disk.medium c.loop-number.disk).image c.args.app c.args.bank c.args.deployment.now.storages
     c.args.contents.now 0 c.loop-number.number
     same (omega (arith, within, past, below)) (c.loop-number.invariant.making.made tells)
+
+pub returns-in_err-create_one-clause-places : goal.returns-in_err-create_one-clause-places
+returns-in_err-create_one-clause-places g c =
+    let same = (few_contents c.args.deployment.now c.args.contents.now c.requires.deployment c.requires.fit).1 in
+    let within : c.loop-number.number < length c.args.contents.now = c.loop-number-test.true in
+    let from : c.args.built ≤ c.loop-number.number = c.loop-number.auto.number in
+    let here = subst (λ (ds : List StorageConfig). c.index-as_slice-number.result
+    ≡ get_or ds c.loop-number.number c.index-as_slice-number.result) c.as_slice.ensures c.index-as_slice-number.is
+    in
+    let new = g.D.Disk.medium c.create_one.new.disk in
+    more_places g.D.Disk.told c.args.app c.args.bank c.args.built c.loop-number.number
+    c.args.deployment.now.storages c.args.contents.now
+    (g.D.Disk.medium c.args.disk.now) (g.D.Disk.medium c.loop-number.disk) new c.index-as_slice-number.result
+    c.index-contents-number.result from (omega (arith, same, within)) within here c.index-contents-number.is
+    c.loop-number.invariant.places c.loop-number.invariant.making.time c.in_err-create_one.ensures.time
+    c.loop-number.invariant.making.quiet c.in_err-create_one.ensures.place
+
+pub returns-in_err-create_one-clause-written : goal.returns-in_err-create_one-clause-written
+returns-in_err-create_one-clause-written g c =
+    let same = (few_contents c.args.deployment.now c.args.contents.now c.requires.deployment c.requires.fit).1 in
+    let within : c.loop-number.number < length c.args.contents.now = c.loop-number-test.true in
+    let from : c.args.built ≤ c.loop-number.number = c.loop-number.auto.number in
+    let here = subst (λ (ds : List StorageConfig). c.index-as_slice-number.result
+    ≡ get_or ds c.loop-number.number c.index-as_slice-number.result) c.as_slice.ensures c.index-as_slice-number.is
+    in
+    let new = g.D.Disk.medium c.create_one.new.disk in
+    part_written g.D.Disk.told c.args.app c.args.bank c.args.built c.loop-number.number
+    c.args.deployment.now.storages c.args.contents.now
+    (g.D.Disk.medium c.args.disk.now) (g.D.Disk.medium c.loop-number.disk) new c.index-as_slice-number.result
+    c.index-contents-number.result from (omega (arith, same, within)) within here c.index-contents-number.is
+    c.loop-number.invariant.written
+    (subst (λ (fs : List Fresh). new.written ≤ (g.D.Disk.medium c.loop-number.disk).written
+    + making_cost (storage_data c.index-as_slice-number.result) fs) c.as_slice-in-loop-number.ensures
+    c.in_err-create_one.ensures.written)
+
+pub returns-clause-written : goal.returns-clause-written
+returns-clause-written g c = let all = c.loop-number.invariant.written in omega (arith, all)

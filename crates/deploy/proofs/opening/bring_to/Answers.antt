@@ -1,9 +1,10 @@
-use Rattle.std.proofs.Common.{refl, sym, subst}
+use Rattle.std.proofs.Common.{◌≤◌, ℕ, List, length, ap, refl, sym, ◌∙◌, subst}
 use Rattle.disk_model.specs.declared.place.Place.{Place}
 use Rattle.guarded_cell.specs.Seens.{IsSeenOn}
 use Rattle.guarded_cell.specs.Slots.{IsSlotsOf}
 use Rattle.root_text.specs.Views.{root_said}
 use Rattle.deploy.proofs.Already.{already_at}
+use Rattle.deploy.proofs.RootLens.{most_cost, placed_cost, text_cost}
 use Rattle.deploy.proofs.Settled.{cell_at, puts_at, root_alone, root_in_use, root_says_so, spares_at}
 use Rattle.deploy.proofs.opening.bring_to.Goals as goal
 
@@ -84,3 +85,22 @@ returns-clause-alone g c = λ tells.
     root_alone (g.D.Disk.medium c.adopt_seen.new.disk).image c.args.app s.seen.generation c.in_ok-cell.cell
     c.args.standing.seen.text (root_said s.says) is
     c.requires.spelled.spelled (c.in_ok-cell.ensures.held tells)
+
+pub returns-in_err-cell-clause-at_most : goal.returns-in_err-cell-clause-at_most
+returns-in_err-cell-clause-at_most g c =
+    most_cost _ _ (length c.args.standing.seen.text)
+    (placed_cost _ c.args.app _ _ _ c.root_place.ensures c.in_err-cell.ensures.brings.puts.written)
+    (subst (λ (t : List ℕ). length t ≤ 131084) (sym c.requires.spelled.spelled)
+    (c.one_root.ensures.short (root_said c.args.standing.says) c.requires.spelled.rules))
+
+pub returns-clause-at_most : goal.returns-clause-at_most
+returns-clause-at_most g c =
+    most_cost _ _ (length c.args.standing.seen.text)
+    (placed_cost _ c.args.app _ _ _ c.root_place.ensures c.in_ok-cell.ensures.brings.puts.written)
+    (subst (λ (t : List ℕ). length t ≤ 131084) (sym c.requires.spelled.spelled)
+    (c.one_root.ensures.short (root_said c.args.standing.says) c.requires.spelled.rules))
+
+pub returns-clause-written : goal.returns-clause-written
+returns-clause-written g c = text_cost _ _ 3 (length c.args.standing.seen.text) _
+    (placed_cost _ c.args.app _ _ _ c.root_place.ensures c.in_ok-cell.ensures.brings.puts.written)
+    (ap length c.requires.spelled.spelled ∙ c.of.ensures.long)

@@ -10,6 +10,7 @@ use Rattle.deploy.proofs.Found.{found_says, found_stands, is_first, is_marked, i
 use Rattle.deploy.proofs.Found.{texts_at}
 use Rattle.deploy.proofs.Opened.{bad_at, bad_reopened, brought_app, brought_clean, brought_leaves, brought_stands}
 use Rattle.deploy.proofs.Opened.{look_leaves, look_stands, not_bad, still_clean}
+use Rattle.deploy.proofs.RootLens.{same_most, then_most}
 use Rattle.deploy.proofs.opening.open_root.Goals as goal
 
 -- ---- the look failed
@@ -199,3 +200,23 @@ pub returns-clause-untouched : goal.returns-clause-untouched
 returns-clause-untouched g c = λ is_bad.
     absurd (not_bad c.in_ok-root.root c.in-Some.standing.seen.generation (root_said c.in-Some.standing.says)
     c.in_ok-root.ensures.says is_bad)
+
+-- ---- what is written
+
+pub returns-in_err-standing-clause-at_most : goal.returns-in_err-standing-clause-at_most
+returns-in_err-standing-clause-at_most g c = same_most _ _ _ c.find_standing.ensures.written
+
+pub returns-in_default-clause-written : goal.returns-in_default-clause-written
+returns-in_default-clause-written g c = same_most _ _ _ c.find_standing.ensures.written
+
+pub returns-in_default-clause-at_most : goal.returns-in_default-clause-at_most
+returns-in_default-clause-at_most g c = same_most _ _ _ c.find_standing.ensures.written
+
+pub returns-in_err-root-clause-at_most : goal.returns-in_err-root-clause-at_most
+returns-in_err-root-clause-at_most g c = then_most _ _ _ _ c.find_standing.ensures.written c.bring_to.ensures.at_most
+
+pub returns-clause-at_most : goal.returns-clause-at_most
+returns-clause-at_most g c = then_most _ _ _ _ c.find_standing.ensures.written c.bring_to.ensures.at_most
+
+pub returns-clause-written : goal.returns-clause-written
+returns-clause-written g c = then_most _ _ _ _ c.find_standing.ensures.written c.in_ok-root.ensures.written

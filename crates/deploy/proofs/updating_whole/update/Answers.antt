@@ -1,5 +1,5 @@
 use denote.Ref.{Bor}
-use Rattle.std.proofs.Common.{ℕ, List, ◌∷◌, refl, ap, sym, subst, ◌∙◌}
+use Rattle.std.proofs.Common.{ℕ, List, ◌∷◌, inl, inr, refl, ap, sym, subst, ◌∙◌}
 use Rattle.std.specs.Prelude.{Ok, option_map}
 use Rattle.per_base.specs.Causes.{Rose}
 use Rattle.per_base.specs.declared.names.Name.{Name}
@@ -9,9 +9,11 @@ use Rattle.deploy_laws.specs.Apps.{IsCleanApp}
 use Rattle.disk_model.specs.Image.{Image}
 use Rattle.deploy.specs.declared.roots.Root.{Root}
 use Rattle.deploy.specs.Roots.{RootAt, root_texts}
-use Rattle.deploy.specs.Building.{staged_root}
-use Rattle.deploy.proofs.OneUpdate.{clause_from, clause_of, is_refused, leads_led, leads_nowhere, leaves_led}
-use Rattle.deploy.proofs.OneUpdate.{leaves_read, never, never_ok, none_ok, not_ok, over_root, root_refused, same_error}
+use Rattle.deploy.specs.Building.{staged_progress, staged_root}
+use Rattle.deploy.proofs.MadePlaces.{led_places, led_written}
+use Rattle.deploy.proofs.OneUpdate.{begins_ready, clause_from, clause_of, is_refused, leads_led, leads_nowhere}
+use Rattle.deploy.proofs.OneUpdate.{leaves_led, leaves_read, never, never_ok, none_ok, not_ok, of_app, over_root}
+use Rattle.deploy.proofs.OneUpdate.{root_refused, same_error}
 use Rattle.deploy.proofs.OneUpdate.{same_refused, staged_at, updated_not, updated_so, was_offered}
 use Rattle.deploy.proofs.updating_whole.update.Goals as goal
 
@@ -355,3 +357,115 @@ returns-in_ok-next-in-Ready-clause-fed g c = λ err. absurd cc
 
 pub returns-in_ok-next-in-Ready-clause-time : goal.returns-in_ok-next-in-Ready-clause-time
 returns-in_ok-next-in-Ready-clause-time g c = elapses_on c.in_ok-begun.ensures.time c.in_ok-next-in-Ready.ensures.time
+
+pub returns-in_err-begun-clause-places : goal.returns-in_err-begun-clause-places
+returns-in_err-begun-clause-places g c = leaves_read g.D.Disk.told _ (g.D.Disk.medium c.args.disk.now)
+    (g.D.Disk.medium c.begin_update.new.disk) c.in_err-begun.ensures.idle c.in_err-begun.ensures.image
+
+pub returns-in_err-begun-clause-written : goal.returns-in_err-begun-clause-written
+returns-in_err-begun-clause-written g c = inl c.in_err-begun.ensures.written
+
+pub returns-in-Refused-clause-places : goal.returns-in-Refused-clause-places
+returns-in-Refused-clause-places g c = leaves_read g.D.Disk.told _ (g.D.Disk.medium c.args.disk.now)
+    (g.D.Disk.medium c.begin_update.new.disk) c.in_ok-begun.ensures.idle c.in_ok-begun.ensures.image
+
+pub returns-in-Refused-clause-written : goal.returns-in-Refused-clause-written
+returns-in-Refused-clause-written g c = inl c.in_ok-begun.ensures.written
+
+pub returns-in_err-next-in-Ready-clause-places : goal.returns-in_err-next-in-Ready-clause-places
+returns-in_err-next-in-Ready-clause-places g c =
+    let same_app = of_app (rules_of c.args.migrations.now) (answers_of c.args.migrations.now) c.args.now
+    (option_map (λ (n : Bor Name). n.now) c.args.busy) c.args.manifest.now c.args.app
+    g.D.Disk.told (g.D.Disk.medium c.args.disk.now) (g.D.Disk.medium c.begin_update.new.disk) c.args.root
+    c.in_ok-begun.begun c.in_ok-begun.ensures.begins c.in_ok-begun.ensures.staged c.in_ok-begun.ensures.image
+    c.in-Ready.staged c.in-Ready.is in
+    let over = over_root (rules_of c.args.migrations.now) (answers_of c.args.migrations.now) c.args.now
+    (option_map (λ (n : Bor Name). n.now) c.args.busy) c.args.manifest.now c.args.app
+    g.D.Disk.told (g.D.Disk.medium c.args.disk.now) (g.D.Disk.medium c.begin_update.new.disk) c.args.root
+    c.in_ok-begun.begun c.in_ok-begun.ensures.begins c.in_ok-begun.ensures.staged c.in_ok-begun.ensures.image
+    c.in-Ready.staged c.in-Ready.is in
+    let at = staged_at (rules_of c.args.migrations.now) (answers_of c.args.migrations.now) c.args.now
+    (option_map (λ (n : Bor Name). n.now) c.args.busy) c.args.manifest.now c.args.app
+    g.D.Disk.told (g.D.Disk.medium c.args.disk.now) (g.D.Disk.medium c.begin_update.new.disk) c.args.root
+    c.in_ok-begun.begun c.in_ok-begun.ensures.begins c.in_ok-begun.ensures.staged c.in_ok-begun.ensures.image
+    c.in-Ready.staged c.in-Ready.is in
+    led_places g.D.Disk.told c.args.app c.args.root c.args.manifest.now c.in-Ready.staged
+    (g.D.Disk.medium c.args.disk.now) (g.D.Disk.medium c.begin_update.new.disk)
+    (g.D.Disk.medium c.commit_update.new.disk) same_app over
+    (c.in_ok-begun.ensures.text c.in-Ready.staged (ap Ok c.in-Ready.is)) at.memory.offers
+    c.in_ok-begun.ensures.time c.in_err-next-in-Ready.ensures.time c.in_ok-begun.ensures.idle
+    c.in_ok-begun.ensures.image c.in_err-next-in-Ready.ensures.places
+
+pub returns-in_err-next-in-Ready-clause-written : goal.returns-in_err-next-in-Ready-clause-written
+returns-in_err-next-in-Ready-clause-written g c =
+    let over = over_root (rules_of c.args.migrations.now) (answers_of c.args.migrations.now) c.args.now
+    (option_map (λ (n : Bor Name). n.now) c.args.busy) c.args.manifest.now c.args.app
+    g.D.Disk.told (g.D.Disk.medium c.args.disk.now) (g.D.Disk.medium c.begin_update.new.disk) c.args.root
+    c.in_ok-begun.begun c.in_ok-begun.ensures.begins c.in_ok-begun.ensures.staged c.in_ok-begun.ensures.image
+    c.in-Ready.staged c.in-Ready.is in
+    let ready = begins_ready (rules_of c.args.migrations.now) (answers_of c.args.migrations.now) c.args.now
+    (option_map (λ (n : Bor Name). n.now) c.args.busy) c.args.manifest.now c.args.app
+    g.D.Disk.told (g.D.Disk.medium c.args.disk.now) (g.D.Disk.medium c.begin_update.new.disk) c.args.root
+    c.in_ok-begun.begun c.in_ok-begun.ensures.begins c.in_ok-begun.ensures.staged c.in_ok-begun.ensures.image
+    c.in-Ready.staged c.in-Ready.is in
+    let text = c.in_ok-begun.ensures.text c.in-Ready.staged (ap Ok c.in-Ready.is) in
+    inr (
+      c.in_ok-begun.ensures.begins.0,
+      staged_progress c.in-Ready.staged,
+      c.in_ok-begun.ensures.begins.1,
+      ready,
+      led_written (staged_progress c.in-Ready.staged).deployment.storages (staged_progress c.in-Ready.staged).contents
+          c.in-Ready.staged.built _ (c.args.manifest.now ∷ root_texts c.args.root) _ _ _
+          (ap (λ (t : List ℕ). t ∷ root_texts (staged_root c.in-Ready.staged)) text
+          ∙ ap (λ (r : Root). c.args.manifest.now ∷ root_texts r) over)
+          c.in_ok-begun.ensures.written c.in_err-next-in-Ready.ensures.written,
+    )
+
+pub returns-in_ok-next-in-Ready-clause-places : goal.returns-in_ok-next-in-Ready-clause-places
+returns-in_ok-next-in-Ready-clause-places g c =
+    let same_app = of_app (rules_of c.args.migrations.now) (answers_of c.args.migrations.now) c.args.now
+    (option_map (λ (n : Bor Name). n.now) c.args.busy) c.args.manifest.now c.args.app
+    g.D.Disk.told (g.D.Disk.medium c.args.disk.now) (g.D.Disk.medium c.begin_update.new.disk) c.args.root
+    c.in_ok-begun.begun c.in_ok-begun.ensures.begins c.in_ok-begun.ensures.staged c.in_ok-begun.ensures.image
+    c.in-Ready.staged c.in-Ready.is in
+    let over = over_root (rules_of c.args.migrations.now) (answers_of c.args.migrations.now) c.args.now
+    (option_map (λ (n : Bor Name). n.now) c.args.busy) c.args.manifest.now c.args.app
+    g.D.Disk.told (g.D.Disk.medium c.args.disk.now) (g.D.Disk.medium c.begin_update.new.disk) c.args.root
+    c.in_ok-begun.begun c.in_ok-begun.ensures.begins c.in_ok-begun.ensures.staged c.in_ok-begun.ensures.image
+    c.in-Ready.staged c.in-Ready.is in
+    let at = staged_at (rules_of c.args.migrations.now) (answers_of c.args.migrations.now) c.args.now
+    (option_map (λ (n : Bor Name). n.now) c.args.busy) c.args.manifest.now c.args.app
+    g.D.Disk.told (g.D.Disk.medium c.args.disk.now) (g.D.Disk.medium c.begin_update.new.disk) c.args.root
+    c.in_ok-begun.begun c.in_ok-begun.ensures.begins c.in_ok-begun.ensures.staged c.in_ok-begun.ensures.image
+    c.in-Ready.staged c.in-Ready.is in
+    led_places g.D.Disk.told c.args.app c.args.root c.args.manifest.now c.in-Ready.staged
+    (g.D.Disk.medium c.args.disk.now) (g.D.Disk.medium c.begin_update.new.disk)
+    (g.D.Disk.medium c.commit_update.new.disk) same_app over
+    (c.in_ok-begun.ensures.text c.in-Ready.staged (ap Ok c.in-Ready.is)) at.memory.offers
+    c.in_ok-begun.ensures.time c.in_ok-next-in-Ready.ensures.time c.in_ok-begun.ensures.idle
+    c.in_ok-begun.ensures.image c.in_ok-next-in-Ready.ensures.places
+
+pub returns-in_ok-next-in-Ready-clause-written : goal.returns-in_ok-next-in-Ready-clause-written
+returns-in_ok-next-in-Ready-clause-written g c =
+    let over = over_root (rules_of c.args.migrations.now) (answers_of c.args.migrations.now) c.args.now
+    (option_map (λ (n : Bor Name). n.now) c.args.busy) c.args.manifest.now c.args.app
+    g.D.Disk.told (g.D.Disk.medium c.args.disk.now) (g.D.Disk.medium c.begin_update.new.disk) c.args.root
+    c.in_ok-begun.begun c.in_ok-begun.ensures.begins c.in_ok-begun.ensures.staged c.in_ok-begun.ensures.image
+    c.in-Ready.staged c.in-Ready.is in
+    let ready = begins_ready (rules_of c.args.migrations.now) (answers_of c.args.migrations.now) c.args.now
+    (option_map (λ (n : Bor Name). n.now) c.args.busy) c.args.manifest.now c.args.app
+    g.D.Disk.told (g.D.Disk.medium c.args.disk.now) (g.D.Disk.medium c.begin_update.new.disk) c.args.root
+    c.in_ok-begun.begun c.in_ok-begun.ensures.begins c.in_ok-begun.ensures.staged c.in_ok-begun.ensures.image
+    c.in-Ready.staged c.in-Ready.is in
+    let text = c.in_ok-begun.ensures.text c.in-Ready.staged (ap Ok c.in-Ready.is) in
+    inr (
+      c.in_ok-begun.ensures.begins.0,
+      staged_progress c.in-Ready.staged,
+      c.in_ok-begun.ensures.begins.1,
+      ready,
+      led_written (staged_progress c.in-Ready.staged).deployment.storages (staged_progress c.in-Ready.staged).contents
+          c.in-Ready.staged.built _ (c.args.manifest.now ∷ root_texts c.args.root) _ _ _
+          (ap (λ (t : List ℕ). t ∷ root_texts (staged_root c.in-Ready.staged)) text
+          ∙ ap (λ (r : Root). c.args.manifest.now ∷ root_texts r) over)
+          c.in_ok-begun.ensures.written c.in_ok-next-in-Ready.ensures.written,
+    )

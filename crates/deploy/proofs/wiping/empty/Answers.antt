@@ -4,6 +4,7 @@ use Rattle.deploy.specs.Roots.{RootAt, root_says}
 use Rattle.deploy.proofs.Emptying.{first_app, first_clean, first_outside, first_root, first_root_says, first_stands}
 use Rattle.deploy.proofs.Emptying.{next_app, next_clean, next_held, next_left, next_outside, next_root, next_root_says}
 use Rattle.deploy.proofs.Emptying.{next_stands}
+use Rattle.deploy.proofs.RootLens.{emptied_cost, placed_cost, some_placed}
 use Rattle.deploy.proofs.wiping.empty.Goals as goal
 
 pub returns-in_ok-cell-in-None-clause-root : goal.returns-in_ok-cell-in-None-clause-root
@@ -156,3 +157,35 @@ returns-in_err-cell-in-Some-clause-any_moment g c = λ tells.
     next_stands g.D.Disk.told c.args.app c.requires.app c.args.register (g.D.Disk.medium c.args.disk.now)
     (g.D.Disk.medium c.write_none.new.disk) c.requires.register c.in-Some.cell c.in-Some.is
     c.in_err-cell-in-Some.ensures.any_moment c.one_root.ensures.again c.deploying_stands.ensures.writing tells
+
+pub returns-in_ok-cell-in-None-clause-written : goal.returns-in_ok-cell-in-None-clause-written
+returns-in_ok-cell-in-None-clause-written g c = λ some. absurd (some c.in-None.is)
+
+pub returns-in_ok-cell-in-None-clause-at_most : goal.returns-in_ok-cell-in-None-clause-at_most
+returns-in_ok-cell-in-None-clause-at_most g c = c.format_root.ensures.written
+
+pub returns-in_ok-cell-in-Some-clause-written : goal.returns-in_ok-cell-in-Some-clause-written
+returns-in_ok-cell-in-Some-clause-written g c = λ some. placed_cost _ c.args.app _ _ _
+    (some_placed g.D.Disk.told (g.D.Disk.medium c.args.disk.now).image c.args.app c.args.register c.in-Some.cell
+    c.in-Some.is c.requires.register) c.write_none.ensures.written
+
+pub returns-in_ok-cell-in-Some-clause-at_most : goal.returns-in_ok-cell-in-Some-clause-at_most
+returns-in_ok-cell-in-Some-clause-at_most g c = emptied_cost _ _ (placed_cost _ c.args.app _ _ _
+    (some_placed g.D.Disk.told (g.D.Disk.medium c.args.disk.now).image c.args.app c.args.register c.in-Some.cell
+    c.in-Some.is c.requires.register) c.write_none.ensures.written)
+
+pub returns-in_err-cell-in-None-clause-written : goal.returns-in_err-cell-in-None-clause-written
+returns-in_err-cell-in-None-clause-written g c = λ some. absurd (some c.in-None.is)
+
+pub returns-in_err-cell-in-None-clause-at_most : goal.returns-in_err-cell-in-None-clause-at_most
+returns-in_err-cell-in-None-clause-at_most g c = c.format_root.ensures.written
+
+pub returns-in_err-cell-in-Some-clause-written : goal.returns-in_err-cell-in-Some-clause-written
+returns-in_err-cell-in-Some-clause-written g c = λ some. placed_cost _ c.args.app _ _ _
+    (some_placed g.D.Disk.told (g.D.Disk.medium c.args.disk.now).image c.args.app c.args.register c.in-Some.cell
+    c.in-Some.is c.requires.register) c.write_none.ensures.written
+
+pub returns-in_err-cell-in-Some-clause-at_most : goal.returns-in_err-cell-in-Some-clause-at_most
+returns-in_err-cell-in-Some-clause-at_most g c = emptied_cost _ _ (placed_cost _ c.args.app _ _ _
+    (some_placed g.D.Disk.told (g.D.Disk.medium c.args.disk.now).image c.args.app c.args.register c.in-Some.cell
+    c.in-Some.is c.requires.register) c.write_none.ensures.written)

@@ -5,6 +5,7 @@ use Rattle.deploy_rows.specs.Rows.{after, wiping}
 use Rattle.deploy.specs.declared.roots.Outcome.{Outcome}
 use Rattle.deploy.specs.Clauses.{IsNoRootSlot}
 use Rattle.deploy.specs.Leaving.{IsEmptied, IsRootRefused, empty_says}
+use Rattle.deploy.proofs.RootLens.{bad_alone, none_written}
 use Rattle.deploy.proofs.RowsInUse.{err_of, if_ok, led_answers, led_app, led_ok, led_says, led_stands, led_unchanged}
 use Rattle.deploy.proofs.RowsInUse.{not_refused, ok_of, refused_answers, refused_app, refused_root, refused_says}
 use Rattle.deploy.proofs.RowsInUse.{refused_some, register_at}
@@ -200,3 +201,24 @@ returns-in-Ok-clause-any_moment g c =
 
 pub returns-in-Ok-clause-time : goal.returns-in-Ok-clause-time
 returns-in-Ok-clause-time g c = c.empty.ensures.time
+
+pub returns-in_err-register-clause-written : goal.returns-in_err-register-clause-written
+returns-in_err-register-clause-written g c = λ good. none_written _ _
+
+pub returns-in_err-register-clause-at_most : goal.returns-in_err-register-clause-at_most
+returns-in_err-register-clause-at_most g c = none_written _ _
+
+pub returns-in-Err-clause-written : goal.returns-in-Err-clause-written
+returns-in-Err-clause-written g c = λ good. none_written _ _
+
+pub returns-in-Err-clause-at_most : goal.returns-in-Err-clause-at_most
+returns-in-Err-clause-at_most g c = none_written _ _
+
+pub returns-in-Ok-clause-written : goal.returns-in-Ok-clause-written
+returns-in-Ok-clause-written g c =
+    let emptied = ok_of (IsEmptied (wiping (option_map (λ n. n.now) c.args.busy)) c.args.root) c.in_ok-register.field-0
+    c.in-Ok.register c.in-Ok.is c.in_ok-register.ensures.emptied in
+    λ good. c.empty.ensures.written (λ none. good (bad_alone c.args.root c.in-Ok.register emptied.register none))
+
+pub returns-in-Ok-clause-at_most : goal.returns-in-Ok-clause-at_most
+returns-in-Ok-clause-at_most g c = c.empty.ensures.at_most

@@ -6,6 +6,7 @@ use Rattle.guarded_cell.specs.Stops.{PutStops}
 use Rattle.root_text.specs.RootText.{installed, root_text}
 use Rattle.root_text.specs.Views.{version_said}
 use Rattle.deploy.proofs.AtRest.{unwritten}
+use Rattle.deploy.proofs.RootLens.{installed_len, none_written, text_cost}
 use Rattle.deploy.proofs.WrittenVersions.{versions_are_root}
 use Rattle.deploy.proofs.writing.write_version.Goals as goal
 
@@ -45,3 +46,16 @@ pub returns-clause-held : goal.returns-clause-held
 returns-clause-held g c = λ tells.
     subst (λ (t : List ℕ). CellAt (g.D.Disk.medium c.write.new.disk).image c.in_ok-next.next t)
     (c.deref.ensures.value ∙ c.in_ok-text.ensures.text) (c.in_ok-next.ensures.held tells)
+
+pub returns-in_err-next-clause-written : goal.returns-in_err-next-clause-written
+returns-in_err-next-clause-written g c = text_cost _ _ _ (length c.deref.result.now) _
+    c.in_err-next.ensures.puts.written (ap length (c.deref.ensures.value ∙ c.in_ok-text.ensures.text)
+    ∙ installed_len c.args.bank c.args.active.now c.args.previous)
+
+pub returns-clause-written : goal.returns-clause-written
+returns-clause-written g c = text_cost _ _ _ (length c.deref.result.now) _
+    c.in_ok-next.ensures.puts.written (ap length (c.deref.ensures.value ∙ c.in_ok-text.ensures.text)
+    ∙ installed_len c.args.bank c.args.active.now c.args.previous)
+
+pub returns-in_err-text-clause-written : goal.returns-in_err-text-clause-written
+returns-in_err-text-clause-written g c = none_written _ _

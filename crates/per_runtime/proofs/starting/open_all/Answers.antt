@@ -4,7 +4,7 @@ use Rattle.disk_model.specs.Laws.{elapses_on, rose_before}
 use Rattle.deploy.specs.declared.errors.Stop.{Stop}
 use Rattle.run_model.specs.Starting.{opened_keeps}
 use Rattle.per_runtime.proofs.Begins.{all_begun, none_opened, one_opened, root_at, stopped_by, stops_at}
-use Rattle.per_runtime.proofs.Begins.{slots_at, unsynced_keeps, way_at}
+use Rattle.per_runtime.proofs.Begins.{slots_at, some_written, unsynced_keeps, unsynced_written, way_at}
 use Rattle.per_runtime.proofs.Places.{on_err, on_ok}
 use Rattle.per_runtime.proofs.starting.open_all.Goals as goal
 
@@ -16,6 +16,7 @@ returns-then-is_err g c =
     record {
       end = on_err c.sync.result is c.sync.ensures.cause;
       keeps = λ tells. unsynced_keeps old new (on_err c.sync.result is c.sync.ensures.failed);
+      written = unsynced_written old new (on_err c.sync.result is c.sync.ensures.failed);
       time = c.sync.ensures.time;
     }
 
@@ -33,6 +34,7 @@ returns-in_err-running g c =
       end = tt;
       keeps = λ tells. opened_keeps c.applications_stand.ensures c.loop-app.app (g.D.Disk.medium c.args.disk.now)
           (g.D.Disk.medium c.loop-app.disk) (it.opened tells);
+      written = some_written _ _ _ c.loop-app.app (omega arith) it.written (omega arith);
       time = it.time;
     })
 
@@ -54,6 +56,7 @@ returns-in_err-open_root g c =
           (way_at c.in_ok-running.running.app c.loop-app.app now new c.in_ok-running.ensures.app
           (said.on_the_way tells))
           (slots_at c.in_ok-running.running.app c.loop-app.app now new c.in_ok-running.ensures.app (said.slots tells));
+      written = some_written _ _ _ c.loop-app.app lt it.written said.written;
       time = elapses_on it.time said.time;
     })
 
@@ -73,6 +76,7 @@ returns-in_err-push g c =
           (way_at c.in_ok-running.running.app c.loop-app.app now new c.in_ok-running.ensures.app
           (said.on_the_way tells))
           (slots_at c.in_ok-running.running.app c.loop-app.app now new c.in_ok-running.ensures.app (said.slots tells));
+      written = some_written _ _ _ c.loop-app.app lt it.written said.written;
       time = elapses_on it.time said.time;
     })
 
@@ -88,7 +92,7 @@ loop-app-preserved g c =
     (g.D.Disk.medium c.args.disk.now) now new lt it (said.app ∙ c.in_ok-running.ensures.app) said.memory said.opened
     (λ tells. root_at c.in_ok-running.running.app c.loop-app.app now new c.in_ok-running.ensures.app (said.root tells))
     (λ tells. way_at c.in_ok-running.running.app c.loop-app.app now new c.in_ok-running.ensures.app
-    (said.on_the_way tells)) said.quiet said.time said.passes)
+    (said.on_the_way tells)) said.quiet said.time said.passes said.written)
 
 pub returns : goal.returns
 returns g c =

@@ -42,3 +42,9 @@ returns-in_err-root-clause-slots g c = c.open_root.ensures.outside.at_the_end
 
 pub returns-clause-slots : goal.returns-clause-slots
 returns-clause-slots g c = c.open_root.ensures.outside.at_the_end
+
+pub returns-in_err-root-clause-written : goal.returns-in_err-root-clause-written
+returns-in_err-root-clause-written g c = c.open_root.ensures.at_most
+
+pub returns-clause-written : goal.returns-clause-written
+returns-clause-written g c = c.open_root.ensures.at_most

@@ -4,6 +4,7 @@ use Rattle.root_text.specs.RootText as text
 use Rattle.root_text.specs.Views.{version_said}
 use Rattle.deploy.proofs.Lone.{put_app, put_clean, put_outside, put_stands}
 use Rattle.deploy.proofs.NextRoots.{next_cell}
+use Rattle.deploy.proofs.RootLens.{placed_cost}
 use Rattle.deploy.proofs.leaving.Lone.write.Goals as goal
 
 pub returns-clause-root : goal.returns-clause-root
@@ -76,3 +77,9 @@ returns-in_err-cell-clause-any_moment g c = λ tells app lt of were.
     (record { in_bank = c.requires.bank; of_active = c.requires.version.said; of_previous = tt })
     (g.D.Disk.medium c.args.disk.now) (g.D.Disk.medium c.write_version.new.disk)
     c.deploying_stands.ensures.writing held.0 held.1 (c.in_err-cell.ensures.any_moment tells) were
+
+pub returns-clause-written : goal.returns-clause-written
+returns-clause-written g c = λ app of. placed_cost _ app _ _ _ of.place c.write_version.ensures.written
+
+pub returns-in_err-cell-clause-written : goal.returns-in_err-cell-clause-written
+returns-in_err-cell-clause-written g c = λ app of. placed_cost _ app _ _ _ of.place c.write_version.ensures.written

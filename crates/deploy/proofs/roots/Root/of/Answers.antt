@@ -1,3 +1,4 @@
+use Rattle.deploy.proofs.RootLens.{absent_len, said_len}
 use Rattle.deploy.proofs.Settled.{parts_said, said_kept}
 use Rattle.deploy.proofs.roots.Root.of.Goals as goal
 
@@ -24,3 +25,16 @@ returns-in-Installed-clause-memory c = λ app is rules. (
   })
       c.args.says c.in-Installed.is c.said_is_kept.ensures.keeps rules,
 )
+
+pub returns-in-Absent-clause-long : goal.returns-in-Absent-clause-long
+returns-in-Absent-clause-long c = absent_len c.args.says c.in-Absent.is
+
+pub returns-in-Installed-clause-long : goal.returns-in-Installed-clause-long
+returns-in-Installed-clause-long c = said_len (record {
+  cell = c.args.cell;
+  bank = c.in-Installed.bank;
+  active = c.in-Installed.active;
+  previous =
+      c.in-Installed.previous;
+})
+    c.args.says c.in-Installed.is

@@ -10,6 +10,7 @@ use Rattle.deploy.specs.Clauses.{Leaves}
 use Rattle.deploy.specs.Next.{next_app}
 use Rattle.deploy.specs.Remaining.{IsBesideCommit}
 use Rattle.deploy.proofs.FirstVersion.{root_written}
+use Rattle.deploy.proofs.MadePlaces.{committed_written}
 use Rattle.deploy.proofs.NextVersion.{leaves_root}
 use Rattle.deploy.proofs.UpdateRow.{held_before, next_committed, says_committed}
 use Rattle.deploy.proofs.updating.Staged.commit_update.Goals as goal
@@ -106,3 +107,17 @@ returns-clause-root g c = root_written g.D.Disk.told (g.D.Disk.medium c.make_ver
     })
     c.in_ok-cell.ensures.next (omega arith) c.requires.staged.memory.offers c.requires.staged.memory.root.1.active
     c.in_ok-cell.ensures.held
+
+pub returns-in_err-cell-clause-places : goal.returns-in_err-cell-clause-places
+returns-in_err-cell-clause-places g c = c.in_err-cell.ensures.places
+
+pub returns-in_err-cell-clause-written : goal.returns-in_err-cell-clause-written
+returns-in_err-cell-clause-written g c = committed_written c.args.self c.deref.result.now _ _ c.deref.ensures.value
+    c.requires.staged.memory.no_previous c.in_err-cell.ensures.written
+
+pub returns-clause-places : goal.returns-clause-places
+returns-clause-places g c = c.in_ok-cell.ensures.places
+
+pub returns-clause-written : goal.returns-clause-written
+returns-clause-written g c = committed_written c.args.self c.deref.result.now _ _ c.deref.ensures.value
+    c.requires.staged.memory.no_previous c.in_ok-cell.ensures.written

@@ -5,6 +5,8 @@ use Rattle.deploy_laws.specs.Apps.{app_at}
 use Rattle.deploy_laws.specs.Places.{IsBeside}
 use Rattle.deploy_laws.specs.Stands.{same_root}
 use Rattle.deploy.proofs.Leaves.{leaves_none}
+use Rattle.deploy.proofs.MadePlaces.{one_place, one_written}
+use Rattle.deploy.proofs.RootLens.{none_written}
 use Rattle.deploy.proofs.MadeStorages.{storage_fits, storage_keeps}
 use Rattle.deploy.proofs.StagedMore.{app_same, clean_same, few_storages, outside_bank, staged_more, stands_same}
 use Rattle.deploy.proofs.Unmoved.{stands_still}
@@ -120,3 +122,62 @@ returns-clause-staged g c = staged_more c.places_stand_apart.ensures.frame c.fil
     (c.as_slice-2.ensures ∙ c.index.ensures ∙ ap (λ (d : List Fresh).
     get_or c.args.self.contents.items c.args.self.built d) (sym c.as_slice-2.ensures))
     c.in_ok-create_one.ensures.made c.in_ok-create_one.ensures.clean
+
+pub returns-then-self-len-clause-places : goal.returns-then-self-len-clause-places
+returns-then-self-len-clause-places g c = leaves_none g.D.Disk.told _ (g.D.Disk.medium c.args.disk.now)
+    (g.met.D.Disk.lawful c.args.disk.now)
+
+pub returns-then-self-len-clause-written : goal.returns-then-self-len-clause-written
+returns-then-self-len-clause-written g c = none_written _ _
+
+pub returns-in_err-create_one-clause-places : goal.returns-in_err-create_one-clause-places
+returns-in_err-create_one-clause-places g c =
+    let many = (few_storages c.args.self.app c.args.self c.requires.staged.memory).1 in
+    one_place g.D.Disk.told c.args.self.app (1 - c.args.self.root.bank) c.args.self.built
+    c.args.self.version.deployment.storages c.args.self.contents.items (g.D.Disk.medium c.args.disk.now)
+    (g.D.Disk.medium c.create_one.new.disk) c.index-as_slice-self.result c.as_slice-2.result.now
+    (omega (arith, many)) (omega arith)
+    (c.index-as_slice-self.is ∙ ap (λ (xs : List StorageConfig).
+    get_or xs c.args.self.built c.index-as_slice-self.result) c.as_slice.ensures)
+    (c.as_slice-2.ensures ∙ c.index.ensures ∙ ap (λ (d : List Fresh).
+    get_or c.args.self.contents.items c.args.self.built d) (sym c.as_slice-2.ensures))
+    c.in_err-create_one.ensures.place
+
+pub returns-in_err-create_one-clause-written : goal.returns-in_err-create_one-clause-written
+returns-in_err-create_one-clause-written g c =
+    let many = (few_storages c.args.self.app c.args.self c.requires.staged.memory).1 in
+    one_written g.D.Disk.told c.args.self.app (1 - c.args.self.root.bank) c.args.self.built
+    c.args.self.version.deployment.storages c.args.self.contents.items (g.D.Disk.medium c.args.disk.now)
+    (g.D.Disk.medium c.create_one.new.disk) c.index-as_slice-self.result c.as_slice-2.result.now
+    (omega (arith, many)) (omega arith)
+    (c.index-as_slice-self.is ∙ ap (λ (xs : List StorageConfig).
+    get_or xs c.args.self.built c.index-as_slice-self.result) c.as_slice.ensures)
+    (c.as_slice-2.ensures ∙ c.index.ensures ∙ ap (λ (d : List Fresh).
+    get_or c.args.self.contents.items c.args.self.built d) (sym c.as_slice-2.ensures))
+    c.in_err-create_one.ensures.written
+
+pub returns-clause-places : goal.returns-clause-places
+returns-clause-places g c =
+    let many = (few_storages c.args.self.app c.args.self c.requires.staged.memory).1 in
+    one_place g.D.Disk.told c.args.self.app (1 - c.args.self.root.bank) c.args.self.built
+    c.args.self.version.deployment.storages c.args.self.contents.items (g.D.Disk.medium c.args.disk.now)
+    (g.D.Disk.medium c.create_one.new.disk) c.index-as_slice-self.result c.as_slice-2.result.now
+    (omega (arith, many)) (omega arith)
+    (c.index-as_slice-self.is ∙ ap (λ (xs : List StorageConfig).
+    get_or xs c.args.self.built c.index-as_slice-self.result) c.as_slice.ensures)
+    (c.as_slice-2.ensures ∙ c.index.ensures ∙ ap (λ (d : List Fresh).
+    get_or c.args.self.contents.items c.args.self.built d) (sym c.as_slice-2.ensures))
+    c.in_ok-create_one.ensures.place
+
+pub returns-clause-written : goal.returns-clause-written
+returns-clause-written g c =
+    let many = (few_storages c.args.self.app c.args.self c.requires.staged.memory).1 in
+    one_written g.D.Disk.told c.args.self.app (1 - c.args.self.root.bank) c.args.self.built
+    c.args.self.version.deployment.storages c.args.self.contents.items (g.D.Disk.medium c.args.disk.now)
+    (g.D.Disk.medium c.create_one.new.disk) c.index-as_slice-self.result c.as_slice-2.result.now
+    (omega (arith, many)) (omega arith)
+    (c.index-as_slice-self.is ∙ ap (λ (xs : List StorageConfig).
+    get_or xs c.args.self.built c.index-as_slice-self.result) c.as_slice.ensures)
+    (c.as_slice-2.ensures ∙ c.index.ensures ∙ ap (λ (d : List Fresh).
+    get_or c.args.self.contents.items c.args.self.built d) (sym c.as_slice-2.ensures))
+    c.in_ok-create_one.ensures.written
