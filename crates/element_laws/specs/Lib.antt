@@ -1,4 +1,5 @@
 pub mod Apart
 pub mod Phases
+pub mod Pieces
 pub mod Refused
 pub mod lemmas
