@@ -1,6 +1,6 @@
 -- Undamaged copies, counted by pieces: of each element by its own blocks, and of the index apart. Damage made `image` of
 -- `left`, which is what a stop left. `before` is the state before the call in progress, and `after` the one after it.
-use Rattle.std.specs.Prelude.{◌≡◌, ◌⊎◌, ℕ, ◌+◌, ◌<◌, ◌≤◌, List, true, Some, ⊤}
+use Rattle.std.specs.Prelude.{◌≡◌, ◌≢◌, ◌⊎◌, ℕ, ◌+◌, ◌<◌, ◌≤◌, List, [], ◌∷◌, true, Some, ⊤}
 use Rattle.std.specs.List.{AllZip, Contains}
 use Rattle.per_base.specs.declared.elements.Scope.TheVariants as scope
 use Rattle.per_base.specs.declared.elements.Entry.{Entry}
@@ -9,6 +9,7 @@ use Rattle.disk_model.specs.declared.place.Place.{Place}
 use Rattle.disk_model.specs.Image.{Image}
 use Rattle.disk_model.specs.Case.{Case}
 use Rattle.disk_model.specs.Damage.{DecaysFor, IsSoundFor, IsUndamaged, AtLeast}
+use Rattle.disk_model.specs.Place.{area}
 use Rattle.guarded_cell.specs.Register.{Holds}
 use Rattle.block_files.specs.Aside.{Where}
 use Rattle.index_text.specs.declared.entries.IndexEntry.{IndexEntry}
@@ -19,7 +20,7 @@ use Rattle.element_state.specs.Views.{entry_view, view_of}
 use Rattle.element_state.specs.States.{State, Opens, Corrupt, store_at}
 use Rattle.element_state.specs.Clean.{where_of, counting_at, IsNamed, IsPiece, IsClean}
 use Rattle.element_state.specs.Chosen.{chosen}
-use Rattle.element_state.specs.Kept.{SameHeadings, Kept, IsKeptCase}
+use Rattle.element_state.specs.Kept.{SameHeadings, HasEnough, Kept, IsKeptCase}
 
 -- ---- what damage spares
 
@@ -105,3 +106,20 @@ abbrev pub FilesLaw : Type 0
 FilesLaw = (place : Place) (damaged : List ℕ) (left image : Image) (copy : ℕ)
     → DecaysFor (IsPiece place) damaged left image → IsUndamaged damaged place copy
     → SparesTexts place left image copy × ((at : Where) → SparesContent place left image at copy)
+
+-- ---- rot in two copies
+
+-- damage to the areas of the first two copies alone: it spares one content in the first, and another in the second
+pub record RotsApart (place : Place) (one other : Where) (left image : Image) : Type 0 where
+  pub files : (f : ℕ) → f ≢ area place 0 → f ≢ area place 1 → image f ≡ left f
+  pub first : SparesContent place left image one 0
+  pub second : SparesContent place left image other 1
+
+-- of three copies, of which two must agree, each of these contents has two whole ones, and the index three; counted by
+-- files one is left
+abbrev pub TwoRotsLaw : Type 0
+TwoRotsLaw = (shape : Shape) (one other : Where) (left image : Image) → shape.place.copies ≡ 3 → shape.m ≡ 2
+    → shape.scope ≡ scope.Element → RotsApart shape.place one other left image
+    → HasEnoughStorage shape left image [] × HasEnoughContent shape left image one []
+    × HasEnoughContent shape left image other []
+    × ¬ (HasEnough shape (area shape.place 0 ∷ area shape.place 1 ∷ []) [])

@@ -36,9 +36,9 @@ use Rattle.element_state.specs.Clean.{IsBlockPiece, IsClean}
 use Rattle.element_state.specs.Chosen.{chosen, or_first}
 use Rattle.element_state.specs.Kept.{SameHeadings, IsLeftOf, IsFrom, IsSpared, HasEnough, KeepsGood, CostsNoCopy}
 use Rattle.element_state.specs.Kept.{Kept, all_views, StaysAs}
-use Rattle.element_laws.specs.Pieces.{SparesContent, SparesStorage, HasEnoughContent, KeepsElement}
+use Rattle.element_laws.specs.Pieces.{SparesTexts, SparesContent, SparesStorage, HasEnoughContent, KeepsElement}
 use Rattle.element_laws.specs.Pieces.{HasEnoughStorage, ReadsAs, ReadsAsAfter, Follows, PiecesLaw}
-use Rattle.element_laws.specs.Pieces.{PiecesCaseLaw, FilesLaw}
+use Rattle.element_laws.specs.Pieces.{PiecesCaseLaw, FilesLaw, RotsApart, TwoRotsLaw}
 use Rattle.element_laws.specs.lemmas.Lists.{In, In-Contains, Contains-In, not_none, some_is, not_false, both_true}
 use Rattle.element_laws.specs.lemmas.Lists.{true_both, or_true, true_or, false_not_true, not_is_false, there_is}
 use Rattle.element_laws.specs.lemmas.Lists.{list_all-In, In-list_all, zip_with, zip_both, all_in, nothing_listed}
@@ -938,3 +938,61 @@ by_files place damaged left image copy d spared = (
   λ at bytes counts. subst (λ (file : List ℕ). counting file at.blocks at.len at.hash ≡ Some bytes)
       (sym (d.others (area place copy) (spared 2 (omega arith)))) counts,
 )
+
+-- ---- rot in two copies
+
+module _ (shape : Shape) (one other : Where) (left image : Image) (rots : RotsApart shape.place one other left image)
+  where
+    slots_stay : (c : ℕ) → SparesTexts shape.place left image c
+    slots_stay c h u v = let small = own_small h in subst (λ (bytes : List ℕ). VerifiesAs bytes h u)
+        (sym (rots.files (slot shape.place c (own h)) (λ e. omega (arith, e, small)) (λ e. omega (arith, e, small)))) v
+
+    last_stays : (at : Where) → SparesContent shape.place left image at 2
+    last_stays at bytes counts =
+        subst (λ (file : List ℕ). counting file at.blocks at.len at.hash ≡ Some bytes)
+        (sym (rots.files (area shape.place 2) (λ e. omega (arith, e)) (λ e. omega (arith, e)))) counts
+
+    module _ (element : shape.scope ≡ scope.Element) where
+      storage_stays : (c : ℕ) → SparesStorage shape left image c × ¬ (Contains [] (c + 1))
+      storage_stays c = (
+        (slots_stay c, λ storage. absurd (apart (sym element ∙ storage))),
+        nothing_listed (c + 1),
+      )
+        where
+          apart : scope.Element ≡ scope.Storage → ⊥
+          apart e = cc
+
+    few_files : AtLeast (IsSpared shape (area shape.place 0 ∷ area shape.place 1 ∷ []) []) 3 2 → ⊥
+    few_files (inl both) = elim both.1 [
+      | inl it ↦ it.0.0 2 (omega arith) (1, omega arith, refl)
+      | inr rest ↦ elim rest [ inl it ↦ it.0.0 2 (omega arith) (0, omega arith, refl) | inr none ↦ none ]
+    ]
+    few_files (inr rest) = elim rest [
+      | inl both ↦ both.0.0 2 (omega arith) (1, omega arith, refl)
+      | inr none ↦ elim none [ inl it ↦ absurd it.1 | inr nothing ↦ nothing ]
+    ]
+
+pub two_rots : TwoRotsLaw
+two_rots shape one other left image three two element rots = (
+  subst (λ (n : ℕ). AtLeast (λ c. SparesStorage shape left image c × ¬ (Contains [] (c + 1))) n shape.m) (sym three)
+      (subst (λ (m : ℕ). AtLeast (λ c. SparesStorage shape left image c × ¬ (Contains [] (c + 1))) 3 m) (sym two)
+      (inl (all 2, inl (all 1, tt)))),
+  counts one (inl (last one, inr (inl ((rots.first, nothing_listed 1), tt)))),
+  counts other (inl (last other, inl ((rots.second, nothing_listed 2), tt))),
+  λ enough. few_files shape one other left image rots
+      (subst (λ (m : ℕ). AtLeast (IsSpared shape (area shape.place 0 ∷ area shape.place 1 ∷ []) []) 3 m) two
+      (subst (λ (n : ℕ). AtLeast (IsSpared shape (area shape.place 0 ∷ area shape.place 1 ∷ []) []) n shape.m) three
+      enough)),
+)
+  where
+    all : (c : ℕ) → SparesStorage shape left image c × ¬ (Contains [] (c + 1))
+    all c = storage_stays shape one other left image rots element c
+    last : (at : Where) → SparesContent shape.place left image at 2 × ¬ (Contains {X = ℕ} [] 3)
+    last at = (last_stays shape one other left image rots at, nothing_listed 3)
+    counts : (at : Where) → AtLeast (λ c. SparesContent shape.place left image at c × ¬ (Contains [] (c + 1))) 3 2
+        → HasEnoughContent shape left image at []
+    counts at some =
+        subst (λ (n : ℕ). AtLeast (λ c. SparesContent shape.place left image at c × ¬ (Contains [] (c + 1))) n shape.m)
+        (sym three)
+        (subst (λ (m : ℕ). AtLeast (λ c. SparesContent shape.place left image at c × ¬ (Contains [] (c + 1))) 3 m)
+        (sym two) some)

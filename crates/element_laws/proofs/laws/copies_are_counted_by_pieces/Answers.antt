@@ -1,4 +1,4 @@
-use Rattle.element_laws.specs.lemmas.Pieces.{pieces, pieces_case, by_files}
+use Rattle.element_laws.specs.lemmas.Pieces.{pieces, pieces_case, by_files, two_rots}
 use Rattle.element_laws.proofs.laws.copies_are_counted_by_pieces.Goals as goal
 
 pub returns-clause-pieces : goal.returns-clause-pieces
@@ -9,3 +9,6 @@ returns-clause-stopped c = pieces_case
 
 pub returns-clause-files : goal.returns-clause-files
 returns-clause-files c = by_files
+
+pub returns-clause-apart : goal.returns-clause-apart
+returns-clause-apart c = two_rots
