@@ -107,6 +107,24 @@ FilesLaw = (place : Place) (damaged : List ℕ) (left image : Image) (copy : ℕ
     → DecaysFor (IsPiece place) damaged left image → IsUndamaged damaged place copy
     → SparesTexts place left image copy × ((at : Where) → SparesContent place left image at copy)
 
+-- ---- from what a stop left
+
+-- If the storage opens after the stop, and the damage spares enough copies of the view at which it does, it opens still:
+-- with enough copies before, at the view before or at the one after.
+abbrev pub StaysOnward : Shape → (left image : Image) → (before after : State) → Type 0
+StaysOnward shape left image (Opens v others) after = HasEnough shape [] v.lacking → (w : View) (rest : List View)
+    → store_at left shape ≡ Opens w rest → HasEnoughStorage shape left image w.lacking
+    → (text : FitText) × (ReadsAs shape left image text v ⊎ ReadsAsAfter shape left image text after)
+StaysOnward shape left image (Corrupt salvage others) after = (w : View) (rest : List View)
+    → store_at left shape ≡ Opens w rest → HasEnoughStorage shape left image w.lacking
+    → (text : FitText) × ReadsAsAfter shape left image text after
+
+-- what a stop alone keeps is kept so by damage after it
+abbrev pub OnwardLaw : Type 0
+OnwardLaw = (shape : Shape) (before after : State) (damaged : List ℕ) (left image : Image) → 1 ≤ shape.m
+    → IsClean shape left → Kept shape [] (store_at left shape) before after
+    → DecaysFor (IsPiece shape.place) damaged left image → StaysOnward shape left image before after
+
 -- ---- rot in two copies
 
 -- damage to the areas of the first two copies alone: it spares one content in the first, and another in the second

@@ -38,7 +38,7 @@ use Rattle.element_state.specs.Kept.{SameHeadings, IsLeftOf, IsFrom, IsSpared, H
 use Rattle.element_state.specs.Kept.{Kept, all_views, StaysAs}
 use Rattle.element_laws.specs.Pieces.{SparesTexts, SparesContent, SparesStorage, HasEnoughContent, KeepsElement}
 use Rattle.element_laws.specs.Pieces.{HasEnoughStorage, ReadsAs, ReadsAsAfter, Follows, PiecesLaw}
-use Rattle.element_laws.specs.Pieces.{PiecesCaseLaw, FilesLaw, RotsApart, TwoRotsLaw}
+use Rattle.element_laws.specs.Pieces.{PiecesCaseLaw, FilesLaw, StaysByPieces, OnwardLaw, RotsApart, TwoRotsLaw}
 use Rattle.element_laws.specs.lemmas.Lists.{In, In-Contains, Contains-In, not_none, some_is, not_false, both_true}
 use Rattle.element_laws.specs.lemmas.Lists.{true_both, or_true, true_or, false_not_true, not_is_false, there_is}
 use Rattle.element_laws.specs.lemmas.Lists.{list_all-In, In-list_all, zip_with, zip_both, all_in, nothing_listed}
@@ -50,7 +50,7 @@ use Rattle.element_laws.specs.lemmas.Standing.{gift_of, one_fit, generation_of, 
 use Rattle.element_laws.specs.lemmas.Left.{value_at, good_is, spared_has, not_listed, that_le, named, alike}
 use Rattle.element_laws.specs.lemmas.Frames.{own_small, held_back}
 use Rattle.element_laws.specs.lemmas.Frames.{named_back, given_back}
-use Rattle.element_laws.specs.lemmas.Phases.{pick, opens_pick}
+use Rattle.element_laws.specs.lemmas.Phases.{pick, opens_pick, damage}
 
 -- ---- copies that were counted, as a test
 
@@ -939,6 +939,111 @@ by_files place damaged left image copy d spared = (
       (sym (d.others (area place copy) (spared 2 (omega arith)))) counts,
 )
 
+-- ---- from what a stop left
+
+zip_through : {A B C : Type 0} (P : A → B → Type 0) (Q : B → C → Type 0) (R : A → C → Type 0)
+    → ((x : A) (y : B) (z : C) → P x y → Q y z → R x z) → (xs : List A) (ys : List B) (zs : List C) → AllZip P xs ys
+    → AllZip Q ys zs → AllZip R xs zs
+zip_through P Q R go [] [] [] p q = tt
+zip_through P Q R go [] [] (z ∷ zs) p q = absurd q
+zip_through P Q R go [] (y ∷ ys) zs p q = absurd p
+zip_through P Q R go (x ∷ xs) [] zs p q = absurd p
+zip_through P Q R go (x ∷ xs) (y ∷ ys) [] p q = absurd q
+zip_through P Q R go (x ∷ xs) (y ∷ ys) (z ∷ zs) p q = (go x y z p.0 q.0, zip_through P Q R go xs ys zs p.1 q.1)
+
+module _ (shape : Shape) (left image : Image) (text : FitText) (w there : View) where
+  -- an element of the view after the stop, beside that of the view before or after the call
+  abbrev IsOnward : Entry → Entry → Type 0
+  IsOnward x f = ((value : List ℕ) → f.content ≡ Good value
+      → (shape.scope ≡ scope.Storage) ⊎ HasEnough shape [] f.lacking → x.content ≡ Good value)
+      × ((value : List ℕ) (copy : ℕ) → f.content ≡ Good value → copy < shape.place.copies
+      → IsSpared shape [] f.lacking copy → ¬ (Contains x.lacking (copy + 1)))
+
+  spared_by_none : (lacking : List ℕ) (c : ℕ) → ¬ (Contains lacking (c + 1)) → IsSpared shape [] lacking c
+  spared_by_none lacking c absent = (λ k small. nothing_listed (shape.place.first + 4 * c + k), absent)
+
+  element_onward : (e : IndexEntry) (x f : Entry) → KeepsElement shape left image e x → IsOnward x f
+      → KeepsElement shape left image e f
+  element_onward e x f keeps on value good (inl storage) =
+      keeps value (on.0 value good (inl storage)) (inl storage)
+  element_onward e x f keeps on value good (inr enough) =
+      let at : Where = where_of e in
+      keeps value (on.0 value good (inr (at_least_map
+      (λ c. SparesContent shape.place left image at c × ¬ (Contains f.lacking (c + 1)))
+      (IsSpared shape [] f.lacking) shape.place.copies shape.m (λ c lt s. spared_by_none f.lacking c s.1) enough)))
+      (inr (at_least_map (λ c. SparesContent shape.place left image at c × ¬ (Contains f.lacking (c + 1)))
+      (λ c. SparesContent shape.place left image at c × ¬ (Contains x.lacking (c + 1))) shape.place.copies shape.m
+      (λ c lt s. (s.0, on.1 value c good lt (spared_by_none f.lacking c s.1))) enough))
+
+  reads_onward : SameHeadings w there → KeepsGood shape [] w there → CostsNoCopy shape [] w there
+      → ReadsAs shape left image text w → ReadsAs shape left image text there
+  reads_onward same good costs reads = record {
+    opens = reads.opens;
+    same = record {
+      generation = reads.same.generation ∙ same.generation;
+      entries = reads.same.entries ∙ same.entries;
+    };
+    good = zip_through (KeepsElement shape left image) IsOnward (KeepsElement shape left image) element_onward
+        text.1.entries w.entries there.entries reads.good
+        (zip_both (λ x f. (value : List ℕ) → f.content ≡ Good value
+        → (shape.scope ≡ scope.Storage) ⊎ HasEnough shape [] f.lacking → x.content ≡ Good value)
+        (λ x f. (value : List ℕ) (copy : ℕ) → f.content ≡ Good value → copy < shape.place.copies
+        → IsSpared shape [] f.lacking copy → ¬ (Contains x.lacking (copy + 1))) w.entries there.entries good costs);
+  }
+
+follows_itself : (state : State) → Follows state state
+follows_itself (Opens v others) = λ apart. absurd (apart (record { generation = refl; entries = refl }))
+follows_itself (Corrupt salvage others) = tt
+
+module _ (shape : Shape) (damaged : List ℕ) (left image : Image) (positive : 1 ≤ shape.m) (clean : IsClean shape left)
+    (d : DecaysFor (IsPiece shape.place) damaged left image) (w : View) (rest : List View)
+    (is : store_at left shape ≡ Opens w rest) (enough : HasEnoughStorage shape left image w.lacking) where
+  itself_reads : (text : FitText) × ReadsAs shape left image text w
+  itself_reads =
+      let by : StaysByPieces shape left image (store_at left shape) (store_at left shape) =
+      pieces shape (store_at left shape) (store_at left shape) damaged left image positive
+      (follows_itself (store_at left shape))
+      (λ files other decays. damage shape left other files positive clean decays) d in
+      let r = subst (λ (s : State). StaysByPieces shape left image s s) is by enough in
+      (r.0, elim r.1 [ inl a ↦ a | inr b ↦ b ])
+
+  stays_onward : (v : View) (others : List View) (after : State) → Kept shape [] (Opens w rest) (Opens v others) after
+      → StaysAs shape [] w v after
+      → (text : FitText) × (ReadsAs shape left image text v ⊎ ReadsAsAfter shape left image text after)
+  stays_onward v others after kept (inl old) = (
+    itself_reads.0,
+    inl (reads_onward shape left image itself_reads.0 w v old.0 old.1 (kept.copies.0 old.0).1 itself_reads.1),
+  )
+  stays_onward v others after kept (inr new) = (
+    itself_reads.0,
+    inr (subst (λ (s : State). ReadsAsAfter shape left image itself_reads.0 s) (sym new.3)
+        (reads_onward shape left image itself_reads.0 w new.1 new.4 new.5 new.6 itself_reads.1)),
+  )
+
+  opens_onward : (v : View) (others : List View) (after : State) → Kept shape [] (Opens w rest) (Opens v others) after
+      → HasEnough shape [] v.lacking
+      → (text : FitText) × (ReadsAs shape left image text v ⊎ ReadsAsAfter shape left image text after)
+  opens_onward v others after kept some =
+      let r = kept.stays some in
+      stays_onward v others after kept
+      (subst (λ (x : View). StaysAs shape [] x v after) (view_at r.0 w r.1 rest (sym r.2)) r.3)
+
+  corrupt_onward : (salvage : Option View) (others : List View) (after : State)
+      → Kept shape [] (Opens w rest) (Corrupt salvage others) after
+      → (text : FitText) × ReadsAsAfter shape left image text after
+  corrupt_onward salvage others (Opens u more) kept =
+      let r = kept.stays w rest refl in
+      (itself_reads.0, reads_onward shape left image itself_reads.0 w u r.0 r.1 r.2 itself_reads.1)
+  corrupt_onward salvage others (Corrupt s o) kept = absurd (kept.stays w rest refl)
+
+pub onward : OnwardLaw
+onward shape (Opens v others) after damaged left image positive clean kept d = λ some w rest is enough.
+    opens_onward shape damaged left image positive clean d w rest is enough v others after
+    (subst (λ (s : State). Kept shape [] s (Opens v others) after) is kept) some
+onward shape (Corrupt salvage others) after damaged left image positive clean kept d = λ w rest is enough.
+    corrupt_onward shape damaged left image positive clean d w rest is enough salvage others after
+    (subst (λ (s : State). Kept shape [] s (Corrupt salvage others) after) is kept)
+
 -- ---- rot in two copies
 
 module _ (shape : Shape) (one other : Where) (left image : Image) (rots : RotsApart shape.place one other left image)
@@ -987,8 +1092,10 @@ two_rots shape one other left image three two element rots = (
   where
     all : (c : ℕ) → SparesStorage shape left image c × ¬ (Contains [] (c + 1))
     all c = storage_stays shape one other left image rots element c
+
     last : (at : Where) → SparesContent shape.place left image at 2 × ¬ (Contains {X = ℕ} [] 3)
     last at = (last_stays shape one other left image rots at, nothing_listed 3)
+
     counts : (at : Where) → AtLeast (λ c. SparesContent shape.place left image at c × ¬ (Contains [] (c + 1))) 3 2
         → HasEnoughContent shape left image at []
     counts at some =

@@ -1,4 +1,4 @@
-use Rattle.element_laws.specs.lemmas.Pieces.{pieces, pieces_case, by_files, two_rots}
+use Rattle.element_laws.specs.lemmas.Pieces.{pieces, pieces_case, onward, by_files, two_rots}
 use Rattle.element_laws.proofs.laws.copies_are_counted_by_pieces.Goals as goal
 
 pub returns-clause-pieces : goal.returns-clause-pieces
@@ -12,3 +12,6 @@ returns-clause-files c = by_files
 
 pub returns-clause-apart : goal.returns-clause-apart
 returns-clause-apart c = two_rots
+
+pub returns-clause-onward : goal.returns-clause-onward
+returns-clause-onward c = onward
