@@ -1,5 +1,5 @@
--- Undamaged copies, counted by pieces: of each element by its own blocks, and of the index apart. Damage made `image` of
--- `left`, which is what a stop left. `before` is the state before the call in progress, and `after` the one after it.
+-- Undamaged copies, counted by pieces: of each element by its own blocks, and of the index apart. Damage made `image`
+-- of `left`, which is what a stop left. `before` is the state before the call in progress, and `after` the one after it.
 use Rattle.std.specs.Prelude.{◌≡◌, ◌≢◌, ◌⊎◌, ℕ, ◌+◌, ◌<◌, ◌≤◌, List, [], ◌∷◌, true, Some, ⊤}
 use Rattle.std.specs.List.{AllZip, Contains}
 use Rattle.per_base.specs.declared.elements.Scope.TheVariants as scope
@@ -109,8 +109,8 @@ FilesLaw = (place : Place) (damaged : List ℕ) (left image : Image) (copy : ℕ
 
 -- ---- from what a stop left
 
--- If the storage opens after the stop, and the damage spares enough copies of the view at which it does, it opens still:
--- with enough copies before, at the view before or at the one after.
+-- If the storage opens after the stop, and the damage spares enough copies of the view at which it does, it opens
+-- still: with enough copies before, at the view before or at the one after.
 abbrev pub StaysOnward : Shape → (left image : Image) → (before after : State) → Type 0
 StaysOnward shape left image (Opens v others) after = HasEnough shape [] v.lacking → (w : View) (rest : List View)
     → store_at left shape ≡ Opens w rest → HasEnoughStorage shape left image w.lacking

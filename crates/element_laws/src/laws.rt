@@ -19,9 +19,9 @@ pub fn untouched_is_kept()
 {}
 
 /// Undamaged copies are counted by pieces, for each element by its own blocks and for the index apart: what is kept
-/// whatever files are damaged is kept so (`pieces`), also after a stop (`stopped`), and what a stop alone keeps by damage
-/// after it (`onward`). A copy of which no file is damaged is undamaged in each piece (`files`); with rot in two copies of
-/// three, each of two elements may have two whole ones where by files one is left (`apart`).
+/// whatever files are damaged is kept so (`pieces`), also after a stop (`stopped`), and what a stop alone keeps by
+/// damage after it (`onward`). A copy of which no file is damaged is undamaged in each piece (`files`); with rot in two
+/// copies of three, each of two elements may have two whole ones where by files one is left (`apart`).
 pub fn copies_are_counted_by_pieces()
     ensures pieces { PiecesLaw }
     ensures stopped { PiecesCaseLaw }
