@@ -1,8 +1,7 @@
 -- Storages of an application, counted by pieces after a stop.
-use Rattle.std.proofs.Common.{◌≡◌, ◌⊎◌, ℕ, suc, ◌<◌, List, [], ◌∷◌, refl, sym, ◌∙◌, subst, inl, inr, ⊎_elim, arith}
+use Rattle.std.proofs.Common.{◌≡◌, ℕ, suc, ◌<◌, List, [], ◌∷◌, refl, sym, ◌∙◌, subst, inl, inr, ⊎_elim, arith}
 use Rattle.std.specs.List.{AllByRecursion, Contains}
 use Rattle.disk_model.specs.Image.{Image}
-use Rattle.disk_model.specs.Case.{Case}
 use Rattle.guarded_cell.specs.Register.{Holds}
 use Rattle.guarded_cell.specs.lemmas.StopLaws.{at_least_one}
 use Rattle.element_state.specs.declared.shapes.Shape.{Shape}
@@ -10,7 +9,7 @@ use Rattle.element_state.specs.States.{State}
 use Rattle.element_laws.specs.Pieces.{OnwardLaw}
 use Rattle.root_text.specs.RootText.{root_of}
 use Rattle.deploy_laws.specs.Places.{root_place}
-use Rattle.deploy_laws.specs.Apps.{App, AreClean, AreVersions, Says, nothing, says_at, says_by, shapes_named}
+use Rattle.deploy_laws.specs.Apps.{AreClean, AreVersions, Says, nothing, says_at, says_by, shapes_named}
 use Rattle.deploy_laws.specs.Laws.{VersionsLaw}
 use Rattle.deploy_laws.specs.Pieces.{of_storage, DecaysApp}
 use Rattle.deploy_laws.specs.Stands.{AreKept, Stands}
