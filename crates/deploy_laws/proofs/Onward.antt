@@ -12,7 +12,7 @@ use Rattle.deploy_laws.specs.Places.{root_place}
 use Rattle.deploy_laws.specs.Apps.{AreClean, AreVersions, Says, nothing, says_at, says_by, shapes_named}
 use Rattle.deploy_laws.specs.Laws.{VersionsLaw}
 use Rattle.deploy_laws.specs.Pieces.{of_storage, DecaysApp}
-use Rattle.deploy_laws.specs.Stands.{AreKept, Stands}
+use Rattle.deploy_laws.specs.Stands.{AreKept}
 use Rattle.deploy_laws.specs.Onward.{StayOnward, OnwardAppLaw}
 use Rattle.deploy_laws.proofs.Covered.{AreDecayed}
 use Rattle.deploy_laws.proofs.Files.{IsFit, all_fit}
@@ -57,23 +57,18 @@ module _ (onward : OnwardLaw) (damaged : List ℕ) (left image : Image) where
     stay shapes before after fit.1 clean.1 decayed.1 kept.1,
   )
 
--- with nothing damaged
-itself : (app : ℕ) (image : Image) → DecaysApp app [] image image
-itself app image place of_app = record { others = λ f outside. refl; pieces = λ x is. is }
-
 pub stands_onward : OnwardLaw → VersionsLaw → OnwardAppLaw
-stands_onward onward versions app before after c damaged image lt case_stands sound decays =
-    let st : Stands app c.left [] before after = case_stands sound [] c.left (itself app c.left) in
-    let go = λ (says : Says) (is : says_at c.left app ≡ says) (xs ys : List State)
-    (kept : AreKept c.left [] (shapes_named app says) xs ys) (clean : AreClean c.left (shapes_named app says)).
-    stay onward damaged c.left image (shapes_named app says) xs ys
-    (all_fit app lt says (subst AreVersions is (versions c.left app))) clean
-    (decayed app damaged c.left image decays says is) kept in
+stands_onward onward versions app before after damaged left image lt stands decays =
+    let go = λ (says : Says) (is : says_at left app ≡ says) (xs ys : List State)
+    (kept : AreKept left [] (shapes_named app says) xs ys) (clean : AreClean left (shapes_named app says)).
+    stay onward damaged left image (shapes_named app says) xs ys
+    (all_fit app lt says (subst AreVersions is (versions left app))) clean (decayed app damaged left image decays says is)
+    kept in
     record {
-      same = λ is stays. go before.says is before.states after.states (st.same is stays)
-          (subst (λ (s : Says). AreClean c.left (shapes_named app s)) is (st.clean (inl is)));
-      old = λ is moves. go before.says is before.states before.states (st.old is moves)
-          (subst (λ (s : Says). AreClean c.left (shapes_named app s)) is (st.clean (inl is)));
-      new = λ is moves. go after.says is after.states after.states (st.new is moves)
-          (subst (λ (s : Says). AreClean c.left (shapes_named app s)) is (st.clean (inr is)));
+      same = λ is stays. go before.says is before.states after.states (stands.same is stays)
+          (subst (λ (s : Says). AreClean left (shapes_named app s)) is (stands.clean (inl is)));
+      old = λ is moves. go before.says is before.states before.states (stands.old is moves)
+          (subst (λ (s : Says). AreClean left (shapes_named app s)) is (stands.clean (inl is)));
+      new = λ is moves. go after.says is after.states after.states (stands.new is moves)
+          (subst (λ (s : Says). AreClean left (shapes_named app s)) is (stands.clean (inr is)));
     }

@@ -3,13 +3,12 @@
 -- damage made of it.
 use Rattle.std.specs.Prelude.{◌≡◌, ◌<◌, ℕ, List, [], ◌∷◌, ⊤}
 use Rattle.disk_model.specs.Image.{Image}
-use Rattle.disk_model.specs.Case.{Case}
 use Rattle.element_state.specs.declared.shapes.Shape.{Shape}
 use Rattle.element_state.specs.States.{State}
 use Rattle.element_laws.specs.Pieces.{StaysOnward}
 use Rattle.deploy_laws.specs.Apps.{App, says_at, shapes_named}
-use Rattle.deploy_laws.specs.Pieces.{IsSoundApp, DecaysApp}
-use Rattle.deploy_laws.specs.Stands.{StandsCase}
+use Rattle.deploy_laws.specs.Pieces.{DecaysApp}
+use Rattle.deploy_laws.specs.Stands.{Stands}
 
 -- each storage stays on its way between its two states; there is one before and one after for each
 abbrev pub StayOnward : (left image : Image) → List Shape → (before after : List State) → Type 0
@@ -29,8 +28,7 @@ pub record StandsOnward (app : ℕ) (left image : Image) (before after : App) : 
   pub new : says_at left app ≡ after.says → ¬ (after.says ≡ before.says)
       → StayOnward left image (shapes_named app after.says) after.states after.states
 
--- what stands whatever files are damaged stands so
+-- what stands after a stop alone stands so after damage
 abbrev pub OnwardAppLaw : Type 0
-OnwardAppLaw = (app : ℕ) (before after : App) (c : Case) (damaged : List ℕ) (image : Image) → app < 8
-    → StandsCase app before after c → IsSoundApp app c → DecaysApp app damaged c.left image
-    → StandsOnward app c.left image before after
+OnwardAppLaw = (app : ℕ) (before after : App) (damaged : List ℕ) (left image : Image) → app < 8
+    → Stands app left [] before after → DecaysApp app damaged left image → StandsOnward app left image before after
