@@ -3,6 +3,7 @@ pub mod Copies
 pub mod Said
 pub mod Files
 pub mod Covered
+pub mod Onward
 pub mod Kept
 pub mod Standing
 pub mod Untouched

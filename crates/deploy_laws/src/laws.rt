@@ -18,9 +18,10 @@ ghost use Rattle.deploy_laws.specs.Laws.{RootAloneLaw, AppFrameLaw, StoredLaw, O
 ghost use Rattle.deploy_laws.specs.Laws.{CoveredLaw};
 ghost use Rattle.deploy_laws.specs.Laws.{RootStandsLaw, StandsCleanLaw, RootMendLaw, UntouchedAppLaw, StillAppLaw};
 ghost use Rattle.deploy_laws.specs.Laws.{OpeningLaw, FormattingLaw, CreatingLaw, WritingLaw, StoringLaw};
+ghost use Rattle.deploy_laws.specs.Onward.{OnwardAppLaw};
 ghost use Rattle.deploy_laws.specs.Refused.{OldVersionLost, OtherRoot, RootRaised, RootTooEarly, StorageStrays};
 
-use element_laws::{places_stand_apart, untouched_is_kept};
+use element_laws::{copies_are_counted_by_pieces, places_stand_apart, untouched_is_kept};
 use guarded_cell::held_is_lawful;
 use manifest::said_is_kept;
 use root_text::one_root;
@@ -113,6 +114,16 @@ pub fn storing_stands()
     said_is_kept();
     one_root();
     untouched_is_kept();
+}
+
+/// Of what a stop leaves of an application, damage leaves each storage and each of its elements while enough copies are
+/// undamaged, counted by pieces: of an element by its own blocks, and of the index apart.
+pub fn damage_is_counted_by_pieces()
+    ensures { OnwardAppLaw }
+{
+    said_is_kept();
+    one_root();
+    copies_are_counted_by_pieces();
 }
 
 /// What a stop and damage may not leave: no root, or another one, where damage spares two copies that held it; what no

@@ -9,6 +9,7 @@ pub mod Left
 pub mod Lists
 pub mod NewText
 pub mod Phases
+pub mod Pieces
 pub mod Refusals
 pub mod Standing
 pub mod TwoTexts

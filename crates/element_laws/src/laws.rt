@@ -6,6 +6,7 @@ ghost use Rattle.element_laws.specs.Phases.{RebuiltContentsLaw, RebuiltDoneLaw, 
 ghost use Rattle.element_laws.specs.Phases.{SoundLaw, SettledLaw, MendStartLaw, MendStepLaw, MendSyncLaw, MendLaw};
 ghost use Rattle.element_laws.specs.Phases.{InUseLaw, CarriedLaw, WholeLaw};
 ghost use Rattle.element_laws.specs.Apart.{FrameLaw, OutsideLaw, ElsewhereLaw, ElsewhereCaseLaw};
+ghost use Rattle.element_laws.specs.Pieces.{PiecesLaw, PiecesCaseLaw, FilesLaw, OnwardLaw, TwoRotsLaw};
 ghost use Rattle.element_laws.specs.Refused.{IndexFirst, IndexFirstRebuilt, OldOverwritten, OtherValue, Planted};
 ghost use Rattle.element_laws.specs.Refused.{CopyEaten, OtherRaised, SalvageRaised, SalvageLost};
 
@@ -15,6 +16,18 @@ use block_files::contents_stand_aside;
 pub fn untouched_is_kept()
     ensures damage { DamageLaw }
     ensures untouched { UntouchedLaw }
+{}
+
+/// Undamaged copies are counted by pieces, for each element by its own blocks and for the index apart: what is kept
+/// whatever files are damaged is kept so (`pieces`), also after a stop (`stopped`), and what a stop alone keeps by
+/// damage after it (`onward`). A copy of which no file is damaged is undamaged in each piece (`files`); with rot in two
+/// copies of three, each of two elements may have two whole ones where by files one is left (`apart`).
+pub fn copies_are_counted_by_pieces()
+    ensures pieces { PiecesLaw }
+    ensures stopped { PiecesCaseLaw }
+    ensures onward { OnwardLaw }
+    ensures files { FilesLaw }
+    ensures apart { TwoRotsLaw }
 {}
 
 /// What a storage is depends on the files of its place alone (`frame`), and those of one place are outside another that

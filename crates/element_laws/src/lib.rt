@@ -8,7 +8,9 @@
 //! after, in both scopes and with shared blocks: it stands as before or as after, no text or value comes up that was
 //! never synchronised, no copy is lost that was not damaged, and its place stays clean.
 //!
-//! Storages at places that are apart do not touch each other ([`places_stand_apart`]).
+//! Storages at places that are apart do not touch each other ([`places_stand_apart`]). Undamaged copies are counted by
+//! files, and, which promises more, by pieces: of each element by its own blocks, and of the index apart
+//! ([`copies_are_counted_by_pieces`]).
 //!
 //! [`places_are_clean`] and [`use_is_adopted`] say where the laws begin and end, and [`outcomes_are_refused`] what they
 //! exclude.
@@ -28,6 +30,7 @@
 mod laws;
 
 pub use laws::{
-    adopting_keeps, contents_keep, index_keeps, mending_keeps, outcomes_are_refused,
-    places_are_clean, places_stand_apart, rebuilding_keeps, untouched_is_kept, use_is_adopted,
+    adopting_keeps, contents_keep, copies_are_counted_by_pieces, index_keeps, mending_keeps,
+    outcomes_are_refused, places_are_clean, places_stand_apart, rebuilding_keeps,
+    untouched_is_kept, use_is_adopted,
 };

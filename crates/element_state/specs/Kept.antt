@@ -107,11 +107,12 @@ StaysOpen shape damaged left (Opens v others) after = HasEnough shape damaged v.
 StaysOpen shape damaged left (Corrupt salvage others) after =
     (w : View) (rest : List View) → left ≡ Opens w rest → BecomesAs shape damaged w after
 
--- where both open alike, the stop has cost no copy
+-- of each text with the headings of the view before, also one that later damage may bring up, the stop has left the
+-- contents and cost no copy
 abbrev pub CopiesStay : Shape → (damaged : List ℕ) → (left before : State) → Type 0
-CopiesStay shape damaged (Opens w rest) (Opens v others) = SameHeadings w v → CostsNoCopy shape damaged w v
-CopiesStay shape damaged (Opens w rest) (Corrupt salvage others) = ⊤
-CopiesStay shape damaged (Corrupt salvage others) before = ⊤
+CopiesStay shape damaged left (Opens v others) = AllByRecursion (λ w. SameHeadings w v → IsFrom w v
+    × CostsNoCopy shape damaged w v) (all_views left)
+CopiesStay shape damaged left (Corrupt salvage others) = ⊤
 
 -- with enough copies left of it, in either scope, an element that was good is good with the same value
 abbrev pub KeepsEach : Shape → (damaged : List ℕ) → (left there : View) → Type 0

@@ -30,4 +30,5 @@ pub mod SamplesEndings
 pub mod SamplesManifests
 pub mod Resting
 pub mod Lives
+pub mod Onward
 pub mod SamplesLives

@@ -579,6 +579,24 @@ lives_go_on laws medium rules answers app lt _ _ (stops old new m pairs life job
     rests laws app lt (medium m) stop.quiet (damaged_clean app (medium m).image (p.damaged ++ stop.damaged) p.before
     p.after (root_at app stop.damaged (pairs_of app (medium old) (medium new) job pairs) p stop.enough at) stands)
 
+-- and by what each stop leaves, with its damage, it came from an image on which it stands so
+pub aged_among : {rules : List Rule} {answers : Answers} → AppLaws → (app : ℕ) → app < 8 → (old new m : Medium)
+    (pairs : List Pair) → Known app old pairs → (job : Job rules answers app old new)
+    → (stop : BeginsAfterStop app (JobMayLeave old new job) (pairs_of app old new job pairs) m)
+    → (p : Pair) × IsAmong (pairs_of app old new job pairs) p × (from : Image)
+    × DecaysApp app (p.damaged ++ stop.damaged) from m.image
+    × ((damaged : List ℕ) (image : Image) → DecaysApp app damaged from image
+    → Stands app image damaged p.before p.after)
+aged_among laws app lt old new m pairs known job stop =
+    let (p, at, so) = behind laws app old new pairs lt job known stop.case stop.is_now in
+    let came = so stop.sound in (
+      p,
+      at,
+      came.0,
+      decays_on app p.damaged stop.damaged came.0 stop.case.left m.image came.1 stop.decays,
+      came.2,
+    )
+
 -- and after each stop, with its damage, it stands so between two of the pairs
 pub stops_keep : {rules : List Rule} {answers : Answers} → AppLaws → (app : ℕ) → app < 8 → (old new m : Medium)
     (pairs : List Pair) → Known app old pairs → (job : Job rules answers app old new)

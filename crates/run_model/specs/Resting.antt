@@ -1,7 +1,7 @@
 -- An application in clean places stands as it is.
-use Rattle.std.specs.Prelude.{◌≡◌, ℕ, List, [], ◌∷◌, ◌++◌, map, Option, Some, None}
+use Rattle.std.specs.Prelude.{◌≡◌, ℕ, List, [], ◌∷◌, ◌++◌, map, Option, Some, None, ⊤}
 use Rattle.std.specs.List.{AllZip, AllByRecursion}
-use Rattle.std.proofs.Common.{refl, ap, inl, inr, arith}
+use Rattle.std.proofs.Common.{refl, sym, subst, ap, inl, inr, arith}
 use Rattle.per_base.specs.declared.elements.Content.{Content}
 use Rattle.per_base.specs.declared.elements.Content.TheVariants.{Good, Bad}
 use Rattle.disk_model.specs.Image.{Image}
@@ -9,8 +9,10 @@ use Rattle.element_state.specs.declared.shapes.Shape.{Shape}
 use Rattle.element_state.specs.declared.shapes.View.{View}
 use Rattle.element_state.specs.Kept.{CostsNoCopy, IsFrom, IsFromOneOf, IsLeftAs, IsLeftOf, KeepsEach, KeepsGood, Kept}
 use Rattle.element_state.specs.Kept.{SameHeadings, all_views, views_in}
+use Rattle.element_state.specs.Clean.{IsClean}
 use Rattle.element_state.specs.States.{State, Opens, Corrupt, salvage_of, store_at}
-use Rattle.deploy_laws.specs.Apps.{app_at, says_at, shapes_named, IsCleanApp}
+use Rattle.element_laws.specs.lemmas.Phases.{one_view}
+use Rattle.deploy_laws.specs.Apps.{AreClean, app_at, says_at, shapes_named, IsCleanApp}
 use Rattle.deploy_laws.specs.Stands.{AreKept, Stands}
 
 zip_same : {X : Type 0} (R : X → X → Type 0) → ((x : X) → R x x) → (xs : List X) → AllZip R xs xs
@@ -56,20 +58,36 @@ no_open salvage others rest w is = let no : 1 ≡ 0 = ap code is in omega (arith
     code (Opens v others) = 0
     code (Corrupt salvage others) = 1
 
-kept_itself : (shape : Shape) (damaged : List ℕ) (state : State) → Kept shape damaged state state state
-kept_itself shape damaged (Opens v others) = record {
+-- no other text has the headings of the one at which it opens
+abbrev HasOneView : State → Type 0
+HasOneView (Opens v others) = AllByRecursion (λ w. SameHeadings w v → w ≡ v) (all_views (Opens v others))
+HasOneView (Corrupt salvage others) = ⊤
+
+copies_stay : (shape : Shape) (damaged : List ℕ) (v : View) (ws : List View)
+    → AllByRecursion (λ w. SameHeadings w v → w ≡ v) ws
+    → AllByRecursion (λ w. SameHeadings w v → IsFrom w v × CostsNoCopy shape damaged w v) ws
+copies_stay shape damaged v [] one = tt
+copies_stay shape damaged v (w ∷ ws) one = (
+  λ same. subst (λ x. IsFrom x v × CostsNoCopy shape damaged x v) (sym (one.0 same))
+      (from_itself v, costs_none shape damaged v),
+  copies_stay shape damaged v ws one.1,
+)
+
+kept_itself : (shape : Shape) (damaged : List ℕ) (state : State) → HasOneView state
+    → Kept shape damaged state state state
+kept_itself shape damaged (Opens v others) one = record {
   known = each_from (all_views (Opens v others)) (views_in (Some v));
   stays = λ enough. (v, others, refl, inl (same_headings v, keeps_good shape damaged v));
-  copies = λ same. costs_none shape damaged v;
+  copies = copies_stay shape damaged v (all_views (Opens v others)) one;
   salvage = tt;
 }
-kept_itself shape damaged (Corrupt None others) = record {
+kept_itself shape damaged (Corrupt None others) one = record {
   known = each_from (all_views (Corrupt None others)) [];
   stays = λ w rest is. absurd (no_open None others rest w is);
   copies = tt;
   salvage = tt;
 }
-kept_itself shape damaged (Corrupt (Some v) others) = record {
+kept_itself shape damaged (Corrupt (Some v) others) one = record {
   known = each_from (all_views (Corrupt (Some v) others)) (views_in (Some v));
   stays = λ w rest is. absurd (no_open (Some v) others rest w is);
   copies = tt;
@@ -84,11 +102,21 @@ kept_itself shape damaged (Corrupt (Some v) others) = record {
   );
 }
 
-are_kept : (image : Image) (damaged : List ℕ) (shapes : List Shape)
+has_one_view : (shape : Shape) (image : Image) → IsClean shape image → (state : State)
+    → store_at image shape ≡ state → HasOneView state
+has_one_view shape image clean (Opens v others) is =
+    subst (λ s. AllByRecursion (λ w. SameHeadings w v → w ≡ v) (all_views s)) is
+    (one_view shape image clean v others is)
+has_one_view shape image clean (Corrupt salvage others) is = tt
+
+are_kept : (image : Image) (damaged : List ℕ) (shapes : List Shape) → AreClean image shapes
     → AreKept image damaged shapes (map (store_at image) shapes) (map (store_at image) shapes)
-are_kept image damaged [] = tt
-are_kept image damaged (shape ∷ shapes) =
-    (kept_itself shape damaged (store_at image shape), are_kept image damaged shapes)
+are_kept image damaged [] clean = tt
+are_kept image damaged (shape ∷ shapes) clean = (
+  kept_itself shape damaged (store_at image shape)
+      (has_one_view shape image clean.0 (store_at image shape) refl),
+  are_kept image damaged shapes clean.1,
+)
 
 -- in clean places it stands between what it is and what it is
 pub stands_itself : (app : ℕ) (image : Image) (damaged : List ℕ) → IsCleanApp app image
@@ -97,9 +125,9 @@ unfolding app_at
 stands_itself app image damaged clean = record {
   bad = λ none. inl none;
   root = λ some spared. inl refl;
-  same = λ is stays. are_kept image damaged (shapes_named app (says_at image app));
-  old = λ is moves. are_kept image damaged (shapes_named app (says_at image app));
-  new = λ is moves. are_kept image damaged (shapes_named app (says_at image app));
+  same = λ is stays. are_kept image damaged (shapes_named app (says_at image app)) clean.storages;
+  old = λ is moves. are_kept image damaged (shapes_named app (says_at image app)) clean.storages;
+  new = λ is moves. are_kept image damaged (shapes_named app (says_at image app)) clean.storages;
   clean_root = clean.root;
   clean = λ is. clean.storages;
 }

@@ -18,12 +18,13 @@ ghost use Rattle.run_model.specs.Laws.{
   NotFurtherBackLaw,
   NowLastsLaw,
 };
+ghost use Rattle.run_model.specs.Onward.{LifeOnwardLaw, MomentOnwardLaw};
 ghost use Rattle.run_model.specs.Laws.{OnTheWayLaw, OneOpenedLaw, OpensAsEitherLaw, OthersStayLaw, RootKeepsLaw};
 ghost use Rattle.run_model.specs.Laws.{RootThenLaw, RunBeginsLaw, RunEndsLaw, RunGoesOnLaw, RunStopsLaw};
 ghost use Rattle.run_model.specs.Laws.{SessionEndsLaw, StartStopsLaw, StorageFailureLastsLaw, StorageLaterLaw};
 ghost use Rattle.run_model.specs.Laws.{SyncedKeepsLaw};
 
-use deploy_laws::{others_stand, roots_stay, untouched_stands};
+use deploy_laws::{damage_is_counted_by_pieces, others_stand, roots_stay, untouched_stands};
 use disk_model::Disk;
 use migrate_fns::Migrations;
 
@@ -75,11 +76,14 @@ pub fn storages_lead_on()
 
 /// At a moment after the last command the root says what it said then, or what the command in progress leads to,
 /// nothing older; and a storage whose command failed at the device opens at its view before or after it, and is not
-/// emptied.
+/// emptied. Whatever damage follows, copies are counted by pieces (`onward`): of each element by its own blocks.
 pub fn moments_are_bounded()
     ensures back { NotFurtherBackLaw }
     ensures either { OpensAsEitherLaw }
-{}
+    ensures onward { MomentOnwardLaw }
+{
+    damage_is_counted_by_pieces();
+}
 
 /// How a command keeps each application at every moment: one that calls no disk, one whose sync of a doubt failed, one
 /// that was answered, and one whose device failed.
@@ -136,12 +140,15 @@ pub fn a_run_goes_on<D: Disk>(migrations: &Migrations, old: &D, now: &D, new: &D
 {}
 
 /// Whatever ends came before, each run of a life begins with clean places, and each application stands between the two
-/// states of one of the pairs that its life keeps; and so it does across each power loss.
+/// states of one of the pairs that its life keeps; and so it does across each power loss, also with copies counted by
+/// pieces (`onward`).
 pub fn a_life_goes_on<D: Disk>(migrations: &Migrations)
     ensures goes_on { LifeLaw D.medium (rules_of migrations.now) (answers_of migrations.now) }
     ensures stops { LifeStopsLaw D.medium (rules_of migrations.now) (answers_of migrations.now) }
+    ensures onward { LifeOnwardLaw D.medium (rules_of migrations.now) (answers_of migrations.now) }
 {
     applications_stand();
+    damage_is_counted_by_pieces();
 }
 
 /// Where every command of a run has ended, all holds that a run promises of the disk (`DiskSide`).

@@ -21,7 +21,8 @@ use Rattle.element_laws.specs.Phases.{OpensAt}
 use Rattle.element_laws.specs.lemmas.Lists.{In, some_is, not_false}
 use Rattle.element_laws.specs.lemmas.Copies.{CopyGives, AreAlike}
 use Rattle.element_laws.specs.lemmas.Fits.{fit_at, In-fit, fit-In, picked_parts}
-use Rattle.element_laws.specs.lemmas.Standing.{gift_of, one_fit, generation_of, EachStands, SparesCopies, Found}
+use Rattle.element_laws.specs.lemmas.Standing.{gift_of, DenotesView, one_fit, generation_of, EachStands}
+use Rattle.element_laws.specs.lemmas.Standing.{SparesCopies, Found}
 use Rattle.element_laws.specs.lemmas.Standing.{kept_opens}
 use Rattle.element_laws.specs.lemmas.Left.{is_whole_at, value_at, named, stands_left, costs_left, enough_left}
 use Rattle.element_laws.specs.lemmas.Left.{enough_held}
@@ -108,6 +109,10 @@ module _ (shape : Shape) (start new : Image) (damaged : List ℕ) (positive : 1 
         (λ e. no_next g e)
         (named shape start clean opens.copy g t i opens.inside opens.held opens.fit e k) c w ltc gives
 
+    its_view : DenotesView shape new g i before
+    its_view = stands_left shape start new damaged positive clean opens.copy g t i opens.inside opens.held opens.fit
+        its_counted
+
     its_costs : CostsNoCopy shape damaged (view_of new shape (fit_at new shape g t i)) before
     its_costs = costs_left shape start new damaged positive clean opens.copy g t i opens.inside opens.held opens.fit
         its_counted whole
@@ -119,8 +124,11 @@ module _ (shape : Shape) (start new : Image) (damaged : List ℕ) (positive : 1 
         let held = subst (λ (k : ℕ). Holds new shape.place copy k t) old.0
         (subst (λ (x : List ℕ). Holds new shape.place copy h x) old.1 v) in
         let at : fit_at new shape g t i ≡ fit_at new shape h u j =
-        λ k. fit_at new shape (sym old.0 k) (sym old.1 k) (one k) in
-        subst (λ y. CostsNoCopy shape damaged (view_of new shape y) before) at (its_costs copy lt held)
+        λ k. fit_at new shape (sym old.0 k) (sym old.1 k) (one k) in (
+          subst (λ (k : ℕ). DenotesView shape new k j before) (sym old.0)
+              (subst (λ (k : Index). DenotesView shape new g k before) one (its_view copy lt held)),
+          subst (λ y. CostsNoCopy shape damaged (view_of new shape y) before) at (its_costs copy lt held),
+        )
     | inr newer ↦ let gen = generation_of shape start (fit_at start shape g t i) in absurd (apart h gen same newer.0)
   ]
     where
@@ -204,8 +212,7 @@ module _ (shape : Shape) (start new : Image) (damaged : List ℕ) (positive : 1 
             | inl le ↦ le
             | inr at ↦ absurd (not_false (sym isnt ∙ subst (λ y. qualifies new shape y ≡ true) (sym at) q))
           ];
-          stands = stands_left shape start new damaged positive clean opens.copy g t i opens.inside opens.held opens.fit
-              (its_counted one.0 one.1 v);
+          stands = its_view one.0 one.1 v;
           enough = enough_left shape start new damaged positive clean opens.copy g t i opens.inside opens.held opens.fit
               (its_counted one.0 one.1 v) whole enough;
           costs = its_costs one.0 one.1 v;

@@ -191,9 +191,13 @@ module _ (shape : Shape) (old new : Image) (damaged : List ℕ) (positive : 1 �
         let one = one_fit shape old clean (fit_at old shape h u j) r.0
         (fit-In old shape x.copy h u j x.inside x.holds fit)
         ((picked_parts (qualifies old shape) (fit_texts shape old) r found).1 r.0 (inl refl)) same in
-        subst (λ y. CostsNoCopy shape damaged (view_of new shape (fit_at new shape h u j)) (view_of old shape y)) one
-        (costs_left shape old new damaged positive clean x.copy h u j x.inside x.holds fit
-        (counted_in copy h u j lt v fit) (whole_in u j fit t))
+        subst (λ y. DenotesView shape new h j (view_of old shape y)
+        × CostsNoCopy shape damaged (view_of new shape (fit_at new shape h u j)) (view_of old shape y)) one (
+          stands_left shape old new damaged positive clean x.copy h u j x.inside x.holds fit
+              (counted_in copy h u j lt v fit),
+          costs_left shape old new damaged positive clean x.copy h u j x.inside x.holds fit
+              (counted_in copy h u j lt v fit) (whole_in u j fit t),
+        )
 
     -- the text itself, where enough copies of it are left
     module _ (enough : HasEnough shape damaged (view_of old shape r.0).lacking) where

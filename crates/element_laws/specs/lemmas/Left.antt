@@ -101,7 +101,7 @@ module _ (shape : Shape) (image : Image) (at : Where) where
       has_value v (gift_of image shape at copy) (is_whole_at image shape copy at)
       (subst (λ o. lacks_at o copy ≡ false) e (not_listed (value_at image shape at) copy lt absent))
 
-that_le : (p q : ℕ → Bool) (n m : ℕ) → ((c : ℕ) → c < n → p c ≡ true → q c ≡ true) → m ≤ length (copies_that p n)
+pub that_le : (p q : ℕ → Bool) (n m : ℕ) → ((c : ℕ) → c < n → p c ≡ true → q c ≡ true) → m ≤ length (copies_that p n)
     → m ≤ length (copies_that q n)
 that_le p q n m h le = passing_enough q n m (at_least_map (λ c. p c ≡ true) (λ c. q c ≡ true) n m h
     (enough_pass p n m le))

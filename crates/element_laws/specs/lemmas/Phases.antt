@@ -2,6 +2,7 @@
 use Rattle.std.proofs.Common.{◌≡◌, ℕ, ◌*◌, ◌<◌, ◌≤◌, ◌⊎◌, Bool, true, false, List, [], ◌∷◌, Option, Some, None, cond}
 use Rattle.std.proofs.Common.{find, refl, sym, ap, subst, ◌∙◌, inl, inr, arith}
 use Rattle.std.specs.Prelude.{map, length, slice_index}
+use Rattle.std.specs.List.{AllByRecursion}
 use Rattle.disk_model.specs.Image.{Image}
 use Rattle.disk_model.specs.Case.{Case, IsSettledAt}
 use Rattle.disk_model.specs.Damage.{DecaysFor, IsSoundFor, IsUndamaged}
@@ -25,13 +26,13 @@ use Rattle.element_state.specs.Views.{qualifies, view_of}
 use Rattle.element_state.specs.States.{State, Opens, Corrupt, beside, first_picked, state_of, store_at, corrupt_state}
 use Rattle.element_state.specs.Clean.{where_of, IsNamed, IsPiece, in_slot, in_blocks, IsClean}
 use Rattle.element_state.specs.Chosen.{chosen, or_first}
-use Rattle.element_state.specs.Kept.{Kept, IsKeptOn}
+use Rattle.element_state.specs.Kept.{Kept, IsKeptOn, SameHeadings, all_views}
 use Rattle.element_laws.specs.Phases.{IsOfPlace, DamageLaw, UntouchedLaw, OpensAt, IsCorruptAt, CorruptLaw, IsSalvageAt}
 use Rattle.element_laws.specs.Phases.{IsAdopted, AdoptLaw, KeepLaw, TakesBlocks, ContentsLaw, ContentsDoneLaw}
-use Rattle.element_laws.specs.lemmas.Lists.{In, all_in, Contains-In, In-map, not_none, not_false, some_is}
+use Rattle.element_laws.specs.lemmas.Lists.{In, all_by, all_in, Contains-In, In-map, not_none, not_false, some_is}
 use Rattle.element_laws.specs.lemmas.Copies.{CopyGives}
-use Rattle.element_laws.specs.lemmas.Fits.{fit-spelled}
-use Rattle.element_laws.specs.lemmas.Standing.{gift_of, generation_of}
+use Rattle.element_laws.specs.lemmas.Fits.{fit-spelled, picked_parts, In-views}
+use Rattle.element_laws.specs.lemmas.Standing.{gift_of, generation_of, one_fit}
 use Rattle.element_laws.specs.lemmas.Left.{is_whole_at}
 use Rattle.element_laws.specs.lemmas.Keeping.{HoldsOnly, IsLess, IsFewer, KeepsAll, less_keeps, at_first, its}
 use Rattle.element_laws.specs.lemmas.Keeping.{its_generation}
@@ -69,6 +70,22 @@ module _ (shape : Shape) (start : Image) where
       → (r : FitText × List FitText) × (pick ≡ Some r) × (view_of start shape r.0 ≡ v)
   unfolding store_at
   opens_pick v others is = picks pick refl v others is
+
+  -- on a clean image no other text has the headings of the one at which it opens
+  pub one_view : IsClean shape start → (v : View) (others : List View) → store_at start shape ≡ Opens v others
+      → AllByRecursion (λ w. SameHeadings w v → w ≡ v) (all_views (store_at start shape))
+  unfolding store_at
+  one_view clean v others is =
+      let (r, e, shown) = opens_pick v others is in
+      let view : FitText → View = view_of start shape in
+      let q : FitText → Bool = qualifies start shape in
+      let xs : List FitText = fit_texts shape start in
+      all_by (λ w. SameHeadings w v → w ≡ v) (all_views (state_of view xs pick)) (λ w h same.
+      let x = In-views view q xs w pick refl h in
+      let gen : x.0.0.generation ≡ r.0.0.generation = sym (generation_of shape start x.0)
+      ∙ ap (λ (u : View). u.generation) x.2 ∙ same.generation ∙ ap (λ (u : View). u.generation) (sym shown)
+      ∙ generation_of shape start r.0 in
+      sym x.2 ∙ ap view (one_fit shape start clean x.0 r.0 x.1 ((picked_parts q xs r e).1 r.0 (inl refl)) gen) ∙ shown)
 
   none_pick : (o : Option (FitText × List FitText)) → pick ≡ o → (salvage : Option View) (others : List View)
       → state_of (view_of start shape) (fit_texts shape start) o ≡ Corrupt salvage others → pick ≡ None

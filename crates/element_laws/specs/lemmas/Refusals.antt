@@ -1,6 +1,6 @@
 -- Outcomes that a stop may not leave, and storages in use.
 use Rattle.std.proofs.Common.{◌≡◌, ℕ, zero, suc, ◌+◌, ◌*◌, ◌<◌, ◌≤◌, List, [], None, refl, sym, ap, subst, ◌∙◌, inl}
-use Rattle.std.proofs.Common.{inr, arith, ◌∷◌, Bool, true, false, cond, find, Option, Some}
+use Rattle.std.proofs.Common.{inr, arith, ◌∷◌, Bool, true, false, cond, find, Some}
 use Rattle.std.specs.Prelude.{map}
 use Rattle.std.specs.List.{AllByRecursion, Contains}
 use Rattle.per_base.specs.declared.elements.Entry.{Entry}
@@ -14,7 +14,7 @@ use Rattle.element_state.specs.Fit.{FitText, fit_index, fit_texts}
 use Rattle.guarded_cell.specs.Register.{Holds}
 use Rattle.element_state.specs.declared.shapes.Shape.{Shape}
 use Rattle.element_state.specs.declared.shapes.View.{View}
-use Rattle.element_state.specs.States.{Opens, Corrupt, beside, first_picked, corrupt_state, state_of, store_at}
+use Rattle.element_state.specs.States.{Opens, beside, first_picked, state_of, store_at}
 use Rattle.block_files.specs.Aside.{Where}
 use Rattle.block_files.specs.Contents.{first_content, lacking}
 use Rattle.element_state.specs.Views.{entry_view, content_of, qualifies, view_of}
@@ -97,7 +97,7 @@ planted shape g h was is never ng nh k = elim k.known.1.0 [
 
 pub copy_eaten : CopyEaten
 copy_eaten shape g copy was is lt k =
-    let costs = k.copies (record { generation = refl; entries = refl }) in
+    let costs = (k.copies.0 (record { generation = refl; entries = refl })).1 in
     costs.0 was copy refl lt (λ j small. nothing_listed (shape.place.first + 4 * copy + j), nothing_listed (copy + 1))
     (Contains-head (copy + 1) (copy + 1) [] refl)
 

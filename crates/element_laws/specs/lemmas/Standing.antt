@@ -27,7 +27,7 @@ use Rattle.element_state.specs.Kept.{KeepsEach, CostsNoCopy, SalvageStays, views
 use Rattle.element_state.specs.Kept.{CopiesStay, Kept}
 use Rattle.element_laws.specs.lemmas.Lists.{In, all_by, some_is, zip_left, zip_with, zip_both}
 use Rattle.element_laws.specs.lemmas.Copies.{Gift, CopyGives, gifts, Backed, left_of, good_now}
-use Rattle.element_laws.specs.lemmas.Fits.{fit_at, In-fit, fit-In, fit_descends, pick_greatest, picked_parts, In-views}
+use Rattle.element_laws.specs.lemmas.Fits.{fit_at, In-fit, fit-In, fit_descends, pick_greatest, In-views}
 
 -- what the copies give of a content
 abbrev pub gift_of : Image → Shape → Where → Gift
@@ -61,11 +61,6 @@ from_one : (w there : View) (vs : List View) → In there vs → IsFrom w there 
 from_one w there [] h f = absurd h
 from_one w there (v ∷ vs) (inl e) f = inl (subst (λ x. IsFrom w x) (sym e) f)
 from_one w there (v ∷ vs) (inr h) f = inr (from_one w there vs h f)
-
-pub corrupt_now : (shape : Shape) (damaged : List ℕ) (vs : List View) (before : State)
-    → CopiesStay shape damaged (corrupt_state vs) before
-corrupt_now shape damaged [] before = tt
-corrupt_now shape damaged (v ∷ vs) before = tt
 
 -- ---- a text, as it is seen on an image
 
@@ -232,22 +227,26 @@ module _ (shape : Shape) (image : Image) (damaged : List ℕ) (positive : 1 ≤ 
       from_one w s.0 (all_views before ++ views_in (salvage_of after)) s.1
       (subst (λ x. IsFrom x s.0) (ap view u.is ∙ r.2) (from u.generation u.text u.index s.0 s.2)))
 
-  -- where it opens now with the same headings, the stop has cost no copy
+  -- each text with the headings of the view has its contents left, and the stop has cost it no copy
   abbrev pub SparesCopies : View → Type 0
   SparesCopies v = (copy g : ℕ) (t : List ℕ) (i : Index) → copy < shape.place.copies
       → Holds image shape.place copy g t → fit_index shape t ≡ Some i
-      → g ≡ v.generation → CostsNoCopy shape damaged (view (fit_at image shape g t i)) v
+      → g ≡ v.generation → DenotesView shape image g i v × CostsNoCopy shape damaged (view (fit_at image shape g t i)) v
 
-  spared_by : (v : View) (others : List View) → SparesCopies v → (o : Option (FitText × List FitText))
-      → first_picked q xs ≡ o
-      → CopiesStay shape damaged (state_of view xs o) (Opens v others)
-  spared_by v others spares None e = corrupt_now shape damaged (map view xs) (Opens v others)
-  spared_by v others spares (Some r) e = λ same.
-      let u = In-fit image shape r.0 ((picked_parts q xs r e).1 r.0 (inl refl)) in
+  spared_by : (v : View) (others : List View) → SparesCopies v
+      → CopiesStay shape damaged (store_at image shape) (Opens v others)
+  unfolding store_at
+  spared_by v others spares = all_by (λ w. SameHeadings w v → IsFrom w v × CostsNoCopy shape damaged w v)
+      (all_views (state_of view xs (first_picked q xs))) (λ w h same.
+      let r = In-views view q xs w (first_picked q xs) refl h in
+      let u = In-fit image shape r.0 r.1 in
+      let is : view (fit_at image shape u.generation u.text u.index) ≡ w = ap view u.is ∙ r.2 in
       let g : u.generation ≡ v.generation = ap (λ (x : FitText). x.0.generation) u.is
-      ∙ sym (generation_of shape image r.0) ∙ same.generation in
-      subst (λ x. CostsNoCopy shape damaged (view x) v) u.is
-      (spares u.copy u.generation u.text u.index u.inside u.holds u.fit g)
+      ∙ sym (generation_of shape image r.0) ∙ ap (λ (x : View). x.generation) r.2 ∙ same.generation in
+      let s = spares u.copy u.generation u.text u.index u.inside u.holds u.fit g in (
+        subst (λ x. IsFrom x v) is (from u.generation u.text u.index v s.0),
+        subst (λ x. CostsNoCopy shape damaged x v) is s.1,
+      ))
 
   pub kept_opens : (v : View) (others : List View) (after : State) → EachStands (Opens v others) after → SparesCopies v
       → (HasEnough shape damaged v.lacking → Found v after)
@@ -256,14 +255,9 @@ module _ (shape : Shape) (image : Image) (damaged : List ℕ) (positive : 1 ≤ 
   kept_opens v others after each spares found = record {
     known = known_by (Opens v others) after each;
     stays = λ enough. opens v others after (found enough) enough;
-    copies = spared_by v others spares (first_picked q xs) refl;
+    copies = spared_by v others spares;
     salvage = tt;
   }
-
-  nothing_before : (x : State) (salvage : Option View) (others : List View)
-      → CopiesStay shape damaged x (Corrupt salvage others)
-  nothing_before (Opens w rest) salvage others = tt
-  nothing_before (Corrupt s o) salvage others = tt
 
   -- where nothing opened before, what opens is the view of after
   pub kept_corrupt : (salvage : Option View) (others : List View) (after : State)
@@ -274,7 +268,7 @@ module _ (shape : Shape) (image : Image) (damaged : List ℕ) (positive : 1 ≤ 
   kept_corrupt salvage others after each like stays = record {
     known = known_by (Corrupt salvage others) after each;
     stays = like;
-    copies = nothing_before (store_at image shape) salvage others;
+    copies = tt;
     salvage = stays;
   }
 

@@ -1,5 +1,5 @@
 -- What a call leaves that calls nothing of the disk.
-use Rattle.std.specs.Prelude.{ℕ, Bool}
+use Rattle.std.specs.Prelude.{Bool}
 use Rattle.disk_model.specs.Medium.{Medium, Quiet, EachCase, IsLawful}
 use Rattle.disk_model.specs.Frame.{IsSettledOn}
 use Rattle.disk_model.specs.Place.{IsOutside}
