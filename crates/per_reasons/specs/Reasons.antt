@@ -1,5 +1,5 @@
 -- Why a line was refused, in words.
-use Rattle.std.specs.Prelude.{◌≡◌, ◌-◌, ⊤, ℕ, List, [], ◌∷◌, ◌++◌, codes, drop, take, Bool, ◌&&◌, nat_eq}
+use Rattle.std.specs.Prelude.{◌≡◌, ◌-◌, ⊤, ℕ, List, [], ◌∷◌, ◌++◌, codes, drop, take, ◌&&◌, nat_eq}
 use Rattle.std.specs.Prelude.{nat_lt, if◌then◌else◌}
 use Rattle.std.specs.Prelude.{Option, Some, None, option_map}
 use Rattle.std.specs.List.{ends_with, starts_with}

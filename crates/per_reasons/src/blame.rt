@@ -1,4 +1,5 @@
-//! Which part of a manifest breaks a rule.
+//! Which part of a manifest breaks a rule. No clause says that: what is named is tried on parts of the manifest as it is
+//! read, and tested for every rule.
 
 use manifest::{ManifestError, read_manifest};
 use per_base::Name;

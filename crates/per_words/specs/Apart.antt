@@ -49,13 +49,13 @@ named_words r [] = []
 named_words r (w ∷ ws) =
     if is_named r w then w ∷ named_words (reading_after r w) ws else named_words (reading_after r w) ws
 
--- the word is this option, and stands before the operands
+-- the word is this option, and no operand
 abbrev pub is_asked : (option : List ℕ) → WordRole → List ℕ → Bool
 is_asked option reading.Word word = bytes_eq word option
 is_asked option reading.Value word = bytes_eq word option
 is_asked option reading.Operand word = false
 
--- some word is
+-- some word before the operands is this option
 abbrev pub asks_for : (option : List ℕ) → WordRole → List (List ℕ) → Bool
 asks_for option r [] = false
 asks_for option r (w ∷ ws) = if is_asked option r w then true else asks_for option (reading_after r w) ws
