@@ -25,12 +25,13 @@ pub record NamesStorage (asked text : List ℕ) : Type 0 where
   pub storage : List ℕ
   pub spelled : text ≡ codes "the manifest allows " ++ (asked ++ (codes " bytes to " ++ storage))
 
--- the text names the one or the other
+-- the text names a key or a storage that a manifest does not fit
 abbrev pub NamesUnfit : Unfit → (asked text : List ℕ) → Type 0
 NamesUnfit unfit.Type asked text = NamesKey asked text
 NamesUnfit unfit.Size asked text = NamesStorage asked text
 
--- the text names the one or the other, by what the answer says of the manifest
+-- the text names a key or a storage that a manifest does not fit, with the type or the number of bytes that the answer
+-- says of the manifest
 pub record NamesPart (answer text : List ℕ) : Type 0 where
   pub unfit : Unfit
   pub asked : List ℕ
