@@ -1,6 +1,7 @@
-//! Why a run ended, in one line on standard error.
+//! Why a run ended, in one line on standard error. It is said after the run and changes nothing of it, and no clause
+//! speaks of it: each line is tested.
 
-use crate::saying::{Screen, say as say_line, typed};
+use crate::saying::{Screen, say as say_line, say_command, typed};
 use per_reasons::{dots_after, word_shown};
 use per_run::{WordsError, read_words};
 use per_words::unknown_in;
@@ -109,7 +110,7 @@ pub(crate) fn say_foreign<R: Screen>(
             "per: the folder {dir} holds other files, and is not formatted: ./per --format --dir {word}"
         ),
     };
-    say_line(rt, alloc, line)
+    say_command(rt, alloc, dir, line)
 }
 
 /// Says why a run ended where its status is not 0. At status 0 it says that a folder is not there or was not formatted,
@@ -310,7 +311,7 @@ pub(crate) fn say_of_folder<R: Files + Screen>(
             "per: the folder {dir} is not formatted: ./per --format --dir {word}"
         ),
     };
-    say_line(rt, alloc, line)
+    say_command(rt, alloc, dir, line)
 }
 
 fn say_no_folder<R: Screen>(rt: &R, alloc: Global, dir: &str) -> io::Result<()> {

@@ -39,6 +39,20 @@ pub(crate) fn typed(alloc: Global, dir: &str) -> Result<String, AllocError> {
     }
 }
 
+/// Says a line with a command on this folder. Where the folder's name has a space the line is not broken: with a break
+/// within the name the command could not be copied.
+pub(crate) fn say_command<R: Screen>(
+    rt: &R,
+    alloc: Global,
+    dir: &str,
+    line: Result<String, AllocError>,
+) -> io::Result<()> {
+    if dir.as_bytes().contains(&b' ') {
+        return rt.eprintln(line?.as_str());
+    }
+    say(rt, alloc, line)
+}
+
 /// Says a line, if there was memory for it.
 pub(crate) fn say<R: Screen>(
     rt: &R,
