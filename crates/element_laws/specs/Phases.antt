@@ -76,7 +76,7 @@ pub record OpensAt (shape : Shape) (start : Image) (generation : ℕ) (text : Li
   pub opens : store_at start shape ≡ Opens view others
   pub generation_is : view.generation ≡ generation
 
--- a storage opens at the first of its texts that qualifies
+-- a storage opens at the first of its texts that qualifies, which is one that enough copies support
 abbrev pub OpenedLaw : Type 0
 OpenedLaw = (shape : Shape) (start : Image) (text : FitText)
     → find (qualifies start shape) (fit_texts shape start) ≡ Some text
@@ -358,7 +358,7 @@ CarriedLaw = (shape : Shape) (image : Image) (index : Index) (v : View) (old e :
     → where_of e ≡ where_of old → IsHeaded e f → f.content ≡ (entry_view image shape.place shape.m old).content
     → IsCarried shape image index e f
 
--- an element that is seen good, and that no copy lacks, is whole in every copy
+-- an element that is readable, and that no copy lacks, is whole in every copy
 abbrev pub WholeLaw : Type 0
 WholeLaw = (shape : Shape) (image : Image) (e : IndexEntry) (value : List ℕ)
     → (entry_view image shape.place shape.m e).content ≡ Good value

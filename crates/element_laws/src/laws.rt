@@ -86,9 +86,9 @@ pub fn mending_keeps()
     contents_stand_aside();
 }
 
-/// A storage opens at the first of its texts that qualifies, and is corrupt where none does. One in use on a clean
-/// image stands as one whose copies were just brought to its text; elements that a commit does not touch are carried as
-/// they were; and an element that is readable and that no copy lacks is whole in every copy.
+/// A storage opens at the first of its texts that enough copies support, and is corrupt where none is such. One in use
+/// on a clean image is as one whose text was just adopted; elements that a commit does not touch are carried; and an
+/// element that is readable and that no copy lacks is whole in every copy.
 pub fn use_is_adopted()
     ensures opened { OpenedLaw }
     ensures corrupt { CorruptLaw }

@@ -11,13 +11,13 @@ use file_core::Room;
 use per_base::PerError;
 
 impl FileTable {
-    /// Writes the piece: it overwrites and extends from the position, or with Append from the size, and the position is
+    /// Writes the piece: it overwrites and extends from the position, or with `APPEND` from the end; the position is
     /// then past it. An empty piece changes nothing.
     ///
     /// # Errors
     ///
-    /// `NotOpen`; `IllegalWriteAccess` for kind Read; `LimitReached` with `FileBytes`; `OutOfStorageSpace`;
-    /// `OutOfMemory`, and this only where the piece reaches past the end of the file.
+    /// `NotOpen` for a number that no handle has; `IllegalWriteAccess` for kind Read; `LimitReached` with `FileBytes`;
+    /// `OutOfStorageSpace`; `OutOfMemory`, and this only where the piece reaches past the end of the file.
     pub fn write(&mut self, number: u32, piece: &[u8]) -> Result<(), PerError>
         // The session after the call, or the refusal that is due, is what `write` gives for the session before.
         ensures ok { OnOk result (calls.write self.old.storage self.old.session self.old.moment number piece.now
@@ -63,7 +63,7 @@ impl FileTable {
     ///
     /// # Errors
     ///
-    /// `NotOpen`; `IllegalWriteAccess` for kind Read; `InvalidSize` where it is above the file's size.
+    /// `NotOpen` for a number that no handle has; `IllegalWriteAccess` for kind Read; `InvalidSize` above the old size.
     pub fn set_size(&mut self, number: u32, size: u64) -> Result<(), PerError>
         // The session after the call, or the refusal that is due, is what `set_size` gives for the session before.
         ensures ok { OnOk result (calls.set_size self.old.session self.old.moment number size ≡ Ok self.new.session) }

@@ -184,11 +184,11 @@ impl FileTable {
         }
     }
 
-    /// Moves the handle to this position. Does not allocate.
+    /// Moves the handle to this position, in bytes from the beginning of its file. Does not allocate.
     ///
     /// # Errors
     ///
-    /// `NotOpen`; `InvalidPosition` where it is above the size.
+    /// `NotOpen` for a number that no handle has; `InvalidPosition` where the position is above the size of the file.
     pub fn set_position(&mut self, number: u32, position: u64) -> Result<(), PerError>
         // The session after the call, or the refusal that is due, is what `set_position` gives for the session
         // before.
@@ -212,7 +212,7 @@ impl FileTable {
     ///
     /// # Errors
     ///
-    /// `NotOpen`; `InvalidPosition` where it is not from 0 to the size.
+    /// `NotOpen` for a number that no handle has; `InvalidPosition` where the new one is not from 0 to the file's size.
     pub fn move_position(
         &mut self,
         number: u32,

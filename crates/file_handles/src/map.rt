@@ -60,10 +60,10 @@ pub fn write_file(
     now: u64,
     room: Room,
 ) -> Result<u32, PerError>
-    // The file is there and readable, and the position is in it.
+    // The file is there and readable, the position is in it or at its end, and no sum of bytes overflows.
     requires held { IsHeldAt (element_at files.old.entries name.now) cursor.old.position }
     requires bounded { room.others ≤ 2 ^ 32 }
-    // The file, its handle and the error are those of a write by this cursor; all other files stay.
+    // The file, the cursor and the error are those of a write by this cursor; all other files stay.
     ensures ok { OnOk result ((old : Element) → element_at files.old.entries name.now ≡ Some old
         → with_changed files.old.entries name.now (core.written cursor.old old piece.now now room)
         ≡ Ok (cursor.new, files.new.entries)) }
@@ -72,7 +72,7 @@ pub fn write_file(
     ensures unchanged { OnErr result ((files.new.entries ≡ files.old.entries) × (cursor.new ≡ cursor.old)) }
     ensures keys { keys_of files.new.entries ≡ keys_of files.old.entries }
     ensures beside { SameBeside files.old.entries files.new.entries name.now }
-    // The sizes in bytes of all files rise by what this one grows, and stay within the room; the position is in it.
+    // All files together grow by what this one does, and stay within the room; the cursor writes, and is in a file.
     ensures size { IfOk result (λ len. (old : Element) → element_at files.old.entries name.now ≡ Some old
         → size_of files.new.entries + old.len ≡ size_of files.old.entries + len) }
     ensures within { IfOk result (λ len. (old : Element) → element_at files.old.entries name.now ≡ Some old
@@ -104,9 +104,9 @@ pub fn cut_file(
     size: u64,
     now: u64,
 ) -> Result<u32, PerError>
-    // The file is there and readable, and the position is in it.
+    // The file is there and readable, and the position is in it or at its end.
     requires { IsHeldAt (element_at files.old.entries name.now) cursor.old.position }
-    // The file, its handle and the error are those of a cut; all other files stay.
+    // The file, the cursor and the error are those of a cut; all other files stay.
     ensures ok { OnOk result ((old : Element) → element_at files.old.entries name.now ≡ Some old
         → with_changed files.old.entries name.now (core.cut cursor.old old size now)
         ≡ Ok (cursor.new, files.new.entries)) }

@@ -10,8 +10,8 @@ use crate::files::Files;
 use per_base::PerError;
 
 impl Files {
-    /// Writes the piece: it overwrites and extends the file from the handle's position on, or with Append from its end
-    /// on, and the position is then past it. An empty piece changes nothing.
+    /// Writes the piece: it overwrites and extends the file from the handle's position on, or with `APPEND` from its
+    /// end on, and the position is then past it. An empty piece changes nothing.
     ///
     /// # Errors
     ///

@@ -36,7 +36,7 @@ pub fn are_same(entries: &[Entry], files: &BTreeMap<Name, File>) -> bool
     rest.is_empty()
 }
 
-/// The changes that make the stored files into the working ones, in the order of the names.
+/// The changes that make the stored files (`entries`) into the working ones (`files`), in the order of the names.
 pub fn differences(
     alloc: Global,
     entries: &[Entry],

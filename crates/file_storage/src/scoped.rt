@@ -104,8 +104,8 @@ impl<'a> Scoped<'a> {
         self.files.read_all(self.handle)
     }
 
-    /// Writes the piece: it overwrites and extends the file from the position on, or with Append from its end on, and
-    /// the position is then past it. An empty piece changes nothing.
+    /// Writes the piece: it overwrites and extends the file from the position on, or with `APPEND` from its end on,
+    /// and the position is then past it. An empty piece changes nothing.
     ///
     /// # Errors
     ///

@@ -41,11 +41,11 @@ name_at bytes = do
   name ← bytes_at len.0 len.1
   only_if (is_name name.0) name
 
--- the kind of storage for which a byte stands
+-- the kind of storage of which a byte is the code
 abbrev pub coded_kind : ℕ → Option StoreKind
 coded_kind code = if code == 1 then Some Keys else (if code == 2 then Some Files else None)
 
--- the cause for which a byte stands, of the creation or last change of a file
+-- the cause of which a byte is the code, of the creation or last change of a file
 abbrev pub coded_cause : ℕ → Option Cause
 coded_cause code = if code == 1 then Some Installation else
     (if code == 2 then Some Update else (if code == 3 then Some Reset else

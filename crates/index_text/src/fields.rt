@@ -42,7 +42,7 @@ fn name_from(alloc: Global, bytes: &[u8]) -> Result<Name, IndexError>
     }
 }
 
-/// The kind of storage for which this byte stands.
+/// The kind of storage of which this byte is the code: 1 of keys, 2 of files; `NotAnIndex` of any other byte.
 pub fn kind_from(code: u8) -> Result<StoreKind, IndexError>
     ensures { Gives (λ kind. kind) result (coded_kind code) }
 {

@@ -54,7 +54,7 @@ pub struct Noted<'a, D: Drop> {
 }
 
 impl<'a, D: Drop> Noted<'a, D> {
-    /// This device, whose failures are noted from then on where they are answered.
+    /// This device; each of its calls that fails from then on is noted in `notes`.
     pub fn new(device: D, notes: &'a Notes) -> Noted<'a, D>
         ensures { result.device ≡ device }
     {

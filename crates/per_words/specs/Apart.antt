@@ -37,17 +37,17 @@ options_in r [] = []
 options_in r (w ∷ ws) =
     if is_of_options r w then w ∷ options_in (reading_after r w) ws else options_in (reading_after r w) ws
 
--- the word is named: it is an operand, or no option
-abbrev pub is_named : WordRole → List ℕ → Bool
-is_named reading.Word word = not (is_option word)
-is_named reading.Value word = false
-is_named reading.Operand word = true
+-- the word is one of the call: it is an operand, or no option
+abbrev pub is_call_word : WordRole → List ℕ → Bool
+is_call_word reading.Word word = not (is_option word)
+is_call_word reading.Value word = false
+is_call_word reading.Operand word = true
 
--- all words that are named
+-- all words of the call
 abbrev pub named_words : WordRole → List (List ℕ) → List (List ℕ)
 named_words r [] = []
 named_words r (w ∷ ws) =
-    if is_named r w then w ∷ named_words (reading_after r w) ws else named_words (reading_after r w) ws
+    if is_call_word r w then w ∷ named_words (reading_after r w) ws else named_words (reading_after r w) ws
 
 -- the word is this option, and no operand
 abbrev pub is_asked : (option : List ℕ) → WordRole → List ℕ → Bool

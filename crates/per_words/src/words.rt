@@ -3,7 +3,7 @@
 ghost use Rattle.std.specs.Prelude.{◌≡◌, IfOk, codes, map, string_bytes};
 ghost use Rattle.std.specs.Str.{bytes_eq};
 ghost use Rattle.value_text.specs.Readers.{Finds};
-ghost use Rattle.per_words.specs.Apart.{asks_for, has_value, is_asked, is_flag, is_known, is_named, is_of_options};
+ghost use Rattle.per_words.specs.Apart.{asks_for, has_value, is_asked, is_call_word, is_flag, is_known, is_of_options};
 ghost use Rattle.per_words.specs.Apart.{is_option, is_unknown, named_words, options_in, reading_after, takes_value};
 ghost use Rattle.per_words.specs.Apart.{unknown_in};
 
@@ -46,7 +46,7 @@ pub fn named_words<'a>(alloc: Global, words: &'a [String]) -> Result<Vec<&'a [u8
     let mut named = Vec::new(alloc);
     let mut reading = WordRole::Word;
     for word in words {
-        let is_taken = is_named(reading, word.as_bytes());
+        let is_taken = is_call_word(reading, word.as_bytes());
         reading = reading_after(reading, word.as_bytes());
         if is_taken {
             named.push(word.as_bytes())?;
@@ -115,9 +115,9 @@ fn is_of_options(reading: WordRole, word: &[u8]) -> bool
     }
 }
 
-/// Whether the word is an operand, or no option.
-fn is_named(reading: WordRole, word: &[u8]) -> bool
-    ensures { result ≡ is_named reading word.now }
+/// Whether the word is one of the call: an operand, or no option.
+fn is_call_word(reading: WordRole, word: &[u8]) -> bool
+    ensures { result ≡ is_call_word reading word.now }
 {
     match reading {
         WordRole::Word => !is_option(word),

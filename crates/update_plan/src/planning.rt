@@ -50,7 +50,7 @@ pub fn plan(
     ensures plan { UnlessOutOfMemory (viewed_items (λ x. x.items) result)
         (PlansAll (rules_of migrations.now) (answers_of migrations.now) now
         (plans.stored_for (deployment_data old.now) contents.now) (map storage_data new.now.storages)) }
-    // What is `made` for each storage can be stored in it as it is: names ascend, and no bound is passed.
+    // What is `made` for each storage can be stored in it as it is: names ascend, and no limit is exceeded.
     ensures fits { IfOk result (λ made. AllFit (map storage_data new.now.storages) made.items) }
 {
     let mut plans = Vec::new(alloc);

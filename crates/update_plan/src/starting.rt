@@ -20,7 +20,7 @@ pub fn initial_of(
     now: u64,
 ) -> Result<Vec<Fresh>, AllocError>
     requires { IsStorage (storage_data config.now) }
-    // What is `made` is these elements, in the order of their names, and can be stored as it is: no bound is passed.
+    // What is `made` is these elements, in the order of their names, and can be stored as it is: no limit is exceeded.
     ensures contents { IfOk result (λ made. made.items ≡ initial_contents (storage_data config.now) cause now) }
     ensures limits { IfOk result (λ made. AreContents config.now.kind config.now.maximum made.items) }
 {
