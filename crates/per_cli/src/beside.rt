@@ -1,8 +1,12 @@
 //! The files of a folder beside a run of this process that holds it: they are read, and none is changed.
+//!
+//! A file that cannot be opened counts as not there, and what cannot be read as zeros, as the run takes it. But where
+//! the reason is none of the file's own, as that no descriptor is left, the call fails: else an older copy could be
+//! taken for what is stored.
 
 ghost use Rattle.std.specs.Prelude.{◌≡◌, IfOk};
 
-use per_system::DeviceKind;
+use per_system::{DeviceKind, unless_outside};
 use std::alloc::Global;
 use std::fs::{self, File, OpenOptions};
 use std::io;
@@ -13,8 +17,7 @@ use system_model::{Reading, System};
 /// How many bytes the system reads as one, and cannot read as one.
 const PAGE_BYTES: u64 = 4096;
 
-/// The files of a folder. What the run wrote is read at once, durable or not; what cannot be opened counts as not
-/// there.
+/// The files of a folder. What the run wrote is read at once, durable or not.
 #[derive(Drop)]
 pub(crate) struct Beside<'a, R: Files<File = File>> {
     pub(crate) rt: &'a R,
@@ -53,14 +56,14 @@ impl<'a, R: Files<File = File>> System for Beside<'a, R> {
     fn is_file(&mut self, file: u32) -> io::Result<bool> {
         match fs::metadata(self.rt, self.path_of(file)?.as_str()) {
             Ok(found) => Ok(found.is_file()),
-            Err(_) => Ok(false),
+            Err(error) => unless_outside(error, false),
         }
     }
 
     fn open(&mut self, file: u32) -> io::Result<Option<BesideFile>> {
         match self.opened(file) {
             Ok(found) => Ok(Some(found)),
-            Err(_) => Ok(None),
+            Err(error) => unless_outside(error, None),
         }
     }
 
@@ -77,7 +80,10 @@ impl<'a, R: Files<File = File>> System for Beside<'a, R> {
     fn read(&mut self, file: &BesideFile, at: u64, out: &mut [u8]) -> io::Result<Reading> {
         match file.file.read_at(out, at) {
             Ok(count) => Ok(Reading::Bytes(count)),
-            Err(_) => Ok(Reading::Unreadable((PAGE_BYTES - at % PAGE_BYTES) as usize)),
+            Err(error) => {
+                let rest = (PAGE_BYTES - at % PAGE_BYTES) as usize;
+                unless_outside(error, Reading::Unreadable(rest))
+            }
         }
     }
 

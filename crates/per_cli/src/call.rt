@@ -7,7 +7,7 @@
 ghost use Rattle.std.specs.Prelude.{◌≤◌, length};
 
 use crate::causes::none_of_these;
-use crate::saying::{Screen, say};
+use crate::saying::{Screen, say, say_awaited};
 use crate::{NO_DISK, NO_INPUT, REFUSED_CALL, REFUSED_WORDS, program};
 use command_text::LineError;
 use memchr::memchr;
@@ -28,6 +28,13 @@ const CONTENT_BYTES: u64 = 1_048_577;
 
 /// How many bytes a manifest has at most.
 const MANIFEST_BYTES: usize = 65_536;
+
+/// What is said to a person who is to type a content, or a manifest.
+const CONTENT_AWAITED: &str =
+    "per: the content is awaited; Ctrl-D at the beginning of a line ends it";
+
+const MANIFEST_AWAITED: &str =
+    "per: the manifest is awaited; Ctrl-D at the beginning of a line ends it";
 
 /// How many digits of the bytes of a file are turned into bytes at once, an even number.
 const DIGITS: usize = 65_536;
@@ -303,7 +310,7 @@ fn status_of_lines<R: Files<File = File> + AllocGlobal + Print + Screen>(
 }
 
 /// The lines of the call: its name, its application or storage, and what it takes.
-fn lines_of_call<R: Files<File = File> + AllocGlobal + Input>(
+fn lines_of_call<R: Files<File = File> + AllocGlobal + Input + Screen>(
     rt: &R,
     alloc: Global,
     named: &[&[u8]],
@@ -317,6 +324,7 @@ fn lines_of_call<R: Files<File = File> + AllocGlobal + Input>(
             lines_of_manifest(alloc, call, target, manifest.as_slice())
         }
         [file] if is_first(named, b"put") => {
+            say_awaited(rt, CONTENT_AWAITED);
             let content = input_of(rt, alloc)?;
             Ok(content_lines(alloc, target, file, content.as_slice())?)
         }
@@ -360,13 +368,16 @@ fn is_digit(byte: u8) -> bool {
 }
 
 /// The manifest in this file; the file `-` is standard input.
-fn manifest_in<R: Files<File = File> + AllocGlobal + Input>(
+fn manifest_in<R: Files<File = File> + AllocGlobal + Input + Screen>(
     rt: &R,
     alloc: Global,
     file: &[u8],
 ) -> Result<Vec<u8>, Unmade> {
     match str::from_utf8(file) {
-        Ok("-") => Ok(input_of(rt, alloc)?),
+        Ok("-") => {
+            say_awaited(rt, MANIFEST_AWAITED);
+            Ok(input_of(rt, alloc)?)
+        }
         Ok(file) => Ok(bytes_in(rt, alloc, file)?),
         Err(_) => Err(Unmade::Refused),
     }

@@ -1,6 +1,7 @@
-//! Why a run ended, in one line on standard error.
+//! Why a run ended, in one line on standard error. It is said after the run and changes nothing of it, and no clause
+//! speaks of it: each line is tested.
 
-use crate::saying::{Screen, say as say_line};
+use crate::saying::{Screen, say as say_line, say_command, typed};
 use per_reasons::{dots_after, word_shown};
 use per_run::{WordsError, read_words};
 use per_words::unknown_in;
@@ -75,12 +76,15 @@ pub(crate) struct Ended<'a> {
 }
 
 /// Says why a command was answered by error 4.
-pub(crate) fn say_answered<R: Screen>(
+pub(crate) fn say_answered<R: Files + Screen>(
     rt: &R,
     alloc: Global,
     dir: &str,
     fault: Option<Fault>,
 ) -> io::Result<()> {
+    if !has_folder(rt, dir) {
+        return say_no_folder(rt, alloc, dir);
+    }
     say_failure(
         rt,
         alloc,
@@ -97,15 +101,16 @@ pub(crate) fn say_foreign<R: Screen>(
     dir: &str,
     flash: Option<u32>,
 ) -> io::Result<()> {
+    let word = typed(alloc, dir)?;
     let line = match flash {
         Some(blocks) => format!(in alloc;
-            "per: the folder {dir} holds other files and no flash: ./per --format --flash {blocks} --dir {dir}"
+            "per: the folder {dir} holds other files and no flash: ./per --format --flash {blocks} --dir {word}"
         ),
         None => format!(in alloc;
-            "per: the folder {dir} holds other files, and is not formatted: ./per --format --dir {dir}"
+            "per: the folder {dir} holds other files, and is not formatted: ./per --format --dir {word}"
         ),
     };
-    say_line(rt, alloc, line)
+    say_command(rt, alloc, dir, line)
 }
 
 /// Says why a run ended where its status is not 0. At status 0 it says that a folder is not there or was not formatted,
@@ -152,11 +157,7 @@ fn say_of_device<R: Files + Screen>(rt: &R, alloc: Global, ended: &Ended<'_>) ->
         return say_line(rt, alloc, format!(in alloc; "per: {dir} is no folder"));
     }
     if !has_folder(rt, dir) {
-        return say_line(
-            rt,
-            alloc,
-            format!(in alloc; "per: there is no folder {dir}"),
-        );
+        return say_no_folder(rt, alloc, dir);
     }
     if is_held(ended) {
         let line = format!(in alloc; "per: the folder {dir} is in use by another run");
@@ -197,11 +198,13 @@ fn wrong_words(alloc: Global, words: &[String]) -> Result<Option<String>, AllocE
     Ok(Some(String::from_str(alloc, why)?))
 }
 
-/// That the word is none of the arguments, where it can be shown.
+/// That the word is none of these arguments, where it can be shown, or where alone it stands.
 pub(crate) fn none_of_these(alloc: Global, word: &[u8]) -> Result<Option<String>, AllocError> {
     let dots = dots_after(word);
     match str::from_utf8(word_shown(word)) {
         Ok("") | Err(_) => Ok(None),
+        Ok("--demo") => Ok(Some(String::from_str(alloc, "--demo stands alone")?)),
+        Ok("--json") => Ok(Some(String::from_str(alloc, "--json stands beside ls alone")?)),
         Ok(word) => Ok(Some(format!(in alloc; "{word}{dots} is none of these")?)),
     }
 }
@@ -241,12 +244,20 @@ fn is_option(word: &String, option: &str) -> bool {
 
 fn say_of_answers<R: Files + Screen>(rt: &R, alloc: Global, ended: &Ended<'_>) -> io::Result<()> {
     if (ended.takes_lines || ended.lists) && !ended.has_files {
+        if is_told(rt, ended) {
+            return Ok(());
+        }
         say_of_folder(rt, alloc, ended.dir, ended.flash)
     } else if ended.disk.is_some() && !ended.takes_lines {
         say_answered(rt, alloc, ended.dir, ended.disk)
     } else {
         Ok(())
     }
+}
+
+/// Whether it was said already that there is no folder: of a command for which the disk failed.
+fn is_told<R: Files>(rt: &R, ended: &Ended<'_>) -> bool {
+    ended.disk.is_some() && !has_folder(rt, ended.dir)
 }
 
 /// Says why a flash has the wrong size.
@@ -289,20 +300,22 @@ pub(crate) fn say_of_folder<R: Files + Screen>(
     flash: Option<u32>,
 ) -> io::Result<()> {
     if !has_folder(rt, dir) {
-        return say_line(
-            rt,
-            alloc,
-            format!(in alloc; "per: there is no folder {dir}"),
-        );
+        return say_no_folder(rt, alloc, dir);
     }
+    let word = typed(alloc, dir)?;
     let line = match flash {
         Some(blocks) => format!(in alloc;
-            "per: the flash in {dir} is not formatted: ./per --format --flash {blocks} --dir {dir}"
+            "per: the flash in {dir} is not formatted: ./per --format --flash {blocks} --dir {word}"
         ),
         None => format!(in alloc;
-            "per: the folder {dir} is not formatted: ./per --format --dir {dir}"
+            "per: the folder {dir} is not formatted: ./per --format --dir {word}"
         ),
     };
+    say_command(rt, alloc, dir, line)
+}
+
+fn say_no_folder<R: Screen>(rt: &R, alloc: Global, dir: &str) -> io::Result<()> {
+    let line = format!(in alloc; "per: there is no folder {dir}");
     say_line(rt, alloc, line)
 }
 

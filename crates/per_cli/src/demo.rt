@@ -1,6 +1,6 @@
 //! A first session, shown whole.
 
-use crate::saying::{Screen, say};
+use crate::saying::{Screen, say, typed};
 use crate::{NO_MEMORY, NO_OUTPUT, program};
 use std::alloc::{AllocError, Global};
 use std::env::{self, Env};
@@ -95,7 +95,8 @@ fn shown<R: Files<File = File> + AllocGlobal + Env + Print + Screen>(
     if status == 0 {
         status = run(rt, dir.as_str(), false, &SECOND_RUN)?;
     }
-    println!(rt; "The folder stays: rm -r {dir}")?;
+    let word = typed(rt.alloc(), dir.as_str())?;
+    println!(rt; "The folder stays: rm -r {word}")?;
     Ok(status)
 }
 
@@ -106,12 +107,13 @@ fn run<R: Files<File = File> + AllocGlobal + Print + Screen>(
     is_format: bool,
     lines: &[&'static str],
 ) -> io::Result<u8> {
+    let word = typed(rt.alloc(), dir)?;
     let mut words = Vec::new(rt.alloc());
     if is_format {
         words.push(String::from_str(rt.alloc(), "--format")?)?;
-        println!(rt; "$ ./per --format --dir {dir}")?;
+        println!(rt; "$ ./per --format --dir {word}")?;
     } else {
-        println!(rt; "$ ./per --dir {dir}")?;
+        println!(rt; "$ ./per --dir {word}")?;
     }
     words.push(String::from_str(rt.alloc(), "--dir")?)?;
     words.push(String::from_str(rt.alloc(), dir)?)?;

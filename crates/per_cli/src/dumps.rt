@@ -4,7 +4,7 @@
 //! after another, each whole or not at all.
 
 use crate::causes::{Ended, Fault, say};
-use crate::saying::{Screen, say as say_line};
+use crate::saying::{Screen, say as say_line, say_awaited};
 use crate::{
     NO_DISK, NO_INPUT, NO_MEMORY, NO_OUTPUT, REFUSED_CALL, REFUSED_WORDS, WRONG_SIZE, program,
 };
@@ -37,6 +37,9 @@ const UNUSABLE: u8 = 10;
 const DUMP_TAKES: &str = "dump takes one application, 0 to 7, or none";
 
 const RESTORE_TAKES: &str = "restore takes one file, or none";
+
+/// What is said to a person who is to type a dump.
+const DUMP_AWAITED: &str = "per: the dump is awaited; Ctrl-D at the beginning of a line ends it";
 
 const BESIDE: &str = "options are --dir DIR and --flash N alone";
 
@@ -144,7 +147,7 @@ fn input_name<'a>(named: &[&'a [u8]]) -> &'a str {
 }
 
 /// What the words ask for, and where.
-fn begun<R: Files<File = File> + Input>(
+fn begun<R: Files<File = File> + Input + Screen>(
     rt: &R,
     alloc: Global,
     words: &[String],
@@ -158,6 +161,7 @@ fn begun<R: Files<File = File> + Input>(
         }
         [word] if *word == b"restore".as_slice() => {
             let mut text = Vec::new(alloc);
+            say_awaited(rt, DUMP_AWAITED);
             rt.reader().read_to_end(&mut text)?;
             Wanted::Restore(dump_in(alloc, text.as_slice())?)
         }

@@ -7,7 +7,7 @@ use std::alloc::{AllocError, Global};
 use std::io::{self, Write};
 
 /// The version of the sources.
-const VERSION: &str = "0.17.0";
+const VERSION: &str = "0.18.0";
 
 /// A column after which no word stands.
 const FULL: usize = 80;
@@ -49,7 +49,7 @@ power loss, lost copies and updates.
                                 4 to 4096; beside each of the words above
   ./per --demo                  shows a first session, in a folder of its own
   ./per --help                  shows this, also beside other words
-  ./per --version               shows the version
+  ./per --version               shows the version, likewise
 
 Calls. One call by itself: its storage is opened before it, and what it changes
 is made durable after it. A value stands alone on standard output, an error on

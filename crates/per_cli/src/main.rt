@@ -36,8 +36,8 @@ mod trying;
 use asking::Asking;
 use per_run::{JobKind, read_words};
 use per_system::fill_streams;
-use per_words::{asks_help, is_call, named_words};
-use saying::{Screen, say};
+use per_words::{asks_for, is_call, named_words};
+use saying::{Screen, say, say_awaited};
 use std::alloc::{AllocError, Global};
 use std::io::IsTerminal;
 use std::process::{self, ExitCode};
@@ -66,6 +66,10 @@ const WRONG_SIZE: u8 = 11;
 
 /// The status where the arguments cannot be read.
 const NO_WORDS: u8 = 12;
+
+/// What is said to a person who is to type an export.
+const EXPORT_AWAITED: &str =
+    "per: the export is awaited; Ctrl-D at the beginning of a line ends it";
 
 /// How many bytes an argument has at most of which it is said that it is no text.
 const ARGUMENT_BYTES: usize = 4096;
@@ -120,7 +124,12 @@ fn main(rt: HostRuntime) -> ExitCode {
         Asked::Run if is_asked(&rt, &words) => {
             program::run_asked(&rt, &words, Asking::new(&rt, rt.alloc()), rt.stdout())
         }
-        Asked::Run => program::run(&rt, &words, rt.stdin(), rt.stdout()),
+        Asked::Run => {
+            if awaits_export(&rt, &words) {
+                say_awaited(&rt, EXPORT_AWAITED);
+            }
+            program::run(&rt, &words, rt.stdin(), rt.stdout())
+        }
     };
     ExitCode::from(status)
 }
@@ -190,13 +199,15 @@ fn status_of(error: &io::Error) -> u8 {
 }
 
 fn wish_of(words: &[String], named: &[&[u8]]) -> Asked {
-    if asks_help(words) {
+    if asks_for(words, b"--help") {
         return Asked::Help;
+    }
+    if asks_for(words, b"--version") {
+        return Asked::Version;
     }
     match words {
         [word] => match word.as_str() {
             "-h" => return Asked::Help,
-            "--version" => return Asked::Version,
             "--demo" => return Asked::Demo,
             _ => {}
         },
@@ -218,6 +229,17 @@ fn is_asked(rt: &HostRuntime, words: &[String]) -> bool {
     }
     match read_words(rt.alloc(), words) {
         Ok(job) => matches!(job.kind, JobKind::Run | JobKind::Serve),
+        Err(_) => false,
+    }
+}
+
+/// Whether a person at a terminal is to type the export that an import takes.
+fn awaits_export(rt: &HostRuntime, words: &[String]) -> bool {
+    if !rt.stdin().is_terminal() {
+        return false;
+    }
+    match read_words(rt.alloc(), words) {
+        Ok(job) => matches!(job.kind, JobKind::Import(_, _)),
         Err(_) => false,
     }
 }

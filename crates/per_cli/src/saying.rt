@@ -1,19 +1,56 @@
 //! What is said on standard error: lines, which are broken between their words where a screen shows them.
 
-use per_words::broken;
+use per_words::{broken, quoted};
 use std::alloc::{AllocError, Global};
 use std::io::{self, IsTerminal};
 
-/// A standard error, which a screen may show.
+/// A standard error, which a screen may show, and a standard input, which may be typed.
 pub(crate) trait Screen: Eprint {
-    /// Whether one does.
+    /// Whether a screen shows standard error.
     fn has_screen(&self) -> bool;
+
+    /// Whether standard input is typed.
+    fn is_typed(&self) -> bool;
 }
 
 impl Screen for HostRuntime {
     fn has_screen(&self) -> bool {
         self.stderr().is_terminal()
     }
+
+    fn is_typed(&self) -> bool {
+        self.stdin().is_terminal()
+    }
+}
+
+/// Says by this line what is awaited on standard input, where a person is to type it.
+pub(crate) fn say_awaited<R: Screen>(rt: &R, line: &str) {
+    if rt.is_typed() {
+        let _ = rt.eprintln(line);
+    }
+}
+
+/// The name of a folder as it is typed in a shell.
+pub(crate) fn typed(alloc: Global, dir: &str) -> Result<String, AllocError> {
+    let word = quoted(alloc, dir.as_bytes())?;
+    match str::from_utf8(word.as_slice()) {
+        Ok(word) => String::from_str(alloc, word),
+        Err(_) => String::from_str(alloc, dir),
+    }
+}
+
+/// Says a line with a command on this folder. Where the folder's name has a space the line is not broken: with a break
+/// within the name the command could not be copied.
+pub(crate) fn say_command<R: Screen>(
+    rt: &R,
+    alloc: Global,
+    dir: &str,
+    line: Result<String, AllocError>,
+) -> io::Result<()> {
+    if dir.as_bytes().contains(&b' ') {
+        return rt.eprintln(line?.as_str());
+    }
+    say(rt, alloc, line)
 }
 
 /// Says a line, if there was memory for it.

@@ -1,8 +1,8 @@
 -- Why a line was refused, in words.
-use Rattle.std.specs.Prelude.{◌≡◌, ◌-◌, ⊤, ℕ, List, [], ◌∷◌, ◌++◌, codes, drop, take, Bool, ◌&&◌, nat_eq}
+use Rattle.std.specs.Prelude.{◌≡◌, ◌-◌, ⊤, ℕ, List, [], ◌∷◌, ◌++◌, codes, drop, take, ◌&&◌, nat_eq}
 use Rattle.std.specs.Prelude.{nat_lt, if◌then◌else◌}
 use Rattle.std.specs.Prelude.{Option, Some, None, option_map}
-use Rattle.std.specs.List.{ends_with}
+use Rattle.std.specs.List.{ends_with, starts_with}
 use Rattle.std.specs.Fmt.{decimal}
 use Rattle.std.specs.Str.{IsUtf8}
 use Rattle.per_words.specs.Flaws.{after_space, flaw_in, has_space, leading_length, leading_word, takes_text}
@@ -13,24 +13,38 @@ use Rattle.per_reasons.specs.Rules.{rule_text}
 
 -- ---- a text that is no line
 
--- what a line has at a place; none where it has nothing more
-abbrev pub needed_text : Needed → Option (List ℕ)
-needed_text needed.Application = Some (codes "an application, 0 to 7, or now or end")
-needed_text needed.CallWord = Some (codes "the word of a call")
-needed_text needed.Name = Some (codes "a name of 1 to 255 ASCII letters, digits, _, -, . or /")
-needed_text needed.Handle = Some (codes "the number of a handle")
-needed_text needed.Number = Some (codes "a number")
-needed_text needed.TypeText = Some (codes "a type, as u8")
-needed_text needed.ValueText = Some (codes "a value, as u8:1 or text:\"a\"")
-needed_text needed.Octets = Some (codes "bytes in two hexadecimal digits each, as 00ff")
-needed_text needed.Octet = Some (codes "a byte in two hexadecimal digits, as 0a")
-needed_text needed.Manifest = Some (codes "a manifest")
-needed_text needed.OpenKind = Some (codes "r, w or rw")
-needed_text needed.OpenMode =
+-- a value, in the place of this text: one of the type of numbers with which it begins
+abbrev pub needed_value : List ℕ → List ℕ
+needed_value text =
+    if starts_with nat_eq text (codes "u8:") then codes "one of u8:0 to u8:255" else (
+    if starts_with nat_eq text (codes "u16:") then codes "one of u16:0 to u16:65535" else (
+    if starts_with nat_eq text (codes "u32:") then codes "one of u32:0 to u32:4294967295" else (
+    if starts_with nat_eq text (codes "u64:") then codes "one of u64:0 to u64:18446744073709551615" else (
+    if starts_with nat_eq text (codes "i8:") then codes "one of i8:-128 to i8:127" else (
+    if starts_with nat_eq text (codes "i16:") then codes "one of i16:-32768 to i16:32767" else (
+    if starts_with nat_eq text (codes "i32:") then codes "one of i32:-2147483648 to i32:2147483647" else (
+    if starts_with nat_eq text (codes "i64:")
+    then codes "one of i64:-9223372036854775808 to i64:9223372036854775807"
+    else codes "a value, as u8:1 or text:\"a\"")))))))
+
+-- what a line has at a place, in the place of this text; none where it has nothing more
+abbrev pub needed_text : Needed → (text : List ℕ) → Option (List ℕ)
+needed_text needed.Application text = Some (codes "an application, 0 to 7, or now or end")
+needed_text needed.CallWord text = Some (codes "the word of a call")
+needed_text needed.Name text = Some (codes "a name of 1 to 255 ASCII letters, digits, _, -, . or /")
+needed_text needed.Handle text = Some (codes "the number of a handle")
+needed_text needed.Number text = Some (codes "a number")
+needed_text needed.TypeText text = Some (codes "a type, as u8")
+needed_text needed.ValueText text = Some (needed_value text)
+needed_text needed.Octets text = Some (codes "bytes in two hexadecimal digits each, as 00ff")
+needed_text needed.Octet text = Some (codes "a byte in two hexadecimal digits, as 0a")
+needed_text needed.Manifest text = Some (codes "a manifest")
+needed_text needed.OpenKind text = Some (codes "r, w or rw")
+needed_text needed.OpenMode text =
     Some (codes "none, or some of begin, end, truncate, append in this order, joined by +")
-needed_text needed.Origin = Some (codes "begin, current or end")
-needed_text needed.Offset = Some (codes "a number, as 1 or -1")
-needed_text needed.End = None
+needed_text needed.Origin text = Some (codes "begin, current or end")
+needed_text needed.Offset text = Some (codes "a number, as 1 or -1")
+needed_text needed.End text = None
 
 -- what is said of a line that ends with a carriage return
 abbrev pub ending_text : List ℕ → List ℕ
@@ -46,7 +60,9 @@ column_text (Some needed) column ending =
 -- what is said of a text that is no line: where it stops being one, and what is needed there
 abbrev pub no_line_text : List ℕ → Option (List ℕ)
 no_line_text line = option_map
-    (λ (flaw : Flaw). column_text (needed_text flaw.needed) flaw.column (ending_text line)) (flaw_in line)
+    (λ (flaw : Flaw).
+    column_text (needed_text flaw.needed (drop (flaw.column - 1) line)) flaw.column (ending_text line))
+    (flaw_in line)
 
 -- ---- words that are no call
 
@@ -77,7 +93,8 @@ IsWordText (Some needed) rest text = IsNeededText (word_shown rest) (dots_after 
 -- which word is none of the call with this line, where it has a flaw: it says so exactly then
 abbrev pub SaysNoCall : List ℕ → Option Flaw → Option (List ℕ) → Type 0
 SaysNoCall line None None = ⊤
-SaysNoCall line (Some flaw) (Some text) = IsWordText (needed_text flaw.needed) (drop (flaw.column - 1) line) text
+SaysNoCall line (Some flaw) (Some text) =
+    IsWordText (needed_text flaw.needed (drop (flaw.column - 1) line)) (drop (flaw.column - 1) line) text
 SaysNoCall line flaw why = ⊥
 
 -- ---- a line that was answered

@@ -1,4 +1,5 @@
-//! Which part of a manifest breaks a rule.
+//! Which part of a manifest breaks a rule. No clause says that: parts of the manifest are tried as it is read, and what
+//! is named is tested for each rule.
 
 use manifest::{ManifestError, read_manifest};
 use per_base::Name;

@@ -1,10 +1,10 @@
 //! Where a text stops being a line, in words.
 
-ghost use Rattle.std.specs.Prelude.{◌≡◌, IfOk, option_map, string_bytes};
+ghost use Rattle.std.specs.Prelude.{◌≡◌, ◌-◌, IfOk, drop, option_map, string_bytes};
 ghost use Rattle.value_text.specs.Readers.{Finds};
 ghost use Rattle.per_words.specs.Flaws.{flaw_in};
 ghost use Rattle.per_reasons.specs.Reasons.{IsNeededText, IsWordText, SaysNoCall, column_text, ending_text};
-ghost use Rattle.per_reasons.specs.Reasons.{needed_text, no_line_text};
+ghost use Rattle.per_reasons.specs.Reasons.{needed_text, needed_value, no_line_text};
 
 use crate::words::{dots_after, word_shown};
 use per_words::{Needed, flaw_in};
@@ -22,12 +22,19 @@ pub fn why_no_line(alloc: Global, line: &[u8]) -> Result<Option<String>, AllocEr
     match flaw_in(alloc, line)? {
         Some(flaw) => Ok(Some(column_text(
             alloc,
-            needed_text(flaw.needed),
+            needed_text(flaw.needed, text_at(line, flaw.column)),
             flaw.column,
             ending_text(line),
         )?)),
         None => Ok(None),
     }
+}
+
+/// What stands in a line from this column on.
+fn text_at(line: &[u8], column: usize) -> &[u8]
+    ensures { result.now ≡ drop (column - 1) line.now }
+{
+    line.get(column.saturating_sub(1)..).unwrap_or(&[])
 }
 
 /// What is needed at this column, or that the line is to end before it, with what is said of its end.
@@ -67,8 +74,8 @@ pub fn why_no_call(alloc: Global, line: &[u8]) -> Result<Option<String>, AllocEr
 {
     match flaw_in(alloc, line)? {
         Some(flaw) => {
-            let rest = line.get(flaw.column.saturating_sub(1)..).unwrap_or(&[]);
-            Ok(Some(word_text(alloc, needed_text(flaw.needed), rest)?))
+            let rest = text_at(line, flaw.column);
+            Ok(Some(word_text(alloc, needed_text(flaw.needed, rest), rest)?))
         }
         None => Ok(None),
     }
@@ -97,9 +104,9 @@ fn text_of_word(alloc: Global, needed: &str, word: &[u8], dots: &str) -> Result<
     }
 }
 
-/// What a line has at a place; nothing where it ends there.
-fn needed_text(needed: Needed) -> Option<&'static str>
-    ensures { Finds (λ text. text.now) result (needed_text needed) }
+/// What a line has at a place, in the place of this text; nothing where it ends there.
+fn needed_text(needed: Needed, text: &[u8]) -> Option<&'static str>
+    ensures { Finds (λ text. text.now) result (needed_text needed text.now) }
 {
     match needed {
         Needed::Application => Some("an application, 0 to 7, or now or end"),
@@ -108,7 +115,7 @@ fn needed_text(needed: Needed) -> Option<&'static str>
         Needed::Handle => Some("the number of a handle"),
         Needed::Number => Some("a number"),
         Needed::TypeText => Some("a type, as u8"),
-        Needed::ValueText => Some("a value, as u8:1 or text:\"a\""),
+        Needed::ValueText => Some(needed_value(text)),
         Needed::Octets => Some("bytes in two hexadecimal digits each, as 00ff"),
         Needed::Octet => Some("a byte in two hexadecimal digits, as 0a"),
         Needed::Manifest => Some("a manifest"),
@@ -119,5 +126,30 @@ fn needed_text(needed: Needed) -> Option<&'static str>
         Needed::Origin => Some("begin, current or end"),
         Needed::Offset => Some("a number, as 1 or -1"),
         Needed::End => None,
+    }
+}
+
+/// A value, in the place of this text: one of the type of numbers with which it begins.
+fn needed_value(text: &[u8]) -> &'static str
+    ensures { result.now ≡ needed_value text.now }
+{
+    if text.starts_with(b"u8:") {
+        "one of u8:0 to u8:255"
+    } else if text.starts_with(b"u16:") {
+        "one of u16:0 to u16:65535"
+    } else if text.starts_with(b"u32:") {
+        "one of u32:0 to u32:4294967295"
+    } else if text.starts_with(b"u64:") {
+        "one of u64:0 to u64:18446744073709551615"
+    } else if text.starts_with(b"i8:") {
+        "one of i8:-128 to i8:127"
+    } else if text.starts_with(b"i16:") {
+        "one of i16:-32768 to i16:32767"
+    } else if text.starts_with(b"i32:") {
+        "one of i32:-2147483648 to i32:2147483647"
+    } else if text.starts_with(b"i64:") {
+        "one of i64:-9223372036854775808 to i64:9223372036854775807"
+    } else {
+        "a value, as u8:1 or text:\"a\""
     }
 }

@@ -1,4 +1,12 @@
 //! For which key or storage a manifest is refused that does not fit what is stored.
+//!
+//! By clauses a text that is given has the form of such a reason, with the type or the number of bytes that the answer
+//! says of the manifest, and another answer has none. Which key or storage is named is tested.
+
+ghost use Rattle.std.specs.Prelude.{◌≡◌, ◌<◌, ◌+◌, ◌∷◌, [], IfOk, IfSome, string_bytes};
+ghost use Rattle.value_text.specs.Readers.{Finds, literal_at};
+ghost use Rattle.per_words.specs.Flaws.{after_space, leading_word};
+ghost use Rattle.per_reasons.specs.Parts.{Carries, NamesKey, NamesPart, NamesStorage};
 
 use crate::blame::{LISTS, things};
 use crate::refusals::manifest_of_line;
@@ -32,7 +40,9 @@ pub trait Trial {
 }
 
 /// The application whose update, in this line, was answered so, where its manifest does not fit what is stored.
-pub fn unfit_update(answer: &[u8], line: &[u8]) -> Option<u32> {
+pub fn unfit_update(answer: &[u8], line: &[u8]) -> Option<u32>
+    ensures { IfSome result (λ application. (application < 8) × (leading_word line.now ≡ (48 + application) ∷ [])) }
+{
     let _ = unfit_of(answer)?;
     let _ = manifest_of_line(line)?;
     match split(line)? {
@@ -55,7 +65,9 @@ pub fn why_not_updated<T: Trial>(
     answer: &[u8],
     line: &[u8],
     trial: &mut T,
-) -> Result<Option<String>, AllocError> {
+) -> Result<Option<String>, AllocError>
+    ensures { IfOk result (λ why. IfSome why (λ text. NamesPart answer.now (string_bytes text))) }
+{
     let (Some((unfit, asked)), Some(manifest)) = (unfit_of(answer), manifest_of_line(line)) else {
         return Ok(None);
     };
@@ -92,7 +104,9 @@ pub fn why_not_restored(
     answer: &[u8],
     manifest: &[u8],
     exports: &[&[u8]],
-) -> Result<Option<String>, AllocError> {
+) -> Result<Option<String>, AllocError>
+    ensures { IfOk result (λ why. IfSome why (λ text. NamesPart answer.now (string_bytes text))) }
+{
     let Some((unfit, asked)) = unfit_of(answer) else {
         return Ok(None);
     };
@@ -122,17 +136,30 @@ pub fn why_not_restored(
 }
 
 /// Why a manifest was answered so, where it does not fit, and the type or the number of bytes that it says.
-fn unfit_of(answer: &[u8]) -> Option<(Unfit, &str)> {
-    let (unfit, carried) = match answer.strip_prefix(b"error 7 DataTypeMismatch ") {
-        Some(types) => (Unfit::Type, types),
-        None => (
-            Unfit::Size,
-            answer.strip_prefix(b"error 10 OutOfStorageSpace ")?,
-        ),
-    };
+fn unfit_of(answer: &[u8]) -> Option<(Unfit, &str)>
+    ensures { IfSome result (λ unfit. Carries unfit.0 answer.now unfit.1.now) }
+{
+    if let Some(types) = after(b"error 7 DataTypeMismatch ", answer) {
+        return Some((Unfit::Type, asked_in(types)?));
+    }
+    let sizes = after(b"error 10 OutOfStorageSpace ", answer)?;
+    Some((Unfit::Size, asked_in(sizes)?))
+}
+
+/// What follows the word, where the text begins with it.
+fn after<'a>(word: &[u8], text: &'a [u8]) -> Option<&'a [u8]>
+    ensures { Finds (λ rest. rest.now) result (literal_at word.now text.now) }
+{
+    text.strip_prefix(word)
+}
+
+/// What the manifest says, after what is stored.
+fn asked_in(carried: &[u8]) -> Option<&str>
+    ensures { IfSome result (λ asked. asked.now ≡ after_space carried.now) }
+{
     let (_, asked) = split(carried)?;
     match str::from_utf8(asked) {
-        Ok(asked) => Some((unfit, asked)),
+        Ok(asked) => Some(asked),
         Err(_) => None,
     }
 }
@@ -142,7 +169,9 @@ fn said_of_key(
     asked: &str,
     storage: &Name,
     key: Option<&Name>,
-) -> Result<Option<String>, AllocError> {
+) -> Result<Option<String>, AllocError>
+    ensures { IfOk result (λ why. IfSome why (λ text. NamesKey asked.now (string_bytes text))) }
+{
     let Some(key) = key else {
         return Ok(None);
     };
@@ -154,7 +183,9 @@ fn said_of_storage(
     alloc: Global,
     allowed: &str,
     storage: &Name,
-) -> Result<Option<String>, AllocError> {
+) -> Result<Option<String>, AllocError>
+    ensures { IfOk result (λ why. IfSome why (λ text. NamesStorage allowed.now (string_bytes text))) }
+{
     let storage = storage.as_str();
     Ok(Some(format!(in alloc; "the manifest allows {allowed} bytes to {storage}")?))
 }

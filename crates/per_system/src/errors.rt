@@ -7,8 +7,13 @@ ghost use Rattle.per_system.specs.Errors.{SaysNothing, HoldsNothingPending};
 use std::io;
 
 /// The answer of a call that failed for a reason that is the file's own: what cannot be opened counts as not there, and
-/// what cannot be read as zeros. Where the reason is outside the file, the failure itself.
-pub(crate) fn unless_outside<T: Drop>(error: io::Error, answer: T) -> io::Result<T>
+/// what cannot be read as zeros.
+///
+/// # Errors
+///
+/// The failure itself, where the reason is outside the file: the system lacks descriptors or memory, was interrupted,
+/// or does not allow the call.
+pub fn unless_outside<T: Drop>(error: io::Error, answer: T) -> io::Result<T>
     ensures outside { SaysNothing error → result ≡ Err error }
     ensures own { ¬ (SaysNothing error) → result ≡ Ok answer }
 {

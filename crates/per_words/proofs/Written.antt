@@ -1,19 +1,18 @@
 -- A piece of a content is written by the line of an event.
 use Rattle.std.proofs.Common.{◌≡◌, ◌≤◌, ◌<◌, ◌+◌, ◌-◌, ◌/◌, ◌%◌, ℕ, suc, List, [], ◌∷◌, ◌++◌, codes, length}
-use Rattle.std.proofs.Common.{Bool, true, false}
-use Rattle.std.proofs.Common.{get_or, nat_eq, IsTrue, inl, inr, refl, sym, ap, subst, arith, ◌∙◌, length-append}
-use Rattle.std.specs.List.{list_all, list_any}
-use Rattle.std.specs.Fmt.{decimal, digits}
+use Rattle.std.proofs.Common.{true, false}
+use Rattle.std.proofs.Common.{get_or, nat_eq, inl, inr, refl, sym, ap, subst, arith, ◌∙◌, length-append}
+use Rattle.std.specs.List.{list_all}
+use Rattle.std.specs.Fmt.{digits}
 use Rattle.std.proofs.lemmas.Bool.{cases_lt, lt-ltb, le-ltb, ne_eqb}
 use Rattle.std.proofs.lemmas.Bool.Decides.{nat_tests}
 use Rattle.std.proofs.lemmas.List.{append-nil}
 use Rattle.std.proofs.lemmas.List.Folds.{list_any-append}
-use Rattle.per_base.specs.Names.{IsName, in_name, is_name}
+use Rattle.per_base.specs.Names.{IsName, in_name}
 use Rattle.value_text.specs.Texts.{hex_digit, hex_text}
-use Rattle.command_text.specs.Grammar.{IsEventLine, IsLine, has_feed, line_of}
+use Rattle.command_text.specs.Grammar.{has_feed, line_of}
 use Rattle.command_text.specs.declared.calls.Call.TheVariants as call
 use Rattle.command_text.specs.declared.calls.Event.TheVariants as event
-use Rattle.command_text.specs.declared.lines.Line.TheVariants as line
 use Rattle.per_words.specs.Words.{IsOneLine, piece_line}
 
 -- ---- no line feed

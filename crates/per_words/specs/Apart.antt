@@ -49,16 +49,16 @@ named_words r [] = []
 named_words r (w ∷ ws) =
     if is_call_word r w then w ∷ named_words (reading_after r w) ws else named_words (reading_after r w) ws
 
--- help is asked for before the operands
-abbrev pub is_help : WordRole → List ℕ → Bool
-is_help reading.Word word = bytes_eq word (codes "--help")
-is_help reading.Value word = bytes_eq word (codes "--help")
-is_help reading.Operand word = false
+-- the word is this option, and no operand
+abbrev pub is_asked : (option : List ℕ) → WordRole → List ℕ → Bool
+is_asked option reading.Word word = bytes_eq word option
+is_asked option reading.Value word = bytes_eq word option
+is_asked option reading.Operand word = false
 
--- some word asks for it
-abbrev pub asks_help : WordRole → List (List ℕ) → Bool
-asks_help r [] = false
-asks_help r (w ∷ ws) = if is_help r w then true else asks_help (reading_after r w) ws
+-- some word before the operands is this option
+abbrev pub asks_for : (option : List ℕ) → WordRole → List (List ℕ) → Bool
+asks_for option r [] = false
+asks_for option r (w ∷ ws) = if is_asked option r w then true else asks_for option (reading_after r w) ws
 
 -- an option of a run without a value
 abbrev pub is_flag : List ℕ → Bool

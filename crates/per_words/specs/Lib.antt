@@ -2,6 +2,7 @@ pub mod Apart
 pub mod FlawSamples
 pub mod Flaws
 pub mod Prompts
+pub mod Quoted
 pub mod Samples
 pub mod Screens
 pub mod Shown

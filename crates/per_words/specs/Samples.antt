@@ -10,7 +10,8 @@ use Rattle.value_text.specs.Texts.{value_text, hex_text, hex_byte_text}
 use Rattle.command_text.specs.Replies.{answer_text, info_text, status_text}
 use Rattle.command_text.specs.declared.replies.Answer.TheVariants as answer
 use Rattle.command_text.specs.declared.replies.AppStatus.{AppStatus}
-use Rattle.per_words.specs.Apart.{asks_help, named_words, options_in, unknown_in}
+use Rattle.per_words.specs.Apart.{asks_for, named_words, options_in, unknown_in}
+use Rattle.per_words.specs.Quoted.{quoted}
 use Rattle.per_words.specs.Screens.{broken}
 use Rattle.per_words.specs.declared.showing.Shown.TheVariants as shown
 use Rattle.per_words.specs.declared.words.WordRole.TheVariants as reading
@@ -65,12 +66,21 @@ no_option : options_in reading.Word (codes "--dir" ∷ codes "--" ∷ codes "--"
     ≡ codes "--dir" ∷ codes "--" ∷ []
 no_option = refl
 
-no_help : asks_help reading.Word (codes "get" ∷ codes "--" ∷ codes "--help" ∷ []) ≡ false
+no_help : asks_for (codes "--help") reading.Word (codes "get" ∷ codes "--" ∷ codes "--help" ∷ []) ≡ false
 no_help = refl
+
+version : asks_for (codes "--version") reading.Word (codes "--dir" ∷ codes "d" ∷ codes "--version" ∷ []) ≡ true
+version = refl
 
 no_run : unknown_in reading.Word (codes "--dir" ∷ codes "d" ∷ codes "--" ∷ codes "--audit" ∷ [])
     ≡ Some (codes "--audit")
 no_run = refl
+
+no_quotes : quoted (codes "/tmp/tmp.x_1") ≡ codes "/tmp/tmp.x_1"
+no_quotes = refl
+
+quotes : quoted (codes "it's a b") ≡ codes "'it'\\''s a b'"
+quotes = refl
 
 -- ---- a screen
 

@@ -6,7 +6,8 @@
 //! written in pieces ([`content_lines`]). [`shown_in`] says what a line of a reply is to a person, and [`shown_bytes`]
 //! what is written of it: a value stands without the word before it, and bytes as they are.
 //!
-//! The words of a shell are told apart by [`options_in`] and [`named_words`]; [`unknown_in`] finds one that is refused.
+//! The words of a shell are told apart by [`options_in`] and [`named_words`]; [`unknown_in`] finds one that is refused,
+//! and [`asks_for`] one that goes before all others. [`quoted`] is a word as a shell reads it back.
 //! For a screen [`broken`] breaks a text between its words. At a terminal [`call_shown`] is what a prompt shows, and
 //! [`rows_of`] the rows of a help of which a line asks ([`help_asked`]).
 #![tactic(auto)]
@@ -20,6 +21,7 @@ mod places;
 mod prompting;
 mod pushing;
 mod putting;
+mod quoting;
 mod screens;
 mod showing;
 mod words;
@@ -30,6 +32,7 @@ pub use lines::{call_lines, manifest_lines};
 pub use needs::Needed;
 pub use prompting::{call_shown, column_after, help_asked, is_line_word, row_word, rows_of};
 pub use putting::content_lines;
+pub use quoting::quoted;
 pub use screens::broken;
 pub use showing::{Shown, shown_bytes, shown_in};
-pub use words::{WordRole, asks_help, named_words, options_in, unknown_in};
+pub use words::{WordRole, asks_for, named_words, options_in, unknown_in};

@@ -54,7 +54,8 @@ pub fn content_lines(
     Ok(text)
 }
 
-/// How many bytes the lines have at most, as far as that is a number.
+/// How many bytes the lines have at most, as far as that is a number. No clause says so: it is room that is allocated
+/// at once, and with another the lines are the same.
 fn room(storage: &[u8], file: &[u8], content: &[u8]) -> usize {
     let words = WORD_BYTES
         .saturating_add(storage.len())

@@ -3,7 +3,7 @@
 ghost use Rattle.std.specs.Prelude.{◌≡◌, IfOk, codes, map, string_bytes};
 ghost use Rattle.std.specs.Str.{bytes_eq};
 ghost use Rattle.value_text.specs.Readers.{Finds};
-ghost use Rattle.per_words.specs.Apart.{asks_help, has_value, is_flag, is_help, is_known, is_call_word, is_of_options};
+ghost use Rattle.per_words.specs.Apart.{asks_for, has_value, is_asked, is_call_word, is_flag, is_known, is_of_options};
 ghost use Rattle.per_words.specs.Apart.{is_option, is_unknown, named_words, options_in, reading_after, takes_value};
 ghost use Rattle.per_words.specs.Apart.{unknown_in};
 
@@ -55,13 +55,14 @@ pub fn named_words<'a>(alloc: Global, words: &'a [String]) -> Result<Vec<&'a [u8
     Ok(named)
 }
 
-/// Whether help is asked for: the word `--help` is among the words before the operands.
-pub fn asks_help(words: &[String]) -> bool
-    ensures { result ≡ asks_help WordRole.Word (map string_bytes words.now) }
+/// Whether this option is among the words before the operands, or stands in the place of a value: then what it asks for
+/// is done, whatever the other words are.
+pub fn asks_for(words: &[String], option: &[u8]) -> bool
+    ensures { result ≡ asks_for option.now WordRole.Word (map string_bytes words.now) }
 {
     let mut reading = WordRole::Word;
     for word in words {
-        if is_help(reading, word.as_bytes()) {
+        if is_asked(option, reading, word.as_bytes()) {
             return true;
         }
         reading = reading_after(reading, word.as_bytes());
@@ -125,12 +126,12 @@ fn is_call_word(reading: WordRole, word: &[u8]) -> bool
     }
 }
 
-/// Whether the word asks for help, which an operand does not.
-fn is_help(reading: WordRole, word: &[u8]) -> bool
-    ensures { result ≡ is_help reading word.now }
+/// Whether the word is this option, which an operand is not.
+fn is_asked(option: &[u8], reading: WordRole, word: &[u8]) -> bool
+    ensures { result ≡ is_asked option.now reading word.now }
 {
     match reading {
-        WordRole::Word | WordRole::Value => is_word(word, b"--help"),
+        WordRole::Word | WordRole::Value => is_word(word, option),
         WordRole::Operand => false,
     }
 }

@@ -1,9 +1,0 @@
-use Rattle.std.proofs.Common.{◌≡◌, drop, map, string_bytes}
-use Rattle.per_words.specs.Apart.{asks_help}
-use Rattle.per_words.specs.declared.words.WordRole.TheVariants as reading
-use Rattle.per_words.proofs.words.asks_help.Given as goal
-
--- so do the words that are left
-abbrev pub invariant-loop-word : goal.invariant-loop-word
-invariant-loop-word l = asks_help l.reading (map string_bytes (drop l.word-index l.words))
-    ≡ asks_help reading.Word (map string_bytes l.words)
