@@ -1,5 +1,5 @@
 -- Undamaged copies, counted by pieces: of each element by its own blocks, and of the index apart. Damage made `image`
--- of `left`, which is what a stop left. `before` is the state before the call in progress, and `after` the one after it.
+-- of `left`, which is what a stop left. `before` is the state before the call in progress, `after` the one after it.
 use Rattle.std.specs.Prelude.{◌≡◌, ◌≢◌, ◌⊎◌, ℕ, ◌+◌, ◌<◌, ◌≤◌, List, [], ◌∷◌, true, Some, ⊤}
 use Rattle.std.specs.List.{AllZip, Contains}
 use Rattle.per_base.specs.declared.elements.Scope.TheVariants as scope
