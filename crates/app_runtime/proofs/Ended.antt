@@ -1,20 +1,17 @@
 -- All that is promised of a call: one that is a row of a deployment, and one that is answered from memory.
-use Rattle.std.proofs.Common.{◌≡◌, ◌≢◌, ◌⊎◌, ◌≤◌, ◌<◌, ◌+◌, ◌*◌, ℕ, List, [], Bool, true, false, IsTrue, Option, Some}
-use Rattle.std.proofs.Common.{None, IfErr, IfOk, IsErrOf, IsOk, OnOk, Result, Ok, Err, refl, sym, ap, ◌∙◌, subst, inl}
+use Rattle.std.proofs.Common.{◌≡◌, ◌≢◌, ◌⊎◌, ◌≤◌, ◌<◌, ◌+◌, ◌*◌, ℕ, List, [], Bool, true, IsTrue, Option, Some}
+use Rattle.std.proofs.Common.{None, IfErr, IfOk, OnOk, is_ok, Result, Ok, Err, refl, sym, ap, ◌∙◌, subst, inl}
 use Rattle.std.proofs.Common.{inr, arith, true≢false}
 use denote.Ref.{Bor}
 use Rattle.std.specs.Option.{option_copied}
-use Rattle.std.specs.Prelude.{IsErrAnd, map, option_map}
-use Rattle.per_base.specs.Causes.{Rose}
+use Rattle.std.specs.Prelude.{IsErrAnd, option_map}
 use Rattle.per_base.specs.declared.errors.PerError.{PerError}
 use Rattle.per_base.specs.declared.errors.PerError.TheVariants as error
 use Rattle.disk_model.specs.Image.{Image}
 use Rattle.disk_model.specs.Laws.{elapses_none}
-use Rattle.disk_model.specs.Medium.{Elapses, IsLawful, Medium, Quiet}
-use Rattle.element_state.specs.States.{store_at}
+use Rattle.disk_model.specs.Medium.{IsLawful, Medium}
 use Rattle.migrate_fns.specs.Rules.{Answers, Rule}
 use Rattle.command_text.specs.declared.calls.Call.{Call}
-use Rattle.command_text.specs.declared.replies.Answer.{Answer}
 use Rattle.command_text.specs.declared.replies.Answer.TheVariants as answer
 use Rattle.command_text.specs.declared.replies.Reply.{Reply}
 use Rattle.command_text.specs.Replies.{HasText}
@@ -23,27 +20,29 @@ use Rattle.deploy.specs.declared.errors.Stop.TheVariants as stop
 use Rattle.deploy.specs.declared.roots.Outcome.{Outcome}
 use Rattle.deploy.specs.declared.roots.Root.{Root}
 use Rattle.deploy.specs.Laws.{RootInUseLaw}
-use Rattle.deploy.specs.Roots.{RootAt, root_app, root_says}
-use Rattle.deploy_laws.specs.Apps.{App, IsCleanApp, Says, app_at, shapes_named}
+use Rattle.deploy.specs.Roots.{root_app, root_says}
+use Rattle.deploy_laws.specs.Apps.{App, Says, app_at}
 use Rattle.deploy_laws.specs.Laws.{UntouchedAppLaw}
 use Rattle.deploy_rows.specs.Rows as rows
 use Rattle.deploy_rows.specs.Rows.{after}
-use Rattle.run_model.specs.Calls.{active_storages, first_open, least_open, session_at}
+use Rattle.run_model.specs.Calls.{active_storages, first_open, least_open}
 use Rattle.run_model.specs.Found.{FoundStorage, storage_in}
-use Rattle.run_model.specs.Runtimes.{IsUnwritten, WritesWithin, is_durable, is_refusal, only_plans}
+use Rattle.run_model.specs.Runtimes.{IsUnwritten, WritesWithin, is_refusal}
 use Rattle.run_model.specs.Sessions.{Session}
-use Rattle.run_model.specs.Steps.{after_failure, device_storage, found_named, uses_device}
+use Rattle.run_model.specs.Steps.{after_failure, device_storage, found_named}
 use Rattle.run_model.specs.Worlds.{Application, none_open}
 use Rattle.run_model.specs.Worlds as worlds
 use Rattle.app_storages.specs.declared.slots.OpenSlots.{OpenSlots}
 use Rattle.app_storages.specs.Slots.{AreOpenOn, IsResting, resting_with, sessions_in}
 use Rattle.deploy_laws.specs.Stands.{IsLater}
 use Rattle.app_storages.specs.Answers.{CallsTo}
+use Rattle.app_storages.specs.Needs.{CallNeedsMemory}
 use Rattle.app_storages.specs.Handled.{StaysInPlace}
 use Rattle.app_runtime.specs.declared.running.Running.{Running}
 use Rattle.app_runtime.specs.declared.running.Stage.{Stage}
 use Rattle.app_runtime.specs.declared.running.Stage.TheVariants.{ToOpen, AtRest, Updating}
-use Rattle.app_runtime.specs.Answers.{HasFailed, HasRow, HasStopped, IsAnswered}
+use Rattle.app_runtime.specs.Answers.{HasRow}
+use Rattle.app_runtime.specs.Needs.{MayStarve, ReadsManifest}
 use Rattle.app_runtime.specs.Promises.{Promises}
 use Rattle.app_runtime.specs.Running.{IsRunning, IsStageAt, NoneOpen, application, stage_in}
 use Rattle.app_runtime.specs.Stages.{ConcludesCall, reply_of, stage_root}
@@ -103,8 +102,8 @@ names_none app c r none old new f named = absurd (none_some (found_named r c) (O
 module _ (told : Bool) (rules : List Rule) (answers : Answers) (now : ℕ) (c : Call) (b : Running) (root : Root)
     (old new : Medium) (Untouched : Type 0)
     (unwritten : Untouched → IsUnwritten old new) (resting : IsResting told old.image b.app root b.slots)
-    (in_use : RootInUseLaw) (row : App → Result App PerError)
-    (word : IsWord told rules answers b.app now c (resting_with old.image b.app b.slots) row) where
+    (in_use : RootInUseLaw) (row : App → Result App PerError) (Due : PerError → Type 0)
+    (word : IsWord told rules answers b.app now c (resting_with old.image b.app b.slots) row Due) where
   abbrev before : Running
   before = record b { stage = AtRest root }
 
@@ -115,7 +114,7 @@ module _ (told : Bool) (rules : List Rule) (answers : Answers) (now : ℕ) (c : 
   says_same tells = sym (ap (λ (a : App). a.says) (in_use old.image b.app root resting.root_at.memory
       (resting.root_at.disk tells)))
 
-  module _ (o : Outcome) (m : Made told row b.app root Untouched old new (Ok o))
+  module _ (o : Outcome) (m : Made told row Due b.app root Untouched old new (Ok o))
       (kept : o.refused ≡ None → AreOpenOn told new.image b.app (root_says o.root) b.slots) where
     some_refused : (e : PerError) → o.refused ≡ Some e → o.refused ≡ None → ⊥
     some_refused e is none = let both = sym is ∙ none in cc
@@ -156,7 +155,7 @@ module _ (told : Bool) (rules : List Rule) (answers : Answers) (now : ℕ) (c : 
             (settled_row row word.alike r (app_at new.image b.app) (root_app root []) o.refused (says_same tells)
             m.refused (m.leads tells));
         later = subst (λ (a : App). IsLater r.disk a) (sym (m.leads tells))
-            (row_later told rules answers b.app now c r row word);
+            (row_later told rules answers b.app now c r row Due word);
         calls = subst (λ (a : App). CallsTo b.app a old new) (sym (m.leads tells)) (m.calls tells);
         clean = m.clean tells;
       };
@@ -177,7 +176,7 @@ module _ (told : Bool) (rules : List Rule) (answers : Answers) (now : ℕ) (c : 
 
   module _ (after' : Running) (app : after'.app ≡ b.app) (stage : after'.stage ≡ ToOpen) (none : NoneOpen after'.slots)
     where
-      device_promises : Made told row b.app root Untouched old new (Err stop.Device)
+      device_promises : Made told row Due b.app root Untouched old new (Err stop.Device)
           → Promises told rules answers now c before after' Untouched old new (Err stop.Device)
       device_promises m = record {
         app = app;
@@ -187,8 +186,8 @@ module _ (told : Bool) (rules : List Rule) (answers : Answers) (now : ℕ) (c : 
           reaches = word.reaches tells (ok_alike row word.alike (root_app root []) r.disk (says_same tells)
               (m.device_only refl));
           next = after r.disk (row r.disk);
-          leads = row_leads told rules answers b.app now c r row word tells;
-          later = row_later told rules answers b.app now c r row word;
+          leads = row_leads told rules answers b.app now c r row Due word tells;
+          later = row_later told rules answers b.app now c r row Due word;
           is_after = failed_app new.image b after' r app stage none
               ∙ ap (λ f. after_failure (app_at new.image b.app) r f) (sym (none_found r c word.no_storage));
           calls = m.calls tells;
@@ -207,7 +206,14 @@ module _ (told : Bool) (rules : List Rule) (answers : Answers) (now : ℕ) (c : 
         time = m.time;
       }
 
-      memory_promises : Made told row b.app root Untouched old new (Err stop.OutOfMemory)
+      -- its row is done, or it is refused with what needs memory
+      starves : (m : Made told row Due b.app root Untouched old new (Err stop.OutOfMemory)) → IsTrue told
+          → (y : Result App PerError) → row r.disk ≡ y → CallNeedsMemory b.app now c r ⊎ ReadsManifest c r
+      starves m tells (Ok x) is = inl (inl (word.reaches tells (ap is_ok is)))
+      starves m tells (Err e) is = word.wants tells e is (λ due. true≢false
+          (sym (m.due e (word.alike r.disk (root_app root []) e (sym (says_same tells)) is) due)))
+
+      memory_promises : Made told row Due b.app root Untouched old new (Err stop.OutOfMemory)
           → Promises told rules answers now c before after' Untouched old new (Err stop.OutOfMemory)
       memory_promises m = record {
         app = app;
@@ -215,9 +221,10 @@ module _ (told : Bool) (rules : List Rule) (answers : Answers) (now : ℕ) (c : 
         answered = λ tells. tt;
         failed = λ tells bad. absurd cc;
         stopped = λ tells bad. record {
+          needs = record { free = refl; needs = starves m tells (row r.disk) refl };
           next = after r.disk (row r.disk);
-          leads = row_leads told rules answers b.app now c r row word tells;
-          later = row_later told rules answers b.app now c r row word;
+          leads = row_leads told rules answers b.app now c r row Due word tells;
+          later = row_later told rules answers b.app now c r row Due word;
           calls = m.calls tells;
         };
         quiet = λ quiet. tt;
@@ -233,12 +240,12 @@ module _ (told : Bool) (rules : List Rule) (answers : Answers) (now : ℕ) (c : 
         time = m.time;
       }
 
-      stopped_promises : (e : Stop) → Made told row b.app root Untouched old new (Err e)
+      stopped_promises : (e : Stop) → Made told row Due b.app root Untouched old new (Err e)
           → Promises told rules answers now c before after' Untouched old new (Err e)
       stopped_promises stop.Device m = device_promises m
       stopped_promises stop.OutOfMemory m = memory_promises m
 
-  pub rowed_promises : (made : Result Outcome Stop) → Made told row b.app root Untouched old new made
+  pub rowed_promises : (made : Result Outcome Stop) → Made told row Due b.app root Untouched old new made
       → IfOk made (λ o. o.refused ≡ None → AreOpenOn told new.image b.app (root_says o.root) b.slots)
       → (after' : Running) (result : Result Reply Stop) → ConcludesCall made (record b { stage = ToOpen }) after' result
       → Promises told rules answers now c before after' Untouched old new result
@@ -267,9 +274,10 @@ module _ (told : Bool) (rules : List Rule) (answers : Answers) (now : ℕ) (c : 
     (old new : Medium) (Untouched : Type 0)
     (unwritten : Untouched → IsUnwritten old new) (is : IsRunning told old.image s)
     (rest : stage_in s.stage ≡ worlds.at_rest) (root_is : root ≡ stage_root s.stage)
-    (taken_is : taken ≡ record s { stage = ToOpen }) (in_use : RootInUseLaw) (row : App → Result App PerError) where
-  pub word_promises : IsWord told rules answers s.app now c (resting_with old.image s.app s.slots) row
-      → (made : Result Outcome Stop) → Made told row s.app root Untouched old new made
+    (taken_is : taken ≡ record s { stage = ToOpen }) (in_use : RootInUseLaw) (row : App → Result App PerError)
+    (Due : PerError → Type 0) where
+  pub word_promises : IsWord told rules answers s.app now c (resting_with old.image s.app s.slots) row Due
+      → (made : Result Outcome Stop) → Made told row Due s.app root Untouched old new made
       → IfOk made (λ o. o.refused ≡ None → AreOpenOn told new.image s.app (root_says o.root) s.slots)
       → (after' : Running) (result : Result Reply Stop) → ConcludesCall made taken after' result
       → Promises told rules answers now c s after' Untouched old new result
@@ -277,7 +285,7 @@ module _ (told : Bool) (rules : List Rule) (answers : Answers) (now : ℕ) (c : 
       subst (λ (x : Running). Promises told rules answers now c x after' Untouched old new result)
       (stage_back s root rest root_is)
       (rowed_promises told rules answers now c s root old new Untouched unwritten
-      (resting_in told old.image s root is rest root_is) in_use row word made m kept after' result
+      (resting_in told old.image s root is rest root_is) in_use row Due word made m kept after' result
       (subst (λ (x : Running). ConcludesCall made x after' result) taken_is settles))
 
 -- what is so of every end is so of one that ended well
@@ -327,15 +335,17 @@ module _ (told : Bool) (rules : List Rule) (answers : Answers) (now : ℕ) (c : 
   }
 
   -- memory ran out before anything was done
-  pub starved_promises : (after' : Running) → after'.app ≡ s.app → (result : Result Reply Stop)
+  pub starved_promises : (IsTrue told → MayStarve s.app now c (application m.image s)) → (after' : Running)
+      → after'.app ≡ s.app → (result : Result Reply Stop)
       → result ≡ Err stop.OutOfMemory → Promises told rules answers now c s after' Untouched m m result
-  starved_promises after' app result failed = subst (λ (x : Result Reply Stop).
+  starved_promises needs after' app result failed = subst (λ (x : Result Reply Stop).
       Promises told rules answers now c s after' Untouched m m x) (sym failed) (record {
         app = app;
         memory = λ fed. absurd (fed refl);
         answered = λ tells. tt;
         failed = λ tells bad. absurd cc;
         stopped = λ tells bad. record {
+          needs = needs tells;
           next = app_at m.image s.app;
           leads = inl refl;
           later = still (app_at m.image s.app);

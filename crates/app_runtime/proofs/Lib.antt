@@ -11,3 +11,4 @@ mod Steps
 mod StorageCalls
 mod KnownCalls
 mod Arms
+mod Early

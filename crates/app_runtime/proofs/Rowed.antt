@@ -1,22 +1,17 @@
 -- A call of a deployment beside its row: the reply and the application after it, and where it may lead.
-use Rattle.std.proofs.Common.{◌≡◌, ◌≢◌, ◌⊎◌, ◌<◌, ℕ, List, [], Bool, true, false, IsTrue, Option, Some, None, IfErr}
-use Rattle.std.proofs.Common.{IfOk, IsOk, IsErrOf, OnOk, is_ok, Result, Ok, Err, refl, sym, ap, ◌∙◌, subst, inl, inr}
-use Rattle.std.proofs.Common.{true≢false}
+use Rattle.std.proofs.Common.{◌≡◌, ◌⊎◌, ℕ, List, [], Bool, true, false, IsTrue, Option, Some, None, IfErr}
+use Rattle.std.proofs.Common.{IfOk, IsOk, IsErrOf, OnOk, is_ok, Result, Ok, Err, refl, sym, ap, ◌∙◌, inl, inr}
 use Rattle.per_base.specs.Causes.{Rose}
 use Rattle.per_base.specs.declared.errors.PerError.{PerError}
-use Rattle.per_base.specs.declared.errors.PerError.TheVariants as error
-use Rattle.disk_model.specs.Image.{Image}
 use Rattle.disk_model.specs.Medium.{Elapses, Medium, Quiet}
 use Rattle.migrate_fns.specs.Rules.{Answers, Rule}
 use Rattle.command_text.specs.declared.calls.Call.{Call}
 use Rattle.command_text.specs.declared.replies.Answer.TheVariants as answer
-use Rattle.command_text.specs.declared.replies.Reply.{Reply}
-use Rattle.command_text.specs.Replies.{HasText}
 use Rattle.deploy.specs.declared.errors.Stop.{Stop}
 use Rattle.deploy.specs.declared.errors.Stop.TheVariants as stop
 use Rattle.deploy.specs.declared.roots.Outcome.{Outcome}
 use Rattle.deploy.specs.declared.roots.Root.{Root}
-use Rattle.deploy.specs.Roots.{RootAt, root_app, root_says}
+use Rattle.deploy.specs.Roots.{RootAt, root_app}
 use Rattle.deploy_laws.specs.Apps.{App, IsCleanApp, app_at}
 use Rattle.deploy_laws.specs.Stands.{IsLater}
 use Rattle.deploy_rows.specs.Laws.{RefusesAlike}
@@ -28,7 +23,9 @@ use Rattle.run_model.specs.Runtimes.{is_durable, only_plans}
 use Rattle.run_model.specs.Steps.{device_storage, reaches_device, uses_device}
 use Rattle.run_model.specs.Worlds.{Application}
 use Rattle.app_storages.specs.Answers.{CallsTo}
+use Rattle.app_storages.specs.Needs.{CallNeedsMemory}
 use Rattle.app_runtime.specs.Answers.{HasRow, MayLead}
+use Rattle.app_runtime.specs.Needs.{ReadsManifest}
 use Rattle.app_runtime.specs.Stages.{reply_of}
 use Rattle.app_runtime.proofs.LeadOn.{still}
 use Rattle.app_runtime.proofs.Plain.{IsPlain}
@@ -75,21 +72,25 @@ module _ (row : App → Result App PerError) (alike : RefusesAlike row) where
 
 -- ---- a word: a call that is one row of a deployment
 
+-- `Due` says which refusals need no memory.
 pub record IsWord (told : Bool) (rules : List Rule) (answers : Answers) (app now : ℕ) (c : Call) (r : Application)
-    (row : App → Result App PerError) : Type 0 where
+    (row : App → Result App PerError) (Due : PerError → Type 0) : Type 0 where
   pub alike : RefusesAlike row
   pub plain : (a : App) → IfErr (row a) IsPlain
   pub later : (a b : App) → row a ≡ Ok b → IsLater a b
   pub has_row : IsTrue told → (o : calls.Outcome) → o ≡ concluded r (done_with r (row r.disk))
       → HasRow rules answers app now c r o
   pub reaches : IsTrue told → IsOk (row r.disk) → IsTrue (reaches_device app r now c)
+  pub wants : IsTrue told → (e : PerError) → row r.disk ≡ Err e → (Due e → ⊥)
+      → CallNeedsMemory app now c r ⊎ ReadsManifest c r
   pub no_storage : device_storage c ≡ None
   pub not_durable : is_durable c ≡ false
   pub no_plan : only_plans c ≡ false
   pub uses : uses_device r.disk c ≡ true
 
 module _ (told : Bool) (rules : List Rule) (answers : Answers) (app now : ℕ) (c : Call) (r : Application)
-    (row : App → Result App PerError) (word : IsWord told rules answers app now c r row) where
+    (row : App → Result App PerError) (Due : PerError → Type 0)
+    (word : IsWord told rules answers app now c r row Due) where
   later_by : (y : Result App PerError) → row r.disk ≡ y → IsLater r.disk (after r.disk y)
   later_by (Ok b) is = word.later r.disk b is
   later_by (Err e) is = still r.disk
@@ -112,8 +113,8 @@ module _ (told : Bool) (rules : List Rule) (answers : Answers) (app now : ℕ) (
 
 -- ---- how a call of the deployment was done
 
-pub record Made (told : Bool) (row : App → Result App PerError) (app : ℕ) (root : Root) (Untouched : Type 0)
-    (old new : Medium) (made : Result Outcome Stop) : Type 0 where
+pub record Made (told : Bool) (row : App → Result App PerError) (Due : PerError → Type 0) (app : ℕ) (root : Root)
+    (Untouched : Type 0) (old new : Medium) (made : Result Outcome Stop) : Type 0 where
   pub root_at : IfOk made (λ o. RootAt told new.image app o.root)
   pub refused : IfOk made (λ o. rows.AnswersRow o.refused (row (root_app root [])))
   pub leads : IsTrue told → OnOk made (app_at new.image app ≡ after (app_at old.image app) (row (app_at old.image app)))
@@ -123,5 +124,6 @@ pub record Made (told : Bool) (row : App → Result App PerError) (app : ℕ) (r
   pub cause : IsErrOf made stop.Device → Rose old.faults new.faults
   pub passes : OnOk made (new.faults ≡ old.faults)
   pub device_only : IsErrOf made stop.Device → IsOk (row (root_app root []))
+  pub due : (e : PerError) → row (root_app root []) ≡ Err e → Due e → IsOk made
   pub calls : IsTrue told → CallsTo app (after (app_at old.image app) (row (app_at old.image app))) old new
   pub time : Elapses old new

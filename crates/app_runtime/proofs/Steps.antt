@@ -1,6 +1,6 @@
 -- An update in steps: one more storage, the commit, the abort, and each of them where no update is in progress.
-use Rattle.std.proofs.Common.{◌≡◌, ◌≢◌, ◌<◌, ◌≤◌, ◌-◌, ℕ, List, [], length, Bool, true, false, IsTrue, Option, Some}
-use Rattle.std.proofs.Common.{None, IfOk, IsErrOf, IsOk, OnOk, is_ok, Result, Ok, Err, refl, sym, ap, ◌∙◌, subst, inl}
+use Rattle.std.proofs.Common.{◌≡◌, ◌≢◌, ◌<◌, ◌≤◌, ◌-◌, ℕ, List, length, Bool, true, false, IsTrue, Option, Some}
+use Rattle.std.proofs.Common.{None, is_ok, Result, Ok, Err, refl, sym, ap, ◌∙◌, subst, inl}
 use Rattle.std.proofs.Common.{inr, arith, true≢false}
 use Rattle.std.specs.Prelude.{IfNone, map, option_map}
 use Rattle.per_base.specs.Causes.{Rose}
@@ -10,7 +10,7 @@ use Rattle.disk_model.specs.Image.{Image}
 use Rattle.disk_model.specs.Medium.{Elapses, IsLawful, Medium, Quiet}
 use Rattle.guarded_cell.specs.Cells.{generation_of}
 use Rattle.deployment_model.specs.Data.{storage_data}
-use Rattle.element_state.specs.States.{State, store_at}
+use Rattle.element_state.specs.States.{State}
 use Rattle.root_text.specs.Views.{version_said}
 use Rattle.migrate_fns.specs.Rules.{Answers, Rule}
 use Rattle.command_text.specs.declared.calls.Call.{Call}
@@ -21,35 +21,34 @@ use Rattle.command_text.specs.Replies.{HasText}
 use Rattle.deploy.specs.declared.errors.Stop.{Stop}
 use Rattle.deploy.specs.declared.errors.Stop.TheVariants as stop
 use Rattle.deploy.specs.declared.roots.Root.{Root}
-use Rattle.deploy.specs.declared.roots.Root.TheVariants as roots
 use Rattle.deploy.specs.declared.updating.Staged.{Staged}
 use Rattle.deploy.specs.Building.{StagedAt, staged_progress, staged_root}
 use Rattle.deploy.specs.Building as building
 use Rattle.deploy.specs.Laws.{RootInUseLaw}
-use Rattle.deploy.specs.Roots.{RootAt, free_bank, root_app, root_says}
+use Rattle.deploy.specs.Roots.{RootAt, root_says}
 use Rattle.deploy_laws.specs.Apps.{App, IsCleanApp, Says, absent, app_at, installed, named_in_bank, nothing}
 use Rattle.deploy_laws.specs.Laws.{UntouchedAppLaw}
 use Rattle.deploy_laws.specs.Places.{Named}
-use Rattle.deploy_laws.specs.Stands.{IsLater, StandsThroughout}
+use Rattle.deploy_laws.specs.Stands.{IsLater}
 use Rattle.deploy_rows.specs.Laws.{UpdateLaterLaw}
 use Rattle.deploy_rows.specs.Rows.{◌>>=◌, InProgress, installing, updated_app, one_more}
 use Rattle.run_model.specs.Calls as calls
 use Rattle.run_model.specs.Calls.{StepBeside, answered, app_step, beside_update, done_with, next_step, commit_step}
 use Rattle.run_model.specs.Calls.{abort_step, progress_of, remaining, concluded}
-use Rattle.run_model.specs.Runtimes.{IsUnwritten, is_durable, is_refusal, only_plans}
+use Rattle.run_model.specs.Runtimes.{is_durable, is_refusal, only_plans}
 use Rattle.run_model.specs.Steps.{after_failure, device_storage, reaches_device, uses_device}
 use Rattle.run_model.specs.Worlds.{Application}
 use Rattle.run_model.specs.Worlds as worlds
 use Rattle.app_storages.specs.Answers.{CallsTo}
 use Rattle.app_storages.specs.declared.slots.OpenSlots.{OpenSlots}
-use Rattle.app_storages.specs.Slots.{IsResting, sessions_in}
+use Rattle.app_storages.specs.Slots.{sessions_in}
 use Rattle.app_runtime.specs.declared.running.Running.{Running}
 use Rattle.app_runtime.specs.declared.running.Stage.{Stage}
 use Rattle.app_runtime.specs.declared.running.Stage.TheVariants.{ToOpen, AtRest, Updating}
 use Rattle.app_runtime.specs.Answers.{HasRow, MayLead}
 use Rattle.app_runtime.specs.Promises.{Promises}
 use Rattle.app_runtime.specs.Running.{IsRunning, IsStageAt, NoneOpen, application, stage_in}
-use Rattle.app_runtime.specs.Stages.{reply_of, reply_with, says_status, stage_root, staged_in, without_update}
+use Rattle.app_runtime.specs.Stages.{reply_of, reply_with, stage_root, staged_in, without_update}
 use Rattle.app_runtime.proofs.Ended.{failed_app, idle_promises, marked_running, names_none, none_found}
 use Rattle.app_runtime.proofs.InWorld.{fit_length}
 use Rattle.app_runtime.proofs.Kept.{open_by_none}
@@ -303,7 +302,7 @@ module _ (told : Bool) (rules : List Rule) (answers : Answers) (now : ℕ) (b : 
       (calls : IsTrue told → CallsTo b.app next old new)
       (reaches : IsTrue told → IsTrue (reaches_device b.app r now c)) (no_storage : device_storage c ≡ None)
       (not_durable : is_durable c ≡ false) (no_plan : only_plans c ≡ false) (uses : uses_device r.disk c ≡ true)
-      (time : Elapses old new) where
+      (free : beside_update (worlds.update_in r.stage) c ≡ None) (time : Elapses old new) where
     pub failed_step : (e : Stop) → (e ≡ stop.Device → Rose old.faults new.faults)
         → Promises told rules answers now c before after' Untouched old new (Err e)
     failed_step stop.Device cause = record {
@@ -337,7 +336,13 @@ module _ (told : Bool) (rules : List Rule) (answers : Answers) (now : ℕ) (b : 
       memory = λ fed. absurd (fed refl);
       answered = λ tells. tt;
       failed = λ tells bad. absurd cc;
-      stopped = λ tells bad. record { next = next; leads = leads tells; later = later tells; calls = calls tells };
+      stopped = λ tells bad. record {
+        needs = record { free = free; needs = inl (inl (reaches tells)) };
+        next = next;
+        leads = leads tells;
+        later = later tells;
+        calls = calls tells;
+      };
       quiet = λ quiet. tt;
       idle = λ tells calm. absurd (true≢false (sym uses ∙ calm));
       unwritten = tt;
@@ -398,7 +403,7 @@ module _ (told : Bool) (rules : List Rule) (answers : Answers) (now : ℕ) (b : 
   next_failed e after' is_after cause calls time = failed_step call.UpdateNext after'
       (ap (λ (x : Running). x.app) is_after) (ap (λ (x : Running). x.stage) is_after)
       (subst (λ (x : Running). NoneOpen x.slots) (sym is_after) none) r.disk (λ tells. inl refl) (λ tells. still r.disk)
-      calls next_reaches refl refl refl refl time e cause
+      calls next_reaches refl refl refl refl refl time e cause
 
   pub next_done : (t : Staged) (count : ℕ) → staged_progress t ≡ one_more (staged_progress s)
       → count ≡ remaining (staged_progress t) → StagedAt told new.image b.app t
@@ -449,7 +454,7 @@ module _ (told : Bool) (rules : List Rule) (answers : Answers) (now : ℕ) (b : 
           commit_row tells (answered answer.Done (record r { disk = next; stage = worlds.at_rest })) refl,
           refl,
         ))
-        (λ tells. update_later (staged_progress s) r.disk) calls commit_reaches refl refl refl refl time e cause
+        (λ tells. update_later (staged_progress s) r.disk) calls commit_reaches refl refl refl refl refl time e cause
 
     pub commit_done : (root : Root) → RootAt told new.image b.app root → (IsTrue told → app_at new.image b.app ≡ next)
         → (IsTrue told → CallsTo b.app next old new)

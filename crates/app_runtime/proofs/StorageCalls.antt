@@ -1,6 +1,6 @@
 -- A call that names a storage, of an application at rest.
-use Rattle.std.proofs.Common.{◌≡◌, ◌≢◌, ◌⊎◌, ℕ, List, Bool, true, false, IsTrue, Some, IfOk, IsErrOf, OnOk, Result, Ok}
-use Rattle.std.proofs.Common.{Err, refl, sym, ap, subst, inl, inr, true≢false}
+use Rattle.std.proofs.Common.{◌≡◌, ◌≢◌, ℕ, List, Bool, true, false, IsTrue, Some, IfOk, IsErrOf, OnOk, Result, Ok}
+use Rattle.std.proofs.Common.{Err, refl, sym, subst, inl, inr, true≢false}
 use Rattle.per_base.specs.Causes.{Rose}
 use Rattle.per_base.specs.declared.errors.PerError.TheVariants as error
 use Rattle.disk_model.specs.Medium.{Elapses, Medium, Quiet}
@@ -15,7 +15,7 @@ use Rattle.deploy.specs.declared.errors.Stop.TheVariants as stop
 use Rattle.deploy.specs.declared.roots.Root.{Root}
 use Rattle.deploy_laws.specs.Apps.{App, app_at}
 use Rattle.deploy_laws.specs.Stands.{IsLater}
-use Rattle.run_model.specs.Calls.{CallStep, Outcome, app_step, beside_update, goes_beside, session_at, concluded}
+use Rattle.run_model.specs.Calls.{CallStep, Outcome, app_step, session_at, concluded}
 use Rattle.run_model.specs.Found.{FoundStorage}
 use Rattle.run_model.specs.Runtimes.{IsUnwritten, WritesWithin, is_durable, is_refusal, only_plans}
 use Rattle.run_model.specs.Sessions.{Session}
@@ -28,7 +28,7 @@ use Rattle.app_storages.specs.Handled.{StaysInPlace}
 use Rattle.app_storages.specs.Slots.{IsResting, resting_with}
 use Rattle.app_runtime.specs.declared.running.Running.{Running}
 use Rattle.app_runtime.specs.declared.running.Stage.TheVariants.{AtRest}
-use Rattle.app_runtime.specs.Answers.{HasFailed, HasRow, HasStopped, IsAnswered, MayLead}
+use Rattle.app_runtime.specs.Answers.{HasRow, IsAnswered, MayLead}
 use Rattle.app_runtime.specs.Promises.{Promises}
 use Rattle.app_runtime.proofs.LeadOn.{still}
 
@@ -130,6 +130,7 @@ module _ (told : Bool) (rules : List Rule) (answers : Answers) (now : ℕ) (c : 
       calls = f.calls;
     };
     stopped = λ tells bad. let f = s.stopped tells bad in record {
+      needs = record { free = refl; needs = inl f.needs };
       next = f.next;
       leads = leads f.next f.leads;
       later = later f.next f.leads;

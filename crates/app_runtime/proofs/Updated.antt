@@ -1,5 +1,5 @@
 -- An update in one call, and the beginning of one in steps.
-use Rattle.std.proofs.Common.{◌≡◌, ◌≢◌, ◌≤◌, ◌-◌, ℕ, List, [], Bool, true, false, IsTrue, Option, Some, None, IfErr}
+use Rattle.std.proofs.Common.{◌≡◌, ◌≢◌, ◌≤◌, ℕ, List, [], Bool, true, IsTrue, Option, Some, None}
 use Rattle.std.proofs.Common.{IfOk, IsErrOf, IsOk, OnOk, is_ok, Result, Ok, Err, refl, sym, ap, ◌∙◌, subst, inl, inr}
 use Rattle.std.proofs.Common.{true≢false, arith}
 use Rattle.std.specs.Prelude.{map}
@@ -36,27 +36,25 @@ use Rattle.deploy_rows.specs.Rows as rows
 use Rattle.deploy_rows.specs.Rows.{◌>>=◌, BeginsUpdate, BeginsWith, InProgress, Offer, after, deployment_of}
 use Rattle.deploy_rows.specs.Rows.{newer_version}
 use Rattle.deploy_rows.specs.Rows.{offer_over, offered, updated_app}
-use Rattle.run_model.specs.Calls as calls
-use Rattle.run_model.specs.Calls.{active_storages, answered, with_update_begun, first_open, least_open, concluded}
+use Rattle.run_model.specs.Calls.{active_storages, answered, first_open, least_open, concluded}
 use Rattle.run_model.specs.Calls.{with_update}
 use Rattle.run_model.specs.Runtimes.{IsUnwritten, is_refusal}
-use Rattle.run_model.specs.Steps.{after_failure}
 use Rattle.run_model.specs.Worlds.{Application}
 use Rattle.run_model.specs.Worlds as worlds
 use Rattle.app_storages.specs.Answers.{CallsTo}
 use Rattle.app_storages.specs.Slots.{AreOpenOn, IsResting, resting_with, sessions_in}
 use Rattle.app_runtime.specs.declared.running.Running.{Running}
-use Rattle.app_runtime.specs.declared.running.Stage.{Stage}
 use Rattle.app_runtime.specs.declared.running.Stage.TheVariants.{ToOpen, AtRest, Updating}
-use Rattle.app_runtime.specs.Answers.{HasRow, MayLead}
+use Rattle.app_runtime.specs.Answers.{MayLead}
+use Rattle.app_runtime.specs.Needs.{no_update_over}
 use Rattle.app_runtime.specs.Promises.{Promises}
-use Rattle.app_runtime.specs.Running.{IsRunning, NoneOpen, application}
-use Rattle.app_runtime.specs.Stages.{ConcludesBegun, ConcludesCall, reply_of, stage_root}
-use Rattle.app_runtime.proofs.Ended.{failed_app, marked_running, names_none, refused_plain, resting_in, stage_back}
+use Rattle.app_runtime.specs.Running.{NoneOpen}
+use Rattle.app_runtime.specs.Stages.{ConcludesBegun, ConcludesCall, reply_of}
+use Rattle.app_runtime.proofs.Ended.{failed_app, marked_running, names_none, refused_plain}
 use Rattle.app_runtime.proofs.Frames.{beside_next, calls_reading, calls_to}
 use Rattle.app_runtime.proofs.Kept.{free_kept, free_slots, none_taken}
 use Rattle.app_runtime.proofs.LeadOn.{still}
-use Rattle.app_runtime.proofs.Plain.{IsPlain, begins_plain, offer_plain}
+use Rattle.app_runtime.proofs.Plain.{begins_plain}
 use Rattle.app_runtime.proofs.Rowed.{ok_alike}
 
 -- ---- an offer that is taken
@@ -302,14 +300,16 @@ module _ (told : Bool) (rules : List Rule) (answers : Answers) (now : ℕ) (text
         time = u.time;
       }
 
-      memory_promises : Updates told rules answers now text b.app root busy old new (Err stop.OutOfMemory)
+      memory_promises : no_update_over (root_says root) ≡ None
+          → Updates told rules answers now text b.app root busy old new (Err stop.OutOfMemory)
           → Promises told rules answers now (call.Update text) before after' Untouched old new (Err stop.OutOfMemory)
-      memory_promises u = record {
+      memory_promises lone u = record {
         app = app;
         memory = λ fed. absurd (fed refl);
         answered = λ tells. tt;
         failed = λ tells bad. absurd cc;
         stopped = λ tells bad. record {
+          needs = record { free = refl; needs = inr (ap no_update_over (sym (says_same tells)) ∙ lone) };
           next = (u.any_moment tells).next;
           leads = (may_lead tells (u.any_moment tells).next (u.any_moment tells).may).0;
           later = (may_lead tells (u.any_moment tells).next (u.any_moment tells).may).1;
@@ -328,22 +328,23 @@ module _ (told : Bool) (rules : List Rule) (answers : Answers) (now : ℕ) (text
         time = u.time;
       }
 
-      stopped_promises : (e : Stop) → Updates told rules answers now text b.app root busy old new (Err e)
+      stopped_promises : no_update_over (root_says root) ≡ None → (e : Stop)
+          → Updates told rules answers now text b.app root busy old new (Err e)
           → Promises told rules answers now (call.Update text) before after' Untouched old new (Err e)
-      stopped_promises stop.Device u = device_promises u
-      stopped_promises stop.OutOfMemory u = memory_promises u
+      stopped_promises lone stop.Device u = device_promises u
+      stopped_promises lone stop.OutOfMemory u = memory_promises lone u
 
-    pub updated_promises : (made : Result Outcome Stop) → Updates told rules answers now text b.app root busy old new
+    pub updated_promises : no_update_over (root_says root) ≡ None → (made : Result Outcome Stop) → Updates told rules answers now text b.app root busy old new
         made → (after' : Running) (result : Result Reply Stop)
         → ConcludesCall made (record b { stage = ToOpen }) after' result
         → Promises told rules answers now (call.Update text) before after' Untouched old new result
-    updated_promises (Ok o) u after' result s = subst (λ (x : Running).
+    updated_promises lone (Ok o) u after' result s = subst (λ (x : Running).
         Promises told rules answers now (call.Update text) before x Untouched old new result) (sym s.0)
         (subst (λ (x : Result Reply Stop). Promises told rules answers now (call.Update text) before
         (record b { stage = AtRest o.root }) Untouched old new x) (sym s.1) (done_promises o u))
-    updated_promises (Err e) u after' result s = subst (λ (x : Result Reply Stop).
+    updated_promises lone (Err e) u after' result s = subst (λ (x : Result Reply Stop).
         Promises told rules answers now (call.Update text) before after' Untouched old new x) (sym s.3)
-        (stopped_promises after' s.0 s.1 s.2 e u)
+        (stopped_promises after' s.0 s.1 s.2 lone e u)
 
 -- what `begin_update` promises
 pub record Beginning (told : Bool) (rules : List Rule) (answers : Answers) (now : ℕ) (text : List ℕ) (app : ℕ)
@@ -492,9 +493,10 @@ module _ (told : Bool) (rules : List Rule) (answers : Answers) (now : ℕ) (text
 
   module _ (after' : Running) (app : after'.app ≡ b.app) (stage : after'.stage ≡ ToOpen) (none : NoneOpen after'.slots)
     where
-      begin_stopped : (e : Stop) → Beginning told rules answers now text b.app root busy old new (Err e)
+      begin_stopped : no_update_over (root_says root) ≡ None → (e : Stop)
+          → Beginning told rules answers now text b.app root busy old new (Err e)
           → Promises told rules answers now c first after' Untouched old new (Err e)
-      begin_stopped stop.Device x = record {
+      begin_stopped lone stop.Device x = record {
         app = app;
         memory = λ fed. marked_running told new.image b after' resting.below app stage none;
         answered = λ tells. tt;
@@ -520,12 +522,17 @@ module _ (told : Bool) (rules : List Rule) (answers : Answers) (now : ℕ) (text
         text = tt;
         time = x.time;
       }
-      begin_stopped stop.OutOfMemory x = record {
+      begin_stopped lone stop.OutOfMemory x = record {
         app = app;
         memory = λ fed. absurd (fed refl);
         answered = λ tells. tt;
         failed = λ tells bad. absurd cc;
         stopped = λ tells bad. record {
+          needs = record {
+            free = refl;
+            needs = inr (ap no_update_over (sym (says_same told rules answers now text b root old new Untouched resting
+                in_use alike busy busy_is tells)) ∙ lone);
+          };
           next = here.disk;
           leads = inl refl;
           later = still here.disk;
@@ -544,18 +551,18 @@ module _ (told : Bool) (rules : List Rule) (answers : Answers) (now : ℕ) (text
         time = x.time;
       }
 
-  pub begun_promises : (made : Result Begin Stop) → Beginning told rules answers now text b.app root busy old new made
+  pub begun_promises : no_update_over (root_says root) ≡ None → (made : Result Begin Stop) → Beginning told rules answers now text b.app root busy old new made
       → (after' : Running) (result : Result Reply Stop)
       → ConcludesBegun made (record b { stage = ToOpen }) after' result
       → Promises told rules answers now c first after' Untouched old new result
-  begun_promises (Ok (begin.Ready s)) x after' result settles =
+  begun_promises lone (Ok (begin.Ready s)) x after' result settles =
       subst (λ (y : Running). Promises told rules answers now c first y Untouched old new result) (sym settles.0)
       (subst (λ (y : Result Reply Stop). Promises told rules answers now c first (record b { stage = Updating s })
       Untouched old new y) (sym settles.1) (ready_promises s x))
-  begun_promises (Ok (begin.Refused same e)) x after' result settles =
+  begun_promises lone (Ok (begin.Refused same e)) x after' result settles =
       subst (λ (y : Running). Promises told rules answers now c first y Untouched old new result) (sym settles.0)
       (subst (λ (y : Result Reply Stop). Promises told rules answers now c first (record b { stage = AtRest same })
       Untouched old new y) (sym settles.1) (refused_promises same e x))
-  begun_promises (Err e) x after' result settles = subst
+  begun_promises lone (Err e) x after' result settles = subst
       (λ (y : Result Reply Stop). Promises told rules answers now c first after' Untouched old new y) (sym settles.3)
-      (begin_stopped after' settles.0 settles.1 settles.2 e x)
+      (begin_stopped after' settles.0 settles.1 settles.2 lone e x)

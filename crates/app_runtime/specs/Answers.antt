@@ -10,6 +10,7 @@ use Rattle.run_model.specs.Worlds.{Application, update_in}
 use Rattle.run_model.specs.Calls.{Outcome, StepBeside, beside_update}
 use Rattle.run_model.specs.Steps.{reaches_device, after_failure, found_named}
 use Rattle.app_storages.specs.Answers.{CallsTo}
+use Rattle.app_runtime.specs.Needs.{MayStarve}
 
 -- the row of a call of application `app` at the moment `now` in seconds, by these converters and what they may answer:
 -- with an update in progress a call that does not go beside it is refused
@@ -42,9 +43,10 @@ pub record HasFailed (rules : List Rule) (answers : Answers) (app now : ℕ) (c 
   pub is_after : after ≡ after_failure (app_at new.image app) before (found_named before c)
   pub calls : CallsTo app next old new
 
--- Memory ran out in a call: it was to lead to `next`, and each moment stands between that and what was.
+-- Memory ran out in a call that needs it: it was to lead to `next`, and each moment stands between that and what was.
 pub record HasStopped (rules : List Rule) (answers : Answers) (app now : ℕ) (c : Call) (before : Application)
     (old new : Medium) : Type 0 where
+  pub needs : MayStarve app now c before
   pub next : App
   pub leads : MayLead rules answers app now c before next
   pub later : IsLater before.disk next

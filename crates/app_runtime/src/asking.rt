@@ -1,7 +1,8 @@
 //! What is known in memory of an application: which calls go on beside an update, which call the device, and the
 //! status.
 
-ghost use Rattle.std.specs.Prelude.{◌≡◌, Bool, IfOk, IsTrue, Some, false, is_ok, is_some, option_map};
+ghost use Rattle.std.specs.Prelude.{◌≡◌, Bool, IfOk, IsSome, IsTrue, OnErr, Some, false, is_ok, is_some};
+ghost use Rattle.std.specs.Prelude.{option_map};
 ghost use Rattle.per_base.specs.declared.elements.StoreKind.{StoreKind};
 ghost use Rattle.disk_model.specs.Image.{Image};
 ghost use Rattle.deploy.specs.Roots.{root_says};
@@ -10,6 +11,7 @@ ghost use Rattle.run_model.specs.Calls.{active_storages, beside_update, first_op
 ghost use Rattle.run_model.specs.Found.{storage_in};
 ghost use Rattle.run_model.specs.Worlds.{is_to_open, update_in};
 ghost use Rattle.app_storages.specs.Slots.{sessions_in};
+ghost use Rattle.app_runtime.specs.Needs.{no_update_over, no_way_back};
 ghost use Rattle.app_runtime.specs.Running.{IsRunning, stage_in};
 ghost use Rattle.app_runtime.specs.Stages.{installed_parts, reply_with, says_status, stage_root, without_update};
 
@@ -140,11 +142,47 @@ impl Running {
         self.refuse(error)
     }
 
+    // Why the root refuses an update before its manifest is read, if it does.
+    pub(crate) fn no_update_over(&self) -> Option<PerError>
+        ensures { result ≡ no_update_over (root_says (stage_root self.now.stage)) }
+    {
+        if let Some(installed) = self.installed() {
+            return match &installed.previous {
+                Some(previous) => Some(PerError::UpdateNotFinished {
+                    previous: previous.deployment.version,
+                }),
+                None => None,
+            };
+        }
+        match &self.stage {
+            Stage::AtRest(Root::Absent(_)) => Some(PerError::NotInstalled),
+            _ => Some(PerError::IntegrityCorrupted { unit: Unit::Root }),
+        }
+    }
+
+    // Why the root refuses a rollback, if it does.
+    pub(crate) fn no_way_back(&self) -> Option<PerError>
+        ensures { result ≡ no_way_back (root_says (stage_root self.now.stage)) }
+    {
+        if let Some(installed) = self.installed() {
+            return match &installed.previous {
+                Some(_) => None,
+                None => Some(PerError::NoPreviousVersion),
+            };
+        }
+        match &self.stage {
+            Stage::AtRest(Root::Absent(_)) => Some(PerError::NotInstalled),
+            _ => Some(PerError::IntegrityCorrupted { unit: Unit::Root }),
+        }
+    }
+
     // A copy of the name of the open storage with the lowest number, the first in the order of names; `root` is of the
     // version whose storages these are.
     pub(crate) fn busy(&self, root: &Root) -> Result<Option<Name>, AllocError>
-        ensures { IfOk result (λ busy. busy ≡ first_open (sessions_in self.now.slots)
+        ensures busy { IfOk result (λ busy. busy ≡ first_open (sessions_in self.now.slots)
             (active_storages (root_says root.now))) }
+        ensures memory { OnErr result (IsSome (first_open (sessions_in self.now.slots)
+            (active_storages (root_says root.now)))) }
     {
         match self.slots.least_open(root) {
             Some(name) => Ok(Some(name.copy()?)),

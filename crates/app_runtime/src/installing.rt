@@ -100,6 +100,9 @@ impl Running {
         rows_read_the_root();
         roots_in_use();
         untouched_stands();
+        if let Some(error) = self.no_way_back() {
+            return Ok(self.refuse(error));
+        }
         let root = self.take_root();
         let busy = self.busy(&root)?;
         let made = rollback(self.alloc, disk, root, busy.as_ref());

@@ -35,6 +35,9 @@ impl Running {
         rows_read_the_root();
         roots_in_use();
         untouched_stands();
+        if let Some(error) = self.no_update_over() {
+            return Ok(self.refuse(error));
+        }
         let root = self.take_root();
         let busy = self.busy(&root)?;
         let made = update(
@@ -68,6 +71,9 @@ impl Running {
         rows_read_the_root();
         roots_in_use();
         untouched_stands();
+        if let Some(error) = self.no_update_over() {
+            return Ok(self.refuse(error));
+        }
         let root = self.take_root();
         let busy = self.busy(&root)?;
         let begun = begin_update(

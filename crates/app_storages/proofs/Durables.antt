@@ -1,8 +1,9 @@
 -- An open storage that is to be made durable or closed: what the storage promises is what its row says of the
 -- application.
-use Rattle.std.proofs.Common.{◌≡◌, ℕ, List, [], Bool, true, false, refl, sym, ap, ◌∙◌, subst, inr, true≢false, arith}
+use Rattle.std.proofs.Common.{◌≡◌, ℕ, List, [], Bool, true, false, refl, sym, ap, ◌∙◌, subst, inl, inr, true≢false}
 use Rattle.std.specs.Prelude.{IsTrue, Option, Some, None, Result, Ok, Err, IfOk, IsErrOf, IsOk, OnOk, option_map}
 use Rattle.std.specs.Prelude.{slice_set}
+use Rattle.std.proofs.Common.{arith}
 use Rattle.per_base.specs.Causes.{Rose}
 use Rattle.per_base.specs.declared.elements.StoreKind.{StoreKind}
 use Rattle.per_base.specs.declared.elements.StoreKind.TheVariants as kinds
@@ -239,7 +240,8 @@ module _ (laws : StorageLaws) (texts : TextLaw) (told : Bool) (app now : ℕ) (r
         time = storing.time;
       }
       stopped_handled is emptied OutOfMemory none cause = record {
-        ends = stopped laws told app now root c was is old new l located resting next storing (leads none);
+        ends = stopped laws told app now root c was is old new l located resting next storing
+            (λ tells. inl (reaches tells (answered answer.Done after) (row_ok none tells))) (leads none);
         idle = idle;
         written = written;
         place = in_place;

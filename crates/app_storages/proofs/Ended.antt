@@ -30,6 +30,7 @@ use Rattle.app_storages.specs.Answers.{CallsTo, HasStorageCallStopped, IsStorage
 use Rattle.app_storages.specs.Durables.{IsSet, RepliesDone}
 use Rattle.app_storages.specs.Finding.{IsEarly, IsLocated, config_of, found_on, shape_at}
 use Rattle.app_storages.specs.Handled.{IsLost, IsStorageCallHandled, StaysInPlace}
+use Rattle.app_storages.specs.Needs.{CallNeedsMemory}
 use Rattle.app_storages.specs.Slots.{IsResting, resting_with, sessions_in}
 use Rattle.app_storages.specs.StorageLaws.{StorageLaws}
 use Rattle.app_storages.specs.declared.finding.Located.{Located}
@@ -93,9 +94,11 @@ module _ (laws : StorageLaws) (told : Bool) (app now : ℕ) (root : Root) (c : C
   }
 
   -- memory ran out
-  pub starved_handled : (is : OpenSlots) → IsStorageCallHandled told app now root c was is m m Same (Err OutOfMemory)
-  starved_handled is = record {
+  pub starved_handled : (IsTrue told → CallNeedsMemory app now c (resting_with m.image app was)) → (is : OpenSlots)
+      → IsStorageCallHandled told app now root c was is m m Same (Err OutOfMemory)
+  starved_handled needs is = record {
     ends = λ tells. record {
+      needs = needs tells;
       next = app_at m.image app;
       leads = inl refl;
       calls =
@@ -162,9 +165,15 @@ module _ (laws : StorageLaws) (told : Bool) (app now : ℕ) (root : Root) (c : C
       (subst (λ (h : FoundStorage). IsBeside app h.bank h.number file)
       (same_found (found_named before c) f g (named tells) is) beside)))
 
-  pub stopped : (IsTrue told → StorageCallMayLead app now c before next_app) → IsTrue told
+  pub stopped : (IsTrue told → CallNeedsMemory app now c before)
+      → (IsTrue told → StorageCallMayLead app now c before next_app) → IsTrue told
       → HasStorageCallStopped app now c before old new
-  stopped leads tells = record { next = next_app; leads = leads tells; calls = calls tells }
+  stopped needs leads tells = record {
+    needs = needs tells;
+    next = next_app;
+    leads = leads tells;
+    calls = calls tells;
+  }
 
   -- the application as its row has it
   module _ (tells : IsTrue told) (there : store_at new.image (shape_at l) ≡ next) where

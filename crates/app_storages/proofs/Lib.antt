@@ -6,6 +6,7 @@ pub mod Found
 pub mod Handled
 pub mod LocalEnds
 pub mod LocalRows
+pub mod Needs
 pub mod OneCall
 pub mod OpenEnds
 pub mod OpenRows

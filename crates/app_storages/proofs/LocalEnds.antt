@@ -24,6 +24,7 @@ use Rattle.deploy.specs.declared.errors.Stop.{Stop}
 use Rattle.deploy.specs.declared.errors.Stop.TheVariants.{Device, OutOfMemory}
 use Rattle.deploy.specs.declared.roots.Root.{Root}
 use Rattle.deploy.specs.Roots.{IsRootOn, root_says}
+use Rattle.open_storages.specs.Answers.{SessionNeedsMemory}
 use Rattle.open_storages.specs.declared.opens.Open.{Open}
 use Rattle.open_storages.specs.Opens.{config_in, session_in, store_in}
 use Rattle.run_model.specs.Calls.{app_step, local_on, session_at, concluded, with_session}
@@ -33,6 +34,7 @@ use Rattle.run_model.specs.Worlds.{Application, Sessions, at_rest}
 use Rattle.app_storages.specs.Durables.{IsSet, IsShown}
 use Rattle.app_storages.specs.Finding.{IsEarly, IsLocated, config_of, found_on}
 use Rattle.app_storages.specs.Handled.{IsStorageCallHandled}
+use Rattle.app_storages.specs.Needs.{CallNeedsMemory}
 use Rattle.app_storages.specs.Openings.{TellsRefusal, TellsAnswer}
 use Rattle.app_storages.specs.Slots.{IsOpenAt, IsResting, resting_with, sessions_in, slot_at}
 use Rattle.app_storages.specs.StorageLaws.{StorageLaws}
@@ -41,6 +43,7 @@ use Rattle.app_storages.specs.declared.slots.OpenSlots.{OpenSlots}
 use Rattle.app_storages.proofs.Ended.{TextLaw, starved_handled}
 use Rattle.app_storages.proofs.Handled.{none_written, refused_row}
 use Rattle.app_storages.proofs.LocalRows.{answers_plainly, is_error, local_answered, local_refused}
+use Rattle.app_storages.proofs.Needs.{session_needs}
 use Rattle.app_storages.proofs.SlotLaws.{none_there, session_slot, sessions_set, set_same, there}
 use Rattle.app_storages.proofs.Storing.{idle_calls, open_there, resting_after}
 
@@ -203,23 +206,30 @@ module _ (laws : StorageLaws) (texts : TextLaw) (told : Bool) (app now : ℕ) (r
       (sym (ap (λ (r : Reply). r.answer) says) ∙ failed)))
       (subst (λ (r : Reply). HasText r.answer) (sym says) (texts e fed))
 
+  call_needs : SessionNeedsMemory (config_in o) now (session_in o) c → IsTrue told → CallNeedsMemory app now c before
+  call_needs needs tells = session_needs app now before c name kind on (found_on m.image l)
+      (found m.image (resting.root_at.disk tells)) (session_in o) session_is
+      (subst (λ (s : StorageData). SessionNeedsMemory s now (session_in o) c) found_config needs)
+
   refuses_handled : (e : PerError) (result : Result Reply Stop) → TellsRefusal e result
       → IsRefusal (in_session (config_in o) now (session_in o) c) e → e ≢ error.PhysicalStorageFailure
+      → (e ≡ error.OutOfMemory → SessionNeedsMemory (config_in o) now (session_in o) c)
       → session_in later ≡ session_in o → IsStorageCallHandled told app now root c was is m m Same result
-  refuses_handled e (Ok reply) refused row unfailed unchanged =
+  refuses_handled e (Ok reply) refused row unfailed needs unchanged =
       refused_in e reply refused.0 refused.1 row unfailed unchanged
-  refuses_handled e (Err Device) refused row unfailed unchanged = absurd refused
-  refuses_handled e (Err OutOfMemory) refused row unfailed unchanged =
-      starved_handled laws told app now root c was m Same same law resting is
+  refuses_handled e (Err Device) refused row unfailed needs unchanged = absurd refused
+  refuses_handled e (Err OutOfMemory) refused row unfailed needs unchanged =
+      starved_handled laws told app now root c was m Same same law resting (call_needs (needs refused)) is
 
   -- as the call on the storage was answered
   pub local_handled : (given : Result Answer PerError) (result : Result Reply Stop) → TellsAnswer given result
       → IfOk given (λ a. in_session (config_in o) now (session_in o) c ≡ Ok (a, session_in later)) → IfOk given HasText
       → IfErr given (λ e. IsRefusal (in_session (config_in o) now (session_in o) c) e)
       → IfErr given (λ e. e ≢ error.PhysicalStorageFailure)
+      → IfErr given (λ e. e ≡ error.OutOfMemory → SessionNeedsMemory (config_in o) now (session_in o) c)
       → OnErr given (session_in later ≡ session_in o) → IsStorageCallHandled told app now root c was is m m Same result
-  local_handled (Ok a) result settles row text refused unfailed unchanged =
+  local_handled (Ok a) result settles row text refused unfailed needs unchanged =
       subst (λ (r : Result Reply Stop). IsStorageCallHandled told app now root c was is m m Same r) (sym settles)
       (answered_handled a (record { reports = []; answer = a }) refl row text)
-  local_handled (Err e) result settles row text refused unfailed unchanged =
-      refuses_handled e result settles refused unfailed unchanged
+  local_handled (Err e) result settles row text refused unfailed needs unchanged =
+      refuses_handled e result settles refused unfailed needs unchanged

@@ -76,7 +76,7 @@ module _ (app now : ℕ) (r : Application) (c : Call) (name : List ℕ) (kind : 
         in_session f.config now s c >>= λ a. Ok (answered a.0 (with_session r f.number a.1))) none
 
     module _ (s : Session) (there : session_at r f.number ≡ Some s) where
-      local_open : app_step app r now c ≡ (in_session f.config now s c >>= λ a.
+      pub local_open : app_step app r now c ≡ (in_session f.config now s c >>= λ a.
           Ok (answered a.0 (with_session r f.number a.1)))
       local_open = local_found ∙ ap (λ (o : Option Session). found_or o error.NotOpen >>= λ s.
           in_session f.config now s c >>= λ a. Ok (answered a.0 (with_session r f.number a.1))) there

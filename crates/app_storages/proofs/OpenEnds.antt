@@ -146,7 +146,9 @@ module _ (laws : StorageLaws) (told : Bool) (app now : ℕ) (root : Root) (kind 
     }
     open_failed OutOfMemory rose = record {
       ends = stopped laws told app now root (open_call kind name) was was old new l located resting
-          (store_at old.image (shape_at l)) (storing (store_at old.image (shape_at l))) (λ tells. inl (same_app tells));
+          (store_at old.image (shape_at l)) (storing (store_at old.image (shape_at l)))
+          (λ tells. inl (open_reaches app now before kind name (storage_opened app before f f.state) refl (row tells)))
+          (λ tells. inl (same_app tells));
       idle = never_idle;
       written = λ tells. none_due;
       place = in_place;

@@ -198,7 +198,8 @@ module _ (laws : StorageLaws) (texts : TextLaw) (told : Bool) (app now : ℕ) (r
       time = rebuilds.time;
     }
     rebuilt_err OutOfMemory err = record {
-      ends = stopped laws told app now root c was was old new l located resting next storing leads;
+      ends = stopped laws told app now root c was was old new l located resting next storing
+          (λ tells. inl (reaches tells)) leads;
       idle = idle;
       written = written;
       place = in_place;

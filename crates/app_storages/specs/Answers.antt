@@ -10,6 +10,7 @@ use Rattle.deploy_laws.specs.Stands.{StandsThroughout}
 use Rattle.run_model.specs.Worlds.{Application}
 use Rattle.run_model.specs.Calls.{local_on, concluded, app_step}
 use Rattle.run_model.specs.Steps.{device_storage, reaches_device, after_failure, found_named}
+use Rattle.app_storages.specs.Needs.{CallNeedsMemory}
 
 -- the calls that name a storage
 abbrev pub is_on_storage : Call → Bool
@@ -44,8 +45,9 @@ pub record HasStorageCallFailed (app now : ℕ) (c : Call) (before after : Appli
   pub is_after : after ≡ after_failure (app_at new.image app) before (found_named before c)
   pub calls : CallsTo app next old new
 
--- memory ran out for a call: it is in progress
+-- memory ran out for a call, which needs it: it is in progress
 pub record HasStorageCallStopped (app now : ℕ) (c : Call) (before : Application) (old new : Medium) : Type 0 where
+  pub needs : CallNeedsMemory app now c before
   pub next : App
   pub leads : StorageCallMayLead app now c before next
   pub calls : CallsTo app next old new

@@ -1,6 +1,7 @@
 pub mod Slots
 pub mod Finding
 pub mod StorageLaws
+pub mod Needs
 pub mod Answers
 pub mod Handled
 pub mod Durables

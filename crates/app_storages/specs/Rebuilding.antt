@@ -1,6 +1,7 @@
 -- A closed storage that is to be rebuilt, as it is found by its name.
 use Rattle.std.specs.Prelude.{◌≡◌, ℕ, List, None, Result, Ok, Err}
 use Rattle.per_base.specs.declared.errors.PerError.{PerError}
+use Rattle.per_base.specs.Refusals.{NeedsMemory}
 use Rattle.disk_model.specs.Image.{Image}
 use Rattle.element_state.specs.States.{State}
 use Rattle.deploy_laws.specs.Apps.{app_at}
@@ -25,3 +26,8 @@ pub record IsNoneClosed (app : ℕ) (root : Root) (name : List ℕ) (slots : Ope
   pub early : IsEarly e
   pub row : (image : Image) → IsRootOn image app root → (state_of : FoundStorage → Result State PerError)
       → rebuild_step (resting_with image app slots) name state_of ≡ Err e
+
+-- whatever is to be made of it, it is refused because it is open, which its name says
+abbrev pub IsTaken : (app : ℕ) → Root → (name : List ℕ) → OpenSlots → Type 0
+IsTaken app root name slots = (image : Image) → IsRootOn image app root → (state_of : FoundStorage → Result State PerError)
+    → NeedsMemory (rebuild_step (resting_with image app slots) name state_of)

@@ -4,3 +4,4 @@ pub mod Opened
 pub mod Refused
 pub mod Rows
 pub mod Unfailing
+pub mod Needs

@@ -1,11 +1,13 @@
 -- How a call on an open storage is answered.
-use Rattle.std.specs.Prelude.{◌≡◌, Bool, true, false, Result, Ok, Err}
+use Rattle.std.specs.Prelude.{◌≡◌, ◌⊎◌, ℕ, Bool, true, false, IsTrue, Result, Ok, Err}
 use Rattle.per_base.specs.declared.errors.PerError.{PerError}
-use Rattle.per_base.specs.Refusals.{IsRefusal}
+use Rattle.per_base.specs.Refusals.{IsRefusal, NeedsMemory}
+use Rattle.deployment_model.specs.Data.{StorageData}
 use Rattle.command_text.specs.declared.calls.Call.{Call}
 use Rattle.command_text.specs.declared.calls.Call.TheVariants as call
 use Rattle.command_text.specs.declared.replies.Answer.{Answer}
 use Rattle.command_text.specs.Replies.{HasText}
+use Rattle.run_model.specs.Sessions.{Session, in_session}
 
 -- The answer is the row's, and so is what the calls see afterwards. A refusal is the row's, or OutOfMemory, and
 -- changes nothing.
@@ -14,6 +16,15 @@ abbrev pub IsAnsweredAsRow : {S : Type 0} → (row : Result (Answer × S) PerErr
     → Type 0
 IsAnsweredAsRow row old new (Ok answer) = (row ≡ Ok (answer, new)) × HasText answer
 IsAnsweredAsRow row old new (Err error) = IsRefusal row error × (new ≡ old)
+
+-- a key is set, to a copy of the value, which is made before the storage is asked
+abbrev pub sets_key : Call → Bool
+sets_key (call.Set n k x) = true
+sets_key other = false
+
+-- memory may run out for a call: it is not refused, or with names or texts, or it copies a value first
+abbrev pub SessionNeedsMemory : StorageData → (now : ℕ) → Session → Call → Type 0
+SessionNeedsMemory c now s l = IsTrue (sets_key l) ⊎ NeedsMemory (in_session c now s l)
 
 -- ---- the calls on files, in three groups
 

@@ -1,7 +1,7 @@
 //! The calls on files.
 
 ghost use Rattle.std.specs.Prelude.{◌≡◌, IfErr, IfOk, OnErr, OnOk, Ok, true, false, ℕ};
-ghost use Rattle.per_base.specs.Refusals.{IsRefusal};
+ghost use Rattle.per_base.specs.Refusals.{IsDue, IsRefusal, NeedsMemory};
 ghost use Rattle.file_handles.specs.Handling as handling;
 ghost use Rattle.file_handles.specs.Opening.{open_file};
 ghost use Rattle.run_model.specs.Sessions.{on_working, storage_of};
@@ -16,6 +16,8 @@ use per_base::{Bytes, Name, OpenKind, OpenMode, PerError, Sequence};
 pub(crate) fn answer_files(files: &mut Files, now: u64, call: &Call) -> Result<Answer, PerError>
     ensures answered { IsAnsweredAsRow (on_working files.old.config now files.old.session call.now) files.old.session
         files.new.session result }
+    ensures memory { IfErr result (λ error. error ≡ PerError.OutOfMemory
+        → NeedsMemory (on_working files.old.config now files.old.session call.now)) }
     ensures beside { files.new ≡ record files.old { session = files.new.session; moment = files.new.moment } }
 {
     match call {
@@ -45,6 +47,8 @@ fn by_name(files: &mut Files, now: u64, call: &Call) -> Result<Answer, PerError>
     requires { is_by_name call.now ≡ true }
     ensures answered { IsAnsweredAsRow (on_working files.old.config now files.old.session call.now) files.old.session
         files.new.session result }
+    ensures memory { IfErr result (λ error. error ≡ PerError.OutOfMemory
+        → NeedsMemory (on_working files.old.config now files.old.session call.now)) }
     ensures beside { files.new ≡ record files.old { session = files.new.session; moment = files.new.moment } }
 {
     match call {
@@ -75,6 +79,8 @@ fn read(files: &mut Files, call: &Call) -> Result<Answer, PerError>
     requires { is_reading call.now ≡ true }
     ensures answered { (now : ℕ) → IsAnsweredAsRow (on_working files.old.config now files.old.session call.now)
         files.old.session files.new.session result }
+    ensures memory { IfErr result (λ error. error ≡ PerError.OutOfMemory
+        → (now : ℕ) → NeedsMemory (on_working files.old.config now files.old.session call.now)) }
     ensures beside { files.new ≡ record files.old { session = files.new.session; moment = files.new.moment } }
 {
     match call {
@@ -97,6 +103,8 @@ fn place(files: &mut Files, call: &Call) -> Result<Answer, PerError>
     requires { is_placing call.now ≡ true }
     ensures answered { (now : ℕ) → IsAnsweredAsRow (on_working files.old.config now files.old.session call.now)
         files.old.session files.new.session result }
+    ensures memory { IfErr result (λ error. error ≡ PerError.OutOfMemory
+        → (now : ℕ) → NeedsMemory (on_working files.old.config now files.old.session call.now)) }
     ensures beside { files.new ≡ record files.old { session = files.new.session; moment = files.new.moment } }
 {
     match call {
@@ -122,6 +130,8 @@ fn change(files: &mut Files, now: u64, call: &Call) -> Result<Answer, PerError>
     requires placing { is_placing call.now ≡ false }
     ensures answered { IsAnsweredAsRow (on_working files.old.config now files.old.session call.now) files.old.session
         files.new.session result }
+    ensures memory { IfErr result (λ error. error ≡ PerError.OutOfMemory
+        → NeedsMemory (on_working files.old.config now files.old.session call.now)) }
     ensures beside { files.new ≡ record files.old { session = files.new.session; moment = files.new.moment } }
 {
     match call {
@@ -161,6 +171,8 @@ fn opened(
         ≡ Ok (handle, files.new.session)) }
     ensures refused { IfErr result (λ error. IsRefusal (open_file (storage_of files.old.config) files.old.session
         name.now kind mode now) error) }
+    ensures memory { IfErr result (λ error. error ≡ PerError.OutOfMemory
+        → NeedsMemory (open_file (storage_of files.old.config) files.old.session name.now kind mode now)) }
     ensures beside { files.new ≡ record files.old { session = files.new.session; moment = files.new.moment } }
     ensures unchanged { OnErr result (files.new ≡ files.old) }
 {
@@ -177,6 +189,8 @@ fn written(files: &mut Files, handle: u32, bytes: &Bytes, now: u64) -> Result<()
         ≡ Ok files.new.session) }
     ensures refused { IfErr result (λ error. IsRefusal (handling.write (storage_of files.old.config) files.old.session
         now handle bytes.now) error) }
+    ensures due { IfErr result (λ error. error ≡ PerError.OutOfMemory
+        → IsDue (handling.write (storage_of files.old.config) files.old.session now handle bytes.now)) }
     ensures beside { files.new ≡ record files.old { session = files.new.session; moment = files.new.moment } }
     ensures unchanged { OnErr result (files.new.session ≡ files.old.session) }
 {

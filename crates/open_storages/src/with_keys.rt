@@ -1,11 +1,11 @@
 //! The calls on keys.
 
-ghost use Rattle.std.specs.Prelude.{◌≡◌, IfErr, IfOk, OnErr, OnOk, Ok};
-ghost use Rattle.per_base.specs.Refusals.{IsRefusal};
+ghost use Rattle.std.specs.Prelude.{◌≡◌, ◌⊎◌, IfErr, IfOk, IsTrue, OnErr, OnOk, Ok};
+ghost use Rattle.per_base.specs.Refusals.{IsRefusal, NeedsMemory};
 ghost use Rattle.kvs_core.specs.Calls as calls;
 ghost use Rattle.kvs_store.specs.Storages.{kvs_session, showing};
 ghost use Rattle.run_model.specs.Sessions.{on_keys};
-ghost use Rattle.open_storages.specs.Answers.{IsAnsweredAsRow};
+ghost use Rattle.open_storages.specs.Answers.{IsAnsweredAsRow, sets_key};
 ghost use Rattle.open_storages.specs.Opens.{keys_of};
 
 use command_text::{Answer, AskedType, Call};
@@ -19,6 +19,8 @@ use value_model::Value;
 pub(crate) fn answer_keys(kvs: &mut Kvs, alloc: Global, call: &Call) -> Result<Answer, PerError>
     ensures answered { IsAnsweredAsRow (on_keys kvs.old.config (keys_of kvs.old) call.now) (keys_of kvs.old)
         (keys_of kvs.new) result }
+    ensures memory { IfErr result (λ error. error ≡ PerError.OutOfMemory → IsTrue (sets_key call.now)
+        ⊎ NeedsMemory (on_keys kvs.old.config (keys_of kvs.old) call.now)) }
     ensures beside { kvs.new ≡ showing kvs.old kvs.new.session.visible }
 {
     match call {
@@ -60,6 +62,8 @@ fn value_of(kvs: &Kvs, alloc: Global, key: &Name) -> Result<Value, PerError>
     ensures ok { IfOk result (λ value. calls.get_any kvs.now.config kvs.now.session.visible key.now ≡ Ok value) }
     ensures refused { IfErr result (λ error. IsRefusal (calls.get_any kvs.now.config kvs.now.session.visible key.now)
         error) }
+    ensures memory { IfErr result (λ error. error ≡ PerError.OutOfMemory
+        → NeedsMemory (calls.get_any kvs.now.config kvs.now.session.visible key.now)) }
 {
     copy_of(alloc, kvs.get_any(key)?)
 }
@@ -70,6 +74,8 @@ fn value_as(kvs: &Kvs, alloc: Global, key: &Name, asked: &AskedType) -> Result<V
         ≡ Ok value) }
     ensures refused { IfErr result (λ error. IsRefusal (calls.get_as kvs.now.config kvs.now.session.visible key.now
         asked.now) error) }
+    ensures memory { IfErr result (λ error. error ≡ PerError.OutOfMemory
+        → NeedsMemory (calls.get_as kvs.now.config kvs.now.session.visible key.now asked.now)) }
 {
     copy_of(alloc, kvs.get_as(key, asked.value_type())?)
 }

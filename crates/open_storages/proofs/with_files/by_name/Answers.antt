@@ -1,6 +1,7 @@
 use Rattle.std.proofs.Common.{ap}
 use Rattle.file_storage.specs.FileSessions.{FilesInUse}
 use Rattle.run_model.specs.Sessions.{on_working}
+use Rattle.open_storages.proofs.Needs.{due_needs, handed_needs}
 use Rattle.open_storages.proofs.Rows.{answered_then, handed_on}
 use Rattle.open_storages.proofs.with_files.by_name.Goals as goal
 
@@ -18,3 +19,11 @@ pub returns-in_ok-recover_file-in-RecoverFile-clause-answered
 unfolding on_working
 returns-in_ok-recover_file-in-RecoverFile-clause-answered c =
     rw c.in-RecoverFile.is (answered_then _ _ _ c.in_ok-recover_file-in-RecoverFile.ensures.ok, tt)
+
+pub returns-in_err-recover_file-in-RecoverFile-clause-memory
+    : goal.returns-in_err-recover_file-in-RecoverFile-clause-memory
+unfolding on_working
+returns-in_err-recover_file-in-RecoverFile-clause-memory c =
+    rw c.in-RecoverFile.is (handed_needs _ _ c.from_residual-in_err-recover_file-in-RecoverFile.result
+    c.in_err-recover_file-in-RecoverFile.field-0.0 c.from_residual-in_err-recover_file-in-RecoverFile.ensures (λ x. tt)
+    (λ out. due_needs _ (c.in_err-recover_file-in-RecoverFile.ensures.memory out)))

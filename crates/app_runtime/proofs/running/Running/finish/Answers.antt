@@ -1,4 +1,5 @@
 use Rattle.std.proofs.Common.{◌≡◌, ap}
+use Rattle.std.specs.Prelude.{⊤}
 use Rattle.deploy.specs.Clauses.{IsNoRootSlot}
 use Rattle.deploy_laws.specs.Apps.{IsCleanApp}
 use Rattle.deploy_rows.specs.Rows.{after, finishing}
@@ -31,7 +32,7 @@ returns g c = λ now.
     c.take_root-root.new.self root old new (c.finish-made.new.disk ≡ c.args.disk.now)
     (λ same. (ap (λ d. (g.D.Disk.medium d).image) same, ap (λ d. (g.D.Disk.medium d).written) same))
     c.requires.memory c.requires.rests c.take_root-root.ensures.root c.take_root-root.ensures.left
-    c.roots_in_use.ensures.app finishing
+    c.roots_in_use.ensures.app finishing (λ e. ⊤)
     (finish_word told (rules_of c.args.migrations.now) (answers_of c.args.migrations.now) s.app now old.image s.slots
     c.rows_read_the_root.ensures.finish c.rows_lead_on.ensures.finish)
     made
@@ -46,6 +47,7 @@ returns g c = λ now.
       cause = c.finish-made.ensures.cause;
       passes = c.finish-made.ensures.passes;
       device_only = c.finish-made.ensures.device_only;
+      due = λ e is none. c.finish-made.ensures.due e is;
       calls = λ tells. calls_to told s.app (after (app_at old.image s.app) (finishing (app_at old.image s.app)))
           (IsNoRootSlot s.app) old new tells (λ f is. no_root s.app f resting.below is) outside
           (c.finish-made.ensures.any_moment tells s.app resting.below resting.root_at);

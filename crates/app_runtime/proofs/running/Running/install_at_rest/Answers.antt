@@ -1,6 +1,6 @@
 use Rattle.std.proofs.Common.{◌≡◌, ◌≤◌, ◌<◌, ap, sym, subst, arith}
-use Rattle.disk_model.specs.Medium.{Medium}
 use Rattle.deploy.specs.Clauses.{IsBesideNext}
+use Rattle.deploy.specs.Refusals.{AllocatesNothing}
 use Rattle.deploy.specs.Roots.{RootAt}
 use Rattle.deploy_laws.specs.Apps.{IsCleanApp, app_at}
 use Rattle.deploy_rows.specs.Rows.{after, installing}
@@ -41,12 +41,12 @@ returns g c =
     (call.Install c.args.manifest.now) s taken root old new (c.install-made.new.disk ≡ c.args.disk.now)
     (λ same. (ap (λ d. (g.D.Disk.medium d).image) same, ap (λ d. (g.D.Disk.medium d).written) same))
     c.requires.memory c.requires.rests c.take_root-root.ensures.root c.take_root-root.ensures.left
-    c.roots_in_use.ensures.app row
+    c.roots_in_use.ensures.app row AllocatesNothing
     (install_word told (rules_of c.args.migrations.now) (answers_of c.args.migrations.now) s.app c.args.now old.image
     s.slots c.args.manifest.now (c.rows_read_the_root.ensures.install c.args.now c.args.manifest.now)
     c.rows_lead_on.ensures.install)
     made
-    (subst (λ n. Made told row n root (c.install-made.new.disk ≡ c.args.disk.now) old new made)
+    (subst (λ n. Made told row AllocatesNothing n root (c.install-made.new.disk ≡ c.args.disk.now) old new made)
     (ap (λ (x : Running). x.app) c.take_root-root.ensures.left) (record {
       root_at = c.install-made.ensures.root;
       refused = c.install-made.ensures.refused;
@@ -58,6 +58,7 @@ returns g c =
       cause = c.install-made.ensures.cause;
       passes = c.install-made.ensures.passes;
       device_only = c.install-made.ensures.device_only;
+      due = c.install-made.ensures.due;
       calls = λ tells. calls_to told taken.app (after (app_at old.image taken.app) (row (app_at old.image taken.app)))
           (IsBesideNext taken.app 0) old new tells (λ f is.
           beside_next taken.app 0 f (subst (λ n. n < 8) back resting.below) (let low : 0 ≤ 1 = omega arith in low) is)

@@ -1,17 +1,22 @@
-use Rattle.std.proofs.Common.{◌≡◌, ◌<◌, ap, refl, sym, subst}
+use Rattle.std.proofs.Common.{◌≡◌, ◌⊎◌, ◌∙◌, None, ap, refl, sym}
 use Rattle.std.specs.Prelude.{option_map}
 use Rattle.deploy.specs.Clauses.{IsNoRootSlot}
-use Rattle.deploy.specs.Roots.{RootAt}
+use Rattle.deploy.specs.Refusals.{AllocatesNothing}
+use Rattle.per_base.specs.declared.errors.PerError.{PerError}
+use Rattle.deploy.specs.Roots.{root_says}
 use Rattle.deploy_laws.specs.Apps.{IsCleanApp, app_at}
 use Rattle.deploy_rows.specs.Rows.{after, rolling_back}
 use Rattle.command_text.specs.declared.calls.Call.TheVariants as call
 use Rattle.migrate_fns.specs.Stored.{answers_of, rules_of}
 use Rattle.app_runtime.specs.declared.running.Running.{Running}
-use Rattle.app_runtime.proofs.Ended.{busy_here, busy_least, clean_less, on_clean, resting_in, starved, starved_promises}
+use Rattle.app_runtime.specs.Needs.{no_way_back}
+use Rattle.app_runtime.specs.Stages.{stage_root}
+use Rattle.app_runtime.proofs.Early.{back_plain, back_row, back_starves, early_promises, or_unnamed}
+use Rattle.app_runtime.proofs.Ended.{busy_here, busy_least, on_clean, resting_in, starved}
+use Rattle.app_runtime.proofs.Ended.{starved_promises}
 use Rattle.app_runtime.proofs.Ended.{word_promises}
 use Rattle.app_runtime.proofs.Frames.{calls_to, no_root}
 use Rattle.app_runtime.proofs.Kept.{rollback_kept}
-use Rattle.app_runtime.proofs.Rowed.{Made}
 use Rattle.app_runtime.proofs.Words.{rollback_word}
 use Rattle.app_runtime.proofs.running.Running.rollback.Goals as goal
 
@@ -21,12 +26,36 @@ rollback-made-requires g c =
     c.take_root-root.result c.requires.memory c.requires.rests c.take_root-root.ensures.root in
     record { root = (c.args.self.now.app, resting.below, resting.root_at) }
 
+-- ---- its root refuses it
+
+pub returns-in-Some : goal.returns-in-Some
+returns-in-Some g c = λ now.
+    let s = c.args.self.now in
+    let refused = sym c.no_way_back.ensures ∙ c.in-Some.is in
+    early_promises g.D.Disk.told (rules_of c.args.migrations.now) (answers_of c.args.migrations.now) now call.Rollback s
+    (g.D.Disk.medium c.args.disk.now) (g.met.D.Disk.lawful c.args.disk.now) c.untouched_stands.ensures.untouched
+    (c.args.disk.now ≡ c.args.disk.now) refl c.requires.memory c.requires.rests c.roots_in_use.ensures.app no_way_back
+    c.in-Some.error (back_plain (root_says (stage_root s.stage)) c.in-Some.error refused) refused
+    (λ r rests is. back_row (rules_of c.args.migrations.now) (answers_of c.args.migrations.now) s.app now r rests
+    c.in-Some.error is) c.refuse.result c.refuse.ensures
+
+-- ---- it goes on
+
 pub returns-in_err-busy : goal.returns-in_err-busy
-returns-in_err-busy g c = λ now. starved_promises g.D.Disk.told (rules_of c.args.migrations.now)
-    (answers_of c.args.migrations.now) now call.Rollback c.args.self.now (g.D.Disk.medium c.args.disk.now)
+returns-in_err-busy g c = λ now.
+    let told = g.D.Disk.told in
+    let s = c.args.self.now in
+    let taken = c.take_root-root.new.self in
+    let root = c.take_root-root.result in
+    let old = g.D.Disk.medium c.args.disk.now in
+    let resting = resting_in told old.image s root c.requires.memory c.requires.rests c.take_root-root.ensures.root in
+    starved_promises told (rules_of c.args.migrations.now) (answers_of c.args.migrations.now) now call.Rollback s old
     (g.met.D.Disk.lawful c.args.disk.now) c.untouched_stands.ensures.untouched (c.args.disk.now ≡ c.args.disk.now) refl
-    c.requires.memory c.take_root-root.new.self
-    (ap (λ (x : Running). x.app) c.take_root-root.ensures.left) c.from_residual.result
+    c.requires.memory
+    (back_starves told s taken root old now resting c.requires.rests c.roots_in_use.ensures.app
+    c.take_root-root.ensures.left c.in_err-busy.ensures.memory c.no_way_back.result c.take_root-root.ensures.root
+    c.no_way_back.ensures c.in_default.not-Some)
+    taken (ap (λ (x : Running). x.app) c.take_root-root.ensures.left) c.from_residual.result
     (starved c.from_residual.result c.from_residual.ensures.1)
 
 pub returns : goal.returns
@@ -40,14 +69,15 @@ returns g c = λ now.
     let made = c.rollback-made.result in
     let busy = option_map (λ n. n.now) c.as_ref.result in
     let row = rolling_back busy in
+    let Due : PerError → Type 0 = λ e. AllocatesNothing e ⊎ (busy ≡ None) in
     let resting = resting_in told old.image s root c.requires.memory c.requires.rests c.take_root-root.ensures.root in
     let busy_is = busy_here s taken root c.as_ref.result c.in_ok-busy.busy c.take_root-root.ensures.left
-    c.as_ref.ensures.value c.in_ok-busy.ensures in
+    c.as_ref.ensures.value c.in_ok-busy.ensures.busy in
     word_promises told (rules_of c.args.migrations.now) (answers_of c.args.migrations.now) now call.Rollback s taken
     root old new (c.rollback-made.new.disk ≡ c.args.disk.now)
     (λ same. (ap (λ d. (g.D.Disk.medium d).image) same, ap (λ d. (g.D.Disk.medium d).written) same))
     c.requires.memory c.requires.rests c.take_root-root.ensures.root c.take_root-root.ensures.left
-    c.roots_in_use.ensures.app row
+    c.roots_in_use.ensures.app row Due
     (rollback_word told (rules_of c.args.migrations.now) (answers_of c.args.migrations.now) s.app now old.image s.slots
     busy (busy_least told old.image s.app root s.slots c.roots_in_use.ensures.app resting busy busy_is)
     (c.rows_read_the_root.ensures.rollback busy) c.rows_lead_on.ensures.rollback)
@@ -63,6 +93,7 @@ returns g c = λ now.
       cause = c.rollback-made.ensures.cause;
       passes = c.rollback-made.ensures.passes;
       device_only = c.rollback-made.ensures.device_only;
+      due = λ e is early. c.rollback-made.ensures.due e is (or_unnamed c.as_ref.result early);
       calls = λ tells. calls_to told s.app (after (app_at old.image s.app) (row (app_at old.image s.app)))
           (IsNoRootSlot s.app) old new tells (λ f is. no_root s.app f resting.below is)
           (c.rollback-made.ensures.outside s.app resting.below resting.root_at)

@@ -58,4 +58,4 @@ returns g c =
     refl asked.config asked.store
     (record { kind = c.invariants.ensures.kind; shows = c.invariants.ensures.synced })
     c.call-answer.result c.concluded.result c.concluded.ensures asked.ok asked.text asked.refused asked.unfailed
-    asked.unchanged
+    asked.memory asked.unchanged

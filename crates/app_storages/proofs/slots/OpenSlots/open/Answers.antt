@@ -1,4 +1,4 @@
-use Rattle.std.proofs.Common.{◌≡◌, Err, refl, sym, ap, subst, ◌∙◌}
+use Rattle.std.proofs.Common.{◌≡◌, Err, refl, sym, ap, subst, ◌∙◌, inl}
 use Rattle.per_base.specs.declared.errors.PerError.{PerError}
 use Rattle.per_base.specs.declared.errors.PerError.TheVariants as error
 use Rattle.per_base.specs.declared.errors.Holder.TheVariants as holder
@@ -13,11 +13,13 @@ use Rattle.open_storages.specs.declared.opening.Opening.TheVariants as found
 use Rattle.open_storages.specs.Openings.{IsOpeningOf, IsWhereConfigured, OnCorrupt, OnOpened}
 use Rattle.open_storages.specs.Opens.{store_in}
 use Rattle.command_text.specs.declared.replies.Answer.TheVariants.{Done}
+use Rattle.run_model.specs.Calls.{storage_opened}
 use Rattle.app_storages.specs.Finding.{IsEarly, config_of, found_on, shape_at}
 use Rattle.app_storages.specs.Openings.{open_call}
 use Rattle.app_storages.specs.Slots.{resting_with}
 use Rattle.app_storages.proofs.Ended.{early_handled, starved_handled}
-use Rattle.app_storages.proofs.OpenRows.{open_busy, open_not_found}
+use Rattle.app_storages.proofs.Needs.{row_needs}
+use Rattle.app_storages.proofs.OpenRows.{open_busy, open_not_found, open_reaches, open_row}
 use Rattle.app_storages.proofs.OpenEnds.{is_early_busy, open_corrupt, open_failed, open_opened, session_there}
 use Rattle.app_storages.proofs.slots.OpenSlots.open.Goals as goal
 
@@ -56,16 +58,26 @@ returns-in-Err-copy g c = λ now.
     let told = g.D.Disk.told in let m = g.D.Disk.medium c.args.disk.now in let app = c.args.app in let root =
     c.args.root.now in let was = c.args.self.now in
     let kind = c.args.kind in let name = c.args.name.now in let law = g.met.D.Disk.lawful c.args.disk.now in
+    let l = c.in-Ok.located in
     starved_handled c.storages_stand.ensures told app now root (open_call kind name) was m
-    (c.args.disk.now ≡ c.args.disk.now) refl law c.requires was
+    (c.args.disk.now ≡ c.args.disk.now) refl law c.requires
+    (λ tells. row_needs app now (resting_with m.image app was) (open_call kind name)
+    (Err (error.ResourceBusy (holder.Storage l.config.now.name)))
+    (open_busy app now (resting_with m.image app was) kind name (found_on m.image l)
+    (c.in-Ok.ensures.found m.image (c.requires.root_at.disk tells))
+    (session_there m.image app was l.number ∙ sym c.is_open.ensures ∙ c.if-is_open.true)) tt) was
 
 pub returns-in_default : goal.returns-in_default
 returns-in_default g c = λ now.
     let told = g.D.Disk.told in let m = g.D.Disk.medium c.args.disk.now in let app = c.args.app in let root =
     c.args.root.now in let was = c.args.self.now in
     let kind = c.args.kind in let name = c.args.name.now in let law = g.met.D.Disk.lawful c.args.disk.now in
+    let f = found_on m.image c.in-Ok.located in let before = resting_with m.image app was in
     starved_handled c.storages_stand.ensures told app now root (open_call kind name) was m
-    (c.args.disk.now ≡ c.args.disk.now) refl law c.requires was
+    (c.args.disk.now ≡ c.args.disk.now) refl law c.requires
+    (λ tells. inl (open_reaches app now before kind name (storage_opened app before f f.state) refl
+    (open_row app now before kind name f (c.in-Ok.ensures.found m.image (c.requires.root_at.disk tells))
+    (session_there m.image app was c.in-Ok.located.number ∙ sym c.is_open.ensures ∙ c.if-is_open.false)))) was
 
 -- ---- the storage was opened
 

@@ -1,14 +1,16 @@
-use Rattle.std.proofs.Common.{◌≡◌, Result, Some, refl, ap, ◌∙◌, subst}
+use Rattle.std.proofs.Common.{◌≡◌, Result, Some, refl, ap, ◌∙◌, subst, inl, inr}
 use Rattle.std.specs.Prelude.{IfErr, IfOk}
 use Rattle.per_base.specs.declared.errors.PerError.{PerError}
 use Rattle.element_state.specs.declared.shapes.Shape.{Shape}
 use Rattle.command_text.specs.declared.calls.Call.TheVariants as call
+use Rattle.run_model.specs.Calls.{app_step}
 use Rattle.deploy_rows.specs.Recovering.{resetting}
 use Rattle.app_storages.specs.Finding.{config_of}
 use Rattle.app_storages.specs.Rebuilding.{IsClosed, IsNoneClosed}
 use Rattle.app_storages.specs.Slots.{resting_with}
 use Rattle.app_storages.specs.declared.finding.Located.{Located}
 use Rattle.app_storages.proofs.Ended.{early_handled, starved_handled}
+use Rattle.app_storages.proofs.Needs.{as_row}
 use Rattle.app_storages.proofs.Rebuilt.{Rebuilds, rebuilt_err, rebuilt_ok, reset_is, resetting_early, was_reset_reaches}
 use Rattle.app_storages.proofs.Rebuilt.{was_reset_row}
 use Rattle.app_storages.proofs.slots.OpenSlots.reset.Goals as goal
@@ -39,7 +41,10 @@ returns-in-Err g c =
     let name = c.args.name.now in let law = g.met.D.Disk.lawful c.args.disk.now in let laws =
     c.storages_stand.ensures in let texts = c.errors_have_texts.ensures in
     starved_handled laws told app now root (call.ResetStorage name) was m (c.args.disk.now ≡ c.args.disk.now) refl law
-    c.requires was
+    c.requires
+    (λ tells. inr (inl (as_row (app_step app (resting_with m.image app was) now (call.ResetStorage name)) _
+    (reset_is app now (resting_with m.image app was) name)
+    (c.in-Err.ensures.memory m.image (c.requires.root_at.disk tells) (λ f. resetting f.config now f.state))))) was
 
 pub shape-requires : goal.shape-requires
 shape-requires g c =
@@ -58,8 +63,13 @@ returns-in_default g c =
     c.args.now in let root = c.args.root.now in let was = c.args.self.now in
     let name = c.args.name.now in let law = g.met.D.Disk.lawful c.args.disk.now in let laws =
     c.storages_stand.ensures in let texts = c.errors_have_texts.ensures in
+    let l = c.in-Ok-Ok.located in
+    let closed : IsClosed app root name was l = subst (λ (x : Result Located PerError).
+    IfOk x (IsClosed app root name was)) c.in-Ok-Ok.field-0-is c.in-Ok-Ok.ensures.closed in
     starved_handled laws told app now root (call.ResetStorage name) was m (c.args.disk.now ≡ c.args.disk.now) refl law
-    c.requires was
+    c.requires
+    (λ tells. inl (was_reset_reaches told app now root was m l name
+    (λ tells. closed.named m.image (c.requires.root_at.disk tells)) closed.free tells)) was
 
 -- ---- it is rebuilt
 
