@@ -25,6 +25,7 @@ pub mod Adding
 pub mod Moving
 mod Clearing
 pub mod Moved
+mod Joins
 mod Looking
 mod Turning
 mod Losing

@@ -48,6 +48,7 @@ mod disk;
 mod erasing;
 mod filling;
 mod forgetting;
+mod joining;
 mod laws;
 mod layer;
 mod opening;

@@ -130,6 +130,17 @@ impl Streams {
         self.next[copy] = FlashPage { block, page: moved };
     }
 
+    /// Two blocks were joined in another, up to a page of it: the copy that would have gone on in one of them goes on
+    /// there.
+    pub fn join(&mut self, first: u32, second: u32, block: u32, page: u32) {
+        for copy in 0..COPIES {
+            let next = self.next[copy].block;
+            if next == first || next == second || next == block {
+                self.next[copy] = FlashPage { block, page };
+            }
+        }
+    }
+
     /// Goes on with no copy in a block that holds newest records of another too.
     pub fn leave_mixed(&mut self, table: &Table) {
         if !self.apart {
