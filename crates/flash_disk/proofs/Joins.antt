@@ -212,8 +212,8 @@ module _ (m : FlashMedium) (s : LayerState) (from done : ℕ)
     abbrev pages : Pages
     pages = m.state.pages
 
-    abbrev n : ℕ
-    n = places m.blocks
+    abbrev size : ℕ
+    size = places m.blocks
 
     abbrev place : FlashPage
     place = record { block = s.current; page = s.fill }
@@ -246,17 +246,17 @@ module _ (m : FlashMedium) (s : LayerState) (from done : ℕ)
 
     apart_of : (k : FilePage) (e : Newest) → known s.table k ≡ Some e → number e.place ≢ 64 * s.current + s.fill
     apart_of k e found = λ same.
-        let to = record_of pages n s.table joining.sound.knows.led k e found in
+        let to = record_of pages size s.table joining.sound.knows.led k e found in
         let nothing : record_at pages (64 * s.current + s.fill) ≡ None =
         record_at_place pages s.current s.fill room ∙ (ap record_in blank_now ∙ blank_is_none) in
         none-some to.0.says (sym nothing ∙ (ap (record_at pages) (sym same) ∙ to.1.leads.there))
 
     left_keeps : (left : Pages) → TornPage s.current s.fill pages left
-        → IsPlain pages (program_page pages s.current s.fill bytes) left → KeepsRecords pages left n
-    left_keeps = torn_copy pages n (number old.place) place bytes r room blank_now here.3 here.1.within
+        → IsPlain pages (program_page pages s.current s.fill bytes) left → KeepsRecords pages left size
+    left_keeps = torn_copy pages size (number old.place) place bytes r room blank_now here.3 here.1.within
         here.1.leads.there
 
-    left_sound : (left : Pages) → TornPage s.current s.fill pages left → KeepsRecords pages left n
+    left_sound : (left : Pages) → TornPage s.current s.fill pages left → KeepsRecords pages left size
         → Sound left m.blocks idle
     left_sound left torn keeps = kept_sound pages left m.blocks idle idle_sound joining.agreed keeps
         (λ more. absurd (omega (arith, more)))
@@ -269,8 +269,8 @@ module _ (m : FlashMedium) (s : LayerState) (from done : ℕ)
     written_torn : TornPage s.current s.fill pages written
     written_torn = whole_torn pages s.current s.fill bytes
 
-    written_keeps : KeepsRecords pages written n
-    written_keeps = whole_copy pages n (number old.place) place bytes r room blank_now here.3 here.1.within
+    written_keeps : KeepsRecords pages written size
+    written_keeps = whole_copy pages size (number old.place) place bytes r room blank_now here.3 here.1.within
         here.1.leads.there
 
     written_sound : Sound written m.blocks idle
@@ -278,7 +278,7 @@ module _ (m : FlashMedium) (s : LayerState) (from done : ℕ)
 
     -- a call that failed lost nothing
     pub add_failed_keeps : (now : FlashMedium) → FailsToProgram s.current s.fill bytes m.state now.state
-        → KeepsRecords pages now.state.pages n
+        → KeepsRecords pages now.state.pages size
     add_failed_keeps now failed = left_keeps now.state.pages failed.torn failed.plain
 
     pub add_failed_sound : (now : FlashMedium) → FailsToProgram s.current s.fill bytes m.state now.state
@@ -287,16 +287,16 @@ module _ (m : FlashMedium) (s : LayerState) (from done : ℕ)
         (left_sound now.state.pages failed.torn (add_failed_keeps now failed))
 
     pub add_keeps : (now : FlashMedium) → now.state ≡ programmed m.state s.current s.fill bytes
-        → KeepsRecords pages now.state.pages n
-    add_keeps now done_now = subst (λ (z : FlashState). KeepsRecords pages z.pages n) (sym done_now) written_keeps
+        → KeepsRecords pages now.state.pages size
+    add_keeps now done_now = subst (λ (z : FlashState). KeepsRecords pages z.pages size) (sym done_now) written_keeps
 
     file_is : r.file ≡ key.file
     file_is = ap (λ (k : FilePage). k.file) here.2
 
-    left_held : (left : Pages) → IsTorn pages left (number place) (Some r) → KeepsRecords pages left n
-        → (copy : ℕ) → LeadsOnly s.table copy from → KeepsHeld copy s.current n pages left
-    left_held left torn keeps copy only = held_copied pages left copy s.current n
-        (keeps_said pages left n (joining.sound.agreed joining.agreed) keeps) (number place) r torn
+    left_held : (left : Pages) → IsTorn pages left (number place) (Some r) → KeepsRecords pages left size
+        → (copy : ℕ) → LeadsOnly s.table copy from → KeepsHeld copy s.current size pages left
+    left_held left torn keeps copy only = held_copied pages left copy s.current size
+        (keeps_said pages left size (joining.sound.agreed joining.agreed) keeps) (number place) r torn
         (let few = room in let at : number place / 64 ≡ s.current = omega (arith, few) in at)
         (ap copy_of file_is ∙ only key old is block)
 

@@ -26,6 +26,7 @@ pub mod Moving
 mod Clearing
 pub mod Moved
 mod Joins
+mod Pairs
 mod Looking
 mod Turning
 mod Losing

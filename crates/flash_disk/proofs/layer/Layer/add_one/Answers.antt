@@ -296,7 +296,6 @@ returns-in_err-program_page-clause-state g c =
     let same : u ≡ record c.args.self.now.state { fill = 64 } = c.program_page.ensures.state
     ∙ ap (λ (q : LayerState). let z : LayerState = record q { fill = 64 } in z) c.read_page.ensures.reads.state in
     subst (λ (q : LayerState). u ≡ record q { table = u.table; fill = u.fill }) same refl
-    ∙ ap (λ (q : LayerState). let z : LayerState = record q { table = u.table; fill = u.fill } in z) refl
 
 pub returns-in_err-program_page-clause-own : goal.returns-in_err-program_page-clause-own
 returns-in_err-program_page-clause-own g c told =
@@ -420,7 +419,8 @@ returns-clause-entries g c told =
     (subst (λ (q : LayerState). Puts q.table table key (record old { place = place }) c.put.result) p.state
     (c.put.ensures.full, c.put.ensures.put)).1 in
     subst (λ (q : LayerState). SameEntries q.table table) c.read_page.ensures.reads.state
-    (set_entries s.table table key old (record old { place = place }) is sets c.put.ensures.bounds.limit)
+    (set_entries s.table table key old (record old { place = place }) is sets
+    (c.put.ensures.bounds.limit ∙ ap (λ (q : LayerState). q.table.limit) p.state))
 
 pub returns-clause-joining : goal.returns-clause-joining
 returns-clause-joining g c told =
@@ -450,9 +450,9 @@ returns-clause-joining g c told =
     (c.put.ensures.full, c.put.ensures.put)).0
     (subst (λ (q : LayerState). Puts q.table table key (record old { place = place }) c.put.result) p.state
     (c.put.ensures.full, c.put.ensures.put)).1 in
-    let t : LayerState = record u { table = table; fill = c.saturating_add.result } in
-    let state : t ≡ record s { table = table; fill = c.saturating_add.result } = ap (λ (q : LayerState).
-    let z : LayerState = record q { table = table; fill = c.saturating_add.result } in z) p.state in
+    let t : LayerState = record u { table = table; fill = c.saturating_add-self.result } in
+    let state : t ≡ record s { table = table; fill = c.saturating_add-self.result } = ap (λ (q : LayerState).
+    let z : LayerState = record q { table = table; fill = c.saturating_add-self.result } in z) p.state in
     let few = room look s from.block from.page joining c.requires.page c.read_page.new.out read key old is at.0 at.1 in
     added_one look s from.block from.page joining c.requires.page c.read_page.new.out read key old is at.0 at.1
     table sets now (c.in_ok-program_page.ensures.done told) (p.accounts.time told).blocks
@@ -469,12 +469,12 @@ returns-clause-joining g c told =
     (c.put.ensures.counts (put_done u.table table key old c.put.result (subst (λ (q : LayerState).
     HasCapacity q.table) (sym p.state) joining.sound.knows.led.room) (subst (λ (q : LayerState). known q.table key ≡ Some old)
     (sym p.state) is) c.put.ensures.full) from.block))
-    c.saturating_add.result (let sum = c.saturating_add.ensures in omega (arith, sum, few)) t state
+    c.saturating_add-self.result (let sum = c.saturating_add-self.ensures in omega (arith, sum, few)) t state
 
 pub returns-clause-state : goal.returns-clause-state
 returns-clause-state g c =
     let table = c.put.new.self in
-    let fill = c.saturating_add.result in
+    let fill = c.saturating_add-self.result in
     ap (λ (q : LayerState). let z : LayerState = record q { table = table; fill = fill } in z)
     (c.program_page.ensures.state ∙ ap (λ (q : LayerState). let z : LayerState = record q { fill = 64 } in z)
     c.read_page.ensures.reads.state)

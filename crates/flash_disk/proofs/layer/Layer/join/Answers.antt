@@ -13,16 +13,18 @@ use Rattle.flash_disk.proofs.Accounting.{accounts_fails, accounts_here, accounts
 use Rattle.flash_disk.proofs.layer.Layer.join.Goals as goal
 
 pub add_needed-requires : goal.add_needed-requires
-add_needed-requires g c told =
-    let m = g.F.Flash.medium c.args.self.now.flash in
-    let mid = g.F.Flash.medium c.move_block.new.self.flash in
-    let s = c.args.self.now.state in
-    let e = c.move_block.ensures in
-    let pair = c.requires.pair in
-    let room = pair_room m.blocks s.table s.spare c.args.first c.args.second (c.requires.ready.sound told).counted pair in
-    let blocks = (e.accounts.time told).blocks in
-    let below = room.0 in
-    (c.in_ok-move_block.ensures.joins told c.args.second (omega (arith, below, blocks)) pair.second_other room.1).0
+add_needed-requires g c = record {
+  joining = λ told.
+      let m = g.F.Flash.medium c.args.self.now.flash in
+      let mid = g.F.Flash.medium c.move_block.new.self.flash in
+      let s = c.args.self.now.state in
+      let e = c.move_block.ensures in
+      let pair = c.requires.pair in
+      let room = pair_room m.blocks s.table s.spare c.args.first c.args.second (c.requires.ready.sound told).counted pair in
+      let blocks = (e.accounts.time told).blocks in
+      let below = room.0 in
+      (c.in_ok-move_block.ensures.joins told c.args.second (omega (arith, below, blocks)) pair.second_other room.1).0;
+}
 
 pub returns-in_err-add_needed-clause-ready : goal.returns-in_err-add_needed-clause-ready
 returns-in_err-add_needed-clause-ready g c = record {
@@ -149,8 +151,8 @@ returns-in_err-add_needed-clause-sequence g c = ap (λ (q : LayerState). q.seque
     ∙ c.move_block.ensures.sequence
 
 pub returns-in_err-move_block-clause-accounts : goal.returns-in_err-move_block-clause-accounts
-returns-in_err-move_block-clause-accounts g c = accounts_fails c.from_residual-in_err-move_block.result _
-    c.from_residual-in_err-move_block.ensures.1 c.in_err-move_block.ensures.accounts
+returns-in_err-move_block-clause-accounts g c = accounts_fails c.from_residual.result _
+    c.from_residual.ensures.1 c.in_err-move_block.ensures.accounts
 
 pub returns-in_err-add_needed-clause-accounts : goal.returns-in_err-add_needed-clause-accounts
 returns-in_err-add_needed-clause-accounts g c =
