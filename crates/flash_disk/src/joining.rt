@@ -104,8 +104,10 @@ impl<F: Flash> Layer<F> {
             (F.medium self.old.flash).blocks self.old.state from 0 }
         ensures sound { IsTrue F.told → IsSoundLayer (F.medium self.new.flash) self.new.state }
         ensures out { IsTrue F.told → OnOk result (LeavesOut self.new.state.table from) }
-        ensures state { self.new.state ≡ record self.old.state { table = self.new.state.table;
-            fill = self.new.state.fill } }
+        ensures state { self.new.state ≡ record self.old.state {
+          table = self.new.state.table;
+          fill = self.new.state.fill;
+        } }
         ensures keeps { IsTrue F.told → KeepsRecords (F.medium self.old.flash).state.pages
             (F.medium self.new.flash).state.pages (places (F.medium self.old.flash).blocks) }
         ensures does { IsTrue F.told → Does (StandsMoved self.old.state.table from self.old.state.current
@@ -129,8 +131,10 @@ impl<F: Flash> Layer<F> {
         ensures joining { IsTrue F.told → OnOk result (IsJoining (F.medium self.new.flash).state.pages
             (F.medium self.new.flash).blocks self.new.state from.block (from.page + 1)) }
         ensures failed { IsTrue F.told → OnErr result (IsSoundLayer (F.medium self.new.flash) self.new.state) }
-        ensures state { self.new.state ≡ record self.old.state { table = self.new.state.table;
-            fill = self.new.state.fill } }
+        ensures state { self.new.state ≡ record self.old.state {
+          table = self.new.state.table;
+          fill = self.new.state.fill;
+        } }
         ensures fewer { IsTrue F.told → LeadsFewer self.old.state.table self.new.state.table from.block }
         ensures keeps { IsTrue F.told → KeepsRecords (F.medium self.old.flash).state.pages
             (F.medium self.new.flash).state.pages (places (F.medium self.old.flash).blocks) }

@@ -1,4 +1,4 @@
-use Rattle.std.proofs.Common.{◌≡◌, ℕ, ◌<◌}
+use Rattle.std.proofs.Common.{◌≡◌, ℕ, ◌<◌, ◌≤◌}
 use Rattle.std.specs.Prelude.{IfSome, None}
 use Rattle.flash_disk.specs.LedApart.{IsPair, HasNoPair}
 use Rattle.flash_disk.proofs.joining.find_pair.Given as goal

@@ -179,8 +179,7 @@ program_page-requires-clause-within g c told =
     let key = c.in-Some.key in
     let old = c.in-Some.old in
     let is : known s.table key ≡ Some old = c.in-Some.ensures.known in
-    let at = same_places old.place.block from.block old.place.page from.page c.ne.result c.ne.ensures c.if-ne.false in
-    (
+    let at = same_places old.place.block from.block old.place.page from.page c.ne.result c.ne.ensures c.if-ne.false in (
       within_now look s from.block from.page joining c.requires.page c.read_page.new.out read key old is at.0 at.1,
       room look s from.block from.page joining c.requires.page c.read_page.new.out read key old is at.0 at.1,
     )
