@@ -27,6 +27,7 @@ mod Clearing
 pub mod Moved
 mod Joins
 mod Pairs
+mod Crowding
 mod Looking
 mod Turning
 mod Losing

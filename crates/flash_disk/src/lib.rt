@@ -60,6 +60,6 @@ pub use disk::{FlashDisk, FlashOpenError, FlashRefused};
 pub use erasing::erase_all;
 pub use forgetting::{FileRange, Forgotten};
 pub use laws::{
-    fresh_flashes_open, lost_pages_cost_one_copy, lost_pages_leave_it_usable,
-    usable_flashes_are_taken,
+    few_records_leave_room, fresh_flashes_open, lost_pages_cost_one_copy,
+    lost_pages_leave_it_usable, usable_flashes_are_taken,
 };
