@@ -120,7 +120,8 @@ impl Table {
         ensures counts { IsTrue result → (block : ℕ)
             → entries_in self.new block + had_in block (known self.old key)
             ≡ entries_in self.old block + leads_into block new }
-        ensures no_more { (block : ℕ) → new.place.block ≢ block → entries_in self.new block ≤ entries_in self.old block }
+        ensures no_more { (block : ℕ) → new.place.block ≢ block
+            → entries_in self.new block ≤ entries_in self.old block }
     {
         let old = self.find(key);
         if !self.store(key, new) {

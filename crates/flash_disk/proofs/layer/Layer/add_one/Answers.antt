@@ -465,9 +465,9 @@ returns-clause-joining g c told =
     (c.put.ensures.counted look.blocks))
     (subst (λ (q : LayerState). entries_in table from.block + had_in from.block (known q.table key)
     ≡ entries_in q.table from.block + leads_into from.block (record old { place = place })) p.state
-    (c.put.ensures.counts (put_done u.table table key old c.put.result (subst (λ (q : LayerState).
-    HasCapacity q.table) (sym p.state) joining.sound.knows.led.room) (subst (λ (q : LayerState). known q.table key ≡ Some old)
-    (sym p.state) is) c.put.ensures.full) from.block))
+    (c.put.ensures.counts (put_done u.table table key old c.put.result
+    (subst (λ (q : LayerState). HasCapacity q.table) (sym p.state) joining.sound.knows.led.room)
+    (subst (λ (q : LayerState). known q.table key ≡ Some old) (sym p.state) is) c.put.ensures.full) from.block))
     c.saturating_add-self.result (let sum = c.saturating_add-self.ensures in omega (arith, sum, few)) t state
 
 pub returns-clause-state : goal.returns-clause-state
