@@ -98,6 +98,11 @@ impl Streams {
         ensures own { result ≢ spare → (result < table.now.blocks) × (load_known table.now result < 64)
             × LeadsOnly table.now (copy_of file) result }
 
+        // It has the fewest of all such blocks.
+        ensures lightest { table.now.blocks ≤ 4096 → result ≢ spare → (block : ℕ) → block < table.now.blocks
+            → block ≢ spare → LeadsOnly table.now (copy_of file) block
+            → load_known table.now result ≤ load_known table.now block }
+
         // On 16 blocks or more each page of a file has one entry in the table, so that a block's count is of pages.
         ensures unique { 16 ≤ table.now.blocks → HasOneEach table.now }
 
