@@ -1,11 +1,11 @@
 -- How many entries lead into each block when entries are put into a table.
-use Rattle.std.proofs.Common.{◌≡◌, ℕ, ◌+◌, ◌-◌, ◌<◌, ◌≤◌, Bool, true, false, cond, List, length, slice_index_or, Result}
-use Rattle.std.proofs.Common.{Ok, Err, refl, sym, ap, subst, ◌∙◌, arith}
+use Rattle.std.proofs.Common.{◌≡◌, ◌≢◌, ℕ, ◌+◌, ◌-◌, ◌<◌, ◌≤◌, Bool, true, false, cond, List, length, slice_index_or}
+use Rattle.std.proofs.Common.{Result, Ok, Err, refl, sym, ap, subst, ◌∙◌, arith, eq-eqb}
 use Rattle.std.specs.Prelude.{Option, Some, None, nat_eq, IfOk, All, is_ok}
 use Rattle.std.specs.List.{sum_by}
 use Rattle.std.specs.Map.{values_of, set_value}
 use Rattle.std.specs.HashMap.{HashMap, PutsEntry, get, values, hash_map_len}
-use Rattle.std.proofs.lemmas.Bool.{true≢false}
+use Rattle.std.proofs.lemmas.Bool.{true≢false, ne_eqb}
 use Rattle.std.proofs.lemmas.Option.{same_Some}
 use Rattle.std.proofs.lemmas.Map.Entries.{sum_by_puts_entry, sum_by-set_value, sum_by-remove_entry, length-values_of}
 use Rattle.std.proofs.lemmas.List.Sums.{sum_by-le}
@@ -149,3 +149,31 @@ pub none_fewer : (old mid less : Table) (key : FilePage) → known old key ≡ N
 none_fewer old mid less key none same block = subst (λ o. load_known less block ≡ load_known mid block - had_in block o)
     (sym none)
     (let e : load_known less block ≡ load_known mid block = ap (λ t. load_known t block) same in omega (arith, e))
+
+-- an entry that leads into another block leaves no more in this one
+pub put_no_more : (old new : Table) (key : FilePage) (e : Newest) (block : ℕ) → e.place.block ≢ block
+    → entries_in new block + had_in block (known old key) ≡ entries_in old block + leads_into block e
+    → entries_in new block ≤ entries_in old block
+put_no_more old new key e block apart sum =
+    let zero : leads_into block e ≡ 0 = ap (λ b. cond b 1 0) (ne_eqb e.place.block block apart) in
+    omega (arith, sum, zero)
+
+-- one that led into the block and leads into another leaves one less
+pub put_one_less : (old new : Table) (key : FilePage) (was e : Newest) (block : ℕ) → known old key ≡ Some was
+    → was.place.block ≡ block → e.place.block ≢ block
+    → entries_in new block + had_in block (known old key) ≡ entries_in old block + leads_into block e
+    → entries_in new block + 1 ≡ entries_in old block
+put_one_less old new key was e block is at apart sum =
+    let zero : leads_into block e ≡ 0 = ap (λ b. cond b 1 0) (ne_eqb e.place.block block apart) in
+    let one : had_in block (known old key) ≡ 1 = ap (had_in block) is
+    ∙ ap (λ b. cond b 1 0) (eq-eqb was.place.block block at) in
+    omega (arith, sum, zero, one)
+
+-- where an entry leads into a block, one is counted
+pub one_leads : (table : Table) (key : FilePage) (e : Newest) (block : ℕ) → known table key ≡ Some e
+    → e.place.block ≡ block → 1 ≤ entries_in table block
+one_leads table key e block is at =
+    let le = had_le block table key in
+    let one : had_in block (known table key) ≡ 1 = ap (had_in block) is
+    ∙ ap (λ b. cond b 1 0) (eq-eqb e.place.block block at) in
+    omega (arith, le, one)

@@ -5,7 +5,7 @@ use Rattle.std.specs.Prelude.{Some, nat_eq, nat_lt, ◌&&◌}
 use Rattle.std.specs.List.{IsDistinct, list_any, sum_by}
 use Rattle.std.specs.Map.{keys_of, values_of, lookup}
 use Rattle.std.specs.HashMap.{IsUnique}
-use Rattle.std.proofs.lemmas.Bool.{cases_Bool, eqb-true, and_parts}
+use Rattle.std.proofs.lemmas.Bool.{cases_Bool, eqb-true, ne_eqb, and_parts}
 use Rattle.std.proofs.lemmas.Bool.Decides.{nat_tests}
 use Rattle.std.proofs.lemmas.Option.{same_Some, none-some}
 use Rattle.std.proofs.lemmas.List.Sums.{sum_by-cons}
@@ -16,10 +16,11 @@ use Rattle.flash_disk.specs.declared.table.Newest.{Newest}
 use Rattle.flash_disk.specs.declared.table.Table.{Table}
 use Rattle.flash_disk.specs.Newest.{record_at, places}
 use Rattle.flash_disk.specs.Known.{same_page, page_of, known, load_known}
-use Rattle.flash_disk.specs.Counted.{leads_into, lies_below, copied_below, IsCountedTable}
+use Rattle.flash_disk.specs.Counted.{leads_into, entries_in, lies_below, copied_below, IsCountedTable}
 use Rattle.flash_disk.specs.Learnt.{number, IsLed}
 use Rattle.disk_model.specs.Damage.{AtLeast}
-use Rattle.flash_disk.specs.Apart.{Counts, IsPacked}
+use Rattle.flash_disk.specs.Sound.{LeavesOut}
+use Rattle.flash_disk.specs.Apart.{Counts, HoldsCounting}
 use Rattle.flash_disk.proofs.Learning.{same_page_refl}
 use Rattle.flash_disk.proofs.Lengths.{Entry, not_found, lift_by, none_passes, one_passes}
 use Rattle.flash_disk.proofs.Moving.{record_of}
@@ -122,8 +123,7 @@ none_below a b p = grind (arith, nat_tests)
 
 module _ (pages : Pages) (blocks : ℕ) (table : Table) (led : IsLed pages (places blocks) table)
     (counted : IsCountedTable blocks table) (unique : IsUnique same_page table.newest) (block : ℕ)
-    (within : block < blocks)
-    (heavy : 57 ≤ load_known table block) where
+    (within : block < blocks) where
   small : (key : FilePage) (e : Newest) → known table key ≡ Some e → e.place.page < 64
   small key e is = (leads_to pages blocks table led key e is).2.leads.small
 
@@ -193,9 +193,17 @@ module _ (pages : Pages) (blocks : ℕ) (table : Table) (led : IsLed pages (plac
       (λ none. let free = none_into n none in inr (as_many n (suc k) (omega (arith, le, next, more, free))))
       (cases_Bool (list_any (leads_at block n) (values_of table.newest.entries)))
 
-  pub is_packed : IsPacked pages (places blocks) block
-  is_packed =
+  -- as many pages of a block hold one as the table counts
+  pub holds_counting : (count : ℕ) → count ≤ load_known table block
+      → HoldsCounting pages (places blocks) block count
+  holds_counting count enough =
       let all = sum_entries (leads_into block) (lies_below block 64) table.newest.entries unique
       (λ key e there. all_below e.place.block block e.place.page (small key e there)) in
       let load = counted.counts block within in
-      as_many 64 57 (omega (arith, all, load, heavy))
+      as_many 64 count (omega (arith, all, load, enough))
+
+-- no entry that leads into a block is counted where there is none
+pub none_lead : (table : Table) (block : ℕ) → IsUnique same_page table.newest → LeavesOut table block
+    → entries_in table block ≡ 0
+none_lead table block unique leaves = none_counted (λ e. nat_eq e.place.block block) table.newest.entries unique
+    (λ key e there. ne_eqb e.place.block block (leaves key e there))

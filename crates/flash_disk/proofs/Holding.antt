@@ -151,14 +151,18 @@ module _ (pages : Pages) (blocks : ℕ) (table : Table) (led : IsLed pages (plac
 -- ---- calls
 
 module _ (copy : ℕ) (a b : FlashMedium) where
-  -- calls in all of which a block holds the copy alone
-  pub does_apart : (home : ℕ) → Does (KeepsHeld copy home (places a.blocks) a.state.pages) a b
-      → HoldsOneCopy a.state.pages (places a.blocks) home copy → KeepsApart copy a b
-  does_apart home does only = record {
-    now = λ many stand. inl (stand_held a.state.pages b.state.pages a.blocks copy home does.now only stand);
-    during = λ c past plain many stand. inl (stand_held a.state.pages c.left a.blocks copy home
+  -- calls in all of which a block holds one copy alone, be it this one or another
+  pub held_apart : (own home : ℕ) → Does (KeepsHeld own home (places a.blocks) a.state.pages) a b
+      → HoldsOneCopy a.state.pages (places a.blocks) home own → KeepsApart copy a b
+  held_apart own home does only = record {
+    now = λ many stand. inl (stand_held a.state.pages b.state.pages a.blocks own home does.now only stand);
+    during = λ c past plain many stand. inl (stand_held a.state.pages c.left a.blocks own home
         ((does.during c past).left plain) only stand);
   }
+
+  pub does_apart : (home : ℕ) → Does (KeepsHeld copy home (places a.blocks) a.state.pages) a b
+      → HoldsOneCopy a.state.pages (places a.blocks) home copy → KeepsApart copy a b
+  does_apart home = held_apart copy home
 
   -- calls that bring no record at all
   pub loses_apart : Does (λ pages. (home : ℕ) → KeepsHeld copy home (places a.blocks) a.state.pages pages) a b

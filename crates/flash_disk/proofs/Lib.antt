@@ -25,6 +25,9 @@ pub mod Adding
 pub mod Moving
 mod Clearing
 pub mod Moved
+mod Joins
+mod Pairs
+mod Crowding
 mod Looking
 mod Turning
 mod Losing

@@ -1,6 +1,6 @@
 -- The table leads to the copies, and the block that they came from is the spare one.
-use Rattle.std.proofs.Common.{◌≡◌, ◌≢◌, ℕ, suc, ◌<◌, min, true, cond, List, [], ◌∷◌, length, refl, sym, ap, subst, ◌∙◌}
-use Rattle.std.proofs.Common.{inl, inr, ⊎_elim, arith, true≢false}
+use Rattle.std.proofs.Common.{◌≡◌, ◌≢◌, ℕ, suc, ◌+◌, ◌<◌, ◌≤◌, min, true, cond, List, [], ◌∷◌, length, refl, sym, ap}
+use Rattle.std.proofs.Common.{subst, ◌∙◌, inl, inr, ⊎_elim, arith, true≢false}
 use Rattle.std.specs.Prelude.{Option, Some, None, is_some, IsSome, IfSome, All}
 use Rattle.std.specs.HashMap.{spare}
 use Rattle.std.specs.Map.{update, update_all}
@@ -16,11 +16,11 @@ use Rattle.flash_disk.specs.declared.layer.LayerState.{LayerState}
 use Rattle.flash_disk.specs.Newest.{Placed, record_at, newest, places}
 use Rattle.flash_disk.specs.FlashFiles.{IsFileLen}
 use Rattle.flash_disk.specs.Known.{same_page, known, page_len, limit_of, len_in, HasLenIn, HasCapacity, PutsAll}
-use Rattle.flash_disk.specs.Counted.{IsInside, IsCountedTable}
+use Rattle.flash_disk.specs.Counted.{entries_in, IsInside, IsCountedTable}
 use Rattle.flash_disk.specs.Entries.{SameEntries}
 use Rattle.flash_disk.specs.Learnt.{number, LedOf, IsLed, HasPlace}
 use Rattle.flash_disk.specs.Sound.{Sound, LeavesOut}
-use Rattle.flash_disk.specs.Moving.{IsMoved, HasKey, IsMoving}
+use Rattle.flash_disk.specs.Moving.{IsMoved, HasKey, IsMoving, IsJoining, LeadsFewer}
 use Rattle.flash_disk.proofs.Learning.{same_page_is}
 use Rattle.flash_disk.proofs.Sparing.{led_elsewhere, spare_of}
 use Rattle.flash_disk.proofs.Moving.{record_of}
@@ -41,14 +41,33 @@ hit P k f (e ∷ es) all has =
     (λ later. hit P k (update same_page f e.0 (Some e.1)) es rest later)
     has
 
+held_by : (o : Option Newest) (P : Newest → Type 0) → ((q : Newest) → o ≡ Some q → P q) → IfSome o P
+held_by None P all = tt
+held_by (Some q) P all = all q refl
+
 -- an entry in place of another leads to an equal record
-record Follows (pages : Pages) (n : ℕ) (old new : Newest) : Type 0 where
-  small : new.place.page < 64
-  within : number new.place < n
-  sequence : new.sequence ≡ old.sequence
-  len : new.len ≡ old.len
-  filled : new.filled ≡ old.filled
-  there : record_at pages (number new.place) ≡ record_at pages (number old.place)
+pub record Follows (pages : Pages) (n : ℕ) (old new : Newest) : Type 0 where
+  pub small : new.place.page < 64
+  pub within : number new.place < n
+  pub sequence : new.sequence ≡ old.sequence
+  pub len : new.len ≡ old.len
+  pub filled : new.filled ≡ old.filled
+  pub there : record_at pages (number new.place) ≡ record_at pages (number old.place)
+
+-- and so to the newest one of its page
+pub led_by : (pages : Pages) (n : ℕ) (old v : Newest) → Follows pages n old v → (best : Option Placed)
+    → LedOf pages n (Some old) best → LedOf pages n (Some v) best
+led_by pages n old v f None led = led
+led_by pages n old v f (Some x) led = record {
+  within = f.within;
+  leads = record {
+    small = f.small;
+    there = f.there ∙ led.leads.there;
+    sequence = f.sequence ∙ led.leads.sequence;
+    len = f.len ∙ led.leads.len;
+    filled = λ j past. led.leads.filled j (let same = f.filled in omega (arith, past, same));
+  };
+}
 
 module _ (m : FlashMedium) (s : LayerState) (from to : ℕ) (moving : IsMoving m.state.pages m.blocks s from to 64) where
   -- each of the entries is of a page that the table knows
@@ -139,20 +158,6 @@ module _ (m : FlashMedium) (s : LayerState) (from to : ℕ) (moving : IsMoving m
     leaves : LeavesOut table from
     leaves = λ k v now. let was = was_known k v now (known s.table k) refl in apart_by k v was.0 now was.1
 
-    led_by : (old v : Newest) → Follows pages n old v → (best : Option Placed) → LedOf pages n (Some old) best
-        → LedOf pages n (Some v) best
-    led_by old v f None led = led
-    led_by old v f (Some x) led = record {
-      within = f.within;
-      leads = record {
-        small = f.small;
-        there = f.there ∙ led.leads.there;
-        sequence = f.sequence ∙ led.leads.sequence;
-        len = f.len ∙ led.leads.len;
-        filled = λ j past. led.leads.filled j (let same = f.filled in omega (arith, past, same));
-      };
-    }
-
     none_by : (k : FilePage) → known table k ≡ None → (o : Option Newest) → known s.table k ≡ o
         → LedOf pages n None (newest pages k.file k.page n)
     none_by k now None is = subst (λ o. LedOf pages n o (newest pages k.file k.page n)) is
@@ -162,7 +167,7 @@ module _ (m : FlashMedium) (s : LayerState) (from to : ℕ) (moving : IsMoving m
     says : (k : FilePage) (o : Option Newest) → known table k ≡ o → LedOf pages n o (newest pages k.file k.page n)
     says k (Some v) now =
         let was = was_known k v now (known s.table k) refl in
-        led_by was.0 v (follows k was.0 v was.1 now) (newest pages k.file k.page n)
+        led_by pages n was.0 v (follows k was.0 v was.1 now) (newest pages k.file k.page n)
         (subst (λ o. LedOf pages n o (newest pages k.file k.page n)) was.1 (moving.sound.knows.led.says k))
     says k None now = none_by k now (known s.table k) refl
 
@@ -215,6 +220,39 @@ module _ (m : FlashMedium) (s : LayerState) (from to : ℕ) (moving : IsMoving m
       };
       empty = λ cleared. absurd (true≢false (sym cleared ∙ moving.uncleared));
     }
+
+    -- an entry that leads into a third block did before
+    fewer : (block : ℕ) → block ≢ to → LeadsFewer s.table table block
+    fewer block other k v now at = after_by (λ q. q.place.block ≡ block → known s.table k ≡ Some q) k v now
+        (held_by (known s.table k) (λ q. q.place.block ≡ block → known s.table k ≡ Some q) (λ q is _. is))
+        (λ e moved same here. absurd (other (sym here ∙ moved.block)))
+        at
+
+    -- the newest records of a third block may be added to those that were moved
+    pub joins : (fill : ℕ) → fill ≡ min (length s.moved.items) 64 → Sound pages m.blocks (record s {
+      table = table;
+      fill = fill;
+      current = to;
+      spare = from;
+    }) → fill ≤ entries_in s.table from
+        → ((block : ℕ) → All (λ (new : Entry). new.1.place.block ≢ block) s.moved.items
+        → entries_in table block ≤ entries_in s.table block)
+        → (block : ℕ) → block < m.blocks → block ≢ to → entries_in s.table from + entries_in s.table block ≤ 64
+        → IsJoining pages m.blocks (record s { table = table; fill = fill; current = to; spare = from }) block 0
+        × LeadsFewer s.table table block
+    joins fill fill_is sound few no_more block within other room = (
+      record {
+        sound = sound;
+        agreed = moving.agreed;
+        within = within;
+        apart = other;
+        blank = λ p past small. moving.blank p (omega (arith, past, small, fill_is)) small;
+        room = (let more = no_more block (λ k d inside here. other (sym here ∙ (moving.moved k d inside).block)) in
+            omega (arith, few, more, room));
+        left = λ k e is at. omega arith;
+      },
+      fewer block other,
+    )
 
     -- a page that had a place has one
     pub places_stay : (k : FilePage) → HasPlace s.table k → HasPlace table k

@@ -184,15 +184,16 @@ same_places a b x y ne is same = ⊎_elim
     (λ other. absurd (true≢false (sym (is ∙ ap not other) ∙ same)))
     (cases_Bool (nat_eq a b && nat_eq x y))
 
-module _ (m : FlashMedium) (s : LayerState) (from to done : ℕ) (moving : IsMoving m.state.pages m.blocks s from to done)
-    (inside : done < 64)
+-- a page to which an entry leads was read
+module _ (m : FlashMedium) (s : LayerState) (sound : IsSoundLayer m s) (from done : ℕ) (inside : done < 64)
     (bytes : List ℕ) (read : bytes ≡ m.state.pages from done) where
-  -- what the page says, where an entry leads to it
-  page_says : (key : FilePage) (e : Newest) → known s.table key ≡ Some e → e.place.block ≡ from → e.place.page ≡ done
+  -- what it says
+  pub says_there : (key : FilePage) (e : Newest) → known s.table key ≡ Some e → e.place.block ≡ from
+      → e.place.page ≡ done
       → (x : Placed) × Led m.state.pages (places m.blocks) e x × (page_of x.says ≡ key)
       × (record_in bytes ≡ Some x.says)
-  page_says key e is block page =
-      let found = record_of m.state.pages (places m.blocks) s.table moving.sound.knows.led key e is in
+  says_there key e is block page =
+      let found = record_of m.state.pages (places m.blocks) s.table sound.knows.led key e is in
       let at : 64 * from + done ≡ number e.place = omega (arith, block, page) in (
         found.0,
         found.1,
@@ -202,15 +203,30 @@ module _ (m : FlashMedium) (s : LayerState) (from to done : ℕ) (moving : IsMov
       )
 
   -- the newest record that is looked up for it
+  pub found_there : (result : Option (FilePage × Newest))
+      → ((r : PageRecord) (e : Newest) → record_in bytes ≡ Some r → known s.table (page_of r) ≡ Some e
+      → result ≡ Some (page_of r, e))
+      → (key : FilePage) (e : Newest) → known s.table key ≡ Some e → e.place.block ≡ from → e.place.page ≡ done
+      → result ≡ Some (key, e)
+  found_there result found key e is block page =
+      let says = says_there key e is block page in
+      subst (λ k. result ≡ Some (k, e)) says.2 (found says.0.says e says.3
+      (subst (λ k. known s.table k ≡ Some e) (sym says.2) is))
+
+module _ (m : FlashMedium) (s : LayerState) (from to done : ℕ) (moving : IsMoving m.state.pages m.blocks s from to done)
+    (inside : done < 64)
+    (bytes : List ℕ) (read : bytes ≡ m.state.pages from done) where
+  page_says : (key : FilePage) (e : Newest) → known s.table key ≡ Some e → e.place.block ≡ from → e.place.page ≡ done
+      → (x : Placed) × Led m.state.pages (places m.blocks) e x × (page_of x.says ≡ key)
+      × (record_in bytes ≡ Some x.says)
+  page_says = says_there m s moving.sound from done inside bytes read
+
   pub looked_up : (result : Option (FilePage × Newest))
       → ((r : PageRecord) (e : Newest) → record_in bytes ≡ Some r → known s.table (page_of r) ≡ Some e
       → result ≡ Some (page_of r, e))
       → (key : FilePage) (e : Newest) → known s.table key ≡ Some e → e.place.block ≡ from → e.place.page ≡ done
       → result ≡ Some (key, e)
-  looked_up result found key e is block page =
-      let says = page_says key e is block page in
-      subst (λ k. result ≡ Some (k, e)) says.2 (found says.0.says e says.3
-      (subst (λ k. known s.table k ≡ Some e) (sym says.2) is))
+  looked_up = found_there m s moving.sound from done inside bytes read
 
   -- no entry leads to the page
   pub passed_over : ((key : FilePage) (e : Newest) → known s.table key ≡ Some e → e.place.block ≡ from

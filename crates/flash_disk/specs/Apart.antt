@@ -1,6 +1,6 @@
 -- Copies that are kept apart: no block holds what counts of two of them, so that the loss of a block costs one. Pages
 -- are numbered through: a block has 64, and page j is in block j / 64.
-use Rattle.std.specs.Prelude.{◌≡◌, ◌≢◌, ◌⊎◌, ℕ, ◌+◌, ◌*◌, ◌/◌, ◌%◌, ◌<◌, None, Some}
+use Rattle.std.specs.Prelude.{◌≡◌, ◌≢◌, ◌⊎◌, ℕ, ◌+◌, ◌*◌, ◌/◌, ◌%◌, ◌<◌, ◌≤◌, None, Some}
 use Rattle.disk_model.specs.Damage.{AtLeast}
 use Rattle.flash_model.specs.Pages.{Pages}
 use Rattle.flash_record.specs.PageRecord.{record_in}
@@ -41,17 +41,33 @@ abbrev pub Counts : Pages → (n place : ℕ) → Type 0
 Counts pages n place = (file page : ℕ) × (x : Placed) × (newest pages file page n ≡ Some x)
     × (record_at pages place ≡ Some x.says)
 
--- at least 57 of the 64 pages of a block hold such a record, so that fewer than 8 of them hold none
-abbrev pub IsPacked : Pages → (n block : ℕ) → Type 0
-IsPacked pages n block = AtLeast (λ p. Counts pages n (64 * block + p)) 64 57
+-- at least this many of the 64 pages of a block hold such a record
+abbrev pub HoldsCounting : Pages → (n block count : ℕ) → Type 0
+HoldsCounting pages n block count = AtLeast (λ p. Counts pages n (64 * block + p)) 64 count
 
--- no block but a spare one has room for a copy: all others in which nothing else counts are packed
+-- at least 57 of them do, so that fewer than 8 hold none
+abbrev pub IsPacked : Pages → (n block : ℕ) → Type 0
+IsPacked pages n block = HoldsCounting pages n block 57
+
+-- such records of two blocks take all 64 pages of a block, or more
+pub record FillOne (pages : Pages) (n first second : ℕ) : Type 0 where
+  pub some : ℕ
+  pub others : ℕ
+  pub many : 64 ≤ some + others
+  pub in_first : HoldsCounting pages n first some
+  pub in_second : HoldsCounting pages n second others
+
+-- No block but a spare one has room for a copy, and none can get it: all others in which nothing else counts are
+-- packed, and of no copy are there two blocks whose records would fit in one and leave a page of it.
 pub record HasNoRoom (pages : Pages) (blocks copy : ℕ) : Type 0 where
   pub spare : ℕ
   pub within : spare < blocks
   pub is_spare : IsSpare pages (places blocks) spare
   pub packed : (block : ℕ) → block < blocks → block ≢ spare → HoldsOneCopy pages (places blocks) block copy
       → IsPacked pages (places blocks) block
+  pub unjoined : (first second own : ℕ) → first < blocks → second < blocks → first ≢ spare → second ≢ spare
+      → first ≢ second → HoldsOneCopy pages (places blocks) first own → HoldsOneCopy pages (places blocks) second own
+      → FillOne pages (places blocks) first second
 
 -- pages of a block were lost: each is no record any more, or as it was, and all others are as they were
 pub record LosesPages (block : ℕ) (old new : Pages) : Type 0 where

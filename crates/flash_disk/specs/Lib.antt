@@ -1,6 +1,7 @@
 pub mod Newest
 pub mod FlashFiles
 pub mod Apart
+pub mod Crowded
 pub mod Emptied
 pub mod LedApart
 pub mod KeepsApart

@@ -1,5 +1,5 @@
 -- Records that are moved from one block into the spare one.
-use Rattle.std.specs.Prelude.{◌≡◌, ◌≢◌, ◌⊎◌, ℕ, ◌<◌, ◌≤◌, true, List, [], ◌∷◌, Some, All, IsFalse, length}
+use Rattle.std.specs.Prelude.{◌≡◌, ◌≢◌, ◌⊎◌, ℕ, ◌+◌, ◌<◌, ◌≤◌, true, List, [], ◌∷◌, Some, All, IsFalse, length}
 use Rattle.flash_model.specs.Pages.{Pages, blank_page}
 use Rattle.flash_disk.specs.declared.table.FilePage.{FilePage}
 use Rattle.flash_disk.specs.declared.table.Newest.{Newest}
@@ -7,6 +7,7 @@ use Rattle.flash_disk.specs.declared.table.Table.{Table}
 use Rattle.flash_disk.specs.declared.layer.LayerState.{LayerState}
 use Rattle.flash_disk.specs.Newest.{record_at, places}
 use Rattle.flash_disk.specs.Known.{same_page, known}
+use Rattle.flash_disk.specs.Counted.{entries_in}
 use Rattle.flash_disk.specs.Learnt.{number}
 use Rattle.flash_disk.specs.Sound.{Sound}
 use Rattle.flash_disk.specs.Standing.{DenotesFiles}
@@ -51,3 +52,26 @@ pub record StandsMoved (table : Table) (from to : ℕ) (old : FlashMedium) (page
   pub stands : DenotesFiles old pages
   pub held : (copy : ℕ) → LeadsOnly table copy from
       → KeepsHeld copy to (places old.blocks) old.state.pages pages
+
+-- each entry that leads into a block is one that did
+abbrev pub LeadsFewer : (old new : Table) → (block : ℕ) → Type 0
+LeadsFewer old new block = (key : FilePage) (entry : Newest) → known new key ≡ Some entry → entry.place.block ≡ block
+    → known old key ≡ Some entry
+
+-- Of the first few pages of a block the newest records were copied to the block that is being filled, and the table
+-- leads to the copies; the rest of the 64 pages there is blank, and is enough for what is left.
+pub record IsJoining (pages : Pages) (blocks : ℕ) (s : LayerState) (from done : ℕ) : Type 0 where
+  pub sound : Sound pages blocks s
+  pub agreed : IsFalse s.has_rivals
+  pub within : from < blocks
+  pub apart : from ≢ s.current
+  pub blank : (p : ℕ) → s.fill ≤ p → p < 64 → pages s.current p ≡ blank_page
+  pub room : s.fill + entries_in s.table from ≤ 64
+  pub left : (key : FilePage) (entry : Newest) → known s.table key ≡ Some entry → entry.place.block ≡ from
+      → done ≤ entry.place.page
+
+-- after the newest records of a block were moved, those of another may be added to them, if there is room
+abbrev pub MayJoin : FlashMedium → (old new : LayerState) → (moved : ℕ) → Type 0
+MayJoin m old new moved = (from : ℕ) → from < m.blocks → from ≢ old.spare
+    → entries_in old.table moved + entries_in old.table from ≤ 64
+    → IsJoining m.state.pages m.blocks new from 0 × LeadsFewer old.table new.table from

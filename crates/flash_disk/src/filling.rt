@@ -1,7 +1,7 @@
 //! Records that are added to the block that is being filled, and blocks that are made free for it.
 
-ghost use Rattle.std.specs.Prelude.{◌≡◌, ◌⊎◌, ◌+◌, ◌*◌, ◌≤◌, ◌<◌, ℕ, IsTrue, IsFalse, IfOk, IfSome, OnOk, OnErr, Some};
-ghost use Rattle.std.specs.Prelude.{None, length, vec_len};
+ghost use Rattle.std.specs.Prelude.{◌≡◌, ◌≢◌, ◌⊎◌, ◌+◌, ◌*◌, ◌≤◌, ◌<◌, ℕ, IsTrue, IsFalse, IfOk, IfSome, OnOk};
+ghost use Rattle.std.specs.Prelude.{OnErr, Some, None, length, vec_len};
 ghost use Rattle.flash_model.specs.State.{IsStill};
 ghost use Rattle.flash_model.specs.FlashMedium.{EachFlashCase};
 ghost use Rattle.flash_model.specs.Pages.{Pages, blank_page};
@@ -15,7 +15,8 @@ ghost use Rattle.flash_disk.specs.PutPart.{PutPart};
 ghost use Rattle.flash_disk.specs.Newest.{places};
 ghost use Rattle.flash_disk.specs.Standing.{DenotesFiles, KeepsRecords};
 ghost use Rattle.flash_disk.specs.Accounts.{Accounts};
-ghost use Rattle.flash_disk.specs.Apart.{copy_of};
+ghost use Rattle.flash_disk.specs.Apart.{copy_of, HoldsOneCopy};
+ghost use Rattle.flash_disk.specs.LedApart.{LeadsOnly};
 ghost use Rattle.flash_disk.specs.KeepsApart.{KeepsApart, HasHome};
 ghost use Rattle.flash_disk.specs.Emptied.{IsEmptyBlock, Empties};
 
@@ -31,7 +32,7 @@ impl<F: Flash> Layer<F> {
     ghost use Rattle.flash_disk.specs.Sound.{Enters};
     ghost use Rattle.flash_disk.specs.Sound.{LeavesPut, LeavesAdded};
     ghost use Rattle.flash_disk.specs.Sound.{ShowsPage, ShowsSame};
-    ghost use Rattle.flash_disk.specs.Moving.{IsMoving, StandsMoved};
+    ghost use Rattle.flash_disk.specs.Moving.{IsMoving, StandsMoved, MayJoin};
     ghost use Rattle.flash_disk.specs.Steps.{LearnsNothing, IsSure, StaysSound, AddsRecords};
 
     // Reads again what a failed call may have left anything in.
@@ -330,9 +331,9 @@ impl<F: Flash> Layer<F> {
         Ok(is_blank(&page))
     }
 
-    // Moves the newest records of a block into the spare block, which is the current one from then on. It is a block
-    // with newest records of the file's copy alone, or with none; where there is no such block that leaves a page, it
-    // is the one where they are fewest.
+    // Makes a block free for the records of a file's copy, the spare one, by moving the newest records of another into
+    // it. That is a block with newest records of the copy alone, or with none; where there is no such block that leaves
+    // a page, and none comes by joining two others, it is the one where they are fewest.
     fn collect(&mut self, file: u32) -> Result<(), DiskFailed>
         requires ready { IsSure F.told F.medium self.old }
         requires full { 64 ≤ self.old.state.fill }
@@ -352,12 +353,51 @@ impl<F: Flash> Layer<F> {
         ensures own { IsTrue F.told → IsFalse self.old.state.has_rivals → self.new.own ≡ self.old.own }
         ensures entries { IsTrue F.told → OnOk result (SameEntries self.old.state.table self.new.state.table) }
     {
-        let target = self.state.spare;
-        let own = self.streams.lightest(&self.state.table, file, target);
-        let victim = self.state.table.given_up(own, target);
-        if self.state.has_rivals || victim == target {
+        if self.state.has_rivals {
             return Err(self.fault());
         }
+        let own = self.find_own(file)?;
+        let target = self.state.spare;
+        let victim = self.state.table.given_up(own, target);
+        if victim == target {
+            return Err(self.fault());
+        }
+        self.move_block(victim)?;
+        self.streams.begin(file, target, victim, self.state.fill);
+        Ok(())
+    }
+
+    // Moves the newest records of a block into the spare block, which is the current one from then on, while the block
+    // is the spare one.
+    pub(crate) fn move_block(&mut self, victim: u32) -> Result<(), DiskFailed>
+        requires ready { IsSure F.told F.medium self.old }
+        requires full { 64 ≤ self.old.state.fill }
+        requires agreed { IsFalse self.old.state.has_rivals }
+        requires within { victim < self.old.state.table.blocks }
+        requires other { victim ≢ self.old.state.spare }
+        ensures ready { IsSure F.told F.medium self.new }
+        ensures spare { OnOk result (self.new.state.spare ≡ victim) }
+        ensures current { OnOk result (self.new.state.current ≡ self.old.state.spare) }
+        ensures few { IsTrue F.told → OnOk result (self.new.state.fill ≤ entries_in self.old.state.table victim) }
+        ensures joins { IsTrue F.told → OnOk result (MayJoin (F.medium self.new.flash) self.old.state self.new.state
+            victim) }
+        ensures fits { IsTrue F.told → (file page len : ℕ) (bytes : _)
+            → FitsIn (F.medium self.old.flash) self.old.state file page len bytes
+            → FitsIn (F.medium self.new.flash) self.new.state file page len bytes }
+        ensures does { IsTrue F.told → Does (DenotesFiles (F.medium self.old.flash))
+            (F.medium self.old.flash) (F.medium self.new.flash) }
+        ensures shown { IsTrue F.told → OnOk result (ShowsSame (F.medium self.old.flash) (F.medium self.new.flash)) }
+        ensures apart { IsTrue F.told → (copy only : ℕ) → LeadsOnly self.old.state.table only victim
+            → KeepsApart copy (F.medium self.old.flash) (F.medium self.new.flash) }
+        ensures home { IsTrue F.told → OnOk result ((only : ℕ) → LeadsOnly self.old.state.table only victim
+            → HoldsOneCopy (F.medium self.new.flash).state.pages (places (F.medium self.new.flash).blocks)
+            self.old.state.spare only) }
+        ensures sequence { self.new.state.sequence ≡ self.old.state.sequence }
+        ensures accounts { Accounts F.told F.medium 0 self.old self.new result }
+        ensures own { IsTrue F.told → self.new.own ≡ self.old.own }
+        ensures entries { IsTrue F.told → OnOk result (SameEntries self.old.state.table self.new.state.table) }
+    {
+        let target = self.state.spare;
         self.clear_spare()?;
         self.state.cleared = false;
         self.state.moved.clear();
@@ -366,7 +406,6 @@ impl<F: Flash> Layer<F> {
         self.state.fill = self.state.moved.len().min(BLOCK_PAGES as usize) as u32;
         self.state.current = target;
         self.state.spare = victim;
-        self.streams.begin(file, target, victim, self.state.fill);
         Ok(())
     }
 

@@ -1,11 +1,12 @@
 //! Laws of flashes that disks are opened over.
 
-ghost use Rattle.std.specs.Prelude.{◌≡◌, ℕ, ◌+◌, ◌*◌, ◌%◌, ◌<◌};
+ghost use Rattle.std.specs.Prelude.{◌≡◌, ℕ, ◌+◌, ◌-◌, ◌*◌, ◌%◌, ◌<◌};
 ghost use Rattle.flash_model.specs.Pages.{Pages};
 ghost use Rattle.flash_disk.specs.Newest.{places, IsUsable, IsUnusable};
 ghost use Rattle.flash_disk.specs.Standing.{IsAgreed, HasRivals};
 ghost use Rattle.flash_disk.specs.Fresh.{IsBlankFlash};
-ghost use Rattle.flash_disk.specs.Apart.{copy_of, IsApart, StandApart, IsOfCopy, LosesPages, CostsOneCopy};
+ghost use Rattle.flash_disk.specs.Apart.{copy_of, IsApart, StandApart, IsOfCopy, LosesPages, CostsOneCopy, HasNoRoom};
+ghost use Rattle.flash_disk.specs.Crowded.{StandAmong, CountInAll};
 ghost use Rattle.flash_disk.specs.Emptied.{HasEmptyBlock, LosesAnyPages};
 
 /// A blank flash can be opened, has an empty block, keeps the copies apart, and its records agree. Where records agree
@@ -43,4 +44,14 @@ pub fn lost_pages_leave_it_usable()
         → LosesAnyPages old new → IsUsable new blocks }
     ensures of_block { (old new : Pages) (blocks block : ℕ) → IsUsable old blocks → HasEmptyBlock old blocks
         → LosesPages block old new → IsUsable new blocks }
+{}
+
+/// Where copies stand apart and a write may mix them since there is no room for one, half the pages of all blocks but
+/// one for each copy hold a record that counts, or more: on a flash with fewer each copy has room. Of `copies` copies,
+/// or of all 8.
+pub fn few_records_leave_room()
+    ensures among { (pages : Pages) (blocks copies copy : ℕ) → copy < copies → StandAmong pages blocks copies
+        → HasNoRoom pages blocks copy → CountInAll pages blocks (32 * (blocks - copies)) }
+    ensures apart { (pages : Pages) (blocks copy : ℕ) → copy < 8 → StandApart pages blocks
+        → HasNoRoom pages blocks copy → CountInAll pages blocks (32 * (blocks - 8)) }
 {}

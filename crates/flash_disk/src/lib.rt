@@ -15,15 +15,17 @@
 //! the next use.
 //!
 //! On 16 blocks or more each copy goes on in a block of its own: file f is of copy `f / 4 % 8`. The block whose records
-//! are moved for a copy is the one with the fewest of those in which nothing counts but that copy. So where the copies
-//! stand apart, as on a blank flash, every write leaves them so, also at any moment of it, unless at some moment no
-//! block but the spare one has room for the copy: each other holds what counts of another, or fewer than 8 of its pages
-//! hold nothing that counts. Then the block with the fewest records may be moved, whatever they are of, and copies mix:
-//! else wear would have no bound. Where they stand apart, with no rivals, the loss of pages of one block costs files of
-//! one copy ([`lost_pages_cost_one_copy`]); a disk says of its flash that they do only where they do
-//! ([`FlashDisk::keeps_copies_apart`]). An opening goes on after the newest record of each copy,
-//! but for one page that a stop may have torn. [`erase_all`] makes a flash blank. [`FlashDisk::forget`] takes from it
-//! the records of files that nobody names any more, so that what they took is room again.
+//! are moved for a copy is the one with the fewest of those in which nothing counts but that copy; where none has room,
+//! two blocks of one copy are joined in the spare one, which frees a block. So where the copies stand apart, as on a
+//! blank flash, every write leaves them so, also at any moment of it, unless at some moment no block but the spare one
+//! has room for the copy (each other holds what counts of another, or fewer than 8 of its pages hold nothing that
+//! counts) and no two could be joined: that takes records in half the pages of all blocks but 8
+//! ([`few_records_leave_room`]). Then the block with the fewest records may be moved, whatever they are of, and copies
+//! mix: else wear would have no bound. Where they stand apart, with no rivals, the loss of pages of one block costs
+//! files of one copy ([`lost_pages_cost_one_copy`]); a disk says of its flash that they do only where they do
+//! ([`FlashDisk::keeps_copies_apart`]). An opening goes on after the newest record of each copy, but for one page that
+//! a stop may have torn. [`erase_all`] makes a flash blank. [`FlashDisk::forget`] takes from it the records of files
+//! that nobody names any more, so that what they took is room again.
 //!
 //! A flash that another program wrote may hold what this one never writes. Of two records of one page with one number
 //! the first place counts; while two that differ both have the greatest number of their page, as *rivals*, nothing is
@@ -48,6 +50,7 @@ mod disk;
 mod erasing;
 mod filling;
 mod forgetting;
+mod joining;
 mod laws;
 mod layer;
 mod opening;
@@ -59,6 +62,6 @@ pub use disk::{FlashDisk, FlashOpenError, FlashRefused};
 pub use erasing::erase_all;
 pub use forgetting::{FileRange, Forgotten};
 pub use laws::{
-    fresh_flashes_open, lost_pages_cost_one_copy, lost_pages_leave_it_usable,
-    usable_flashes_are_taken,
+    few_records_leave_room, fresh_flashes_open, lost_pages_cost_one_copy,
+    lost_pages_leave_it_usable, usable_flashes_are_taken,
 };

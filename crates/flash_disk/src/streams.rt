@@ -98,6 +98,11 @@ impl Streams {
         ensures own { result ≢ spare → (result < table.now.blocks) × (load_known table.now result < 64)
             × LeadsOnly table.now (copy_of file) result }
 
+        // It has the fewest of all such blocks.
+        ensures lightest { table.now.blocks ≤ 4096 → result ≢ spare → (block : ℕ) → block < table.now.blocks
+            → block ≢ spare → LeadsOnly table.now (copy_of file) block
+            → load_known table.now result ≤ load_known table.now block }
+
         // On 16 blocks or more each page of a file has one entry in the table, so that a block's count is of pages.
         ensures unique { 16 ≤ table.now.blocks → HasOneEach table.now }
 
@@ -128,6 +133,17 @@ impl Streams {
         }
         let copy = self.stream_of(file) as usize;
         self.next[copy] = FlashPage { block, page: moved };
+    }
+
+    /// Two blocks were joined in another, up to a page of it: the copy that would have gone on in one of them goes on
+    /// there.
+    pub fn join(&mut self, first: u32, second: u32, block: u32, page: u32) {
+        for copy in 0..COPIES {
+            let next = self.next[copy].block;
+            if next == first || next == second || next == block {
+                self.next[copy] = FlashPage { block, page };
+            }
+        }
     }
 
     /// Goes on with no copy in a block that holds newest records of another too.

@@ -117,6 +117,11 @@ impl Table {
         ensures bounds { SameBounds self.old self.new }
         ensures counted { (blocks : ℕ) → IsCountedTable blocks self.old → IsInside blocks new
             → IsCountedTable blocks self.new }
+        ensures counts { IsTrue result → (block : ℕ)
+            → entries_in self.new block + had_in block (known self.old key)
+            ≡ entries_in self.old block + leads_into block new }
+        ensures no_more { (block : ℕ) → new.place.block ≢ block
+            → entries_in self.new block ≤ entries_in self.old block }
     {
         let old = self.find(key);
         if !self.store(key, new) {
@@ -177,6 +182,8 @@ impl Table {
         ensures bounds { SameBounds self.old self.new }
         ensures counted { (blocks : ℕ) → All (λ new. IsInside blocks new.1) news.now → IsCountedTable blocks self.old
             → IsCountedTable blocks self.new }
+        ensures no_more { (block : ℕ) → All (λ new. new.1.place.block ≢ block) news.now
+            → entries_in self.new block ≤ entries_in self.old block }
     {
         for new in news {
             self.put(new.0, new.1);
@@ -453,7 +460,7 @@ fn raise_known(lens: &mut HashMap<u32, u64>, file: u32, len: u64)
 }
 
 // Marks a block.
-fn mark(foreign: &mut [u8], block: u32)
+pub(crate) fn mark(foreign: &mut [u8], block: u32)
     ensures len { length foreign.new ≡ length foreign.old }
     ensures here { block < length foreign.old → slice_index foreign.new block ≡ 1 }
     ensures others { (b : ℕ) → b ≢ block → slice_index foreign.new b ≡ slice_index foreign.old b }

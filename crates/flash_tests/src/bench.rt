@@ -1,8 +1,10 @@
 //! A flash in memory or the disk over it, and the steps of cases.
 
-use crate::planted::{Planted, crowd, erase, page_of, plant, plant_everywhere, plant_part};
+use crate::planted::{
+    Planted, crowd, erase, page_of, plant, plant_everywhere, plant_part, scatter,
+};
 use crate::records::{behind_hash, has_its_hash, says_blank, says_changed, says_uniform};
-use crate::script::{MemDisk, cold_pages, filled, play, repeated};
+use crate::script::{MemDisk, cold_pages, filled, play, repeated, scattered_pages};
 use crate::silent::{faults_of_a_silent_flash, write_first};
 use crate::step::Step;
 use crate::sweeps::{Sweep, swept};
@@ -22,6 +24,10 @@ pub struct Bench {
 
 fn said(good: bool) -> &'static str {
     if good { "ok" } else { "failed" }
+}
+
+fn standing(apart: bool) -> &'static str {
+    if apart { "apart" } else { "not apart" }
 }
 
 fn refusal(error: FlashOpenError) -> &'static str {
@@ -74,6 +80,7 @@ impl Bench {
             "repeat" => Some(repeated(disk, step.small(0), step.small(1), step.number(2)) as u64),
             "fill" => Some(filled(disk, step.small(0), step.small(1)) as u64),
             "cold" => Some(cold_pages(disk) as u64),
+            "scattered" => Some(scattered_pages(disk) as u64),
             "script" => Some(play(disk) as u64),
             _ => None,
         }
@@ -90,6 +97,8 @@ impl Bench {
             "stops-of-moves" => Some(self.sweep(Sweep::StopsOfMoves, step)),
             "fails" => Some(self.sweep(Sweep::Fails, step)),
             "fails-of-moves" => Some(self.sweep(Sweep::FailsOfMoves, step)),
+            "stops-of-joins" => Some(self.sweep(Sweep::StopsOfJoins, step)),
+            "apart" => Some(standing(self.disk.as_ref()?.keeps_copies_apart())),
             "sync" => Some(said(self.disk.as_mut()?.sync().is_ok())),
             "write" => Some(said(self.write(step))),
             "put" => Some(said(self.put(step))),
@@ -249,6 +258,7 @@ fn called(flash: &mut MemFlash, step: &Step<'_>) -> Option<&'static str> {
         "half" => plant_part(flash, planted(step), step.small(7) as usize),
         "full" => plant_everywhere(flash),
         "crowd" => crowd(flash),
+        "scatter" => scatter(flash),
         _ => return None,
     };
     Some(said(good))

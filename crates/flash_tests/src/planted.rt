@@ -140,3 +140,26 @@ fn crowding(block: u32, at: u32) -> Planted {
         byte: 7,
     }
 }
+
+/// How many blocks of a scattered flash have a page each of file 0.
+pub const SCATTERED: u32 = 15;
+
+/// Programs the first page of each of the first fifteen blocks of a flash with a page of file 0: page k, of the byte
+/// k + 1, in block k.
+pub fn scatter(flash: &mut MemFlash) -> bool {
+    for block in 0..SCATTERED {
+        let record = Planted {
+            block,
+            at: 0,
+            sequence: block as u64 + 1,
+            file: 0,
+            page: block,
+            len: 3840,
+            byte: (block % 250) as u8 + 1,
+        };
+        if !plant_part(flash, record, PAGE_BYTES) {
+            return false;
+        }
+    }
+    true
+}

@@ -1,6 +1,6 @@
 //! A script of writes over two files, and other writes and reads that repeat.
 
-use crate::planted::COLD;
+use crate::planted::{COLD, SCATTERED};
 use disk_model::Disk;
 use flash_disk::FlashDisk;
 use flash_model::MemFlash;
@@ -77,4 +77,21 @@ fn is_page_of(disk: &mut MemDisk, page: u32) -> bool {
     let mut bytes = [0; 256];
     disk.read(2, 256 * page as u64, &mut bytes) == Ok(256)
         && bytes.iter().all(|byte| *byte as u32 == page)
+}
+
+/// How many of the pages of a scattered flash are as they were.
+pub fn scattered_pages(disk: &mut MemDisk) -> u32 {
+    let mut same: u32 = 0;
+    for page in 0..SCATTERED {
+        if is_scattered_page(disk, page) {
+            same = same.saturating_add(1);
+        }
+    }
+    same
+}
+
+fn is_scattered_page(disk: &mut MemDisk, page: u32) -> bool {
+    let kept = (page % 250) as u8 + 1;
+    let mut bytes = [0; 256];
+    disk.read(0, 256 * page as u64, &mut bytes) == Ok(256) && bytes.iter().all(|byte| *byte == kept)
 }

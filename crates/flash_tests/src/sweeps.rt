@@ -1,7 +1,7 @@
 //! One session for each call of a flash, at which it stops, or which alone fails.
 
-use crate::planted::{COLD, crowd};
-use crate::script::{MemDisk, WRITES, cold_pages, expected, play, write};
+use crate::planted::{COLD, SCATTERED, crowd, scatter};
+use crate::script::{MemDisk, WRITES, cold_pages, expected, play, scattered_pages, write};
 use disk_model::Disk;
 use flash_disk::FlashDisk;
 use flash_model::MemFlash;
@@ -31,6 +31,8 @@ pub enum Sweep {
     Stops,
     /// It stops at a call of three writes, the first of which moves a block.
     StopsOfMoves,
+    /// It stops at a call of a write for which two blocks are joined.
+    StopsOfJoins,
     /// One call of the script fails, and the disk goes on.
     Fails,
     /// One call of three writes fails, the first of which moves a block, and the disk goes on.
@@ -53,6 +55,7 @@ fn tried(alloc: Global, sweep: Sweep, call: u64) -> Option<Outcome> {
     match sweep {
         Sweep::Stops => stops(alloc, call),
         Sweep::StopsOfMoves => stops_of_moves(alloc, call),
+        Sweep::StopsOfJoins => stops_of_joins(alloc, call),
         Sweep::Fails => fails(alloc, call),
         Sweep::FailsOfMoves => fails_of_moves(alloc, call),
     }
@@ -147,6 +150,35 @@ fn stops_of_moves(alloc: Global, call: u64) -> Option<Outcome> {
     let mut disk = FlashDisk::open(alloc, flash).ok()?;
     let good = is_crowded_with(&mut disk, last_byte(done), (done % 250) as u8);
     Some(what_came(good, done == 3))
+}
+
+// A flash of sixteen blocks, all but one of which have a page each of file 0.
+fn scattered(alloc: Global) -> Option<MemFlash> {
+    let mut flash = MemFlash::new(alloc, 16).ok()?;
+    if scatter(&mut flash) {
+        return Some(flash);
+    }
+    None
+}
+
+// A first write of another copy stops at this call; afterwards all pages are as they were, and a write of a third copy
+// leaves the copies apart.
+fn stops_of_joins(alloc: Global, call: u64) -> Option<Outcome> {
+    let mut flash = scattered(alloc)?;
+    flash.stop_after(call);
+    let (mut flash, done) = match FlashDisk::open(alloc, flash) {
+        Ok(mut disk) => {
+            let done = disk.write_at(4, 0, &[9]).is_ok();
+            (disk.into_flash(), done)
+        }
+        Err(refused) => (refused.flash, false),
+    };
+    flash.restart();
+    let mut disk = FlashDisk::open(alloc, flash).ok()?;
+    let good = disk.write_at(8, 0, &[9]).is_ok()
+        && scattered_pages(&mut disk) == SCATTERED
+        && disk.keeps_copies_apart();
+    Some(what_came(good, done))
 }
 
 // Lets one call of a flash fail, counted from now on.

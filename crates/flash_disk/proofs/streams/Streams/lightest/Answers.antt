@@ -18,3 +18,11 @@ returns-clause-none c many few same block below apart only =
     (λ lighter. absurd (lighter.0 same))
     (c.lightest_own-own.ensures.lightest block below apart
     (c.mark_foreign.ensures.foreign block only (unmarked 4096 block (omega (arith, below, few)))))
+
+pub returns-clause-lightest : goal.returns-clause-lightest
+returns-clause-lightest c few other block below apart only =
+    ⊎_elim
+    (λ heavy. (let own = c.lightest_own-own.ensures.own other in let light = own.2 in omega (arith, heavy, light)))
+    (λ lighter. lighter.1)
+    (c.lightest_own-own.ensures.lightest block below apart
+    (c.mark_foreign.ensures.foreign block only (unmarked 4096 block (omega (arith, below, few)))))

@@ -1,8 +1,11 @@
-use Rattle.std.proofs.Common.{◌≡◌, ◌-◌, ℕ, sym, ap, subst, ◌∙◌}
+use Rattle.std.proofs.Common.{◌≡◌, ◌-◌, ℕ, refl, sym, ap, subst, ◌∙◌, arith}
+use Rattle.std.specs.List.{sum_by}
+use Rattle.std.specs.HashMap.{values}
 use Rattle.std.specs.Prelude.{Some}
 use Rattle.flash_disk.specs.Known.{known, load_known}
-use Rattle.flash_disk.specs.Counted.{had_in}
-use Rattle.flash_disk.proofs.Counting.{Recounts, recounts_refl, same_counted, put_counted, fewer_by, none_fewer}
+use Rattle.flash_disk.specs.Counted.{had_in, leads_into, entries_in}
+use Rattle.flash_disk.proofs.Counting.{Recounts, recounts_refl, same_counted, put_counted, put_no_more, fewer_by}
+use Rattle.flash_disk.proofs.Counting.{none_fewer}
 use Rattle.flash_disk.proofs.table.Table.put.Goals as goal
 use Rattle.flash_disk.proofs.table.Table.put.Goals.{in-Some, in_default}
 
@@ -45,3 +48,24 @@ returns-clause-counted c blocks counted inside =
     (e.put c.if-not-store.false) e.bounds.limit (e.counts c.if-not-store.false) e.load e.bounds.blocks
     parts.0 parts.1 (record { newest = m.newest; blocks = m.bounds.blocks; loads = m.loads; limit = m.bounds.limit })
     m.counts
+
+pub returns-then-not-store-clause-no_more : goal.returns-then-not-store-clause-no_more
+returns-then-not-store-clause-no_more c block apart =
+    let same = c.store.ensures.entries c.if-not-store.true block in omega (arith, same)
+
+pub returns-clause-counts : goal.returns-clause-counts
+returns-clause-counts c done block =
+    let mid = c.store.new.self in
+    let less = c.match-old.self in
+    let fewer : less.newest ≡ mid.newest = elim c.match-old.branch [
+      | in-Some w ↦ ap (λ t. t.newest) w.self-is ∙ w.count_less.ensures.newest
+      | in_default w ↦ ap (λ t. t.newest) w.self-is
+    ] in
+    let same : entries_in c.count_more.new.self block ≡ entries_in mid block =
+    ap (λ m. sum_by (leads_into block) (values m)) (c.count_more.ensures.newest ∙ fewer) in
+    let sum = c.store.ensures.counts c.if-not-store.false block in
+    omega (arith, same, sum)
+
+pub returns-clause-no_more : goal.returns-clause-no_more
+returns-clause-no_more c block apart = put_no_more c.args.self.now c.count_more.new.self c.args.key c.args.new block
+    apart (returns-clause-counts c refl block)

@@ -9,4 +9,8 @@ loop-new-preserved c = let i = c.loop-new.invariant in record {
   puts = grind (arith, common_steps);
   counted = λ blocks all start. c.put.ensures.counted blocks (i.counted blocks all start)
       (all c.loop-new.new-index _ c.loop-new-test.true);
+  no_more = λ block all.
+      let was = i.no_more block all in
+      let now = c.put.ensures.no_more block (all c.loop-new.new-index _ c.loop-new-test.true) in
+      omega (arith, was, now);
 }
