@@ -54,4 +54,8 @@ pub fn few_records_leave_room()
         → HasNoRoom pages blocks copy → CountInAll pages blocks (32 * (blocks - copies)) }
     ensures apart { (pages : Pages) (blocks copy : ℕ) → copy < 8 → StandApart pages blocks
         → HasNoRoom pages blocks copy → CountInAll pages blocks (32 * (blocks - 8)) }
+
+    // On 16 blocks that is 256 of 1,024 pages.
+    ensures sixteen { (pages : Pages) (copy : ℕ) → copy < 8 → StandApart pages 16 → HasNoRoom pages 16 copy
+        → CountInAll pages 16 256 }
 {}

@@ -9,3 +9,6 @@ pub returns-clause-apart : goal.returns-clause-apart
 returns-clause-apart c pages blocks copy below stand room =
     let among = among_eight pages blocks copy below stand in
     half_full pages blocks 8 copy (λ b. (among b).0) (λ b. (among b).1) (λ b. (among b).2) room below
+
+pub returns-clause-sixteen : goal.returns-clause-sixteen
+returns-clause-sixteen c pages copy below stand room = returns-clause-apart c pages 16 copy below stand room
