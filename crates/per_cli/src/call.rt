@@ -39,8 +39,8 @@ const CONTENT_AWAITED: &str =
 const MANIFEST_AWAITED: &str =
     "per: the manifest is awaited; Ctrl-D at the beginning of a line ends it";
 
-/// How many digits of the bytes of a file are turned into bytes at once, an even number.
-const DIGITS: usize = 65_536;
+/// What an output is handed first of a reply that has many bytes, which is handed over in pieces.
+const OCTETS: &[u8] = b"bytes ";
 
 /// Why no call was made.
 #[derive(Clone, Copy)]
@@ -312,6 +312,7 @@ fn status_of_lines<R: Files<File = File> + AllocGlobal + Print + Screen>(
         rt,
         alloc,
         refusal: &refusal,
+        in_octets: false,
     };
     let status = program::run(rt, options, input, output);
     refusal.status_after(status)
@@ -509,12 +510,14 @@ fn line_length(lines: &[u8]) -> usize
     }
 }
 
-/// Replies as an output: each write is one, which is shown to a person.
+/// Replies as an output, which are shown to a person: each write is one, or a piece of one that has many bytes.
 #[derive(Drop)]
 struct Answers<'a, R: Print + Screen> {
     rt: &'a R,
     alloc: Global,
     refusal: &'a Refusal,
+    /// Whether the digits of such a reply are being written.
+    in_octets: bool,
 }
 
 impl<'a, R: Print + Screen> Answers<'a, R> {
@@ -530,18 +533,9 @@ impl<'a, R: Print + Screen> Answers<'a, R> {
                 self.refusal.note(NO_DISK);
                 self.tell(text);
             }
-            Shown::Octets => return self.show_octets(text),
-            Shown::Nothing | Shown::Text | Shown::Names => {}
+            Shown::Octets | Shown::Nothing | Shown::Text | Shown::Names => {}
         }
         self.write_shown(shown, text)
-    }
-
-    /// Writes bytes in pieces, so that there is no second copy of all of them.
-    fn show_octets(&self, digits: &[u8]) -> io::Result<()> {
-        for piece in digits.chunks(DIGITS) {
-            self.write_shown(Shown::Octets, piece)?;
-        }
-        Ok(())
     }
 
     /// Writes a text that is shown so.
@@ -563,8 +557,15 @@ impl<'a, R: Print + Screen> Answers<'a, R> {
 impl<'a, R: Print + Screen> Write for Answers<'a, R> {
     fn write(&mut self, bytes: &[u8]) -> io::Result<usize> {
         let lines = bytes.strip_suffix(b"\n").unwrap_or(bytes);
-        for line in lines.split(|byte| *byte == b'\n') {
-            self.show(line)?;
+        if self.in_octets {
+            self.write_shown(Shown::Octets, lines)?;
+            self.in_octets = lines.len() == bytes.len();
+        } else if bytes == OCTETS {
+            self.in_octets = true;
+        } else {
+            for line in lines.split(|byte| *byte == b'\n') {
+                self.show(line)?;
+            }
         }
         Ok(bytes.len())
     }
