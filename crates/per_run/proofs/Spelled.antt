@@ -1,6 +1,7 @@
 -- Bytes that are spelled and written in pieces.
 use Rattle.std.proofs.Common.{◌≡◌, ◌<◌, ◌≤◌, ◌+◌, ◌/◌, ◌%◌, ◌++◌, ◌&&◌, ◌∙◌, ℕ, zero, suc, List, [], ◌∷◌, Bool, true}
-use Rattle.std.proofs.Common.{Option, Result, Ok, Err, IsOk, OnOk, OnErr, ap, arith, drop, codes, inl, inr, length, nat_eq, refl, slice_index, sym, take}
+use Rattle.std.proofs.Common.{Option, Result, Ok, Err, IsOk, OnOk, OnErr, ap, arith, drop, codes, inl, inr, length, nat_eq}
+use Rattle.std.proofs.Common.{refl, slice_index, sym, take}
 use Rattle.std.proofs.Math.Seq.{take-append-add}
 use Rattle.std.proofs.KnownBytes.{Appends-trans}
 use Rattle.std.proofs.lemmas.Bool.{and_parts, cases_lt, eqb-true}
