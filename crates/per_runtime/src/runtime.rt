@@ -65,8 +65,8 @@ impl Runtime {
             → Stopped (rules_of migrations.now) (answers_of migrations.now) event.now (memory_of self.old) doubt
             (D.medium disk.old) (D.medium disk.new)) }
 
-        // Memory runs out only for a command that may need it: any other is answered, refused or not, also where none is
-        // left.
+        // Memory runs out only for a command that may need it: any other is answered, refused or not, also where no
+        // memory is left.
         ensures needs { IsTrue D.told → OnErr result (CommandMayStarve
             (world_of (D.medium disk.old).image (memory_of self.old) None) event.now) }
         // A command that calls no device leaves the disk alone.
