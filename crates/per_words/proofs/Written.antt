@@ -13,7 +13,7 @@ use Rattle.value_text.specs.Texts.{hex_digit, hex_text}
 use Rattle.command_text.specs.Grammar.{has_feed, line_of}
 use Rattle.command_text.specs.declared.calls.Call.TheVariants as call
 use Rattle.command_text.specs.declared.calls.Event.TheVariants as event
-use Rattle.per_words.specs.Words.{IsOneLine, IsPiece, piece_line}
+use Rattle.per_words.specs.Words.{IsOneLine, FitsLine, piece_line}
 
 -- ---- no line feed
 
@@ -106,7 +106,7 @@ is_written digit storage piece low high named few bytes =
 
 -- and so are all pieces
 pub all_written : (digit : ℕ) (storage : List ℕ) (pieces : List (List ℕ)) → 48 ≤ digit → digit < 56 → IsName storage
-    → AllByRecursion IsPiece pieces → AllByRecursion IsOneLine (map (piece_line digit storage) pieces)
+    → AllByRecursion FitsLine pieces → AllByRecursion IsOneLine (map (piece_line digit storage) pieces)
 all_written digit storage [] low high named all = tt
 all_written digit storage (piece ∷ pieces) low high named all = (
   is_written digit storage piece low high named all.0.short all.0.bytes,

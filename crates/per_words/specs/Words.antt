@@ -158,7 +158,7 @@ opened_line digit storage file =
     line_with digit (codes "open-file" ∷ storage ∷ file ∷ codes "w" ∷ codes "truncate" ∷ [])
 
 -- bytes that are written by one line
-pub record IsPiece (piece : List ℕ) : Type 0 where
+pub record FitsLine (piece : List ℕ) : Type 0 where
   pub short : length piece ≤ 65536
   pub bytes : (i : ℕ) → slice_index piece i < 256
 

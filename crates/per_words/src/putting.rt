@@ -5,7 +5,7 @@ ghost use Rattle.std.specs.Prelude.{◌<◌, ◌≤◌, ℕ, length, true};
 ghost use Rattle.std.specs.List.{AllByRecursion};
 ghost use Rattle.value_text.specs.Texts.{hex_text};
 ghost use Rattle.command_text.specs.declared.errors.LineError.{LineError};
-ghost use Rattle.per_words.specs.Words.{Adds, AreFed, IsOneLine, IsPiece, closed_line, content_lines, durable_lines};
+ghost use Rattle.per_words.specs.Words.{Adds, AreFed, IsOneLine, FitsLine, closed_line, content_lines, durable_lines};
 ghost use Rattle.per_words.specs.Words.{file_lines, opened_line, opening_lines, piece_line, put_line, writing_lines};
 ghost use Rattle.per_words.specs.declared.kinds.CallKind.{CallKind};
 
@@ -83,13 +83,13 @@ fn are_pieces(digit: u8, pieces: &[Vec<u8>]) -> bool
     ensures more { result ≡ true → 1 < length pieces.now }
     ensures low { result ≡ true → 48 ≤ digit }
     ensures high { result ≡ true → digit < 56 }
-    ensures short { result ≡ true → AllByRecursion IsPiece (map (λ piece. piece.items) pieces.now) }
+    ensures short { result ≡ true → AllByRecursion FitsLine (map (λ piece. piece.items) pieces.now) }
 {
     pieces.len() > 1 && digit >= b'0' && digit <= b'7' && are_short(pieces)
 }
 
 fn are_short(pieces: &[Vec<u8>]) -> bool
-    ensures { result ≡ true → AllByRecursion IsPiece (map (λ piece. piece.items) pieces.now) }
+    ensures { result ≡ true → AllByRecursion FitsLine (map (λ piece. piece.items) pieces.now) }
 {
     match pieces.split_first() {
         Some((piece, rest)) => is_short(piece.as_slice()) && are_short(rest),
@@ -98,7 +98,7 @@ fn are_short(pieces: &[Vec<u8>]) -> bool
 }
 
 fn is_short(piece: &[u8]) -> bool
-    ensures { result ≡ true → IsPiece piece.now }
+    ensures { result ≡ true → FitsLine piece.now }
 {
     piece.len() <= PIECE_BYTES
 }
