@@ -334,8 +334,8 @@ module _ (told : Bool) (rules : List Rule) (answers : Answers) (now : ℕ) (text
       stopped_promises lone stop.Device u = device_promises u
       stopped_promises lone stop.OutOfMemory u = memory_promises lone u
 
-    pub updated_promises : no_update_over (root_says root) ≡ None → (made : Result Outcome Stop) → Updates told rules answers now text b.app root busy old new
-        made → (after' : Running) (result : Result Reply Stop)
+    pub updated_promises : no_update_over (root_says root) ≡ None → (made : Result Outcome Stop)
+        → Updates told rules answers now text b.app root busy old new made → (after' : Running) (result : Result Reply Stop)
         → ConcludesCall made (record b { stage = ToOpen }) after' result
         → Promises told rules answers now (call.Update text) before after' Untouched old new result
     updated_promises lone (Ok o) u after' result s = subst (λ (x : Running).
@@ -551,8 +551,8 @@ module _ (told : Bool) (rules : List Rule) (answers : Answers) (now : ℕ) (text
         time = x.time;
       }
 
-  pub begun_promises : no_update_over (root_says root) ≡ None → (made : Result Begin Stop) → Beginning told rules answers now text b.app root busy old new made
-      → (after' : Running) (result : Result Reply Stop)
+  pub begun_promises : no_update_over (root_says root) ≡ None → (made : Result Begin Stop)
+      → Beginning told rules answers now text b.app root busy old new made → (after' : Running) (result : Result Reply Stop)
       → ConcludesBegun made (record b { stage = ToOpen }) after' result
       → Promises told rules answers now c first after' Untouched old new result
   begun_promises lone (Ok (begin.Ready s)) x after' result settles =

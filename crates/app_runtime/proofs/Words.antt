@@ -19,7 +19,7 @@ use Rattle.run_model.specs.Calls.{app_step, done_with, least_open, concluded}
 use Rattle.run_model.specs.Worlds.{Application}
 use Rattle.app_storages.specs.declared.slots.OpenSlots.{OpenSlots}
 use Rattle.app_storages.specs.Slots.{resting_with}
-use Rattle.app_runtime.specs.Needs.{IsAbsent}
+use Rattle.app_runtime.specs.Needs.{IsVacant}
 use Rattle.app_runtime.proofs.Plain.{finish_plain, install_plain, rollback_plain, wipe_plain}
 use Rattle.app_runtime.proofs.Rowed.{IsWord}
 
@@ -36,12 +36,12 @@ refused_needs r row e is carries = subst (λ (x : Result App PerError). NeedsMem
 
 -- an install that is refused after its manifest was read is one where nothing is installed
 installs_there : (now : ℕ) (text : List ℕ) (a : App) (e : PerError) → installing now text a ≡ Err e
-    → (AllocatesNothing e → ⊥) → IsAbsent a.says
+    → (AllocatesNothing e → ⊥) → IsVacant a.says
 unfolding installing
 installs_there now text a e is late = by a.says a.lacking a.states is
   where
     by : (says : Says) (lacking : List ℕ) (states : List State)
-        → installing now text (record { says = says; lacking = lacking; states = states }) ≡ Err e → IsAbsent says
+        → installing now text (record { says = says; lacking = lacking; states = states }) ≡ Err e → IsVacant says
     by nothing lacking states is = absurd (late (let same : error.IntegrityCorrupted unit.Root ≡ e = cc in
         subst AllocatesNothing same tt))
     by (absent g) lacking states is = tt

@@ -12,10 +12,10 @@ use Rattle.run_model.specs.Worlds.{Application, update_in}
 use Rattle.app_storages.specs.Needs.{CallNeedsMemory}
 
 -- nothing is installed, so that an install may be done
-abbrev pub IsAbsent : Says → Type 0
-IsAbsent nothing = ⊥
-IsAbsent (absent g) = ⊤
-IsAbsent (installed g active previous) = ⊥
+abbrev pub IsVacant : Says → Type 0
+IsVacant nothing = ⊥
+IsVacant (absent g) = ⊤
+IsVacant (installed g active previous) = ⊥
 
 -- why a root refuses an update before its manifest, if it does: it is bad, or nothing is installed, or a previous
 -- version is
@@ -34,7 +34,7 @@ no_way_back (installed g active (Some previous)) = None
 
 -- the call gets as far as its manifest
 abbrev pub ReadsManifest : Call → (before : Application) → Type 0
-ReadsManifest (call.Install text) before = IsAbsent before.disk.says
+ReadsManifest (call.Install text) before = IsVacant before.disk.says
 ReadsManifest (call.Update text) before = no_update_over before.disk.says ≡ None
 ReadsManifest (call.UpdateBegin text) before = no_update_over before.disk.says ≡ None
 ReadsManifest other before = ⊥

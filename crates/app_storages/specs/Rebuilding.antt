@@ -28,6 +28,7 @@ pub record IsNoneClosed (app : ℕ) (root : Root) (name : List ℕ) (slots : Ope
       → rebuild_step (resting_with image app slots) name state_of ≡ Err e
 
 -- whatever is to be made of it, it is refused because it is open, which its name says
-abbrev pub IsTaken : (app : ℕ) → Root → (name : List ℕ) → OpenSlots → Type 0
-IsTaken app root name slots = (image : Image) → IsRootOn image app root → (state_of : FoundStorage → Result State PerError)
+abbrev pub NamesOpen : (app : ℕ) → Root → (name : List ℕ) → OpenSlots → Type 0
+NamesOpen app root name slots = (image : Image) → IsRootOn image app root
+    → (state_of : FoundStorage → Result State PerError)
     → NeedsMemory (rebuild_step (resting_with image app slots) name state_of)

@@ -5,7 +5,7 @@ ghost use Rattle.command_text.specs.declared.calls.Call.{Call};
 ghost use Rattle.deploy.specs.Roots.{IsRootOf};
 ghost use Rattle.app_storages.specs.Finding.{config_of};
 ghost use Rattle.app_storages.specs.Handled.{IsStorageCallHandled};
-ghost use Rattle.app_storages.specs.Rebuilding.{IsClosed, IsNoneClosed, IsTaken};
+ghost use Rattle.app_storages.specs.Rebuilding.{IsClosed, IsNoneClosed, NamesOpen};
 ghost use Rattle.app_storages.specs.Slots.{IsResting};
 
 use crate::finding::{Located, find};
@@ -110,7 +110,7 @@ impl OpenSlots {
         requires root { IsRootOf app root.now }
         ensures closed { IfOk result (λ found. IfOk found (IsClosed app root.now name.now self.now)) }
         ensures refused { IfOk result (λ found. IfErr found (IsNoneClosed app root.now name.now self.now)) }
-        ensures memory { OnErr result (IsTaken app root.now name.now self.now) }
+        ensures memory { OnErr result (NamesOpen app root.now name.now self.now) }
     {
         let located = match find(app, root, name, None) {
             Ok(located) => located,

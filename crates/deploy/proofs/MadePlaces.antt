@@ -19,7 +19,7 @@ use Rattle.deploy.specs.declared.roots.Root.{Root}
 use Rattle.deploy.specs.declared.updating.Staged.{Staged}
 use Rattle.deploy.specs.Building.{offered_in, staged_root, staged_text}
 use Rattle.deploy.specs.Clauses.{IsNoRootSlot, Leaves}
-use Rattle.deploy.specs.Making.{IsBesideMade, IsInNone, cost_by, install_cost, making_cost, making_costs, storages_by}
+use Rattle.deploy.specs.Making.{IsBesideMade, IsInNone, cost_by, install_cost, making_cost, making_costs, said_storages}
 use Rattle.deploy.specs.Making.{storages_said}
 use Rattle.deploy.specs.Roots.{SaysDeployment, free_bank, previous_texts, root_texts}
 use Rattle.deploy.specs.Written.{root_cost}
@@ -207,7 +207,7 @@ module _ (manifest : List ℕ) (v : VersionText) (said : deployment_of manifest 
       → Leaves told (IsBesideMade app (shapes_from app bank 0 (map storage_data v.deployment.storages))) old new
       → Leaves told (IsBesideMade app (shapes_from app bank 0 (storages_said manifest))) old new
   said_places told app bank old new leaves = subst (λ (r : Result DeploymentData PerError).
-      Leaves told (IsBesideMade app (shapes_from app bank 0 (storages_by r))) old new) (sym said) leaves
+      Leaves told (IsBesideMade app (shapes_from app bank 0 (said_storages r))) old new) (sym said) leaves
 
   pub said_written : (now was is : ℕ) → v.text ≡ manifest
       → is ≤ was + (making_costs (map storage_data v.deployment.storages)

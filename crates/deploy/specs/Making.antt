@@ -27,13 +27,13 @@ abbrev pub IsBesideMade : ℕ → List Shape → ℕ → Type 0
 IsBesideMade app shapes file = IsNoRootSlot app file × IsInNone shapes file
 
 -- the storages of a deployment, where there is one
-abbrev pub storages_by : Result DeploymentData PerError → List StorageData
-storages_by (Ok d) = d.storages
-storages_by (Err e) = []
+abbrev pub said_storages : Result DeploymentData PerError → List StorageData
+said_storages (Ok d) = d.storages
+said_storages (Err e) = []
 
 -- the storages of the deployment that a manifest says; none where the manifest is refused
 abbrev pub storages_said : List ℕ → List StorageData
-storages_said manifest = storages_by (deployment_of manifest)
+storages_said manifest = said_storages (deployment_of manifest)
 
 -- ---- bytes
 

@@ -60,36 +60,36 @@ KeepsElement shape left image e f = (value : List ℕ) → f.content ≡ Good va
     → (entry_view image shape.place shape.m e).content ≡ Good value
 
 -- the storage opens on the image at this text, which has the headings of the view, and its elements are kept
-pub record ReadsAs (shape : Shape) (left image : Image) (text : FitText) (there : View) : Type 0 where
+pub record OpensAs (shape : Shape) (left image : Image) (text : FitText) (there : View) : Type 0 where
   pub opens : chosen image shape ≡ Some (true, text)
   pub same : SameHeadings (view_of image shape text) there
   pub good : AllZip (KeepsElement shape left image) text.1.entries there.entries
 
 -- it reads as the view of a state that opens
-abbrev pub ReadsAsAfter : Shape → (left image : Image) → FitText → (after : State) → Type 0
-ReadsAsAfter shape left image text (Opens v others) = ReadsAs shape left image text v
-ReadsAsAfter shape left image text (Corrupt salvage others) = ⊥
+abbrev pub OpensAsAfter : Shape → (left image : Image) → FitText → (after : State) → Type 0
+OpensAsAfter shape left image text (Opens v others) = OpensAs shape left image text v
+OpensAsAfter shape left image text (Corrupt salvage others) = ⊥
 
 -- with enough copies left of a storage that opens, it opens, at the view before or at the one after; one that was
 -- corrupt opens at most at the one after
 abbrev pub StaysByPieces : Shape → (left image : Image) → (before after : State) → Type 0
 StaysByPieces shape left image (Opens v others) after = HasEnoughStorage shape left image v.lacking
-    → (text : FitText) × (ReadsAs shape left image text v ⊎ ReadsAsAfter shape left image text after)
+    → (text : FitText) × (OpensAs shape left image text v ⊎ OpensAsAfter shape left image text after)
 StaysByPieces shape left image (Corrupt salvage others) after = (text : FitText)
-    → chosen image shape ≡ Some (true, text) → ReadsAsAfter shape left image text after
+    → chosen image shape ≡ Some (true, text) → OpensAsAfter shape left image text after
 
 -- ---- the laws
 
--- the view after, if it has other headings, has a greater generation
-abbrev pub Follows : (before after : State) → Type 0
-Follows (Opens v others) (Opens w rest) = ¬ (SameHeadings w v) → v.generation < w.generation
-Follows (Opens v others) (Corrupt salvage rest) = ⊤
-Follows (Corrupt salvage others) after = ⊤
+-- the view after, if it has other headings, is the younger one: its generation is greater
+abbrev pub IsYounger : (before after : State) → Type 0
+IsYounger (Opens v others) (Opens w rest) = ¬ (SameHeadings w v) → v.generation < w.generation
+IsYounger (Opens v others) (Corrupt salvage rest) = ⊤
+IsYounger (Corrupt salvage others) after = ⊤
 
 -- what is kept whatever files are damaged, and its place clean, is kept by pieces
 abbrev pub PiecesLaw : Type 0
 PiecesLaw = (shape : Shape) (before after : State) (damaged : List ℕ) (left image : Image) → 1 ≤ shape.m
-    → Follows before after
+    → IsYounger before after
     → ((files : List ℕ) (other : Image) → DecaysFor (IsPiece shape.place) files left other
     → Kept shape files (store_at other shape) before after × IsClean shape other)
     → DecaysFor (IsPiece shape.place) damaged left image → StaysByPieces shape left image before after
@@ -97,7 +97,7 @@ PiecesLaw = (shape : Shape) (before after : State) (damaged : List ℕ) (left im
 -- a stop in a case that keeps a storage, and damage after it, keep it by pieces
 abbrev pub PiecesCaseLaw : Type 0
 PiecesCaseLaw = (shape : Shape) (start : Image) (after : State) (c : Case) (damaged : List ℕ) (image : Image)
-    → 1 ≤ shape.m → Follows (store_at start shape) after → IsKeptCase shape start after c
+    → 1 ≤ shape.m → IsYounger (store_at start shape) after → IsKeptCase shape start after c
     → IsSoundFor (IsPiece shape.place) c → DecaysFor (IsPiece shape.place) damaged c.left image
     → StaysByPieces shape c.left image (store_at start shape) after
 
@@ -114,10 +114,10 @@ FilesLaw = (place : Place) (damaged : List ℕ) (left image : Image) (copy : ℕ
 abbrev pub StaysOnward : Shape → (left image : Image) → (before after : State) → Type 0
 StaysOnward shape left image (Opens v others) after = HasEnough shape [] v.lacking → (w : View) (rest : List View)
     → store_at left shape ≡ Opens w rest → HasEnoughStorage shape left image w.lacking
-    → (text : FitText) × (ReadsAs shape left image text v ⊎ ReadsAsAfter shape left image text after)
+    → (text : FitText) × (OpensAs shape left image text v ⊎ OpensAsAfter shape left image text after)
 StaysOnward shape left image (Corrupt salvage others) after = (w : View) (rest : List View)
     → store_at left shape ≡ Opens w rest → HasEnoughStorage shape left image w.lacking
-    → (text : FitText) × ReadsAsAfter shape left image text after
+    → (text : FitText) × OpensAsAfter shape left image text after
 
 -- what a stop alone keeps is kept so by damage after it
 abbrev pub OnwardLaw : Type 0

@@ -14,8 +14,8 @@ use memchr::memchr;
 use per_reasons::{dots_after, why_no_call, word_shown};
 use per_run::{JobKind, WordsError, read_words};
 use per_words::{
-    Shown, call_lines, call_word, content_lines, manifest_lines, options_in, shown_bytes, shown_in,
-    takes_manifest, unknown_in,
+    CallText, PIECE_BYTES, Shown, call_lines, call_word, content_lines, manifest_lines, options_in,
+    shown_bytes, shown_in, takes_manifest, unknown_in,
 };
 use std::alloc::{AllocError, Global};
 use std::cell::Cell;
@@ -25,6 +25,9 @@ use std::rt::Files;
 
 /// One byte more than a file may have: of a longer input no more is read.
 const CONTENT_BYTES: u64 = 1_048_577;
+
+/// Pieces into which that many bytes are cut.
+const PIECES: usize = CONTENT_BYTES as usize / PIECE_BYTES + 1;
 
 /// How many bytes a manifest has at most.
 const MANIFEST_BYTES: usize = 65_536;
@@ -36,8 +39,8 @@ const CONTENT_AWAITED: &str =
 const MANIFEST_AWAITED: &str =
     "per: the manifest is awaited; Ctrl-D at the beginning of a line ends it";
 
-/// How many digits of the bytes of a file are turned into bytes at once, an even number.
-const DIGITS: usize = 65_536;
+/// What an output is handed first of a reply that has many bytes, which is handed over in pieces.
+const OCTETS: &[u8] = b"bytes ";
 
 /// Why no call was made.
 #[derive(Clone, Copy)]
@@ -252,8 +255,9 @@ fn made<R: Files<File = File> + AllocGlobal + Input + Print + Screen>(
 ) -> Result<u8, Unmade> {
     let alloc = rt.alloc();
     let options = options_of(alloc, words, named)?;
-    let lines = lines_of_call(rt, alloc, named)?;
-    Ok(status_of_lines(rt, alloc, options.as_slice(), lines.as_slice()))
+    let text = lines_of_call(rt, alloc, named)?;
+    let part = Vec::with_capacity(alloc, text.part_bytes())?;
+    Ok(status_of_lines(rt, alloc, options.as_slice(), text, part))
 }
 
 /// The options of the run that makes the call, none of which asks for another job. An installation makes an empty
@@ -287,16 +291,20 @@ fn is_first(named: &[&[u8]], word: &[u8]) -> bool {
     }
 }
 
-/// Gives the lines to a run with these options, shows its replies, and gives the status.
+/// Gives the lines to a run with these options, shows its replies, and gives the status. The buffer has room for each
+/// part of the lines.
 fn status_of_lines<R: Files<File = File> + AllocGlobal + Print + Screen>(
     rt: &R,
     alloc: Global,
     options: &[String],
-    lines: &[u8],
+    text: CallText,
+    part: Vec<u8>,
 ) -> u8 {
     let refusal = Refusal::none();
     let input = LineByLine {
-        rest: lines,
+        text,
+        part,
+        given: 0,
         in_line: false,
         refusal: &refusal,
     };
@@ -304,6 +312,7 @@ fn status_of_lines<R: Files<File = File> + AllocGlobal + Print + Screen>(
         rt,
         alloc,
         refusal: &refusal,
+        in_octets: false,
     };
     let status = program::run(rt, options, input, output);
     refusal.status_after(status)
@@ -314,22 +323,23 @@ fn lines_of_call<R: Files<File = File> + AllocGlobal + Input + Screen>(
     rt: &R,
     alloc: Global,
     named: &[&[u8]],
-) -> Result<Vec<u8>, Unmade> {
+) -> Result<CallText, Unmade> {
     let [call, target, arguments @ ..] = named else {
         return Err(Unmade::Refused);
     };
-    match arguments {
+    let lines = match arguments {
         [file] if takes_manifest(call) => {
             let manifest = manifest_in(rt, alloc, file)?;
-            lines_of_manifest(alloc, call, target, manifest.as_slice())
+            lines_of_manifest(alloc, call, target, manifest.as_slice())?
         }
         [file] if is_first(named, b"put") => {
             say_awaited(rt, CONTENT_AWAITED);
-            let content = input_of(rt, alloc)?;
-            Ok(content_lines(alloc, target, file, content.as_slice())?)
+            let pieces = pieces_of_input(rt, alloc)?;
+            return Ok(content_lines(alloc, target, file, pieces)?);
         }
-        _ => Ok(call_lines(alloc, call, target, arguments)?),
-    }
+        _ => call_lines(alloc, call, target, arguments)?,
+    };
+    Ok(CallText::whole(alloc, lines))
 }
 
 /// The line of a call with this manifest.
@@ -390,6 +400,34 @@ fn input_of<R: AllocGlobal + Input>(rt: &R, alloc: Global) -> io::Result<Vec<u8>
     Ok(bytes)
 }
 
+/// What standard input has, in pieces, of which all but the last are full.
+fn pieces_of_input<R: AllocGlobal + Input>(rt: &R, alloc: Global) -> io::Result<Vec<Vec<u8>>> {
+    let mut input = rt.reader().take(CONTENT_BYTES);
+    let mut pieces = Vec::new(alloc);
+    for _ in 0..PIECES {
+        let piece = piece_of(alloc, &mut input)?;
+        let is_last = piece.len() < PIECE_BYTES;
+        if !piece.is_empty() {
+            pieces.push(piece).map_err(AllocError::from)?;
+        }
+        if is_last {
+            break;
+        }
+    }
+    Ok(pieces)
+}
+
+/// The next piece of an input, which is full unless the input ends. The room is for one byte more, so that it does not
+/// grow where no byte is left.
+fn piece_of<I: Read>(alloc: Global, input: &mut I) -> io::Result<Vec<u8>> {
+    let mut piece = Vec::with_capacity(alloc, PIECE_BYTES + 1)?;
+    input
+        .by_ref()
+        .take(PIECE_BYTES as u64)
+        .read_to_end(&mut piece)?;
+    Ok(piece)
+}
+
 /// What this file has.
 fn bytes_in<R: Files<File = File>>(rt: &R, alloc: Global, file: &str) -> io::Result<Vec<u8>> {
     let mut bytes = Vec::new(alloc);
@@ -432,10 +470,13 @@ impl Refusal {
     }
 }
 
-/// Lines as an input: each read gives one, or a part of one, and none after a refusal.
+/// The lines of a call as an input: each read gives one, or a part of one, and none after a refusal.
 #[derive(Drop)]
 struct LineByLine<'a> {
-    rest: &'a [u8],
+    text: CallText,
+    /// The part of the text that is given at this time, and how many bytes of it are.
+    part: Vec<u8>,
+    given: usize,
     in_line: bool,
     refusal: &'a Refusal,
 }
@@ -445,11 +486,15 @@ impl<'a> Read for LineByLine<'a> {
         if !self.in_line && self.refusal.is_some() {
             return Ok(0);
         }
-        let length = line_length(self.rest);
+        if self.given >= self.part.len() {
+            self.text.give_part(&mut self.part)?;
+            self.given = 0;
+        }
+        let rest = self.part.get(self.given..).unwrap_or(&[]);
+        let length = line_length(rest);
         let count = length.min(out.len());
-        let (given, rest) = self.rest.split_at(count);
-        out[..count].copy_from_slice(given);
-        self.rest = rest;
+        out[..count].copy_from_slice(&rest[..count]);
+        self.given = self.given.saturating_add(count);
         self.in_line = count < length;
         Ok(count)
     }
@@ -465,12 +510,14 @@ fn line_length(lines: &[u8]) -> usize
     }
 }
 
-/// Replies as an output: each write is one, which is shown to a person.
+/// Replies as an output, which are shown to a person: each write is one, or a piece of one that has many bytes.
 #[derive(Drop)]
 struct Answers<'a, R: Print + Screen> {
     rt: &'a R,
     alloc: Global,
     refusal: &'a Refusal,
+    /// Whether the digits of such a reply are being written.
+    in_octets: bool,
 }
 
 impl<'a, R: Print + Screen> Answers<'a, R> {
@@ -486,18 +533,9 @@ impl<'a, R: Print + Screen> Answers<'a, R> {
                 self.refusal.note(NO_DISK);
                 self.tell(text);
             }
-            Shown::Octets => return self.show_octets(text),
-            Shown::Nothing | Shown::Text | Shown::Names => {}
+            Shown::Octets | Shown::Nothing | Shown::Text | Shown::Names => {}
         }
         self.write_shown(shown, text)
-    }
-
-    /// Writes bytes in pieces, so that there is no second copy of all of them.
-    fn show_octets(&self, digits: &[u8]) -> io::Result<()> {
-        for piece in digits.chunks(DIGITS) {
-            self.write_shown(Shown::Octets, piece)?;
-        }
-        Ok(())
     }
 
     /// Writes a text that is shown so.
@@ -519,8 +557,15 @@ impl<'a, R: Print + Screen> Answers<'a, R> {
 impl<'a, R: Print + Screen> Write for Answers<'a, R> {
     fn write(&mut self, bytes: &[u8]) -> io::Result<usize> {
         let lines = bytes.strip_suffix(b"\n").unwrap_or(bytes);
-        for line in lines.split(|byte| *byte == b'\n') {
-            self.show(line)?;
+        if self.in_octets {
+            self.write_shown(Shown::Octets, lines)?;
+            self.in_octets = lines.len() == bytes.len();
+        } else if bytes == OCTETS {
+            self.in_octets = true;
+        } else {
+            for line in lines.split(|byte| *byte == b'\n') {
+                self.show(line)?;
+            }
         }
         Ok(bytes.len())
     }

@@ -45,7 +45,7 @@ impl<'a, R: Files<File = File> + Screen, O: Write + Drop> Write for Telling<'a, 
             let _ = self.say_why(answer);
         }
         let count = self.output.write(bytes)?;
-        if count >= bytes.len() {
+        if count >= bytes.len() && bytes.ends_with(b"\n") {
             self.last.note_answer();
         }
         Ok(count)
@@ -89,7 +89,7 @@ impl<'a, R: Files<File = File> + Screen, O: Write + Drop> Telling<'a, R, O> {
     }
 }
 
-/// Whether the last line is this reply. Each reply is handed over at once, after its reports.
+/// Whether the last line is this reply. Each reply but one of many bytes is handed over at once, after its reports.
 fn answers_failure(bytes: &[u8]) -> bool {
     match bytes.strip_suffix(FAILED) {
         Some(before) => before.is_empty() || before.ends_with(b"\n"),

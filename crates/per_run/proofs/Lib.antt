@@ -15,6 +15,7 @@ pub mod Begins
 pub mod Completes
 pub mod Tallied
 pub mod Outputs
+pub mod Spelled
 pub mod Fresh
 pub mod Answered
 pub mod Caused

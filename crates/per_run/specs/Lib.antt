@@ -1,6 +1,7 @@
 pub mod Words
 pub mod Serves
 pub mod Jobs
+pub mod Needs
 pub mod Steps
 pub mod Serving
 pub mod Flashes

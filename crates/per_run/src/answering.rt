@@ -1,11 +1,14 @@
 //! One line: what it says, and its command's answer.
 
-ghost use Rattle.std.specs.Prelude.{◌≡◌, ℕ, List, ◌≢◌};
+ghost use Rattle.std.specs.Prelude.{◌≡◌, ℕ, List, IsTrue, None, ◌≢◌};
 ghost use Rattle.disk_model.specs.Medium.{Elapses};
 ghost use Rattle.migrate_fns.specs.Stored.{answers_of, rules_of};
 ghost use Rattle.command_text.specs.Grammar.{IsEvent, IsLine};
 ghost use Rattle.command_text.specs.declared.lines.Line.{Line};
+ghost use Rattle.run_model.specs.Runtimes.{world_of};
 ghost use Rattle.per_runtime.specs.Memories.{IsRuntime, memory_of};
+ghost use Rattle.per_runtime.specs.Needs.{CommandMayStarve};
+ghost use Rattle.per_run.specs.Needs.{LineMayStarve};
 ghost use Rattle.per_run.specs.Steps.{IsLineOutcome};
 ghost use Rattle.per_run.specs.declared.answering.LineOutcome.{LineOutcome};
 
@@ -47,6 +50,9 @@ pub fn answer_line<D: Disk>(
         disk.old disk.new result }
     // The runtime stays in use, unless memory ran out.
     ensures memory { result ≢ LineOutcome.OutOfMemory → IsRuntime D.told (D.medium disk.new) runtime.new }
+    // Memory runs out only for a line that has arguments, or for a command that may need it.
+    ensures needs { IsTrue D.told → result ≡ LineOutcome.OutOfMemory
+        → LineMayStarve (D.medium disk.old).image (memory_of runtime.old) text.now }
     ensures time { Elapses (D.medium disk.old) (D.medium disk.new) }
 {
     match parse_line(alloc, text) {
@@ -72,6 +78,8 @@ fn answer<D: Disk>(
         → IsLineOutcome D.told D.medium (rules_of migrations.now) (answers_of migrations.now) text
         (memory_of runtime.old) (memory_of runtime.new) disk.old disk.new result }
     ensures memory { result ≢ LineOutcome.OutOfMemory → IsRuntime D.told (D.medium disk.new) runtime.new }
+    ensures needs { IsTrue D.told → result ≡ LineOutcome.OutOfMemory
+        → CommandMayStarve (world_of (D.medium disk.old).image (memory_of runtime.old) None) event.now }
     ensures time { Elapses (D.medium disk.old) (D.medium disk.new) }
 {
     match runtime.step(disk, migrations, event) {

@@ -38,6 +38,7 @@ mod importing;
 mod input;
 mod job;
 mod listing;
+mod octets;
 mod preparing;
 mod reader;
 mod recovering;

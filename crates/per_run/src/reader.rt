@@ -15,6 +15,7 @@ ghost use Rattle.per_run.specs.Steps.{ending_of};
 
 use crate::answering::{LineOutcome, answer_line};
 use crate::endings::Ending;
+use crate::octets::{many_octets, write_octets};
 use crate::writing::{write_made, write_text};
 use command_text::{LINE_BYTES, Reply, push_reply};
 use disk_model::Disk;
@@ -277,7 +278,7 @@ fn handle_text<D: Disk, K: Sink>(
 {
     match answer_line(alloc, runtime, migrations, disk, text) {
         LineOutcome::Nothing => Ok(()),
-        LineOutcome::Answered(reply) => write_reply(sink, room, &reply),
+        LineOutcome::Answered(reply) => write_reply(alloc, sink, room, &reply),
         LineOutcome::End => Err(Ending::EndLine),
         LineOutcome::Bad => Err(refuse(alloc, sink, number)),
         LineOutcome::OutOfMemory => Err(Ending::OutOfMemory),
@@ -286,11 +287,28 @@ fn handle_text<D: Disk, K: Sink>(
 
 /// Writes the reply of a command.
 ///
-/// Its text is made in the room of the one before it. Where memory runs out the sink takes nothing of it, and where the
-/// sink fails not all.
-pub fn write_reply<K: Sink>(sink: &mut K, room: &mut String, reply: &Reply) -> Result<(), Ending>
+/// Many bytes are written piece by piece. Where memory runs out the sink takes nothing of the reply, and where the sink
+/// fails not all.
+pub fn write_reply<K: Sink>(
+    alloc: Global,
+    sink: &mut K,
+    room: &mut String,
+    reply: &Reply,
+) -> Result<(), Ending>
     requires { HasText reply.now.answer }
     // The sink took the whole text; or it failed, only where its count of failures rose; or memory ran out.
+    ensures puts { PutsOutput (reply_text reply.now) (K.written sink.old) (K.written sink.new) result }
+    ensures blames { Blames (K.faults sink.old) (K.faults sink.new) result }
+{
+    match many_octets(reply) {
+        Some(bytes) => write_octets(alloc, sink, bytes),
+        None => write_at_once(sink, room, reply),
+    }
+}
+
+/// Writes a reply whose text is made in the room of the one before it.
+fn write_at_once<K: Sink>(sink: &mut K, room: &mut String, reply: &Reply) -> Result<(), Ending>
+    requires { HasText reply.now.answer }
     ensures puts { PutsOutput (reply_text reply.now) (K.written sink.old) (K.written sink.new) result }
     ensures blames { Blames (K.faults sink.old) (K.faults sink.new) result }
 {

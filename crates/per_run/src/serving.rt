@@ -276,7 +276,7 @@ fn serve_text<D: Disk, K: Sink>(
 {
     match answer_line(alloc, runtime, migrations, disk, text) {
         LineOutcome::Nothing => Ok(()),
-        LineOutcome::Answered(reply) => write_reply(sink, room, &reply),
+        LineOutcome::Answered(reply) => write_reply(alloc, sink, room, &reply),
         LineOutcome::Bad => write_made(sink, print_bad_line(alloc, number)),
         LineOutcome::End => Err(Ending::EndLine),
         LineOutcome::OutOfMemory => Err(Ending::OutOfMemory),

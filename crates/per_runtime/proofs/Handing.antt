@@ -23,6 +23,7 @@ use Rattle.app_runtime.specs.declared.running.Running.{Running}
 use Rattle.app_runtime.specs.Running.{IsRunning, application}
 use Rattle.per_runtime.specs.Handled.{IfEnded, IsCallInProgress, IsCommandAnswered, IsFailed, IsHandled}
 use Rattle.per_runtime.specs.Memories.{AreRunning}
+use Rattle.per_runtime.specs.Needs.{CommandMayStarve, OpensOrStarves}
 use Rattle.per_runtime.proofs.Lifted.{answered_doubtful, answered_sure, failed_sure, is_no, kept, never_fails}
 use Rattle.per_runtime.proofs.Lifted.{stopped_doubtful, stopped_sure}
 use Rattle.per_runtime.proofs.Places.{some_is}
@@ -82,6 +83,13 @@ module _ (laws : AppLaws) (makes : MakesOne) (stays : StaysInUse) (rules : List 
   left_alone tells none = h.idle tells (subst (λ (x : Application). calls_device x c ≡ false)
       (app_is old.image now apps None n a there_is number)
       (is_no (calls_device (app_of (world old.image now apps None) n) c) none))
+
+  -- what may need memory
+  pub starves_in : OpensOrStarves a.app now c (application old.image a)
+      → CommandMayStarve (world_of old.image (kept now apps b) None) (event.App n c)
+  starves_in starves = subst (λ (x : Application). OpensOrStarves n now c x)
+      (sym (app_is old.image now apps None n a there_is number))
+      (subst (λ (k : ℕ). OpensOrStarves k now c (application old.image a)) number starves)
 
   -- answered
 

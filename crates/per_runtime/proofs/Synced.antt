@@ -34,6 +34,7 @@ use Rattle.run_model.specs.Worlds.{Application, Doubt, World, app_of, with_app, 
 use Rattle.app_runtime.specs.Running.{running_in}
 use Rattle.per_runtime.specs.declared.runtime.Runtime.{Runtime}
 use Rattle.per_runtime.specs.Commands.{CallsDevice, IsCommand}
+use Rattle.per_runtime.specs.Needs.{CommandMayStarve}
 use Rattle.per_runtime.specs.Memories.{AreRunning, IsRuntime, memory_of}
 use Rattle.per_runtime.proofs.Handing.{found}
 use Rattle.per_runtime.proofs.Lifted.{after_none, is_no}
@@ -290,14 +291,16 @@ module _ (rules : List Rule) (answers : Answers) (told : Bool) (n : ℕ) (c : Ca
         blamed = blamed_behind reply old mid new time.faults passes h.end.blamed;
         stepped = steps_on reply h.time h.end.stepped;
       };
+      needs = λ tells bad. absurd cc;
       idle = λ tells none. absurd (not_idle tells none);
       time = elapses_on time h.time;
     }
     resumed behind whole (Err Device) h = absurd h.end
     resumed behind whole (Err OutOfMemory) h = record {
       end = stops_on h.time h.end;
-      idle =
-          λ tells none. absurd (not_idle tells none);
+      needs = λ tells bad. subst (λ (image : Image).
+          CommandMayStarve (world_of image (memory_of r) None) (event.App n c)) nothing.image (h.needs tells bad);
+      idle = λ tells none. absurd (not_idle tells none);
       time = elapses_on time h.time;
     }
 
@@ -324,6 +327,7 @@ module _ (rules : List Rule) (answers : Answers) (told : Bool) (n : ℕ) (c : Ca
       blamed = record { later = time.faults; cause = λ four. rose; passes = λ other. absurd (other refl) };
       stepped = fails_on makes reads rose;
     };
+    needs = λ tells bad. absurd cc;
     idle = λ tells none. absurd (not_idle tells none);
     time = time;
   }

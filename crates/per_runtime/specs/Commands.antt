@@ -1,5 +1,5 @@
 -- A command of the runtime: what it promises, by how it ends.
-use Rattle.std.specs.Prelude.{◌≡◌, ℕ, List, Bool, true, IsTrue, Option, Some, None, Result, slice_get}
+use Rattle.std.specs.Prelude.{◌≡◌, ℕ, List, Bool, true, IsTrue, Option, Some, None, Result, slice_get, IsErrOf}
 use Rattle.disk_model.specs.Image.{Image}
 use Rattle.disk_model.specs.Medium.{Medium, Elapses}
 use Rattle.migrate_fns.specs.Rules.{Rule, Answers}
@@ -8,6 +8,7 @@ use Rattle.command_text.specs.declared.calls.Event.{Event}
 use Rattle.command_text.specs.declared.replies.Reply.{Reply}
 use Rattle.command_text.specs.Replies.{HasText}
 use Rattle.deploy.specs.declared.errors.Stop.{Stop}
+use Rattle.deploy.specs.declared.errors.Stop.TheVariants.{OutOfMemory}
 use Rattle.run_model.specs.Worlds.{Doubt}
 use Rattle.run_model.specs.Steps.{calls_device}
 use Rattle.run_model.specs.Runtimes.{IsDoubt, Stepped, Stopped, calls_none, world_of}
@@ -17,6 +18,7 @@ use Rattle.app_runtime.specs.Running.{application}
 use Rattle.per_runtime.specs.declared.runtime.Runtime.{Runtime}
 use Rattle.per_runtime.specs.Handled.{IfEnded}
 use Rattle.per_runtime.specs.Memories.{IsRuntime, memory_of}
+use Rattle.per_runtime.specs.Needs.{CommandMayStarve}
 
 -- whether a call of the application with this number calls the device
 abbrev pub CallsDevice : (told : Bool) → Image → Runtime → ℕ → Call → Bool → Type 0
@@ -38,5 +40,6 @@ pub record IsCommand (told : Bool) (rules : List Rule) (answers : Answers) (e : 
   pub end : IfEnded result (IsReplied told rules answers e r r' old new) ⊥
       (IsTrue told → (doubt : Option Doubt) → IsDoubt (memory_of r) doubt
       → Stopped rules answers e (memory_of r) doubt old new)
+  pub needs : IsTrue told → IsErrOf result OutOfMemory → CommandMayStarve (world_of old.image (memory_of r) None) e
   pub idle : IsTrue told → calls_none (world_of old.image (memory_of r) None) e ≡ true → Untouched
   pub time : Elapses old new

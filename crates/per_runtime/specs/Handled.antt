@@ -1,5 +1,6 @@
 -- A call of one application, whose root is opened first where it is to be opened: what it promises, by how it ends.
 use Rattle.std.specs.Prelude.{◌≡◌, ◌≢◌, ◌⊎◌, ℕ, List, Bool, true, false, IsTrue, Some, Result, Ok, Err}
+use Rattle.std.specs.Prelude.{IsErrOf}
 use Rattle.per_base.specs.Causes.{Rose}
 use Rattle.per_base.specs.declared.errors.PerError.TheVariants as error
 use Rattle.disk_model.specs.Medium.{Medium, Quiet, Elapses}
@@ -22,6 +23,7 @@ use Rattle.app_storages.specs.Answers.{CallsTo}
 use Rattle.app_storages.specs.Handled.{StaysInPlace}
 use Rattle.app_runtime.specs.declared.running.Running.{Running}
 use Rattle.app_runtime.specs.Running.{IsRunning, application, stage_in}
+use Rattle.per_runtime.specs.Needs.{OpensOrStarves}
 
 -- by how a call ends: answered, failed at the device, or out of memory
 abbrev pub IfEnded : Result Reply Stop → (answered : Reply → Type 0) → (failed stopped : Type 0) → Type 0
@@ -81,6 +83,8 @@ pub record IsHandled (told : Bool) (rules : List Rule) (answers : Answers) (now 
   pub end : IfEnded result (IsCommandAnswered told rules answers now c a a' old new)
       (IsFailed told rules answers now c a a' old new)
       (IsTrue told → IsCallInProgress rules answers a.app now c (application old.image a) old new)
+  -- memory ran out only for a call that may need it
+  pub needs : IsTrue told → IsErrOf result OutOfMemory → OpensOrStarves a.app now c (application old.image a)
   -- a call that begins an update only plans, however it ends
   pub looks : only_plans c ≡ true → is_to_open (stage_in a.stage) ≡ false → IsUnwritten old new
   -- a call that needs no device calls none

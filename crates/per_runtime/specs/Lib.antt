@@ -1,4 +1,5 @@
 pub mod Memories
 pub mod Begun
+pub mod Needs
 pub mod Handled
 pub mod Commands

@@ -11,6 +11,7 @@ ghost use Rattle.run_model.specs.Turns.{IsBlamed};
 ghost use Rattle.run_model.specs.Worlds.{Doubt};
 ghost use Rattle.per_runtime.specs.Commands.{CallsDevice, IsCommand};
 ghost use Rattle.per_runtime.specs.Memories.{IsRuntime, memory_of};
+ghost use Rattle.per_runtime.specs.Needs.{CommandMayStarve};
 
 use crate::calls::answer;
 use app_runtime::{Running, running_is_application, running_stays};
@@ -64,6 +65,10 @@ impl Runtime {
             → Stopped (rules_of migrations.now) (answers_of migrations.now) event.now (memory_of self.old) doubt
             (D.medium disk.old) (D.medium disk.new)) }
 
+        // Memory runs out only for a command that may need it: any other is answered, refused or not, also where no
+        // memory is left.
+        ensures needs { IsTrue D.told → OnErr result (CommandMayStarve
+            (world_of (D.medium disk.old).image (memory_of self.old) None) event.now) }
         // A command that calls no device leaves the disk alone.
         ensures idle { IsTrue D.told → calls_none (world_of (D.medium disk.old).image (memory_of self.old) None)
             event.now ≡ true → disk.new ≡ disk.old }

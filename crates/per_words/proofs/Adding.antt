@@ -6,17 +6,17 @@ use Rattle.command_text.specs.declared.errors.LineError.{LineError}
 use Rattle.command_text.specs.declared.errors.LineError.TheVariants as error
 use Rattle.per_words.specs.Words.{Adds, IsOneLine, fed_lines}
 
-both_all : (xs ys : List (List ℕ)) → AllByRecursion IsOneLine xs → AllByRecursion IsOneLine ys
+pub both_all : (xs ys : List (List ℕ)) → AllByRecursion IsOneLine xs → AllByRecursion IsOneLine ys
     → AllByRecursion IsOneLine (xs ++ ys)
 both_all [] ys p q = q
 both_all (x ∷ xs) ys p q = (p.0, both_all xs ys p.1 q)
 
-parts_all : (xs ys : List (List ℕ)) → AllByRecursion IsOneLine (xs ++ ys)
+pub parts_all : (xs ys : List (List ℕ)) → AllByRecursion IsOneLine (xs ++ ys)
     → AllByRecursion IsOneLine xs × AllByRecursion IsOneLine ys
 parts_all [] ys p = (tt, p)
 parts_all (x ∷ xs) ys p = let r = parts_all xs ys p.1 in ((p.0, r.0), r.1)
 
-fed_both : (a b c : List ℕ) (xs ys : List (List ℕ)) → b ≡ a ++ fed_lines xs → c ≡ b ++ fed_lines ys
+pub fed_both : (a b c : List ℕ) (xs ys : List (List ℕ)) → b ≡ a ++ fed_lines xs → c ≡ b ++ fed_lines ys
     → c ≡ a ++ fed_lines (xs ++ ys)
 fed_both a b c xs ys p q = rw flat_map-append (q ∙ rw p (append_assoc a (fed_lines xs) (fed_lines ys)))
 

@@ -1,6 +1,6 @@
 pub mod Adding
-pub mod Cutting
 pub mod Events
 pub mod Named
+pub mod Pieces
 pub mod Rows
 pub mod Written

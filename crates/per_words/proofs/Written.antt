@@ -1,8 +1,8 @@
 -- A piece of a content is written by the line of an event.
 use Rattle.std.proofs.Common.{◌≡◌, ◌≤◌, ◌<◌, ◌+◌, ◌-◌, ◌/◌, ◌%◌, ℕ, suc, List, [], ◌∷◌, ◌++◌, codes, length}
-use Rattle.std.proofs.Common.{true, false}
+use Rattle.std.proofs.Common.{true, false, map}
 use Rattle.std.proofs.Common.{get_or, nat_eq, inl, inr, refl, sym, ap, subst, arith, ◌∙◌, length-append}
-use Rattle.std.specs.List.{list_all}
+use Rattle.std.specs.List.{AllByRecursion, list_all}
 use Rattle.std.specs.Fmt.{digits}
 use Rattle.std.proofs.lemmas.Bool.{cases_lt, lt-ltb, le-ltb, ne_eqb}
 use Rattle.std.proofs.lemmas.Bool.Decides.{nat_tests}
@@ -13,7 +13,7 @@ use Rattle.value_text.specs.Texts.{hex_digit, hex_text}
 use Rattle.command_text.specs.Grammar.{has_feed, line_of}
 use Rattle.command_text.specs.declared.calls.Call.TheVariants as call
 use Rattle.command_text.specs.declared.calls.Event.TheVariants as event
-use Rattle.per_words.specs.Words.{IsOneLine, piece_line}
+use Rattle.per_words.specs.Words.{IsOneLine, FitsLine, piece_line}
 
 -- ---- no line feed
 
@@ -103,3 +103,12 @@ is_written digit storage piece low high named few bytes =
     let same : 48 + (digit - 48) ≡ digit = omega arith in
     subst (λ (d : ℕ). IsOneLine (piece_line d storage piece)) same
     (of_digit (digit - 48) storage piece (omega arith) named few bytes)
+
+-- and so are all pieces
+pub all_written : (digit : ℕ) (storage : List ℕ) (pieces : List (List ℕ)) → 48 ≤ digit → digit < 56 → IsName storage
+    → AllByRecursion FitsLine pieces → AllByRecursion IsOneLine (map (piece_line digit storage) pieces)
+all_written digit storage [] low high named all = tt
+all_written digit storage (piece ∷ pieces) low high named all = (
+  is_written digit storage piece low high named all.0.short all.0.bytes,
+  all_written digit storage pieces low high named all.1,
+)

@@ -42,10 +42,16 @@ ninth = refl
 no_call : call_lines (codes "sync") (codes "0:k") [] ≡ None
 no_call = refl
 
-put_lines : content_lines (codes "0:f") (codes "a") (0 ∷ 255 ∷ [])
+put_lines : content_lines (codes "0:f") (codes "a") ((0 ∷ 255 ∷ []) ∷ [])
     ≡ Some (codes "0 open-files f" ∷ codes "0 put f a 00ff" ∷ codes "0 close f" ∷ [])
 unfolding file_lines
 put_lines = refl
+
+write_lines : content_lines (codes "0:f") (codes "a") ((0 ∷ []) ∷ (255 ∷ []) ∷ [])
+    ≡ Some (codes "0 open-files f" ∷ codes "0 open-file f a w truncate" ∷ codes "0 write f 1 00"
+    ∷ codes "0 write f 1 ff" ∷ codes "0 close-file f 1" ∷ codes "0 close f" ∷ [])
+unfolding file_lines
+write_lines = refl
 
 install_lines : manifest_lines (codes "install") (codes "0") (codes "{\n\"version\":1}\n")
     ≡ Some (codes "0 install {\t\"version\":1}\t" ∷ [])

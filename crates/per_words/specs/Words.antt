@@ -1,7 +1,7 @@
 -- One call from a shell: the lines that make it.
-use Rattle.std.specs.Prelude.{◌≡◌, ℕ, zero, suc, List, [], ◌∷◌, ◌++◌, length, map, take, drop, codes, Bool, true, false}
-use Rattle.std.specs.Prelude.{◌&&◌, nat_eq, nat_le, if◌then◌else◌, Option, Some, None, option_map, Result, OnOk}
-use Rattle.std.specs.Prelude.{IsErrOf}
+use Rattle.std.specs.Prelude.{◌≡◌, ℕ, List, [], ◌∷◌, ◌++◌, map, codes, Bool, true, false}
+use Rattle.std.specs.Prelude.{◌&&◌, nat_eq, if◌then◌else◌, Option, Some, None, option_map, Result, OnOk}
+use Rattle.std.specs.Prelude.{IsErrOf, ◌≤◌, ◌<◌, length, slice_index}
 use Rattle.std.specs.List.{AllByRecursion, flat_map, list_any}
 use Rattle.std.specs.Str.{bytes_eq}
 use Rattle.per_base.specs.Fields.{◌>>=◌}
@@ -146,36 +146,42 @@ manifest_lines call target manifest =
     then option_map (λ digit. line_with digit (call ∷ map tabbed manifest ∷ []) ∷ []) (application_digit target)
     else None
 
--- ---- the lines that write a content
+-- ---- the lines that write a content, which is cut into pieces
 
--- the bytes cut into pieces of this size, and a last one that is no longer; more than `cuts` cuts are not made
-abbrev pub cut_by : (size : ℕ) → (cuts : ℕ) → List ℕ → List (List ℕ)
-cut_by size zero bytes = bytes ∷ []
-cut_by size (suc cuts) bytes =
-    if nat_le (length bytes) size then bytes ∷ [] else take size bytes ∷ cut_by size cuts (drop size bytes)
+-- a content of one piece is put at once
+abbrev pub put_line : ℕ → List ℕ → List ℕ → List ℕ → List ℕ
+put_line digit storage file piece = line_with digit (codes "put" ∷ storage ∷ file ∷ hex_text piece ∷ [])
 
--- the bytes cut into pieces of this size, as often as is needed
-abbrev pub cut_up : ℕ → List ℕ → List (List ℕ)
-cut_up size bytes = cut_by size (length bytes) bytes
+-- for others the file is opened and made empty
+abbrev pub opened_line : ℕ → List ℕ → List ℕ → List ℕ
+opened_line digit storage file =
+    line_with digit (codes "open-file" ∷ storage ∷ file ∷ codes "w" ∷ codes "truncate" ∷ [])
 
--- the piece is written to the first handle
+-- bytes that are written by one line
+pub record FitsLine (piece : List ℕ) : Type 0 where
+  pub short : length piece ≤ 65536
+  pub bytes : (i : ℕ) → slice_index piece i < 256
+
+-- each piece is written to the first handle
 abbrev pub piece_line : ℕ → List ℕ → List ℕ → List ℕ
 piece_line digit storage piece = line_with digit (codes "write" ∷ storage ∷ codes "1" ∷ hex_text piece ∷ [])
 
--- the content becomes that of the file: in one line, or in pieces of 65536 bytes
-abbrev pub writing_lines : ℕ → List ℕ → List ℕ → List ℕ → List (List ℕ)
-writing_lines digit storage file content =
-    if nat_le (length content) 65536
-    then line_with digit (codes "put" ∷ storage ∷ file ∷ hex_text content ∷ []) ∷ []
-    else line_with digit (codes "open-file" ∷ storage ∷ file ∷ codes "w" ∷ codes "truncate" ∷ [])
-    ∷ (map (piece_line digit storage) (cut_up 65536 content)
-    ++ line_with digit (codes "close-file" ∷ storage ∷ codes "1" ∷ []) ∷ [])
+-- which is then closed
+abbrev pub closed_line : ℕ → List ℕ → List ℕ
+closed_line digit storage = line_with digit (codes "close-file" ∷ storage ∷ codes "1" ∷ [])
 
--- all lines of the call that makes the content that of the file
-unfoldable pub file_lines : ℕ → List ℕ → List ℕ → List ℕ → List (List ℕ)
-file_lines digit storage file content = opening_lines kind.ChangesFiles digit storage
-    ++ (writing_lines digit storage file content ++ durable_lines kind.ChangesFiles digit storage)
+-- the joined pieces become the content of the file
+abbrev pub writing_lines : ℕ → List ℕ → List ℕ → List (List ℕ) → List (List ℕ)
+writing_lines digit storage file [] = put_line digit storage file [] ∷ []
+writing_lines digit storage file (piece ∷ []) = put_line digit storage file piece ∷ []
+writing_lines digit storage file (piece ∷ next ∷ pieces) = opened_line digit storage file
+    ∷ (map (piece_line digit storage) (piece ∷ next ∷ pieces) ++ closed_line digit storage ∷ [])
+
+-- all lines of the call that makes them the content of the file
+unfoldable pub file_lines : ℕ → List ℕ → List ℕ → List (List ℕ) → List (List ℕ)
+file_lines digit storage file pieces = opening_lines kind.ChangesFiles digit storage
+    ++ (writing_lines digit storage file pieces ++ durable_lines kind.ChangesFiles digit storage)
 
 -- the same, to an application and a storage as the shell names them; None where they are no such words
-abbrev pub content_lines : List ℕ → List ℕ → List ℕ → Option (List (List ℕ))
-content_lines target file content = place_in target >>= λ place. Some (file_lines place.0 place.1 file content)
+abbrev pub content_lines : List ℕ → List ℕ → List (List ℕ) → Option (List (List ℕ))
+content_lines target file pieces = place_in target >>= λ place. Some (file_lines place.0 place.1 file pieces)

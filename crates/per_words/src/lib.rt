@@ -12,6 +12,7 @@
 //! [`rows_of`] the rows of a help of which a line asks ([`help_asked`]).
 #![tactic(auto)]
 
+mod call_text;
 mod flaws;
 mod kinds;
 mod lines;
@@ -26,12 +27,13 @@ mod screens;
 mod showing;
 mod words;
 
+pub use call_text::CallText;
 pub use flaws::{Flaw, flaw_in};
 pub use kinds::{CallKind, call_word, is_call, takes_manifest};
 pub use lines::{call_lines, manifest_lines};
 pub use needs::Needed;
 pub use prompting::{call_shown, column_after, help_asked, is_line_word, row_word, rows_of};
-pub use putting::content_lines;
+pub use putting::{PIECE_BYTES, content_lines};
 pub use quoting::quoted;
 pub use screens::broken;
 pub use showing::{Shown, shown_bytes, shown_in};

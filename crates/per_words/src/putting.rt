@@ -1,34 +1,29 @@
 //! The lines that write the content of a file.
 
-ghost use Rattle.std.specs.Prelude.{◌≡◌, ◌≢◌, ◌++◌, ◌∷◌, [], IfOk, OnOk, IfSome, IsErrOf, None, Some, map, List};
-ghost use Rattle.std.specs.Prelude.{◌<◌, ◌≤◌, ℕ, codes, false, length, slice_index, true};
+ghost use Rattle.std.specs.Prelude.{◌≡◌, ◌≢◌, ◌++◌, ◌∷◌, [], IfOk, OnOk, OnErr, IfSome, IsErrOf, None, Some, map, List};
+ghost use Rattle.std.specs.Prelude.{◌<◌, ◌≤◌, ℕ, length, true};
 ghost use Rattle.std.specs.List.{AllByRecursion};
 ghost use Rattle.value_text.specs.Texts.{hex_text};
 ghost use Rattle.command_text.specs.declared.errors.LineError.{LineError};
-ghost use Rattle.per_words.specs.Words.{Adds, AreFed, IsOneLine, content_lines, cut_up, durable_lines, file_lines};
-ghost use Rattle.per_words.specs.Words.{line_with, piece_line, writing_lines};
+ghost use Rattle.per_words.specs.Words.{Adds, AreFed, IsOneLine, FitsLine, closed_line, content_lines, durable_lines};
+ghost use Rattle.per_words.specs.Words.{file_lines, opened_line, opening_lines, piece_line, put_line, writing_lines};
 ghost use Rattle.per_words.specs.declared.kinds.CallKind.{CallKind};
 
+use crate::call_text::CallText;
 use crate::kinds::CallKind;
 use crate::lines::{push_durable, push_opening};
 use crate::meeting::is_name;
 use crate::places::place_in;
-use crate::pushing::{push_call, push_words};
+use crate::pushing::push_call;
 use command_text::LineError;
 use std::alloc::{AllocError, Global};
 use value_text::push_hex;
 
-/// The longest content that one line takes; a longer one is written in pieces of that many bytes.
-const PIECE_BYTES: usize = 65_536;
+/// The longest piece of a content: a line that writes it is within what a run reads at once.
+pub const PIECE_BYTES: usize = 32_000;
 
-/// How many bytes a line has at most beside names and digits of the content.
-const WORD_BYTES: usize = 32;
-
-/// How many lines there are beside those of whole pieces.
-const OTHER_LINES: usize = 5;
-
-/// The lines that make a content that of the file, created where it is not there. What is written in pieces becomes
-/// durable with the last line alone.
+/// The lines that make these pieces, joined, the content of the file, which is created where it is not there. A content
+/// of one piece is put at once; of others each piece is a line, and they become durable with the last line alone.
 ///
 /// # Errors
 ///
@@ -38,33 +33,158 @@ pub fn content_lines(
     alloc: Global,
     target: &[u8],
     file: &[u8],
-    content: &[u8],
-) -> Result<Vec<u8>, LineError>
+    pieces: Vec<Vec<u8>>,
+) -> Result<CallText, LineError>
     // What is given has the lines that `content_lines` says, each one of an event. It is refused where that says none
     // or says one that is none of an event.
     ensures lines { IfOk result (λ text. (lines : List (List ℕ))
-        × (content_lines target.now file.now content.now ≡ Some lines) × AreFed lines text.items) }
-    ensures refused { IsErrOf result LineError.NotALine → IfSome (content_lines target.now file.now content.now)
+        × (content_lines target.now file.now (map (λ piece. piece.items) pieces.items) ≡ Some lines)
+        × AreFed lines text) }
+    ensures refused { IsErrOf result LineError.NotALine
+        → IfSome (content_lines target.now file.now (map (λ piece. piece.items) pieces.items))
         (λ lines. ¬ (AllByRecursion IsOneLine lines)) }
-    ensures memory { IsErrOf result LineError.OutOfMemory → content_lines target.now file.now content.now ≢ None }
+    ensures memory { IsErrOf result LineError.OutOfMemory
+        → content_lines target.now file.now (map (λ piece. piece.items) pieces.items) ≢ None }
 {
     let (digit, storage) = place_in(target).ok_or(LineError::NotALine)?;
-    let mut text = Vec::with_capacity(alloc, room(storage, file, content))?;
-    push_file(alloc, &mut text, digit, storage, file, content)?;
-    Ok(text)
+    if are_writable(alloc, digit, storage, pieces.as_slice())? {
+        return in_pieces(alloc, digit, storage, file, pieces);
+    }
+    let mut text = Vec::new(alloc);
+    push_file(alloc, &mut text, digit, storage, file, pieces.as_slice())?;
+    Ok(CallText::whole(alloc, text))
 }
 
-/// How many bytes the lines have at most, as far as that is a number. No clause says so: it is room that is allocated
-/// at once, and with another the lines are the same.
-fn room(storage: &[u8], file: &[u8], content: &[u8]) -> usize {
-    let words = WORD_BYTES
-        .saturating_add(storage.len())
-        .saturating_add(file.len());
-    (content.len() / PIECE_BYTES)
-        .saturating_add(OTHER_LINES)
-        .saturating_mul(words)
-        .saturating_add(content.len().saturating_mul(2))
+// ---- a content whose lines are made one after another
+
+/// Whether there is more than one piece, and it is plain that each line that writes one is that of an event.
+fn are_writable(
+    alloc: Global,
+    digit: u8,
+    storage: &[u8],
+    pieces: &[Vec<u8>],
+) -> Result<bool, AllocError>
+    ensures more { IfOk result (λ yes. yes ≡ true → 1 < length pieces.now) }
+    ensures lines { IfOk result (λ yes. yes ≡ true → AllByRecursion IsOneLine
+        (map (piece_line digit storage.now) (map (λ piece. piece.items) pieces.now))) }
+{
+    let are_pieces = are_pieces(digit, pieces);
+    if !are_pieces {
+        return Ok(false);
+    }
+    match is_name(alloc, storage) {
+        Ok(yes) => Ok(yes),
+        Err(error) => Err(error),
+    }
 }
+
+/// Whether there is more than one piece, each is short, and an application has this digit.
+fn are_pieces(digit: u8, pieces: &[Vec<u8>]) -> bool
+    ensures more { result ≡ true → 1 < length pieces.now }
+    ensures low { result ≡ true → 48 ≤ digit }
+    ensures high { result ≡ true → digit < 56 }
+    ensures short { result ≡ true → AllByRecursion FitsLine (map (λ piece. piece.items) pieces.now) }
+{
+    pieces.len() > 1 && digit >= b'0' && digit <= b'7' && are_short(pieces)
+}
+
+fn are_short(pieces: &[Vec<u8>]) -> bool
+    ensures { result ≡ true → AllByRecursion FitsLine (map (λ piece. piece.items) pieces.now) }
+{
+    match pieces.split_first() {
+        Some((piece, rest)) => is_short(piece.as_slice()) && are_short(rest),
+        None => true,
+    }
+}
+
+fn is_short(piece: &[u8]) -> bool
+    ensures { result ≡ true → FitsLine piece.now }
+{
+    piece.len() <= PIECE_BYTES
+}
+
+/// The lines of a content of more than one piece, each of which is that of an event.
+fn in_pieces(
+    alloc: Global,
+    digit: u8,
+    storage: &[u8],
+    file: &[u8],
+    pieces: Vec<Vec<u8>>,
+) -> Result<CallText, LineError>
+    requires more { 1 < length pieces.items }
+    requires lines { AllByRecursion IsOneLine
+        (map (piece_line digit storage.now) (map (λ piece. piece.items) pieces.items)) }
+    ensures lines { IfOk result (λ text.
+        AreFed (file_lines digit storage.now file.now (map (λ piece. piece.items) pieces.items)) text) }
+    ensures refused { IsErrOf result LineError.NotALine → ¬ (AllByRecursion IsOneLine
+        (file_lines digit storage.now file.now (map (λ piece. piece.items) pieces.items))) }
+{
+    let mut first = Vec::new(alloc);
+    match push_opened(alloc, &mut first, digit, storage, file) {
+        Ok(()) => {}
+        Err(error) => return Err(error),
+    }
+    let mut last = Vec::new(alloc);
+    match push_closed(alloc, &mut last, digit, storage) {
+        Ok(()) => {}
+        Err(error) => return Err(error),
+    }
+    Ok(CallText::in_pieces(alloc, first, digit, storage, pieces, last)?)
+}
+
+/// Adds the lines before those that write pieces.
+fn push_opened(
+    alloc: Global,
+    text: &mut Vec<u8>,
+    digit: u8,
+    storage: &[u8],
+    file: &[u8],
+) -> Result<(), LineError>
+    ensures { Adds result text.old.items text.new.items (opening_lines CallKind.ChangesFiles digit storage.now
+        ++ opened_line digit storage.now file.now ∷ []) }
+{
+    match push_opening(alloc, text, CallKind::ChangesFiles, digit, storage) {
+        Ok(()) => push_open_file(alloc, text, digit, storage, file),
+        Err(error) => Err(error),
+    }
+}
+
+/// Adds the line that opens the file and makes it empty.
+fn push_open_file(
+    alloc: Global,
+    text: &mut Vec<u8>,
+    digit: u8,
+    storage: &[u8],
+    file: &[u8],
+) -> Result<(), LineError>
+    ensures { Adds result text.old.items text.new.items (opened_line digit storage.now file.now ∷ []) }
+{
+    push_call(
+        alloc,
+        text,
+        digit,
+        &[b"open-file", storage, file, b"w", b"truncate"],
+        &[],
+    )
+}
+
+/// Adds the lines after those that write pieces. The first handle of a storage is 1.
+fn push_closed(
+    alloc: Global,
+    text: &mut Vec<u8>,
+    digit: u8,
+    storage: &[u8],
+) -> Result<(), LineError>
+    ensures { Adds result text.old.items text.new.items (closed_line digit storage.now ∷ []
+        ++ durable_lines CallKind.ChangesFiles digit storage.now) }
+{
+    match push_call(alloc, text, digit, &[b"close-file", storage, b"1"], &[]) {
+        Ok(()) => push_durable(alloc, text, CallKind::ChangesFiles, digit, storage),
+        Err(error) => Err(error),
+    }
+}
+
+// ---- all lines at once
 
 /// Adds all lines of the call.
 #[tactic(auto, unfolding(crate::specs::Words::file_lines))]
@@ -74,12 +194,13 @@ fn push_file(
     digit: u8,
     storage: &[u8],
     file: &[u8],
-    content: &[u8],
+    pieces: &[Vec<u8>],
 ) -> Result<(), LineError>
-    ensures { Adds result text.old.items text.new.items (file_lines digit storage.now file.now content.now) }
+    ensures { Adds result text.old.items text.new.items
+        (file_lines digit storage.now file.now (map (λ piece. piece.items) pieces.now)) }
 {
     match push_opening(alloc, text, CallKind::ChangesFiles, digit, storage) {
-        Ok(()) => push_durably(alloc, text, digit, storage, file, content),
+        Ok(()) => push_durably(alloc, text, digit, storage, file, pieces),
         Err(error) => Err(error),
     }
 }
@@ -91,12 +212,13 @@ fn push_durably(
     digit: u8,
     storage: &[u8],
     file: &[u8],
-    content: &[u8],
+    pieces: &[Vec<u8>],
 ) -> Result<(), LineError>
-    ensures { Adds result text.old.items text.new.items (writing_lines digit storage.now file.now content.now
+    ensures { Adds result text.old.items text.new.items
+        (writing_lines digit storage.now file.now (map (λ piece. piece.items) pieces.now)
         ++ durable_lines CallKind.ChangesFiles digit storage.now) }
 {
-    match push_content(alloc, text, digit, storage, file, content) {
+    match push_content(alloc, text, digit, storage, file, pieces) {
         Ok(()) => push_durable(alloc, text, CallKind::ChangesFiles, digit, storage),
         Err(error) => Err(error),
     }
@@ -109,38 +231,33 @@ fn push_content(
     digit: u8,
     storage: &[u8],
     file: &[u8],
-    content: &[u8],
+    pieces: &[Vec<u8>],
 ) -> Result<(), LineError>
-    ensures { Adds result text.old.items text.new.items (writing_lines digit storage.now file.now content.now) }
+    ensures { Adds result text.old.items text.new.items
+        (writing_lines digit storage.now file.now (map (λ piece. piece.items) pieces.now)) }
 {
-    if content.len() <= PIECE_BYTES {
-        return push_whole(alloc, text, digit, storage, file, content);
-    }
-    match push_call(
-        alloc,
-        text,
-        digit,
-        &[b"open-file", storage, file, b"w", b"truncate"],
-        &[],
-    ) {
-        Ok(()) => push_and_close(alloc, text, digit, storage, content),
-        Err(error) => Err(error),
+    match pieces {
+        [] => push_put(alloc, text, digit, storage, file, &[]),
+        [piece] => push_put(alloc, text, digit, storage, file, piece.as_slice()),
+        _ => match push_open_file(alloc, text, digit, storage, file) {
+            Ok(()) => push_and_close(alloc, text, digit, storage, pieces),
+            Err(error) => Err(error),
+        },
     }
 }
 
-/// Adds the one line that a short content takes.
-fn push_whole(
+/// Adds the one line that a content of one piece takes.
+fn push_put(
     alloc: Global,
     text: &mut Vec<u8>,
     digit: u8,
     storage: &[u8],
     file: &[u8],
-    content: &[u8],
+    piece: &[u8],
 ) -> Result<(), LineError>
-    ensures { Adds result text.old.items text.new.items
-        (line_with digit (codes "put" ∷ storage.now ∷ file.now ∷ hex_text content.now ∷ []) ∷ []) }
+    ensures { Adds result text.old.items text.new.items (put_line digit storage.now file.now piece.now ∷ []) }
 {
-    let digits = digits_of(alloc, content)?;
+    let digits = digits_of(alloc, piece)?;
     push_call(
         alloc,
         text,
@@ -150,45 +267,45 @@ fn push_whole(
     )
 }
 
-/// Adds the lines that write the content by a handle and close it; the first handle of a storage is 1.
+/// Adds the lines that write the pieces by a handle and close it.
 fn push_and_close(
     alloc: Global,
     text: &mut Vec<u8>,
     digit: u8,
     storage: &[u8],
-    content: &[u8],
+    pieces: &[Vec<u8>],
 ) -> Result<(), LineError>
-    ensures { Adds result text.old.items text.new.items (map (piece_line digit storage.now) (cut_up 65536 content.now)
-        ++ line_with digit (codes "close-file" ∷ storage.now ∷ codes "1" ∷ []) ∷ []) }
+    ensures { Adds result text.old.items text.new.items
+        (map (piece_line digit storage.now) (map (λ piece. piece.items) pieces.now)
+        ++ closed_line digit storage.now ∷ []) }
 {
-    match push_pieces(alloc, text, digit, storage, content) {
+    match push_pieces(alloc, text, digit, storage, pieces) {
         Ok(()) => push_call(alloc, text, digit, &[b"close-file", storage, b"1"], &[]),
         Err(error) => Err(error),
     }
 }
 
-/// Adds a line for each piece of the content.
+/// Adds a line for each piece.
 fn push_pieces(
     alloc: Global,
     text: &mut Vec<u8>,
     digit: u8,
     storage: &[u8],
-    content: &[u8],
+    pieces: &[Vec<u8>],
 ) -> Result<(), LineError>
     ensures { Adds result text.old.items text.new.items
-        (map (piece_line digit storage.now) (cut_up 65536 content.now)) }
+        (map (piece_line digit storage.now) (map (λ piece. piece.items) pieces.now)) }
 {
-    if content.len() <= PIECE_BYTES {
-        return push_piece(alloc, text, digit, storage, content);
-    }
-    let (piece, rest) = content.split_at(PIECE_BYTES);
-    match push_piece(alloc, text, digit, storage, piece) {
+    let Some((piece, rest)) = pieces.split_first() else {
+        return Ok(());
+    };
+    match push_piece(alloc, text, digit, storage, piece.as_slice()) {
         Ok(()) => push_pieces(alloc, text, digit, storage, rest),
         Err(error) => Err(error),
     }
 }
 
-/// Adds the line that writes these bytes at the end of the file.
+/// Adds the line that writes this piece.
 fn push_piece(
     alloc: Global,
     text: &mut Vec<u8>,
@@ -198,10 +315,6 @@ fn push_piece(
 ) -> Result<(), LineError>
     ensures { Adds result text.old.items text.new.items (piece_line digit storage.now piece.now ∷ []) }
 {
-    if is_writable(alloc, digit, storage, piece)? {
-        push_written(alloc, text, digit, storage, piece)?;
-        return Ok(());
-    }
     let digits = digits_of(alloc, piece)?;
     push_call(
         alloc,
@@ -210,47 +323,6 @@ fn push_piece(
         &[b"write", storage, b"1", digits.as_slice()],
         &[],
     )
-}
-
-/// Whether it is plain that the line which writes these bytes is one of an event, so that it need not be read.
-fn is_writable(alloc: Global, digit: u8, storage: &[u8], piece: &[u8]) -> Result<bool, AllocError>
-    ensures { IfOk result (λ yes. yes ≡ true → IsOneLine (piece_line digit storage.now piece.now)) }
-{
-    let is_none = is_no_piece(digit, piece);
-    if is_none {
-        return Ok(false);
-    }
-    match is_name(alloc, storage) {
-        Ok(yes) => Ok(yes),
-        Err(error) => Err(error),
-    }
-}
-
-/// Whether no application has this digit, or the bytes are too many for one piece.
-fn is_no_piece(digit: u8, piece: &[u8]) -> bool
-    ensures low { result ≡ false → 48 ≤ digit }
-    ensures high { result ≡ false → digit < 56 }
-    ensures short { result ≡ false → length piece.now ≤ 65536 }
-    ensures bytes { (i : ℕ) → slice_index piece.now i < 256 }
-{
-    digit < b'0' || digit > b'7' || piece.len() > PIECE_BYTES
-}
-
-/// Adds the line that writes these bytes.
-fn push_written(
-    alloc: Global,
-    text: &mut Vec<u8>,
-    digit: u8,
-    storage: &[u8],
-    piece: &[u8],
-) -> Result<(), AllocError>
-    ensures { OnOk result (text.new.items ≡ text.old.items ++ piece_line digit storage.now piece.now ++ 10 ∷ []) }
-{
-    let digits = digits_of(alloc, piece)?;
-    text.push(digit)?;
-    push_words(text, &[b"write", storage, b"1", digits.as_slice()])?;
-    text.push(b'\n')?;
-    Ok(())
 }
 
 /// The bytes in two digits each. The room of all is taken at once.

@@ -7,10 +7,10 @@ use Rattle.per_base.specs.declared.elements.Content.TheVariants.{Good, Bad}
 use Rattle.disk_model.specs.Image.{Image}
 use Rattle.element_state.specs.declared.shapes.Shape.{Shape}
 use Rattle.element_state.specs.declared.shapes.View.{View}
-use Rattle.element_state.specs.Kept.{CostsNoCopy, IsFrom, IsFromOneOf, IsLeftAs, IsLeftOf, KeepsEach, KeepsGood, Kept}
+use Rattle.element_state.specs.Kept.{CostsNoCopy, IsFrom, IsFromOneOf, IsLeftOf, KeepsEach, KeepsGood, Kept}
 use Rattle.element_state.specs.Kept.{SameHeadings, all_views, views_in}
 use Rattle.element_state.specs.Clean.{IsClean}
-use Rattle.element_state.specs.States.{State, Opens, Corrupt, salvage_of, store_at}
+use Rattle.element_state.specs.States.{State, Opens, Corrupt, store_at}
 use Rattle.element_laws.specs.lemmas.Phases.{one_view}
 use Rattle.deploy_laws.specs.Apps.{AreClean, app_at, says_at, shapes_named, IsCleanApp}
 use Rattle.deploy_laws.specs.Stands.{AreKept, Stands}

@@ -37,7 +37,7 @@ use Rattle.element_state.specs.Chosen.{chosen, or_first}
 use Rattle.element_state.specs.Kept.{SameHeadings, IsLeftOf, IsFrom, IsSpared, HasEnough, KeepsGood, CostsNoCopy}
 use Rattle.element_state.specs.Kept.{Kept, all_views, StaysAs}
 use Rattle.element_laws.specs.Pieces.{SparesTexts, SparesContent, SparesStorage, HasEnoughContent, KeepsElement}
-use Rattle.element_laws.specs.Pieces.{HasEnoughStorage, ReadsAs, ReadsAsAfter, Follows, PiecesLaw}
+use Rattle.element_laws.specs.Pieces.{HasEnoughStorage, OpensAs, OpensAsAfter, IsYounger, PiecesLaw}
 use Rattle.element_laws.specs.Pieces.{PiecesCaseLaw, FilesLaw, StaysByPieces, OnwardLaw, RotsApart, TwoRotsLaw}
 use Rattle.element_laws.specs.lemmas.Lists.{In, In-Contains, Contains-In, not_none, some_is, not_false, both_true}
 use Rattle.element_laws.specs.lemmas.Lists.{true_both, or_true, true_or, false_not_true, not_is_false, there_is}
@@ -571,7 +571,7 @@ module _ (shape : Shape) (before after : State) (damaged : List ℕ) (left image
 
     finish : (there : View) → chosen image shape ≡ Some (true, here) → SameHeadings (view_of image shape here) there
         → AllZip (GivesOn shape left image) i.entries there.entries
-        → AllZip (IsWide shape image) i.entries there.entries → ReadsAs shape left image here there
+        → AllZip (IsWide shape image) i.entries there.entries → OpensAs shape left image here there
     finish there opens same gives wide = record {
       opens = opens;
       same = same;
@@ -645,7 +645,7 @@ module _ (shape : Shape) (before after : State) (damaged : List ℕ) (left image
 -- ---- a storage that opened
 
 module _ (shape : Shape) (v : View) (others : List View) (after : State) (damaged : List ℕ) (left image : Image)
-    (positive : 1 ≤ shape.m) (follows : Follows (Opens v others) after)
+    (positive : 1 ≤ shape.m) (follows : IsYounger (Opens v others) after)
     (law : (files : List ℕ) (other : Image) → DecaysFor (IsPiece shape.place) files left other
     → Kept shape files (store_at other shape) (Opens v others) after × IsClean shape other)
     (d : DecaysFor (IsPiece shape.place) damaged left image)
@@ -750,12 +750,12 @@ module _ (shape : Shape) (v : View) (others : List View) (after : State) (damage
     is_chosen = its_chosen shape damaged left image d test spares clean opened.0 opened.1
 
     reads : (there : View) → SameHeadings w there → KeepsGood shape files_left w there
-        → AllZip (GivesOn shape left image) held.index.entries there.entries → ReadsAs shape left image text there
+        → AllZip (GivesOn shape left image) held.index.entries there.entries → OpensAs shape left image text there
     reads there same good gives = finish shape (Opens v others) after damaged left image positive law d held.copy
         held.generation held.text held.index held.inside holds_it held.fit there is_chosen (headings there same) gives
         (wide there good)
 
-    as_before : SameHeadings w v → KeepsGood shape files_left w v → ReadsAs shape left image text v
+    as_before : SameHeadings w v → KeepsGood shape files_left w v → OpensAs shape left image text v
     as_before same good =
         let kept = all_in (λ x. SameHeadings x v → IsFrom x v × CostsNoCopy shape [] x v)
         (all_views (store_at left shape))
@@ -775,7 +775,7 @@ module _ (shape : Shape) (v : View) (others : List View) (after : State) (damage
 
       newer : v.generation < held.generation
       newer =
-          let lt = subst (λ (s : State). Follows (Opens v others) s) after_is follows
+          let lt = subst (λ (s : State). IsYounger (Opens v others) s) after_is follows
           (λ s. apart (record { generation = same.generation ∙ s.generation; entries = same.entries ∙ s.entries })) in
           omega (arith, lt, u_generation)
 
@@ -816,18 +816,18 @@ module _ (shape : Shape) (v : View) (others : List View) (after : State) (damage
             (subst (λ (y : View). CostsNoCopy shape [] y u) it
             (subst (λ (y : View). CostsNoCopy shape [] x y) one new.6))
 
-      as_after : ReadsAs shape left image text u
+      as_after : OpensAs shape left image text u
       as_after =
           let s = (left_kept shape (Opens v others) after damaged left image positive law d).stays enough_then in
           reads u same good (gives_then s.0 s.1 s.2 s.3)
 
     either : StaysAs shape files_left w v after
-        → ReadsAs shape left image text v ⊎ ReadsAsAfter shape left image text after
+        → OpensAs shape left image text v ⊎ OpensAsAfter shape left image text after
     either (inl old) = inl (as_before old.0 old.1)
-    either (inr new) = inr (subst (λ (s : State). ReadsAsAfter shape left image text s) (sym new.3)
+    either (inr new) = inr (subst (λ (s : State). OpensAsAfter shape left image text s) (sym new.3)
         (as_after new.1 new.2 new.3 new.0 new.4 new.5))
 
-  open_pieces : (text : FitText) × (ReadsAs shape left image text v ⊎ ReadsAsAfter shape left image text after)
+  open_pieces : (text : FitText) × (OpensAs shape left image text v ⊎ OpensAsAfter shape left image text after)
   open_pieces =
       let s = on_back.0.stays enough_back in
       (text s.0 s.1 s.2, either s.0 s.1 s.2 s.3)
@@ -905,8 +905,8 @@ module _ (shape : Shape) (salvage : Option View) (others : List View) (u : View)
       (entry_view image shape.place shape.m) held_c.index.entries u.entries
       (subst (λ (x : View). KeepsGood shape damaged x u) to_here becomes_c.1))
 
-  corrupt_pieces : ReadsAs shape left image text u
-  corrupt_pieces = subst (λ (x : FitText). ReadsAs shape left image x u) held_c.is
+  corrupt_pieces : OpensAs shape left image text u
+  corrupt_pieces = subst (λ (x : FitText). OpensAs shape left image x u) held_c.is
       (finish shape (Corrupt salvage others) (Opens u more) damaged left image positive law d held_c.copy
       held_c.generation held_c.text held_c.index held_c.inside held_c.holds held_c.fit u
       (is_chosen ∙ ap (λ (x : FitText). Some (true, x)) (sym held_c.is))
@@ -976,7 +976,7 @@ module _ (shape : Shape) (left image : Image) (text : FitText) (w there : View) 
       (λ c lt s. (s.0, on.1 value c good lt (spared_by_none f.lacking c s.1))) enough))
 
   reads_onward : SameHeadings w there → KeepsGood shape [] w there → CostsNoCopy shape [] w there
-      → ReadsAs shape left image text w → ReadsAs shape left image text there
+      → OpensAs shape left image text w → OpensAs shape left image text there
   reads_onward same good costs reads = record {
     opens = reads.opens;
     same = record {
@@ -991,14 +991,14 @@ module _ (shape : Shape) (left image : Image) (text : FitText) (w there : View) 
         → IsSpared shape [] f.lacking copy → ¬ (Contains x.lacking (copy + 1))) w.entries there.entries good costs);
   }
 
-follows_itself : (state : State) → Follows state state
+follows_itself : (state : State) → IsYounger state state
 follows_itself (Opens v others) = λ apart. absurd (apart (record { generation = refl; entries = refl }))
 follows_itself (Corrupt salvage others) = tt
 
 module _ (shape : Shape) (damaged : List ℕ) (left image : Image) (positive : 1 ≤ shape.m) (clean : IsClean shape left)
     (d : DecaysFor (IsPiece shape.place) damaged left image) (w : View) (rest : List View)
     (is : store_at left shape ≡ Opens w rest) (enough : HasEnoughStorage shape left image w.lacking) where
-  itself_reads : (text : FitText) × ReadsAs shape left image text w
+  itself_reads : (text : FitText) × OpensAs shape left image text w
   itself_reads =
       let by : StaysByPieces shape left image (store_at left shape) (store_at left shape) =
       pieces shape (store_at left shape) (store_at left shape) damaged left image positive
@@ -1009,20 +1009,20 @@ module _ (shape : Shape) (damaged : List ℕ) (left image : Image) (positive : 1
 
   stays_onward : (v : View) (others : List View) (after : State) → Kept shape [] (Opens w rest) (Opens v others) after
       → StaysAs shape [] w v after
-      → (text : FitText) × (ReadsAs shape left image text v ⊎ ReadsAsAfter shape left image text after)
+      → (text : FitText) × (OpensAs shape left image text v ⊎ OpensAsAfter shape left image text after)
   stays_onward v others after kept (inl old) = (
     itself_reads.0,
     inl (reads_onward shape left image itself_reads.0 w v old.0 old.1 (kept.copies.0 old.0).1 itself_reads.1),
   )
   stays_onward v others after kept (inr new) = (
     itself_reads.0,
-    inr (subst (λ (s : State). ReadsAsAfter shape left image itself_reads.0 s) (sym new.3)
+    inr (subst (λ (s : State). OpensAsAfter shape left image itself_reads.0 s) (sym new.3)
         (reads_onward shape left image itself_reads.0 w new.1 new.4 new.5 new.6 itself_reads.1)),
   )
 
   opens_onward : (v : View) (others : List View) (after : State) → Kept shape [] (Opens w rest) (Opens v others) after
       → HasEnough shape [] v.lacking
-      → (text : FitText) × (ReadsAs shape left image text v ⊎ ReadsAsAfter shape left image text after)
+      → (text : FitText) × (OpensAs shape left image text v ⊎ OpensAsAfter shape left image text after)
   opens_onward v others after kept some =
       let r = kept.stays some in
       stays_onward v others after kept
@@ -1030,7 +1030,7 @@ module _ (shape : Shape) (damaged : List ℕ) (left image : Image) (positive : 1
 
   corrupt_onward : (salvage : Option View) (others : List View) (after : State)
       → Kept shape [] (Opens w rest) (Corrupt salvage others) after
-      → (text : FitText) × ReadsAsAfter shape left image text after
+      → (text : FitText) × OpensAsAfter shape left image text after
   corrupt_onward salvage others (Opens u more) kept =
       let r = kept.stays w rest refl in
       (itself_reads.0, reads_onward shape left image itself_reads.0 w u r.0 r.1 r.2 itself_reads.1)

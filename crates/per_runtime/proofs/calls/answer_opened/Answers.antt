@@ -1,3 +1,4 @@
+use Rattle.std.proofs.Common.{inr}
 use Rattle.per_runtime.proofs.Single.{called, none_called}
 use Rattle.migrate_fns.specs.Stored.{answers_of, rules_of}
 use Rattle.per_runtime.proofs.calls.answer_opened.Goals as goal
@@ -11,6 +12,7 @@ returns g c =
           (g.D.Disk.medium c.args.disk.now) (g.D.Disk.medium c.call.new.disk) c.call.result c.requires.opened said.app
           said.memory said.answered said.failed said.stopped
           said.quiet said.unwritten said.cause said.passes said.unfailed said.text;
+      needs = λ tells bad. inr (said.stopped tells bad).needs;
       idle = λ tells. none_called (g.D.Disk.medium c.args.disk.now).image c.args.running.now c.args.call.now
           (said.idle tells);
       looks = λ plans closed. said.looks plans;

@@ -1,7 +1,8 @@
-use Rattle.std.proofs.Common.{Err, ap, refl}
+use Rattle.std.proofs.Common.{Err, ap, inl, refl}
 use Rattle.std.proofs.lemmas.Result.{err_from_is_err_and}
 use Rattle.disk_model.specs.Laws.{elapses_on}
 use Rattle.deploy.specs.declared.errors.Stop.{Stop}
+use Rattle.run_model.specs.Worlds.{is_to_open}
 use Rattle.migrate_fns.specs.Stored.{answers_of, rules_of}
 use Rattle.per_runtime.proofs.Single.{marked_at, none_idle, none_written, not_in_use, opened_first, opening_failed}
 use Rattle.per_runtime.proofs.calls.open_and_answer.Goals as goal
@@ -21,6 +22,7 @@ returns-in_err-open_root g c =
           c.requires.marked said.app closed c.in_err-open_root.field-0.0 said.memory
           (said.failed c.in_err-open_root.field-0.0 refl) said.on_the_way
           (λ is. said.cause (ap (λ (s : Stop). Err s) is));
+      needs = λ tells bad. inl (ap is_to_open c.requires.marked);
       idle = λ tells. none_idle c.applications_stand.ensures.mend g.D.Disk.told (rules_of c.args.migrations.now)
           (answers_of c.args.migrations.now) c.args.now c.args.call.now a c.open_root.new.self old mid
           c.requires.marked said.app closed _;
@@ -52,6 +54,7 @@ returns g c =
           (answers_of c.args.migrations.now) c.args.now c.args.call.now a c.open_root.new.self old mid
           c.requires.marked said.app closed said.opened said.quiet said.root c.answer_opened.new.running new
           c.answer_opened.ensures.time said.passes c.answer_opened.result said.time c.answer_opened.ensures.end;
+      needs = λ tells bad. inl (ap is_to_open c.requires.marked);
       idle = λ tells. none_idle c.applications_stand.ensures.mend g.D.Disk.told (rules_of c.args.migrations.now)
           (answers_of c.args.migrations.now) c.args.now c.args.call.now a c.open_root.new.self old mid
           c.requires.marked said.app closed _;

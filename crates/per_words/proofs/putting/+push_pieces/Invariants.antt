@@ -2,4 +2,4 @@ use Rattle.std.proofs.Common.{length}
 use Rattle.per_words.proofs.putting.+push_pieces.Given as goal
 
 abbrev pub decreases-push_pieces : goal.decreases-push_pieces
-decreases-push_pieces l = length l.content.now
+decreases-push_pieces l = length l.pieces.now

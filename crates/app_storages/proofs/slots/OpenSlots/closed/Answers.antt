@@ -2,7 +2,7 @@ use Rattle.std.proofs.Common.{Err, sym, ap, ◌∙◌}
 use Rattle.per_base.specs.declared.errors.Holder.TheVariants as holder
 use Rattle.per_base.specs.declared.errors.PerError.TheVariants as error
 use Rattle.app_storages.specs.Finding.{found_on}
-use Rattle.app_storages.specs.Rebuilding.{IsTaken}
+use Rattle.app_storages.specs.Rebuilding.{NamesOpen}
 use Rattle.app_storages.specs.Slots.{resting_with}
 use Rattle.app_storages.proofs.Needs.{as_row, on_err}
 use Rattle.app_storages.proofs.Rebuilt.{busy_closed, busy_early, none_closed, none_is}
@@ -35,6 +35,6 @@ returns-clause-closed c = record {
 pub returns-in_err-storage-clause-memory : goal.returns-in_err-storage-clause-memory
 returns-in_err-storage-clause-memory c =
     let l = c.in-Ok.located in
-    on_err _ (IsTaken c.args.app c.args.root.now c.args.name.now c.args.self.now) (λ image on state_of. as_row _ _
+    on_err _ (NamesOpen c.args.app c.args.root.now c.args.name.now c.args.self.now) (λ image on state_of. as_row _ _
     (busy_closed image c.args.app c.args.self.now c.args.name.now state_of (found_on image l)
     (c.in-Ok.ensures.named image on) (sym c.is_open.ensures ∙ c.if-is_open.true)) tt)

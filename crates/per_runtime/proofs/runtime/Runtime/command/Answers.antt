@@ -23,6 +23,7 @@ returns-in-Now g c =
             r.now c.in-Now.moment r.apps.items r.in_doubt tells lawful c.requires.memory.apps c.requires.memory.quiet
             doubt is;
       };
+      needs = λ tells bad. absurd cc;
       idle = λ tells none. refl;
       time = elapses_none lawful;
     })

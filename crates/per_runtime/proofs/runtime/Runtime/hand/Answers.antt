@@ -1,7 +1,8 @@
-use Rattle.std.proofs.Common.{refl, true≢false}
+use Rattle.std.proofs.Common.{Err, ap, refl, true≢false}
+use Rattle.deploy.specs.declared.errors.Stop.{Stop}
 use Rattle.migrate_fns.specs.Stored.{answers_of, rules_of}
 use Rattle.per_runtime.proofs.Handing.{answered_steps, answered_use, device_end, failed_steps, failed_use, left_alone}
-use Rattle.per_runtime.proofs.Handing.{memory_end, stopped_steps, there}
+use Rattle.per_runtime.proofs.Handing.{memory_end, starves_in, stopped_steps, there}
 use Rattle.per_runtime.proofs.Single.{only_reads}
 use Rattle.per_runtime.proofs.runtime.Runtime.hand.Goals as goal
 
@@ -49,6 +50,7 @@ returns-in-Ok g c =
             c.requires.app c.requires.memory.apps c.requires.memory.quiet here c.requires.sure _ reads _ is
             c.in-Ok.reply is.end tells doubt in_doubt;
       };
+      needs = λ tells bad. absurd cc;
       idle = left_alone c.applications_stand.ensures c.running_is_application.ensures c.running_stays.ensures rules
           answers told old new r.now c.args.app c.args.call.now r.apps.items a a' r.in_doubt
           c.requires.app c.requires.memory.apps c.requires.memory.quiet here c.requires.sure _ reads _ is;
@@ -90,6 +92,7 @@ returns-in-Err-Device g c =
             c.requires.app c.requires.memory.apps c.requires.memory.quiet here c.requires.sure _ reads _ is end
             (g.met.D.Disk.lawful c.answer.new.disk) tells doubt in_doubt;
       };
+      needs = λ tells bad. absurd cc;
       idle = left_alone c.applications_stand.ensures c.running_is_application.ensures c.running_stays.ensures rules
           answers told old new r.now c.args.app c.args.call.now r.apps.items a a' r.in_doubt
           c.requires.app c.requires.memory.apps c.requires.memory.quiet here c.requires.sure _ reads _ is;
@@ -117,6 +120,11 @@ returns-in-Err-OutOfMemory g c =
           r.in_doubt
           c.requires.app c.requires.memory.apps c.requires.memory.quiet here c.requires.sure _ reads _ is end tells
           doubt in_doubt;
+      needs = λ tells bad. starves_in c.applications_stand.ensures c.running_is_application.ensures
+          c.running_stays.ensures rules answers told old new r.now c.args.app c.args.call.now r.apps.items a a'
+          r.in_doubt
+          c.requires.app c.requires.memory.apps c.requires.memory.quiet here c.requires.sure _ reads _ is
+          (is.needs tells (ap (λ (x : Stop). Err x) c.in-Err-OutOfMemory.field-0-is));
       idle = left_alone c.applications_stand.ensures c.running_is_application.ensures c.running_stays.ensures rules
           answers told old new r.now c.args.app c.args.call.now r.apps.items a a' r.in_doubt
           c.requires.app c.requires.memory.apps c.requires.memory.quiet here c.requires.sure _ reads _ is;
