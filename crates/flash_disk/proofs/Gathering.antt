@@ -75,7 +75,8 @@ module _ (copy : ℕ) (told : Bool) (m now : FlashMedium) (lawful : IsLawfulFlas
 
   pub gathered_apart : (LeadsOnly table copy victim → KeepsApart copy m now) → KeepsApart copy m now
   gathered_apart moved = ⊎_elim
-      (λ nothing. mixes_apart copy m now (λ many. no_room_now copy told m now lawful tells time (none nothing many)))
+      (λ nothing. mixes_apart copy m now (λ many stand. no_room_now copy told m now lawful tells time stand
+      (none nothing many)))
       (λ other. moved (victim_only other))
       (cases_eq own spare)
 
@@ -83,6 +84,6 @@ module _ (copy : ℕ) (told : Bool) (m now : FlashMedium) (lawful : IsLawfulFlas
       → (LeadsOnly table copy victim → HoldsOneCopy now.state.pages (places now.blocks) block copy)
       → HasHome copy m now block
   gathered_home block holds many stand = ⊎_elim
-      (λ nothing. inr (no_room_now copy told m now lawful tells time (none nothing many)))
+      (λ nothing. inr (no_room_now copy told m now lawful tells time stand (none nothing many)))
       (λ other. inl (holds (victim_only other)))
       (cases_eq own spare)

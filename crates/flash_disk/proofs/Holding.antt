@@ -196,10 +196,10 @@ module _ (copy : ℕ) (a b : FlashMedium) where
   look_apart state looks = pages_apart (ap (λ (s : FlashState). s.pages) state) (λ c past. inl (looks c past))
 
   -- calls after a moment without room
-  pub mixes_apart : (16 ≤ a.blocks → MayMix copy a b) → KeepsApart copy a b
+  pub mixes_apart : (16 ≤ a.blocks → StandApart a.state.pages a.blocks → MayMix copy a b) → KeepsApart copy a b
   mixes_apart mix = record {
-    now = λ many stand. inr (mix many);
-    during = λ c past plain many stand. inr (mix many);
+    now = λ many stand. inr (mix many stand);
+    during = λ c past plain many stand. inr (mix many stand);
   }
 
 -- an announcement changes no page, whether it fails or not
@@ -218,13 +218,14 @@ none_apart copy told m lawful = look_apart copy m m refl (λ c past. lawful.only
 
 module _ (copy : ℕ) (a b c : FlashMedium) (first : FlashElapses a b) (second : FlashElapses b c) where
   pub mix_early : MayMix copy a b → MayMix copy a c
-  mix_early mix = (mix.0, second.keeps a.moment (still_case mix.0) first.later mix.1, mix.2)
+  mix_early mix = (mix.0, second.keeps a.moment (still_case mix.0) first.later mix.1, mix.2, mix.3)
 
   mix_late : MayMix copy b c → MayMix copy a c
   mix_late mix = (
     mix.0,
     second.adds a.moment (still_case mix.0) first.later mix.1,
-    subst (λ k. HasNoRoom mix.0.pages k copy) first.blocks mix.2,
+    subst (StandApart mix.0.pages) first.blocks mix.2,
+    subst (λ k. HasNoRoom mix.0.pages k copy) first.blocks mix.3,
   )
 
   module _ (early : KeepsApart copy a b) (P : Type 0) (given : 16 ≤ a.blocks → StandApart a.state.pages a.blocks
@@ -275,6 +276,7 @@ module _ (a b : FlashMedium) (time : FlashElapses a b) (t : ℕ) (le : t ≤ a.m
     earlier = lacked.earlier;
     write = lacked.write;
     last = lacked.last;
+    apart = subst (StandApart lacked.between.pages) (sym time.blocks) lacked.apart;
     no_room = subst (λ k. HasNoRoom lacked.between.pages k (copy_of lacked.write.file)) (sym time.blocks)
         lacked.no_room;
   }
@@ -306,14 +308,15 @@ module _ (a b : FlashMedium) (time : FlashElapses a b) (t : ℕ) (le : t ≤ a.m
   module _ (file at : ℕ) (bytes : List ℕ) (writes : WritesInto file at bytes a b) where
     -- there was no room on pages on which the write was announced
     announced_lacked : (s : FlashState) → b.since a.moment (still_case s)
-        → s.announced ≡ (announce_write a.state file at bytes).announced
+        → s.announced ≡ (announce_write a.state file at bytes).announced → StandApart s.pages a.blocks
         → HasNoRoom s.pages a.blocks (copy_of file) → LackedRoom b t
-    announced_lacked s past announced none = record {
+    announced_lacked s past announced stand none = record {
       between = s;
       past = time.adds t (still_case s) le past;
       earlier = a.state.announced;
       write = record { file = file; at = at; bytes = bytes };
       last = announced;
+      apart = subst (StandApart s.pages) (sym time.blocks) stand;
       no_room = subst (λ k. HasNoRoom s.pages k (copy_of file)) (sym time.blocks) none;
     }
 
@@ -321,8 +324,9 @@ module _ (a b : FlashMedium) (time : FlashElapses a b) (t : ℕ) (le : t ≤ a.m
         → LackedRoom b t
     mix_lacked first mix = ⊎_elim
         (λ still. announced_lacked (announce_write a.state file at bytes) first refl
-        (subst (λ p. HasNoRoom p a.blocks (copy_of file)) still.left mix.2))
-        (λ leaves. announced_lacked mix.0 mix.1 leaves.announced mix.2)
+        (subst (λ p. StandApart p a.blocks) still.left mix.2)
+        (subst (λ p. HasNoRoom p a.blocks (copy_of file)) still.left mix.3))
+        (λ leaves. announced_lacked mix.0 mix.1 leaves.announced mix.2 mix.3)
         (writes.during (still_case mix.0) mix.1)
 
     stays_after : b.since a.moment (still_case (announce_write a.state file at bytes)) → (pages : Pages)
@@ -344,11 +348,13 @@ module _ (a b : FlashMedium) (time : FlashElapses a b) (t : ℕ) (le : t ≤ a.m
 
 -- there is no room at this moment
 pub no_room_now : (copy : ℕ) (told : Bool) (m now : FlashMedium) → IsLawfulFlash told m → IsTrue told
-    → FlashElapses m now → HasNoRoom m.state.pages m.blocks copy → MayMix copy m now
-no_room_now copy told m now lawful tells time room = (
+    → FlashElapses m now → StandApart m.state.pages m.blocks → HasNoRoom m.state.pages m.blocks copy
+    → MayMix copy m now
+no_room_now copy told m now lawful tells time stand room = (
   m.state,
   time.keeps m.moment (still_case m.state) (omega arith) (lawful.counts_now tells m.moment (still_case m.state)
       (omega arith) (record { before = refl; whole = refl; left = refl; settled = refl; announced = refl })),
+  stand,
   room,
 )
 

@@ -7,10 +7,11 @@ use Rattle.flash_disk.specs.Looks.{still_case}
 use Rattle.flash_disk.specs.Newest.{places}
 use Rattle.flash_disk.specs.Apart.{copy_of, StandApart, HasNoRoom, HoldsOneCopy}
 
--- At some moment of a disk's call, between two calls of its flash, no block but the spare one had room for a copy, and
--- no two could be joined. Then the call may put records of any copies into one block.
+-- At some moment of a disk's call, between two calls of its flash, the copies still stood apart, no block but the spare
+-- one had room for a copy, and no two could be joined. Then the call may put records of any copies into one block.
 abbrev pub MayMix : (copy : ℕ) → (old new : FlashMedium) → Type 0
-MayMix copy old new = (s : FlashState) × new.since old.moment (still_case s) × HasNoRoom s.pages old.blocks copy
+MayMix copy old new = (s : FlashState) × new.since old.moment (still_case s) × StandApart s.pages old.blocks
+    × HasNoRoom s.pages old.blocks copy
 
 -- on enough blocks, which are 16, copies that stand apart do so afterwards, or there was no room for this one
 abbrev pub StaysApart : (copy : ℕ) → (old new : FlashMedium) → Pages → Type 0
@@ -26,14 +27,15 @@ pub record KeepsApart (copy : ℕ) (old new : FlashMedium) : Type 0 where
 
 -- ---- the same from a moment on
 
--- At some moment since this one, between two calls of the flash, no block but the spare one had room for the copy whose
--- file the write goes into that was announced last, and no two could be joined.
+-- At some moment since this one, between two calls of the flash, the copies stood apart, no block but the spare one had
+-- room for the copy whose file the write goes into that was announced last, and no two could be joined.
 pub record LackedRoom (m : FlashMedium) (t : ℕ) : Type 0 where
   pub between : FlashState
   pub past : m.since t (still_case between)
   pub earlier : List Announced
   pub write : Announced
   pub last : between.announced ≡ earlier ++ write ∷ []
+  pub apart : StandApart between.pages m.blocks
   pub no_room : HasNoRoom between.pages m.blocks (copy_of write.file)
 
 -- the copies stand apart on these pages, or there was no room for one that was written

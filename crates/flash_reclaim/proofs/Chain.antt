@@ -242,6 +242,7 @@ module _ {F : Type 0} (told : Bool) (tells : IsTrue told) (medium : F → FlashM
         earlier = lacked.earlier;
         write = lacked.write;
         last = lacked.last;
+        apart = subst (StandApart lacked.between.pages) (sym gives.time.blocks) lacked.apart;
         no_room = subst (λ b. HasNoRoom lacked.between.pages b (copy_of lacked.write.file)) (sym gives.time.blocks)
             lacked.no_room;
       }

@@ -43,8 +43,11 @@ unfolding encode_with
 same_digits [] few = refl
 same_digits (b ∷ bytes) few =
     let small : b < 256 = few 0 in
-    rw (same_digit (b / 16) (omega (arith, small)), same_digit (b % 16) (omega arith),
-    same_digits bytes (λ i. few (suc i))) refl
+    rw (
+      same_digit (b / 16) (omega (arith, small)),
+      same_digit (b % 16) (omega arith),
+      same_digits bytes (λ i. few (suc i)),
+    ) refl
 
 -- those of bytes in two parts
 pub both_digits : (bytes front back : List ℕ) (count : ℕ) → front ≡ take count bytes → back ≡ drop count bytes
