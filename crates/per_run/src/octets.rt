@@ -39,6 +39,8 @@ pub fn many_octets(reply: &Reply) -> Option<&[u8]>
 }
 
 /// Writes the line of an answer that has these bytes.
+#[cold]
+#[inline(never)]
 pub fn write_octets<K: Sink>(alloc: Global, sink: &mut K, bytes: &[u8]) -> Result<(), Ending>
     requires { 1 ≤ length bytes.now }
     // The sink took the whole line; or it failed, only where its count of failures rose; or memory ran out.
