@@ -1,7 +1,7 @@
 //! Making the working files durable.
 
 ghost use Rattle.std.specs.Prelude.{◌≡◌, [], IsTrue, IfOk, IfErr, Some, None, IsSome, true, false, length, List, ℕ};
-ghost use Rattle.std.specs.Prelude.{◌<◌};
+ghost use Rattle.std.specs.Prelude.{◌<◌, OnOk};
 ghost use Rattle.per_base.specs.Causes.{Rose};
 ghost use Rattle.per_base.specs.Faults.{HandsBack, IsDeviceFault};
 ghost use Rattle.guarded_cell.specs.Register.{IsAlone};
@@ -246,7 +246,7 @@ impl Files {
         ensures synced { OnOk result ((files : FilesInUse)
             × IsSynced D.told self files (D.medium disk.old) (D.medium disk.new)) }
         ensures at_most { WritesAtMost self (D.medium disk.old) (D.medium disk.new) }
-        ensures unchanged { is_synced self ≡ true → (result ≡ Ok ()) × (disk.new ≡ disk.old) }
+        ensures unchanged { is_synced self ≡ true → (result ≡ Ok tt) × (disk.new ≡ disk.old) }
         ensures memory { IfErr result (λ fault. HandsBack self fault (disk.new ≡ disk.old)) }
         ensures cause { IfErr result (λ fault. IsDeviceFault fault
             → Rose (D.medium disk.old).faults (D.medium disk.new).faults) }
@@ -291,7 +291,7 @@ impl Files {
             table,
         } = self;
         match store.commit(disk, changes, table) {
-            Ok(_store) => Ok(()),
+            Ok(_) => Ok(()),
             Err(Fault::Device) => Err(Fault::Device),
             Err(Fault::OutOfMemory((store, table))) => Err(Fault::OutOfMemory(Files {
                 alloc,
