@@ -62,8 +62,8 @@ impl Texts {
         };
         match &self.first {
             None => {
-                self.first = Some(bytes);
                 self.given.push(Given::First)?;
+                self.first = Some(bytes);
                 Ok(None)
             }
             Some(first) if first.as_slice() == bytes.as_slice() => {
