@@ -75,7 +75,7 @@ impl Store {
     ///
     /// # Errors
     ///
-    /// `OutOfMemory` hands the storage back, and what was given beside, before any call of the disk. `Device` closes it.
+    /// `OutOfMemory` hands back the storage and what was given beside, before any call of the disk. `Device` closes it.
     #[tactic(none)]
     pub fn commit<D: Disk, T: Drop>(
         self,
