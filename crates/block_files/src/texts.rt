@@ -1,6 +1,6 @@
 //! What the copies of a content give, in which equal bytes are kept once.
 
-ghost use Rattle.std.specs.Prelude.{◌≡◌, ◌++◌, ◌∷◌, [], IfOk, None, OnOk, length, map, slice_index_or};
+ghost use Rattle.std.specs.Prelude.{◌≡◌, ◌++◌, ◌∷◌, [], IfOk, IsTrue, None, OnOk, length, map, slice_index_or};
 ghost use Rattle.std.specs.Option.{option_copied, option_map};
 ghost use Rattle.block_files.specs.Contents.{first_content};
 ghost use Rattle.block_files.specs.Texts.{given_in};
@@ -66,7 +66,7 @@ impl Texts {
                 self.first = Some(bytes);
                 Ok(None)
             }
-            Some(first) if first.as_slice() == bytes.as_slice() => {
+            Some(first) if is_same(first, &bytes) => {
                 self.given.push(Given::First)?;
                 Ok(Some(bytes))
             }
@@ -122,4 +122,11 @@ impl Texts {
     {
         self.first
     }
+}
+
+// Whether both are the same bytes.
+fn is_same(first: &Vec<u8>, bytes: &Vec<u8>) -> bool
+    ensures { IsTrue result → first.now.items ≡ bytes.now.items }
+{
+    first.as_slice() == bytes.as_slice()
 }

@@ -1,8 +1,7 @@
-use Rattle.std.proofs.Common.{◌≡◌, ◌∙◌, ℕ, Option, Vec, Global, Some, ap, map, sym}
+use Rattle.std.proofs.Common.{◌≡◌, ◌∙◌, ℕ, Option, Vec, Global, Some, ap, map, refl, sym}
 use Rattle.block_files.specs.declared.texts.Given.TheVariants.{First}
 use Rattle.block_files.specs.Texts.{given_in}
 use Rattle.std.specs.Option.{option_map}
-use Rattle.std.proofs.lemmas.Slice.Eq.{bytes_eq-Decides}
 use Rattle.block_files.proofs.Shared.{pushed_first, pushed_later, pushed_nothing, seen_first, seen_later}
 use Rattle.block_files.proofs.texts.Texts.push.Goals as goal
 
@@ -13,8 +12,8 @@ pub invariant_of-self-in-None : goal.invariant_of-self-in-None
 invariant_of-self-in-None c = rw c.in_ok-push-in-None.ensures.items (pushed_first c.in-Some.bytes.items _
     (rw c.in-None.is at c.self.invariant))
 
-pub invariant_of-self-then-eq : goal.invariant_of-self-then-eq
-invariant_of-self-then-eq c = rw c.in_ok-push-in-Some-first.ensures.items (pushed_later _ c.in-Some-first.first.items _ _
+pub invariant_of-self-then-is_same : goal.invariant_of-self-then-is_same
+invariant_of-self-then-is_same c = rw c.in_ok-push-in-Some-first.ensures.items (pushed_later _ c.in-Some-first.first.items _ _
     (ap (λ (first : Option (Vec ℕ Global)). option_map (λ f. f.items) first) c.in-Some-first.is) c.self.invariant)
 
 pub invariant_of-self-in-Some-2 : goal.invariant_of-self-in-Some-2
@@ -29,8 +28,7 @@ returns-in_ok-push-in-None c = rw (c.in_ok-push-in-None.ensures.items, c.in-Some
 
 pub returns-in_ok-push-in-Some-first : goal.returns-in_ok-push-in-Some-first
 returns-in_ok-push-in-Some-first c =
-    let same = (bytes_eq-Decides c.as_slice.result.now c.as_slice-in-Some-self.result.now).0 (sym c.if-eq.ensures) in
-    let bytes : c.in-Some-first.first.items ≡ c.in-Some.bytes.items = search in
+    let bytes : c.in-Some-first.first.items ≡ c.in-Some.bytes.items = c.if-is_same.ensures refl in
     rw c.in_ok-push-in-Some-first.ensures.items
     (seen_later _ (option_map (λ t. t.items) c.args.text) c.self.inside.given.items First c.args.self.now c.self.view_is
     (ap (λ (first : Option (Vec ℕ Global)). option_map (λ f. f.items) first) c.in-Some-first.is ∙ ap Some bytes
