@@ -13,7 +13,8 @@ invariant_of-self-in-None c = rw c.in_ok-push-in-None.ensures.items (pushed_firs
     (rw c.in-None.is at c.self.invariant))
 
 pub invariant_of-self-then-is_same : goal.invariant_of-self-then-is_same
-invariant_of-self-then-is_same c = rw c.in_ok-push-in-Some-first.ensures.items (pushed_later _ c.in-Some-first.first.items _ _
+invariant_of-self-then-is_same c = rw c.in_ok-push-in-Some-first.ensures.items
+    (pushed_later _ c.in-Some-first.first.items _ _
     (ap (λ (first : Option (Vec ℕ Global)). option_map (λ f. f.items) first) c.in-Some-first.is) c.self.invariant)
 
 pub invariant_of-self-in-Some-2 : goal.invariant_of-self-in-Some-2
