@@ -149,7 +149,7 @@ impl InUse {
             store,
             shape,
         } = self;
-        match store.commit(&mut disk, changes) {
+        match store.commit(&mut disk, changes, ()) {
             Ok(store) => Ok(Kept::Open(InUse { disk, store, shape })),
             Err(Fault::Device) => Ok(Kept::Closed(disk)),
             Err(Fault::OutOfMemory(_)) => Err(CaseError::OutOfMemory),

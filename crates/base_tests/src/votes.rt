@@ -11,10 +11,23 @@ pub fn voted(alloc: Global, words: &str) -> Result<String, CaseError> {
     if m == 0 {
         return Err(CaseError::NoCase);
     }
-    match vote(m, &copies(alloc, words)?) {
+    let copies = copies(alloc, words)?;
+    match vote(m, &lent(alloc, &copies)?) {
         Some(text) => bytes_text(alloc, text),
         None => text(alloc, "none"),
     }
+}
+
+// The copies, lent.
+fn lent(alloc: Global, copies: &[Option<Vec<u8>>]) -> Result<Vec<Option<&[u8]>>, CaseError> {
+    let mut lent = Vec::new(alloc);
+    for copy in copies {
+        match copy {
+            Some(text) => lent.push(Some(text.as_slice()))?,
+            None => lent.push(None)?,
+        }
+    }
+    Ok(lent)
 }
 
 // The copies; none where there are no words.

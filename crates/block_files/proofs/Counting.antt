@@ -14,7 +14,7 @@ use Rattle.disk_model.specs.Image.{Image}
 use Rattle.disk_model.specs.Place.{area}
 use Rattle.disk_model.specs.declared.place.Place.{Place}
 use Rattle.std.proofs.lemmas.Slice.Eq.{bytes_eq-Decides}
-use Rattle.m_of_n.specs.Vote.{texts_of, holders, voted}
+use Rattle.m_of_n.specs.Vote.{holders, voted}
 use Rattle.m_of_n.specs.Laws.{holders-cons, voted-held}
 use Rattle.block_files.specs.BlockSets.{Ascend}
 use Rattle.block_files.specs.Areas.{has_all_bytes, joined}
@@ -58,14 +58,13 @@ contents_of place n blocks len hash image = map (λ c. counting (image (area pla
     (range_with_len 0 n)
 
 pub texts_more : (place : Place) (i : ℕ) (blocks : List ℕ) (len : ℕ) (hash : List ℕ) (image : Image)
-    (texts : List (Option (Vec ℕ Global))) (text : Option (Vec ℕ Global))
-    → texts_of texts ≡ contents_of place i blocks len hash image
-    → option_map (λ t. t.items) text ≡ counting (image (area place i)) blocks len hash
-    → texts_of (texts ++ text ∷ []) ≡ contents_of place (i + 1) blocks len hash image
-texts_more place i blocks len hash image texts text were is =
+    (given : List (Option (List ℕ))) (text : Option (List ℕ))
+    → given ≡ contents_of place i blocks len hash image
+    → text ≡ counting (image (area place i)) blocks len hash
+    → given ++ text ∷ [] ≡ contents_of place (i + 1) blocks len hash image
+texts_more place i blocks len hash image given text were is =
     let give = λ (c : ℕ). counting (image (area place c)) blocks len hash in
-    map_push (λ (copy : Option (Vec ℕ Global)). option_map (λ t. t.items) copy) texts text
-    ∙ ap (λ xs. xs ++ option_map (λ t. t.items) text ∷ []) were
+    ap (λ xs. xs ++ text ∷ []) were
     ∙ ap (λ x. contents_of place i blocks len hash image ++ x ∷ []) is
     ∙ sym (map-range_with_len_more give 0 i i (omega arith))
 
@@ -214,19 +213,23 @@ module _ (value : Option (List ℕ)) (given : List (Option (List ℕ))) (inside 
 pub sizes_none : (size : ℕ) → HaveSize size []
 sizes_none size i text is = cc
 
-pub sizes_more : (size : ℕ) (texts : List (Option (Vec ℕ Global))) (text : Option (Vec ℕ Global))
-    → HaveSize size (texts_of texts) → IfSome text (λ t. length t.items ≡ size)
-    → HaveSize size (texts_of (texts ++ text ∷ []))
+-- what holds of the bytes that a copy gives
+pub some_items : (text : Option (Vec ℕ Global)) (P : List ℕ → Type 0) → IfSome text (λ t. P t.items)
+    → IfSome (option_map (λ t. t.items) text) P
+some_items None P is = tt
+some_items (Some t) P is = is
+
+pub sizes_more : (size : ℕ) (given : List (Option (List ℕ))) (text : Option (List ℕ))
+    → HaveSize size given → IfSome text (λ t. length t ≡ size) → HaveSize size (given ++ text ∷ [])
 sizes_more size [] text were is zero other same = one text is same
   where
-    one : (t : Option (Vec ℕ Global)) → IfSome t (λ x. length x.items ≡ size) → option_map (λ x. x.items) t ≡ Some other
-        → length other ≡ size
+    one : (t : Option (List ℕ)) → IfSome t (λ x. length x ≡ size) → t ≡ Some other → length other ≡ size
     one None is same = cc
-    one (Some x) is same = let e : x.items ≡ other = cc in sym (ap length e) ∙ is
+    one (Some x) is same = let e : x ≡ other = cc in sym (ap length e) ∙ is
 sizes_more size [] text were is (suc i) other same = cc
-sizes_more size (first ∷ texts) text were is zero other same = were 0 other same
-sizes_more size (first ∷ texts) text were is (suc i) other same =
-    sizes_more size texts text (λ k. were (suc k)) is i other same
+sizes_more size (first ∷ given) text were is zero other same = were 0 other same
+sizes_more size (first ∷ given) text were is (suc i) other same =
+    sizes_more size given text (λ k. were (suc k)) is i other same
 
 held_size : (size : ℕ) (given : List (Option (List ℕ))) (text : List ℕ) → HaveSize size given → 1 ≤ holders given text
     → length text ≡ size

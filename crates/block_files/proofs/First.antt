@@ -1,50 +1,47 @@
 -- The first content that some copy gives, and the states that are kept of it.
 use Rattle.std.proofs.Common.{◌≡◌, ◌≢◌, ℕ, List, [], ◌∷◌, ◌++◌, length, Option, Some, None, IfSome, refl, sym, ◌∙◌}
 use Rattle.std.proofs.Common.{subst, Vec, Global}
-use Rattle.std.specs.Option.{option_map}
 use Rattle.sha2.specs.declared.Sha256.{Sha256}
-use Rattle.m_of_n.specs.Vote.{texts_of}
 use Rattle.block_files.specs.Contents.{first_content, unvoted, HaveSize}
 use Rattle.block_files.specs.States.{AreOfFirst, AreStatesOf}
 use Rattle.block_files.proofs.Counting.{first_size}
 
 -- ---- one text more
 
-abbrev or_else : (first next : Option (List ℕ)) → Option (List ℕ)
+abbrev pub or_else : (first next : Option (List ℕ)) → Option (List ℕ)
 or_else None next = next
 or_else (Some text) next = Some text
 
-first_push : (texts : List (Option (Vec ℕ Global))) (text : Option (Vec ℕ Global))
-    → first_content (texts_of (texts ++ text ∷ []))
-    ≡ or_else (first_content (texts_of texts)) (option_map (λ t. t.items) text)
+pub first_push : (given : List (Option (List ℕ))) (text : Option (List ℕ))
+    → first_content (given ++ text ∷ []) ≡ or_else (first_content given) text
 first_push [] None = refl
 first_push [] (Some t) = refl
-first_push (None ∷ texts) text = first_push texts text
-first_push (Some t ∷ texts) text = refl
+first_push (None ∷ given) text = first_push given text
+first_push (Some t ∷ given) text = refl
 
 -- by what there was before
-more_by : (was : Option (List ℕ)) (text : Option (Vec ℕ Global)) (kept next now : Vec Sha256 Global)
+more_by : (was text : Option (List ℕ)) (kept next now : Vec Sha256 Global)
     → ((t : List ℕ) → was ≡ Some t → AreStatesOf t kept.items)
-    → IfSome text (λ t. AreStatesOf t.items next.items)
+    → IfSome text (λ t. AreStatesOf t next.items)
     → (was ≡ None → now ≡ next) → (was ≢ None → now ≡ kept)
-    → (t : List ℕ) → or_else was (option_map (λ x. x.items) text) ≡ Some t → AreStatesOf t now.items
+    → (t : List ℕ) → or_else was text ≡ Some t → AreStatesOf t now.items
 more_by (Some old) text kept next now are fresh none some t is =
     let same : now ≡ kept = some (λ e. cc) in
     subst (λ (v : Vec Sha256 Global). AreStatesOf t v.items) (sym same) (are t is)
 more_by None None kept next now are fresh none some t is = cc
 more_by None (Some x) kept next now are fresh none some t is =
     let same : now ≡ next = none refl in
-    let bytes : x.items ≡ t = cc in
+    let bytes : x ≡ t = cc in
     subst (λ (v : Vec Sha256 Global). AreStatesOf t v.items) (sym same)
     (subst (λ (bs : List ℕ). AreStatesOf bs next.items) bytes fresh)
 
-pub first_more : (texts : List (Option (Vec ℕ Global))) (text : Option (Vec ℕ Global))
-    (kept next now : Vec Sha256 Global) → AreOfFirst (texts_of texts) kept.items
-    → IfSome text (λ t. AreStatesOf t.items next.items)
-    → (first_content (texts_of texts) ≡ None → now ≡ next) → (first_content (texts_of texts) ≢ None → now ≡ kept)
-    → AreOfFirst (texts_of (texts ++ text ∷ [])) now.items
-first_more texts text kept next now are fresh none some t is =
-    more_by (first_content (texts_of texts)) text kept next now are fresh none some t (sym (first_push texts text) ∙ is)
+pub first_more : (given : List (Option (List ℕ))) (text : Option (List ℕ))
+    (kept next now : Vec Sha256 Global) → AreOfFirst given kept.items
+    → IfSome text (λ t. AreStatesOf t next.items)
+    → (first_content given ≡ None → now ≡ next) → (first_content given ≢ None → now ≡ kept)
+    → AreOfFirst (given ++ text ∷ []) now.items
+first_more given text kept next now are fresh none some t is =
+    more_by (first_content given) text kept next now are fresh none some t (sym (first_push given text) ∙ is)
 
 -- ---- sizes
 

@@ -6,3 +6,4 @@ pub mod Runs
 pub mod Counting
 pub mod First
 pub mod States
+pub mod Shared

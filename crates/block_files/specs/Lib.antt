@@ -4,5 +4,6 @@ pub mod BlockSets
 pub mod Contents
 pub mod Parts
 pub mod States
+pub mod Texts
 pub mod Writes
 pub mod lemmas

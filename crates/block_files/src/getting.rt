@@ -1,16 +1,17 @@
 //! What the copies of a content agree on.
 
 ghost use Rattle.std.specs.Prelude.{◌≡◌, ◌≤◌, ◌*◌, ◌↔◌, min, IsTrue, IfOk, IfSome, IsErrOf, length, OnOk, Some};
-ghost use Rattle.std.specs.Option.{option_copied, option_map};
+ghost use Rattle.std.specs.Option.{option_copied};
 ghost use Rattle.per_base.specs.Causes.{Rose};
 ghost use Rattle.disk_model.specs.Medium.{Elapses, OnlyReads};
-ghost use Rattle.m_of_n.specs.Vote.{texts_of, voted};
+ghost use Rattle.m_of_n.specs.Vote.{voted};
 ghost use Rattle.block_files.specs.BlockSets.{Ascend};
 ghost use Rattle.block_files.specs.Contents.{contents, first_content, lacking, lacking_in, lacks, unvoted, AreCopies};
 ghost use Rattle.block_files.specs.States.{AreOfFirst, AreStatesOf};
 
 use crate::errors::BlobError;
-use crate::reading::{Looked, first_text, look};
+use crate::reading::{Looked, look};
+use crate::texts::Texts;
 use disk_model::{Disk, Place};
 use m_of_n::vote;
 use per_base::{Bytes, Numbers};
@@ -82,16 +83,14 @@ pub fn get_blob<D: Disk>(
 // What the copies agree on, by what each gives. The first content is moved, and no other copied, where it is the value.
 fn judge(alloc: Global, looked: Looked, m: u32) -> Result<Blob, AllocError>
     requires m { 1 ≤ m }
-    requires copies { (length looked.texts.items ≡ length looked.inside.items) × (length looked.texts.items ≤ 8) }
-    requires states { AreOfFirst (texts_of looked.texts.items) looked.states.items }
-    ensures value { IfOk result (λ blob. blob.value ≡ voted m (texts_of looked.texts.items)) }
-    ensures salvage { IfOk result (λ blob. blob.salvage
-        ≡ unvoted blob.value (first_content (texts_of looked.texts.items))) }
-    ensures lacking { IfOk result (λ blob. blob.lacking
-        ≡ lacking_in blob.value (texts_of looked.texts.items) looked.inside.items) }
+    requires copies { (length looked.texts ≡ length looked.inside.items) × (length looked.texts ≤ 8) }
+    requires states { AreOfFirst looked.texts looked.states.items }
+    ensures value { IfOk result (λ blob. blob.value ≡ voted m looked.texts) }
+    ensures salvage { IfOk result (λ blob. blob.salvage ≡ unvoted blob.value (first_content looked.texts)) }
+    ensures lacking { IfOk result (λ blob. blob.lacking ≡ lacking_in blob.value looked.texts looked.inside.items) }
     ensures states { IfOk result (λ blob. IfSome blob.value (λ value. AreStatesOf value blob.states.items)) }
 {
-    let value = vote(m, &looked.texts);
+    let value = voted(alloc, m, &looked.texts)?;
     let lacking = list_lacking(alloc, value, &looked)?;
     let Some(value) = value else {
         return Ok(Blob {
@@ -118,37 +117,44 @@ fn judge(alloc: Global, looked: Looked, m: u32) -> Result<Blob, AllocError>
     })
 }
 
-// Whether this is the first content that some copy gives.
-fn is_first(texts: &[Option<Vec<u8>>], value: &[u8]) -> bool
-    ensures { IsTrue result ↔ (first_content (texts_of texts.now) ≡ Some value.now) }
+// What enough copies give.
+fn voted(alloc: Global, m: u32, texts: &Texts) -> Result<Option<&[u8]>, AllocError>
+    requires { 1 ≤ m }
+    ensures { IfOk result (λ value. option_copied value ≡ voted m texts.now) }
 {
-    match first_text(texts) {
+    let lent = texts.lent(alloc)?;
+    Ok(vote(m, lent.as_slice()))
+}
+
+// Whether this is the first content that some copy gives.
+fn is_first(texts: &Texts, value: &[u8]) -> bool
+    ensures { IsTrue result ↔ (first_content texts.now ≡ Some value.now) }
+{
+    match texts.first() {
         Some(first) => first == value,
         None => false,
     }
 }
 
 // The first content that some copy gives, moved.
-fn take_first(texts: Vec<Option<Vec<u8>>>) -> Option<Bytes>
-    ensures { result ≡ first_content (texts_of texts.items) }
+fn take_first(texts: Texts) -> Option<Bytes>
+    ensures { result ≡ first_content texts }
 {
-    for text in texts {
-        if let Some(bytes) = text {
-            return Some(Bytes::new(bytes));
-        }
+    match texts.into_first() {
+        Some(bytes) => Some(Bytes::new(bytes)),
+        None => None,
     }
-    None
 }
 
 // The copies that lack the value, counted from 1.
 fn list_lacking(alloc: Global, value: Option<&[u8]>, looked: &Looked) -> Result<Numbers, AllocError>
-    requires { (length looked.now.texts.items ≡ length looked.now.inside.items) × (length looked.now.texts.items ≤ 8) }
-    ensures { IfOk result (λ numbers. numbers ≡ lacking_in (option_copied value.entry) (texts_of looked.now.texts.items)
+    requires { (length looked.now.texts ≡ length looked.now.inside.items) × (length looked.now.texts ≤ 8) }
+    ensures { IfOk result (λ numbers. numbers ≡ lacking_in (option_copied value.entry) looked.now.texts
         looked.now.inside.items) }
 {
     let mut numbers = Vec::new(alloc);
     for copy in 0..looked.texts.len() {
-        if is_lacking(value, &looked.texts[copy], looked.inside[copy]) {
+        if is_lacking(value, looked.texts.get(copy), looked.inside[copy]) {
             numbers.push(copy as u32 + 1)?;
         }
     }
@@ -156,12 +162,12 @@ fn list_lacking(alloc: Global, value: Option<&[u8]>, looked: &Looked) -> Result<
 }
 
 // Whether a copy lacks the value.
-fn is_lacking(value: Option<&[u8]>, text: &Option<Vec<u8>>, inside: bool) -> bool
-    ensures { result ≡ lacks (option_copied value.entry) (option_map (λ t. t.items) text.now) inside }
+fn is_lacking(value: Option<&[u8]>, text: Option<&[u8]>, inside: bool) -> bool
+    ensures { result ≡ lacks (option_copied value.entry) (option_copied text.entry) inside }
 {
     match (value, text) {
         (None, given) => given.is_none(),
         (Some(_), None) => true,
-        (Some(value), Some(given)) => !(inside && given.as_slice() == value),
+        (Some(value), Some(given)) => !(inside && given == value),
     }
 }

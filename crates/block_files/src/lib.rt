@@ -27,6 +27,7 @@ mod mending;
 mod parts;
 mod putting;
 mod reading;
+mod texts;
 mod writing;
 
 pub use block_set::BlockSet;

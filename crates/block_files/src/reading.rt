@@ -3,11 +3,10 @@
 ghost use Rattle.std.specs.Prelude.{◌≡◌, ◌≢◌, ◌<◌, ◌≤◌, ◌+◌, ◌*◌, ℕ, IsTrue, IfOk, IfSome, OnOk, OnErr, IsErrOf};
 ghost use Rattle.std.specs.Prelude.{length, map, min, slice_index, None};
 ghost use Rattle.std.specs.List.{range_with_len};
-ghost use Rattle.std.specs.Option.{option_copied, option_map};
+ghost use Rattle.std.specs.Option.{option_map};
 ghost use Rattle.per_base.specs.Causes.{Rose};
 ghost use Rattle.disk_model.specs.Place.{area};
 ghost use Rattle.disk_model.specs.Medium.{Elapses, OnlyReads};
-ghost use Rattle.m_of_n.specs.Vote.{texts_of};
 ghost use Rattle.block_files.specs.Areas.{joined, is_within, has_all_bytes};
 ghost use Rattle.block_files.specs.Contents.{counting, contents, first_content, HaveSize};
 ghost use Rattle.block_files.specs.States.{AreOfFirst, AreStatesOf};
@@ -15,16 +14,17 @@ ghost use Rattle.block_files.specs.States.{AreOfFirst, AreStatesOf};
 use crate::errors::BlobError;
 use crate::hashing::{Hashed, hash_from};
 use crate::parts::count_blocks;
+use crate::texts::Texts;
 use disk_model::{Disk, DiskFailed, Place};
 use per_base::BLOCK;
 use sha2::Sha256;
-use std::alloc::Global;
+use std::alloc::{AllocError, Global};
 
 /// What each copy of a content gives, in order: its bytes where they have the hash, and whether its file has them all.
 #[derive(Drop)]
 pub(crate) struct Looked {
     /// For each copy, its bytes where they have the hash.
-    pub(crate) texts: Vec<Option<Vec<u8>>>,
+    pub(crate) texts: Texts,
     /// For each copy, whether its area file has all bytes.
     pub(crate) inside: Vec<bool>,
     /// States of the hasher on the way through the first of the texts.
@@ -47,29 +47,30 @@ pub(crate) fn look<D: Disk>(
     len: u32,
     hash: &[u8; 32],
 ) -> Result<Looked, BlobError>
-    ensures texts { IsTrue D.told → IfOk result (λ looked. texts_of looked.texts.items
+    ensures texts { IsTrue D.told → IfOk result (λ looked. looked.texts
         ≡ contents place blocks.now len hash.now (D.medium disk.old).image) }
     ensures inside { IsTrue D.told → IfOk result (λ looked. looked.inside.items
         ≡ map (λ c. has_all_bytes ((D.medium disk.old).image (area place c)) blocks.now len)
         (range_with_len 0 place.copies)) }
-    ensures copies { IfOk result (λ looked. (length looked.texts.items ≡ place.copies)
+    ensures copies { IfOk result (λ looked. (length looked.texts ≡ place.copies)
         × (length looked.inside.items ≡ place.copies)) }
-    ensures size { IfOk result (λ looked. HaveSize (min len (256 * length blocks.now)) (texts_of looked.texts.items)) }
-    ensures states { IfOk result (λ looked. AreOfFirst (texts_of looked.texts.items) looked.states.items) }
+    ensures size { IfOk result (λ looked. HaveSize (min len (256 * length blocks.now)) looked.texts) }
+    ensures states { IfOk result (λ looked. AreOfFirst looked.texts looked.states.items) }
     ensures reads { OnlyReads (D.medium disk.old) (D.medium disk.new) }
     ensures time { Elapses (D.medium disk.old) (D.medium disk.new) }
     ensures cause { IsErrOf result BlobError.Device → Rose (D.medium disk.old).faults (D.medium disk.new).faults }
     ensures passes { OnOk result ((D.medium disk.new).faults ≡ (D.medium disk.old).faults) }
     ensures fed { IsErrOf result BlobError.OutOfMemory → (D.medium disk.new).faults ≡ (D.medium disk.old).faults }
 {
-    let mut texts = Vec::new(alloc);
+    let mut texts = Texts::new(alloc);
     let mut inside = Vec::new(alloc);
     let mut states = Vec::new(alloc);
+    let mut spare = None;
     for copy in 0..place.copies {
         let file = place.area(copy);
-        let read = read_text(alloc, disk, file, blocks, len, hash)?;
+        let read = read_text(alloc, disk, file, blocks, len, hash, spare)?;
         states = first_states(&texts, states, read.states);
-        texts.push(read.text)?;
+        spare = texts.push(read.text)?;
         let size = disk.size(file)?;
         inside.push(is_inside(size, blocks, len as usize))?;
     }
@@ -81,11 +82,11 @@ pub(crate) fn look<D: Disk>(
 }
 
 // The states to keep: those at hand once some text has the hash, and until then those of the next.
-fn first_states(texts: &[Option<Vec<u8>>], states: Vec<Sha256>, next: Vec<Sha256>) -> Vec<Sha256>
-    ensures next { first_content (texts_of texts.now) ≡ None → result ≡ next }
-    ensures stay { first_content (texts_of texts.now) ≢ None → result ≡ states }
+fn first_states(texts: &Texts, states: Vec<Sha256>, next: Vec<Sha256>) -> Vec<Sha256>
+    ensures next { first_content texts.now ≡ None → result ≡ next }
+    ensures stay { first_content texts.now ≢ None → result ≡ states }
 {
-    match first_text(texts) {
+    match texts.first() {
         None => {
             drop(states);
             next
@@ -97,19 +98,7 @@ fn first_states(texts: &[Option<Vec<u8>>], states: Vec<Sha256>, next: Vec<Sha256
     }
 }
 
-// The first content that some copy gives.
-pub(crate) fn first_text(texts: &[Option<Vec<u8>>]) -> Option<&[u8]>
-    ensures { option_copied result ≡ first_content (texts_of texts.now) }
-{
-    for text in texts {
-        if let Some(text) = text {
-            return Some(text);
-        }
-    }
-    None
-}
-
-// What one copy gives.
+// What one copy gives. Its bytes are read into what is spare, if there is room.
 fn read_text<D: Disk>(
     alloc: Global,
     disk: &mut D,
@@ -117,6 +106,7 @@ fn read_text<D: Disk>(
     blocks: &[u32],
     len: u32,
     hash: &[u8; 32],
+    spare: Option<Vec<u8>>,
 ) -> Result<ReadText, BlobError>
     ensures text { IsTrue D.told → IfOk result (λ read. option_map (λ t. t.items) read.text
         ≡ counting ((D.medium disk.old).image file) blocks.now len hash.now) }
@@ -128,7 +118,7 @@ fn read_text<D: Disk>(
     ensures passes { OnOk result ((D.medium disk.new).faults ≡ (D.medium disk.old).faults) }
     ensures fed { IsErrOf result BlobError.OutOfMemory → (D.medium disk.new).faults ≡ (D.medium disk.old).faults }
 {
-    let bytes = read_joined(alloc, disk, file, blocks, len as usize)?;
+    let bytes = read_joined(alloc, disk, file, blocks, len as usize, spare)?;
     let Hashed {
         hash: found,
         states,
@@ -149,6 +139,7 @@ fn read_joined<D: Disk>(
     file: u32,
     blocks: &[u32],
     len: usize,
+    spare: Option<Vec<u8>>,
 ) -> Result<Vec<u8>, BlobError>
     ensures bytes { IsTrue D.told → IfOk result (λ bytes. bytes.items
         ≡ joined ((D.medium disk.old).image file) blocks.now len) }
@@ -160,9 +151,19 @@ fn read_joined<D: Disk>(
     ensures fed { IsErrOf result BlobError.OutOfMemory → (D.medium disk.new).faults ≡ (D.medium disk.old).faults }
 {
     let size = len.min(blocks.len().saturating_mul(BLOCK));
-    let mut bytes = vec![in alloc; 0; size]?;
+    let mut bytes = room(alloc, size, spare)?;
     read_runs(disk, file, blocks, &mut bytes)?;
     Ok(bytes)
+}
+
+// That many bytes: those that are spare, where they are as many.
+fn room(alloc: Global, size: usize, spare: Option<Vec<u8>>) -> Result<Vec<u8>, AllocError>
+    ensures { IfOk result (λ bytes. length bytes.items ≡ size) }
+{
+    match spare {
+        Some(bytes) if bytes.len() == size => Ok(bytes),
+        _ => vec![in alloc; 0; size],
+    }
 }
 
 // Fills `out` with the bytes of the blocks, by one read for each run of blocks that follow one another.

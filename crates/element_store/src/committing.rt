@@ -1,7 +1,7 @@
 //! A commit: all of its changes, or none.
 
 ghost use Rattle.std.specs.Prelude.{◌≡◌, [], ◌<◌, ◌≤◌, ◌+◌, ◌*◌, ◌^◌, List, length, map, IsTrue, IfSome, unwrap_or};
-ghost use Rattle.std.specs.Prelude.{IfOk, IfErr, OnOk, IsErrOf};
+ghost use Rattle.std.specs.Prelude.{IfOk, IfErr, OnOk};
 ghost use Rattle.std.specs.List.{AllByRecursion, AllZip};
 ghost use Rattle.std.specs.Vec.{vec_len, vec_capacity};
 ghost use Rattle.hash_guard.specs.SealedText.{header};
@@ -31,7 +31,6 @@ use crate::taking::release_replaced;
 use block_files::{BlockSet, Hashed};
 use disk_model::Disk;
 use element_laws::{contents_keep, index_keeps, untouched_is_kept, use_is_adopted};
-use element_state::StoreError;
 use guarded_cell::Cell;
 use index_text::Index;
 use per_base::{Bytes, Change, Entry, Fault, FileInfo, Name, Numbers};
@@ -70,13 +69,20 @@ impl Store {
     ghost use Rattle.per_base.specs.Faults.{HandsBack, IsDeviceFault};
 
     /// Makes the changes all at once: a stop at any moment leaves the storage as before or as after. Only what
-    /// changed is written, and of a file that could be read only the blocks that differ.
+    /// changed is written, and of a file that could be read only the blocks that differ. What is given beside them is
+    /// let go before the first call of the disk, so that its memory is free while a sync holds what it may have to
+    /// write once more.
     ///
     /// # Errors
     ///
-    /// `OutOfMemory` hands the storage back before any call of the disk. `Device` closes it.
+    /// `OutOfMemory` hands back the storage and what was given beside, before any call of the disk. `Device` closes it.
     #[tactic(none)]
-    pub fn commit<D: Disk>(self, disk: &mut D, changes: Vec<Change>) -> Result<Store, Fault<Store>>
+    pub fn commit<D: Disk, T: Drop>(
+        self,
+        disk: &mut D,
+        changes: Vec<Change>,
+        beside: T,
+    ) -> Result<Store, Fault<(Store, T)>>
         // The storage is in use on this disk; the changes name each element once, and lead to a view within the limits.
         requires used { IsUsed D.told (D.medium disk.old).image self }
         requires changes { AreCommittable (store_shape self) (view_in self) changes.items }
@@ -98,7 +104,7 @@ impl Store {
         ensures format { IfOk result (λ store. (index_in store).format ≡ 2) }
 
         // Running out of memory hands the storage back, and then nothing happened. Only a disk that failed closes it.
-        ensures memory { IfErr result (λ fault. HandsBack self fault (disk.new ≡ disk.old)) }
+        ensures memory { IfErr result (λ fault. HandsBack (self, beside) fault (disk.new ≡ disk.old)) }
         ensures cause { IfErr result (λ fault. IsDeviceFault fault
             → Rose (D.medium disk.old).faults (D.medium disk.new).faults) }
         ensures passes { OnOk result ((D.medium disk.new).faults ≡ (D.medium disk.old).faults) }
@@ -141,11 +147,10 @@ impl Store {
         use_is_adopted();
         contents_keep();
         index_keeps();
-        let ready = match self.write_contents(disk, &changes) {
+        let ready = match self.write_contents(disk, &changes, beside) {
             Ok(ready) => ready,
-            Err(StoreError::OutOfMemory) => return Err(Fault::OutOfMemory(self)),
-            Err(StoreError::Device) => return Err(Fault::Device),
-            Err(StoreError::Corrupt) => return Err(Fault::Device),
+            Err(Fault::OutOfMemory(beside)) => return Err(Fault::OutOfMemory((self, beside))),
+            Err(Fault::Device) => return Err(Fault::Device),
         };
         let Ready {
             index,
@@ -175,8 +180,14 @@ impl Store {
         Ok(store)
     }
 
-    // Allocates all that the commit needs, and then makes the contents durable in blocks outside those of the index.
-    fn write_contents<D: Disk>(&self, disk: &mut D, changes: &[Change]) -> Result<Ready, StoreError>
+    // Allocates all that the commit needs, lets go what is given beside it, and then makes the contents durable in
+    // blocks outside those of the index.
+    fn write_contents<D: Disk, T: Drop>(
+        &self,
+        disk: &mut D,
+        changes: &[Change],
+        beside: T,
+    ) -> Result<Ready, Fault<T>>
         requires used { IsUsed D.told (D.medium disk.old).image self.now }
         requires changes { AreCommittable (store_shape self.now) (view_in self.now) changes.now }
 
@@ -193,9 +204,9 @@ impl Store {
             + (store_shape self.now).place.copies * commit_cost (store_shape self.now).kind (entries_of self.now)
             changes.now }
 
-        ensures memory { IsErrOf result StoreError.OutOfMemory → disk.new ≡ disk.old }
-        ensures never_corrupt { ¬ (IsErrOf result StoreError.Corrupt) }
-        ensures cause { IsErrOf result StoreError.Device → Rose (D.medium disk.old).faults (D.medium disk.new).faults }
+        ensures memory { IfErr result (λ fault. HandsBack beside fault (disk.new ≡ disk.old)) }
+        ensures cause { IfErr result (λ fault. IsDeviceFault fault
+            → Rose (D.medium disk.old).faults (D.medium disk.new).faults) }
         ensures passes { OnOk result ((D.medium disk.new).faults ≡ (D.medium disk.old).faults) }
         ensures elsewhere { IsTrue D.told → Spares (IsOutside (store_shape self.now).place)
             (D.medium disk.old).image (D.medium disk.new).image }
@@ -212,11 +223,14 @@ impl Store {
         use_is_adopted();
         contents_keep();
         match self.prepare(changes) {
-            Err(_) => Err(StoreError::OutOfMemory),
-            Ok(prepared) => match write_durably(disk, self.shape.place, &prepared.jobs) {
-                Ok(()) => Ok(prepared.ready),
-                Err(_) => Err(StoreError::Device),
-            },
+            Err(_) => Err(Fault::OutOfMemory(beside)),
+            Ok(prepared) => {
+                drop(beside);
+                match write_durably(disk, self.shape.place, &prepared.jobs) {
+                    Ok(()) => Ok(prepared.ready),
+                    Err(_) => Err(Fault::Device),
+                }
+            }
         }
     }
 

@@ -20,7 +20,6 @@ use Rattle.per_base.specs.Maps as maps
 use Rattle.per_base.specs.Maps.{Map, element_at, names_of, with_element}
 use Rattle.per_base.specs.Names.{name_cmp}
 use Rattle.disk_model.specs.Image.{Image}
-use Rattle.file_core.specs.Files.{IsFile}
 use Rattle.file_handles.specs.Sessions.{IsFileAt}
 use Rattle.file_handles.specs.Tables.{AreFiles}
 use Rattle.index_text.specs.Rules.{has_info, max_len}

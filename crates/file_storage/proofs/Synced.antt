@@ -1,5 +1,5 @@
 -- What a sync owes to a commit, and what a commit makes of a session.
-use Rattle.std.proofs.Common.{◌≡◌, ℕ, ◌+◌, ◌<◌, ◌≤◌, List, [], ◌∷◌, length, Bool, true, false, refl, sym, ◌∙◌, ap}
+use Rattle.std.proofs.Common.{◌≡◌, ℕ, ◌+◌, ◌<◌, ◌≤◌, List, [], length, Bool, true, false, refl, sym, ◌∙◌, ap}
 use Rattle.std.proofs.Common.{subst, arith}
 use Rattle.std.specs.Prelude.{Option, Some, None, IsTrue, not, ◌&&◌, nat_le}
 use Rattle.std.specs.List.Sorted.{IsStrictlySortedBy}
@@ -42,9 +42,7 @@ use Rattle.element_laws.specs.Phases.{UntouchedLaw}
 use Rattle.element_maps.specs.Differences.{MakeInto}
 use Rattle.element_maps.specs.Laws.{CommittedLaw, CostLaw, DecidesLaw, HeldLaw, UnchangedNamesLaw, UntestedLaw}
 use Rattle.element_maps.specs.Sessions.{IsHeldElement, IsSync, PassesTest}
-use Rattle.element_maps.specs.Storages.{IsConfigured, IsDurable, IsStoring, KeepsEqual}
-use Rattle.element_maps.specs.lemmas.Names.{same_names}
-use Rattle.element_maps.specs.lemmas.Same.{both, same_is}
+use Rattle.element_maps.specs.Storages.{IsConfigured, IsStoring}
 use Rattle.element_store.specs.declared.store.Store.{Store}
 use Rattle.element_store.specs.Changing.{KeepsOthers}
 use Rattle.element_store.specs.Committing.{index_in, index_length}

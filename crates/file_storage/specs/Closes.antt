@@ -1,5 +1,5 @@
 -- What making the working files durable gives back.
-use Rattle.std.specs.Prelude.{◌≡◌, ⊤}
+use Rattle.std.specs.Prelude.{⊤}
 use Rattle.per_base.specs.declared.errors.PerError.{PerError}
 use Rattle.file_storage.specs.declared.syncing.Closed.{Closed}
 use Rattle.file_storage.specs.declared.syncing.Closed.TheVariants.{Done, Refused}

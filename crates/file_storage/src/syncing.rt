@@ -1,7 +1,7 @@
 //! Making the working files durable.
 
 ghost use Rattle.std.specs.Prelude.{◌≡◌, [], IsTrue, IfOk, IfErr, Some, None, IsSome, true, false, length, List, ℕ};
-ghost use Rattle.std.specs.Prelude.{◌<◌};
+ghost use Rattle.std.specs.Prelude.{◌<◌, OnOk};
 ghost use Rattle.per_base.specs.Causes.{Rose};
 ghost use Rattle.per_base.specs.Faults.{HandsBack, IsDeviceFault};
 ghost use Rattle.guarded_cell.specs.Register.{IsAlone};
@@ -13,7 +13,7 @@ ghost use Rattle.element_maps.specs.Storages.{IsDurable, IsStoring, KeepsEqual};
 ghost use Rattle.element_store.specs.Committing.{index_in, index_length};
 ghost use Rattle.element_store.specs.Stores.{IsStore, IsUsed, store_shape, view_in};
 ghost use Rattle.file_storage.specs.Closes.{MatchClosed, OnDone};
-ghost use Rattle.file_storage.specs.FileSessions.{stored_in};
+ghost use Rattle.file_storage.specs.FileSessions.{FilesInUse, stored_in};
 ghost use Rattle.file_storage.specs.Syncs.{IsSynced, WritesAtMost, close_refused, is_synced, sync_refused, synced_view};
 ghost use Rattle.file_storage.specs.Syncs.{worn};
 
@@ -168,8 +168,8 @@ impl Files {
         if let Some(error) = self.refuses_close() {
             return Ok(Closed::Refused(self, error));
         }
-        match self.made_durable(disk) {
-            Ok(_files) => Ok(Closed::Done),
+        match self.closed(disk) {
+            Ok(()) => Ok(Closed::Done),
             Err(fault) => Err(fault),
         }
     }
@@ -222,7 +222,7 @@ impl Files {
             store,
             table,
         } = self;
-        match store.commit(disk, changes) {
+        match store.commit(disk, changes, ()) {
             Ok(store) => Ok(Files {
                 alloc,
                 config,
@@ -230,7 +230,70 @@ impl Files {
                 table,
             }),
             Err(Fault::Device) => Err(Fault::Device),
-            Err(Fault::OutOfMemory(store)) => Err(Fault::OutOfMemory(Files {
+            Err(Fault::OutOfMemory((store, ()))) => Err(Fault::OutOfMemory(Files {
+                alloc,
+                config,
+                store,
+                table,
+            })),
+        }
+    }
+
+    /// Makes the working files durable, where a generation is left or nothing differs, and lets the storage go.
+    fn closed<D: Disk>(self, disk: &mut D) -> Result<(), Fault<Files>>
+        requires used { IsUsed D.told (D.medium disk.old).image self.store }
+        requires not_worn { worn self ≡ None }
+        ensures synced { OnOk result ((files : FilesInUse)
+            × IsSynced D.told self files (D.medium disk.old) (D.medium disk.new)) }
+        ensures at_most { WritesAtMost self (D.medium disk.old) (D.medium disk.new) }
+        ensures unchanged { is_synced self ≡ true → (result ≡ Ok tt) × (disk.new ≡ disk.old) }
+        ensures memory { IfErr result (λ fault. HandsBack self fault (disk.new ≡ disk.old)) }
+        ensures cause { IfErr result (λ fault. IsDeviceFault fault
+            → Rose (D.medium disk.old).faults (D.medium disk.new).faults) }
+        ensures storing { IsStoring D.told (store_shape self.store) (Opens (synced_view self) []) (D.medium disk.old)
+            (D.medium disk.new) }
+    {
+        untouched_is_kept();
+        syncs_are_decided();
+        if self.is_synced() {
+            return Ok(());
+        }
+        match self.changes() {
+            Ok(changes) => self.commit_last(disk, changes),
+            Err(_) => Err(Fault::OutOfMemory(self)),
+        }
+    }
+
+    /// Commits these changes, which make the stored files into the working ones. The working files are let go before
+    /// the first call of the disk, so that they are not in memory beside what is written and what a sync holds.
+    fn commit_last<D: Disk>(self, disk: &mut D, changes: Vec<Change>) -> Result<(), Fault<Files>>
+        requires used { IsUsed D.told (D.medium disk.old).image self.store }
+        requires changes { IsSync (store_shape self.store) (λ bytes. true) (view_in self.store) (stored_in self.store)
+            self.session.files changes.items }
+        requires differ { is_synced self ≡ false }
+        requires not_worn { (view_in self.store).generation < greatest_generation }
+        ensures synced { OnOk result ((files : FilesInUse)
+            × IsSynced D.told self files (D.medium disk.old) (D.medium disk.new)) }
+        ensures at_most { WritesAtMost self (D.medium disk.old) (D.medium disk.new) }
+        ensures memory { IfErr result (λ fault. HandsBack self fault (disk.new ≡ disk.old)) }
+        ensures cause { IfErr result (λ fault. IsDeviceFault fault
+            → Rose (D.medium disk.old).faults (D.medium disk.new).faults) }
+        ensures storing { IsStoring D.told (store_shape self.store) (Opens (synced_view self) []) (D.medium disk.old)
+            (D.medium disk.new) }
+    {
+        changes_make_maps();
+        views_are_maps();
+        self.invariants();
+        let Files {
+            alloc,
+            config,
+            store,
+            table,
+        } = self;
+        match store.commit(disk, changes, table) {
+            Ok(_) => Ok(()),
+            Err(Fault::Device) => Err(Fault::Device),
+            Err(Fault::OutOfMemory((store, table))) => Err(Fault::OutOfMemory(Files {
                 alloc,
                 config,
                 store,

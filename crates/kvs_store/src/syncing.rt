@@ -131,7 +131,7 @@ impl Kvs {
             store,
             mut session,
         } = self;
-        match store.commit(disk, changes) {
+        match store.commit(disk, changes, ()) {
             Ok(store) => {
                 session.mark_synced();
                 Ok(Kvs {
@@ -141,7 +141,7 @@ impl Kvs {
                 })
             }
             Err(Fault::Device) => Err(SyncFault::Device),
-            Err(Fault::OutOfMemory(store)) => Err(SyncFault::OutOfMemory(Kvs {
+            Err(Fault::OutOfMemory((store, ()))) => Err(SyncFault::OutOfMemory(Kvs {
                 alloc,
                 store,
                 session,

@@ -1,13 +1,13 @@
 -- The vote among copies of a text: the first text, in order of copies, that at least m copies equal.
-use Rattle.std.specs.Prelude.{ℕ, List, Option, Some, None, nat_le, count_by, find, map, Bool, false, Vec}
-use Rattle.std.specs.Option.{option_map}
+use denote.Ref.{Bor}
+use Rattle.std.specs.Prelude.{ℕ, List, Option, Some, None, nat_le, count_by, find, map, Bool, false}
+use Rattle.std.specs.Option.{option_copied}
 use Rattle.std.specs.List.{filter_map}
 use Rattle.std.specs.Str.{bytes_eq}
-use Rattle.std.specs.declared.alloc.Global.{Global}
 
 -- the copies as texts, each the list of its bytes; None is a copy that is missing or unreadable
-abbrev pub texts_of : List (Option (Vec ℕ Global)) → List (Option (List ℕ))
-texts_of copies = map (λ copy. option_map (λ text. text.items) copy) copies
+abbrev pub texts_of : List (Option (Bor (List ℕ))) → List (Option (List ℕ))
+texts_of copies = map option_copied copies
 
 -- whether a copy is this text; a missing one is no text
 abbrev pub is_text : List ℕ → Option (List ℕ) → Bool

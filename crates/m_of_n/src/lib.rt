@@ -15,15 +15,15 @@ ghost use Rattle.m_of_n.specs.Vote.{holders, texts_of, voted};
 /// The first text, in order of copies, that at least `m` copies equal; `None` exactly where there is none. `copies` has
 /// the text that was read of each copy, and `None` for one that is missing or unreadable.
 #[tactic(auto, unfolding(crate::specs::Vote::voted))]
-pub fn vote(m: u32, copies: &[Option<Vec<u8>>]) -> Option<&[u8]>
+pub fn vote<'a>(m: u32, copies: &[Option<&'a [u8]>]) -> Option<&'a [u8]>
     requires { 1 ≤ m }
     // The answer is the text that the vote gives, as its bytes, and none where the vote gives none.
     ensures { option_copied result ≡ voted m (texts_of copies.now) }
 {
     for copy in copies {
         if let Some(text) = copy {
-            if count_holders(copies, text) >= m as usize {
-                return Some(text);
+            if count_holders(copies, *text) >= m as usize {
+                return Some(*text);
             }
         }
     }
@@ -31,13 +31,13 @@ pub fn vote(m: u32, copies: &[Option<Vec<u8>>]) -> Option<&[u8]>
 }
 
 // How many copies are this text.
-fn count_holders(copies: &[Option<Vec<u8>>], text: &[u8]) -> usize
+fn count_holders(copies: &[Option<&[u8]>], text: &[u8]) -> usize
     ensures { result ≡ holders (texts_of copies.now) text.now }
 {
     let mut count = 0;
     for copy in copies {
         if let Some(other) = copy {
-            if other.as_slice() == text {
+            if *other == text {
                 count += 1;
             }
         }

@@ -13,9 +13,9 @@ use crate::endings::Ending;
 use crate::input::zeros;
 use crate::writing::write_all;
 use command_text::{Answer, Reply};
-use hex::encode_to_slice;
 use per_base::{Failed, Sink};
 use std::alloc::Global;
+use value_text::spell_hex;
 
 /// How many bytes are spelled at once.
 const PIECE_BYTES: usize = 16_384;
@@ -117,14 +117,6 @@ fn write_piece<K: Sink>(sink: &mut K, digits: &mut [u8], piece: &[u8]) -> Result
     ensures room { length digits.new ≡ length digits.old }
 {
     let spelled = &mut digits[..2 * piece.len()];
-    spell(spelled, piece);
+    spell_hex(spelled, piece);
     write_all(sink, spelled)
-}
-
-/// Spells bytes in two digits each.
-fn spell(out: &mut [u8], bytes: &[u8])
-    requires { length out.old ≡ 2 * length bytes.now }
-    ensures { out.new ≡ hex_text bytes.now }
-{
-    let _ = encode_to_slice(bytes, out);
 }

@@ -7,7 +7,7 @@ use crate::pushing::push_words;
 use std::alloc::{AllocError, Global};
 use std::collections::VecDeque;
 use std::marker::Model;
-use value_text::push_hex;
+use value_text::spell_hex;
 
 /// How many bytes a line that writes a piece has at most beside the name of the storage and the digits of the piece.
 const WORD_BYTES: usize = 16;
@@ -24,7 +24,7 @@ pub struct CallText {
     /// Pieces whose lines are given then.
     pieces: VecDeque<Vec<u8>>,
     /// Room for the digits of a piece.
-    digits: String,
+    digits: Vec<u8>,
     /// Lines that are given last.
     last: Vec<u8>,
 }
@@ -50,7 +50,7 @@ impl CallText {
             digit: b'0',
             storage: Vec::new(alloc),
             pieces: VecDeque::new(alloc),
-            digits: String::new(alloc),
+            digits: Vec::new(alloc),
             last: Vec::new(alloc),
         }
     }
@@ -69,7 +69,7 @@ impl CallText {
             ++ last.items)) }
     {
         let storage = Vec::from_slice(alloc, storage)?;
-        let digits = String::with_capacity(alloc, digits_in(pieces.as_slice()))?;
+        let digits = Vec::with_capacity(alloc, digits_in(pieces.as_slice()))?;
         Ok(CallText {
             first,
             digit,
@@ -143,7 +143,7 @@ fn move_lines(lines: &mut Vec<u8>, to: &mut Vec<u8>) -> Result<(), AllocError>
 
 /// Adds the line that writes this piece.
 fn push_written(
-    digits: &mut String,
+    digits: &mut Vec<u8>,
     text: &mut Vec<u8>,
     digit: u8,
     storage: &[u8],
@@ -152,8 +152,9 @@ fn push_written(
     ensures { OnOk result (text.new.items ≡ text.old.items ++ piece_line digit storage.now piece.now ++ 10 ∷ []) }
 {
     digits.clear();
-    push_hex(digits, piece)?;
-    push_write(text, digit, storage, digits.as_bytes())
+    digits.resize(2 * piece.len(), 0)?;
+    spell_hex(digits.as_mut_slice(), piece);
+    push_write(text, digit, storage, digits.as_slice())
 }
 
 /// Adds the line that writes what has these digits.

@@ -3,3 +3,4 @@ pub mod Quoted
 pub mod Hex
 pub mod Printed
 pub mod Lines
+pub mod Spelled

@@ -6,7 +6,7 @@
 //! line feed follow a backslash; nothing else is escaped, so that the text of a value is one line of UTF-8.
 //!
 //! [`push_value`] appends the text of a value to another. [`parse_unsigned`], [`parse_signed`] and [`parse_hex`] read a
-//! number or bytes without a type, and [`push_hex`] writes such bytes.
+//! number or bytes without a type, and [`push_hex`] and [`spell_hex`] write such bytes.
 //!
 //! Reading goes once over the text, and nests no deeper than a type may, 8.
 #![tactic(auto)]
@@ -24,7 +24,7 @@ pub use laws::{
     read_type_is_exact, read_value_is_exact, type_is_in_its_text, value_is_in_its_text,
     value_text_is_one_line,
 };
-pub use printing::{print_type, print_value, push_hex, push_value};
+pub use printing::{print_type, print_value, push_hex, push_value, spell_hex};
 pub use types::parse_type;
 pub use values::parse_value;
 pub use whole::{parse_hex, parse_signed, parse_unsigned};

@@ -1,11 +1,12 @@
 //! Types and values as texts, written.
 
-ghost use Rattle.std.specs.Prelude.{◌≡◌, ◌++◌, OnOk, IfOk, IsTrue, string_bytes, encode_utf8};
+ghost use Rattle.std.specs.Prelude.{◌≡◌, ◌++◌, ◌*◌, OnOk, IfOk, IsTrue, length, string_bytes, encode_utf8};
 ghost use Rattle.value_model.specs.Kinds.{kind_fits};
 ghost use Rattle.value_model.specs.Views.{kind_of, kinds_view, tree_of, trees_view};
 ghost use Rattle.value_text.specs.Texts.{type_text, types_text, escaped, hex_byte_text, hex_text, value_text};
 ghost use Rattle.value_text.specs.Texts.{values_text};
 
+use hex::encode_to_slice;
 use std::alloc::{AllocError, Global};
 use std::fmt::Write;
 use value_model::{Node, Value, ValueType};
@@ -97,6 +98,14 @@ pub fn push_hex(out: &mut String, bytes: &[u8]) -> Result<(), AllocError>
         push_hex_byte(out, *byte)?;
     }
     Ok(())
+}
+
+/// Spells bytes in two lower-case hexadecimal digits each, where there is room for just these.
+pub fn spell_hex(out: &mut [u8], bytes: &[u8])
+    requires { length out.old ≡ 2 * length bytes.now }
+    ensures { out.new ≡ hex_text bytes.now }
+{
+    let _ = encode_to_slice(bytes, out);
 }
 
 /// Writes the text of a node.

@@ -1,7 +1,4 @@
 use Rattle.std.proofs.Common.{◌*◌, ◌∙◌, ℕ, List, min, length, sym, ap, subst}
-use Rattle.std.specs.Option.{option_map}
-use Rattle.std.proofs.lemmas.List.{length-map}
-use Rattle.m_of_n.specs.Vote.{texts_of}
 use Rattle.block_files.specs.BlockSets.{Ascend}
 use Rattle.block_files.specs.Contents.{first_content, unvoted, AreCopies}
 use Rattle.block_files.proofs.Counting.{lacking_is, lacking_copies, lacking_ascend, voted_size}
@@ -13,7 +10,7 @@ returns-clause-lacking g c = λ tells.
     c.in_ok-blob.ensures.lacking
     ∙ lacking_is c.in_ok-blob.blob.value c.args.place c.args.blocks.now c.args.len
     c.args.hash.now
-    (g.D.Disk.medium c.args.disk.now).image (texts_of c.in_ok-looked.looked.texts.items)
+    (g.D.Disk.medium c.args.disk.now).image c.in_ok-looked.looked.texts
     c.in_ok-looked.looked.inside.items
     (c.in_ok-looked.ensures.texts tells) (c.in_ok-looked.ensures.inside tells)
 
@@ -24,30 +21,28 @@ returns-clause-salvage g c = λ tells.
 
 pub returns-clause-size : goal.returns-clause-size
 returns-clause-size g c =
-    voted_size (min c.args.len (256 * length c.args.blocks.now)) c.args.m (texts_of c.in_ok-looked.looked.texts.items)
+    voted_size (min c.args.len (256 * length c.args.blocks.now)) c.args.m c.in_ok-looked.looked.texts
     c.in_ok-blob.blob.value
     c.requires c.in_ok-blob.ensures.value c.in_ok-looked.ensures.size
 
 pub returns-clause-salvage_size : goal.returns-clause-salvage_size
 returns-clause-salvage_size g c =
-    unvoted_size (min c.args.len (256 * length c.args.blocks.now)) (texts_of c.in_ok-looked.looked.texts.items)
+    unvoted_size (min c.args.len (256 * length c.args.blocks.now)) c.in_ok-looked.looked.texts
     c.in_ok-blob.blob.value c.in_ok-blob.blob.salvage
     c.in_ok-blob.ensures.salvage c.in_ok-looked.ensures.size
 
 pub returns-clause-copies : goal.returns-clause-copies
 returns-clause-copies g c =
-    let given = texts_of c.in_ok-looked.looked.texts.items in
-    let long = length-map c.in_ok-looked.looked.texts.items (λ copy. option_map (λ t. t.items) copy)
-    ∙ c.in_ok-looked.ensures.copies.0 in
+    let given = c.in_ok-looked.looked.texts in
+    let long = c.in_ok-looked.ensures.copies.0 in
     let P : List ℕ → Type 0 = λ xs. AreCopies c.args.place.copies xs in
     subst P (sym c.in_ok-blob.ensures.lacking)
     (lacking_copies c.in_ok-blob.blob.value given c.in_ok-looked.looked.inside.items c.args.place.copies long)
 
 pub returns-clause-ascending : goal.returns-clause-ascending
 returns-clause-ascending g c =
-    let given = texts_of c.in_ok-looked.looked.texts.items in
-    let long = length-map c.in_ok-looked.looked.texts.items (λ copy. option_map (λ t. t.items) copy)
-    ∙ c.in_ok-looked.ensures.copies.0 in
+    let given = c.in_ok-looked.looked.texts in
+    let long = c.in_ok-looked.ensures.copies.0 in
     let P : List ℕ → Type 0 = λ xs. Ascend xs in
     subst P (sym c.in_ok-blob.ensures.lacking)
     (lacking_ascend c.in_ok-blob.blob.value given c.in_ok-looked.looked.inside.items c.args.place.copies long)

@@ -14,7 +14,8 @@ returns-clause-bytes g c = λ tells.
       omega (
         arith,
         c.deref_mut.ensures.len,
-        c.in_ok-bytes.ensures.len,
+        c.in_ok-bytes.ensures,
+        bytes.ok,
         c.min-size.ensures,
         c.saturating_mul.ensures,
         c.ranges.len.fits,

@@ -33,6 +33,8 @@ use Rattle.element_store.proofs.InOrder.{ascends_as}
 use Rattle.disk_model.specs.Laws.{elapses_on}
 use Rattle.per_base.specs.declared.elements.Entry.{Entry}
 use Rattle.per_base.specs.declared.elements.Change.{Change}
+use Rattle.per_base.specs.declared.faults.Fault.TheVariants.{OutOfMemory}
+use Rattle.per_base.specs.Faults.{HandsBack, IsDeviceFault}
 use Rattle.element_store.proofs.store.Store.commit.Goals as goal
 
 pub write_in-requires-clause-short : goal.write_in-requires-clause-short
@@ -160,11 +162,11 @@ write_contents-requires-clause-changes g c = subst (λ (cs : List Change).
     AreCommittable c.args.self.shape (view_in c.args.self) cs) (sym c.deref.ensures.value) c.requires.changes
 
 pub returns-in-Err-OutOfMemory-clause-memory : goal.returns-in-Err-OutOfMemory-clause-memory
-returns-in-Err-OutOfMemory-clause-memory g c = (
-  refl,
-  c.in-Err-OutOfMemory.ensures.memory
-      (ap Err c.in-Err-OutOfMemory.field-0-is),
-)
+returns-in-Err-OutOfMemory-clause-memory g c =
+    let back : HandsBack c.args.beside (OutOfMemory c.in-Err-OutOfMemory.beside)
+    (c.write_contents.new.disk ≡ c.args.disk.now) =
+    rw c.in-Err-OutOfMemory.field-0-is at c.in-Err-OutOfMemory.ensures.memory in
+    (ap (λ beside. (c.args.self, beside)) back.0, back.1)
 
 pub returns-in-Err-OutOfMemory-clause-cause : goal.returns-in-Err-OutOfMemory-clause-cause
 returns-in-Err-OutOfMemory-clause-cause g c = λ bad. absurd bad
@@ -318,7 +320,8 @@ pub returns-clause-time : goal.returns-clause-time
 returns-clause-time g c = elapses_on c.in-Ok.ensures.ready.time c.in-Ok-write_in.ensures.puts.time
 
 pub returns-in-Err-Device-clause-cause : goal.returns-in-Err-Device-clause-cause
-returns-in-Err-Device-clause-cause g c = λ u. c.in-Err-Device.ensures.cause (ap Err c.in-Err-Device.field-0-is)
+returns-in-Err-Device-clause-cause g c = λ u.
+    c.in-Err-Device.ensures.cause (subst IsDeviceFault (sym c.in-Err-Device.field-0-is) tt)
 
 pub returns-in-Err-Device-clause-elsewhere : goal.returns-in-Err-Device-clause-elsewhere
 returns-in-Err-Device-clause-elsewhere g c = c.in-Err-Device.ensures.elsewhere
@@ -334,25 +337,6 @@ returns-in-Err-Device-clause-any_moment g c = λ tells.
 
 pub returns-in-Err-Device-clause-time : goal.returns-in-Err-Device-clause-time
 returns-in-Err-Device-clause-time g c = c.in-Err-Device.ensures.time
-
-pub returns-in-Err-Corrupt-clause-cause : goal.returns-in-Err-Corrupt-clause-cause
-returns-in-Err-Corrupt-clause-cause g c = λ u. absurd (c.in-Err-Corrupt.ensures.never_corrupt
-    (ap Err c.in-Err-Corrupt.field-0-is))
-
-pub returns-in-Err-Corrupt-clause-elsewhere : goal.returns-in-Err-Corrupt-clause-elsewhere
-returns-in-Err-Corrupt-clause-elsewhere g c = c.in-Err-Corrupt.ensures.elsewhere
-
-pub returns-in-Err-Corrupt-clause-outside : goal.returns-in-Err-Corrupt-clause-outside
-returns-in-Err-Corrupt-clause-outside g c = c.in-Err-Corrupt.ensures.outside
-
-pub returns-in-Err-Corrupt-clause-any_moment : goal.returns-in-Err-Corrupt-clause-any_moment
-returns-in-Err-Corrupt-clause-any_moment g c = λ tells.
-    subst (λ (cs : List Change). KeptThroughout c.args.self.shape
-    (Opens (committed_by c.args.self.shape (view_in c.args.self) cs) []) (g.D.Disk.medium c.args.disk.now)
-    (g.D.Disk.medium c.write_contents.new.disk)) c.deref.ensures.value (c.in-Err-Corrupt.ensures.any_moment tells)
-
-pub returns-in-Err-Corrupt-clause-time : goal.returns-in-Err-Corrupt-clause-time
-returns-in-Err-Corrupt-clause-time g c = c.in-Err-Corrupt.ensures.time
 
 pub release_replaced-requires-clause-earlier : goal.release_replaced-requires-clause-earlier
 release_replaced-requires-clause-earlier g c = (
@@ -456,7 +440,3 @@ returns-in-Err-OutOfMemory-clause-at_most g c = contents_within c.args.self c.ar
 pub returns-in-Err-Device-clause-at_most : goal.returns-in-Err-Device-clause-at_most
 returns-in-Err-Device-clause-at_most g c = contents_within c.args.self c.args.changes.items c.deref.result.now _ _
     c.deref.ensures.value c.in-Err-Device.ensures.cost
-
-pub returns-in-Err-Corrupt-clause-at_most : goal.returns-in-Err-Corrupt-clause-at_most
-returns-in-Err-Corrupt-clause-at_most g c = contents_within c.args.self c.args.changes.items c.deref.result.now _ _
-    c.deref.ensures.value c.in-Err-Corrupt.ensures.cost

@@ -1,6 +1,6 @@
 use Rattle.std.proofs.Common.{◌∙◌, arith}
-use Rattle.per_run.proofs.Spelled.{same_digits, where_ok}
-use Rattle.per_run.proofs.octets.spell.Goals as goal
+use Rattle.value_text.proofs.Spelled.{same_digits, where_ok}
+use Rattle.value_text.proofs.printing.spell_hex.Goals as goal
 
 pub returns : goal.returns
 returns c = where_ok c.encode_to_slice.result (c.encode_to_slice.ensures.fits.1 c.requires)
