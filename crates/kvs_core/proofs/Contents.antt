@@ -6,11 +6,12 @@ use Rattle.std.proofs.lemmas.Bool.Decides.{nat_tests}
 use Rattle.per_base.specs.declared.elements.Content.{Content}
 use Rattle.per_base.specs.declared.elements.Content.TheVariants.{Good, Bad}
 use Rattle.per_base.specs.declared.elements.Element.{Element}
+use Rattle.per_base.specs.declared.errors.Limit.TheVariants as limit
 use Rattle.per_base.specs.declared.errors.PerError.{PerError}
-use Rattle.per_base.specs.declared.errors.PerError.TheVariants.{IntegrityCorrupted}
+use Rattle.per_base.specs.declared.errors.PerError.TheVariants.{IntegrityCorrupted, LimitReached}
 use Rattle.per_base.specs.declared.errors.Unit.TheVariants.{Part}
 use Rattle.per_base.specs.Maps.{Map, element_at, has, with_element}
-use Rattle.per_base.specs.Refusals.{IsTextRefusal, NeedsMemory}
+use Rattle.per_base.specs.Refusals.{IsRefusal, IsTextRefusal, NeedsMemory}
 use Rattle.value_model.specs.Kinds.{Kind, same_kind}
 use Rattle.value_model.specs.Trees.{Tree, type_of}
 use Rattle.value_code.specs.Reading.{decoded}
@@ -84,11 +85,6 @@ few_without m name full is empty none =
     let less : nat_le 1024 (length m) ≡ false = rw none at here in
     grind (arith, nat_tests, less)
 
-pub has_place : (m : Map) (name : List ℕ) (full : Bool) → full ≡ (not (has m name) && nat_le 1024 (length m))
-    → full ≡ false → with_place m name (Ok m) ≡ Ok m
-has_place m name full is empty = let here : (not (has m name) && nat_le 1024 (length m)) ≡ false =
-    sym is ∙ empty in rw here refl
-
 pub placed_there : (c : StorageData) (m : Map) (name bytes stored : List ℕ) (full : Bool)
     → full ≡ (not (has m name) && nat_le 1024 (length m)) → full ≡ false → stored ≡ bytes
     → with_placed c m name bytes ≡ with_room c (with_element m name (key_of stored))
@@ -96,11 +92,29 @@ placed_there c m name bytes stored full is empty same =
     let here : (not (has m name) && nat_le 1024 (length m)) ≡ false = sym is ∙ empty in
     rw (← same, here) refl
 
-pub takes_place : (c : StorageData) (m : Map) (name : List ℕ) (asked : Kind)
+pub passes_place : (c : StorageData) (m : Map) (name : List ℕ) (asked : Kind) (full : Bool)
+    → full ≡ (not (has m name) && nat_le 1024 (length m)) → full ≡ false
     → ((rest : Result Map PerError) → unless_refused c m name asked rest ≡ rest)
-    → with_place m name (Ok m) ≡ Ok m → NeedsMemory (takes_any c m name asked)
-takes_place c m name asked passes place = subst (λ (due : Result Map PerError). NeedsMemory due)
-    (sym (passes (with_place m name (Ok m)) ∙ place)) tt
+    → (rest : Result Map PerError) → unless_refused c m name asked (with_place m name rest) ≡ rest
+passes_place c m name asked full is empty passes rest =
+    let here : (not (has m name) && nat_le 1024 (length m)) ≡ false = sym is ∙ empty in
+    let place : with_place m name rest ≡ rest = rw here refl in
+    passes (with_place m name rest) ∙ place
+
+pub lacks_place : (c : StorageData) (m : Map) (name : List ℕ) (asked : Kind) (full : Bool)
+    → full ≡ (not (has m name) && nat_le 1024 (length m)) → full ≡ true
+    → ((rest : Result Map PerError) → unless_refused c m name asked rest ≡ rest)
+    → (rest : Result Map PerError)
+    → IsRefusal (unless_refused c m name asked (with_place m name rest)) (LimitReached limit.Elements)
+lacks_place c m name asked full is filled passes rest =
+    let here : (not (has m name) && nat_le 1024 (length m)) ≡ true = sym is ∙ filled in
+    let place : with_place m name rest ≡ Err (LimitReached limit.Elements) = rw here refl in
+    λ other. passes (with_place m name rest) ∙ place
+
+pub takes_place : (c : StorageData) (m : Map) (name : List ℕ) (asked : Kind)
+    → ((rest : Result Map PerError) → unless_refused c m name asked (with_place m name rest) ≡ rest)
+    → NeedsMemory (takes_any c m name asked)
+takes_place c m name asked passes = subst (λ (due : Result Map PerError). NeedsMemory due) (sym (passes (Ok m))) tt
 
 -- what a reset needs memory for, where there is an initial value and a place for it
 pub reset_there : (c : StorageData) (m : Map) (name bytes : List ℕ) (full : Bool) → c.read_only ≡ false

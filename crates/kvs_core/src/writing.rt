@@ -1,9 +1,10 @@
 //! Writing and removing keys.
 
 ghost use Rattle.std.specs.Prelude.{◌≡◌, ◌≢◌, ◌<◌, ◌≤◌, ◌⊎◌, ◌&&◌, nat_le, not, IfErr, IsTrue, None, Ok, OnErr, OnOk};
-ghost use Rattle.std.specs.Prelude.{length};
+ghost use Rattle.std.specs.Prelude.{Result, length};
 ghost use Rattle.per_base.specs.declared.elements.Element.{Element};
-ghost use Rattle.per_base.specs.Maps.{element_at, has, size_of, with_element};
+ghost use Rattle.per_base.specs.declared.errors.PerError.{PerError};
+ghost use Rattle.per_base.specs.Maps.{Map, element_at, has, size_of, with_element};
 ghost use Rattle.per_base.specs.Contents.{is_readable};
 ghost use Rattle.per_base.specs.Refusals.{IsRefusal, NeedsMemory};
 ghost use Rattle.value_model.specs.Encoding.{encoding};
@@ -40,11 +41,40 @@ impl KeySession {
         ensures beside { self.new ≡ record self.old { visible = self.new.visible } }
         ensures unchanged { OnErr result (self.new ≡ self.old) }
     {
-        if let Err(error) = self.check_value(name, &value) {
+        if let Err(error) = self.check_any(name, &value) {
             mem::drop(value);
             return Err(error);
         }
         self.write(name, value)
+    }
+
+    /// Sets a key to a copy of a value, which is made once nothing but a lack of room can refuse it. The key is created
+    /// where the name is not visible.
+    ///
+    /// # Errors
+    ///
+    /// `IllegalWriteAccess` where the storage is read-only; `DataTypeMismatch` where the value's type differs from the
+    /// configured one, or for a key that is not configured from that of its visible readable value; `LimitReached` with
+    /// `Elements` where the name is not visible and 1,024 are; `OutOfStorageSpace` where the visible size would exceed
+    /// the maximum, with both numbers; `OutOfMemory`.
+    #[tactic(auto, using(crate::proofs::Contents::takes_place))]
+    pub fn set_copy(&mut self, name: &Name, value: &Value) -> Result<(), PerError>
+        // The visible map is then what `set_any` makes of it, or the refusal that is due is given.
+        ensures ok { OnOk result (calls.set_any self.old.config self.old.visible name.now value.now
+            ≡ Ok self.new.visible) }
+        ensures refused { IfErr result (λ error. IsRefusal
+            (calls.set_any self.old.config self.old.visible name.now value.now) error) }
+        // Memory runs out where only a lack of room could still refuse it, or for the types in `DataTypeMismatch`.
+        ensures memory { IfErr result (λ error. error ≡ PerError.OutOfMemory
+            → NeedsMemory (calls.takes_any self.old.config self.old.visible name.now (type_of value.now))) }
+        ensures beside { self.new ≡ record self.old { visible = self.new.visible } }
+        ensures unchanged { OnErr result (self.new ≡ self.old) }
+    {
+        self.check_any(name, value)?;
+        match value.copy(self.alloc) {
+            Ok(copy) => self.write(name, copy),
+            Err(_) => Err(PerError::OutOfMemory),
+        }
     }
 
     /// Sets a key to a value of a Rust type. The key is created where the name is not visible.
@@ -121,24 +151,39 @@ impl KeySession {
         Ok(())
     }
 
-    /// Sets a key to a value, unless there are too many keys or it does not fit.
-    #[tactic(auto, using(crate::proofs::Contents::few_without, crate::proofs::Contents::has_place, crate::proofs::Contents::placed_there))]
-    fn write(&mut self, name: &Name, value: Value) -> Result<(), PerError>
-        ensures ok { OnOk result (calls.with_placed self.old.config self.old.visible name.now (encoding value)
-            ≡ Ok self.new.visible) }
-        ensures refused { IfErr result (λ error. IsRefusal
-            (calls.with_placed self.old.config self.old.visible name.now (encoding value)) error) }
+    /// Refuses a value as `check_value` does, and one whose key would be one too many.
+    #[tactic(auto, using(crate::proofs::Contents::few_without, crate::proofs::Contents::passes_place, crate::proofs::Contents::lacks_place))]
+    fn check_any(&self, name: &Name, value: &Value) -> Result<(), PerError>
+        ensures ok { OnOk result ((rest : Result Map PerError)
+            → calls.unless_refused self.now.config self.now.visible name.now (type_of value.now)
+            (calls.with_place self.now.visible name.now rest) ≡ rest) }
+        ensures place { OnOk result (element_at self.now.visible name.now ≡ None → length self.now.visible < KEYS) }
+        ensures refused { IfErr result (λ error. (rest : Result Map PerError)
+            → IsRefusal (calls.unless_refused self.now.config self.now.visible name.now (type_of value.now)
+            (calls.with_place self.now.visible name.now rest)) error) }
         ensures memory { IfErr result (λ error. error ≡ PerError.OutOfMemory
-            → calls.with_place self.old.visible name.now (Ok self.old.visible) ≡ Ok self.old.visible) }
-        ensures beside { self.new ≡ record self.old { visible = self.new.visible } }
-        ensures unchanged { OnErr result (self.new ≡ self.old) }
+            → NeedsMemory (calls.takes_any self.now.config self.now.visible name.now (type_of value.now))) }
     {
+        self.check_value(name, value)?;
         if self.is_full(name) {
-            mem::drop(value);
             return Err(PerError::LimitReached {
                 which: Limit::Elements,
             });
         }
+        Ok(())
+    }
+
+    /// Sets a key to a value, unless it does not fit. The key is visible, or one more is allowed.
+    fn write(&mut self, name: &Name, value: Value) -> Result<(), PerError>
+        requires { element_at self.old.visible name.now ≡ None → length self.old.visible < KEYS }
+        ensures ok { OnOk result (calls.with_room self.old.config
+            (with_element self.old.visible name.now (key_of (encoding value))) ≡ Ok self.new.visible) }
+        ensures refused { IfErr result (λ error. IsRefusal
+            (calls.with_room self.old.config (with_element self.old.visible name.now (key_of (encoding value))))
+            error) }
+        ensures beside { self.new ≡ record self.old { visible = self.new.visible } }
+        ensures unchanged { OnErr result (self.new ≡ self.old) }
+    {
         match StoredValue::new(self.alloc, value) {
             Ok(stored) => self.fit(name, stored),
             Err(_) => Err(PerError::OutOfMemory),

@@ -41,6 +41,32 @@ impl Kvs {
         self.session.set_any(name, value)
     }
 
+    /// Sets a key to a copy of a value, which is made once nothing but a lack of room can refuse it. The key is created
+    /// where the name is not visible.
+    ///
+    /// # Errors
+    ///
+    /// `IllegalWriteAccess` where the storage is read-only; `DataTypeMismatch` where the value's type differs from the
+    /// configured one, or for a key that is not configured from that of its visible readable value; `LimitReached` with
+    /// `Elements` where the name is not visible and 1,024 are; `OutOfStorageSpace` where the visible size would exceed
+    /// the maximum, with both numbers; `OutOfMemory`.
+    pub fn set_copy(&mut self, name: &Name, value: &Value) -> Result<(), PerError>
+        // The visible keys are then those that `set_any` makes, or the refusal that is due is given.
+        ensures ok { OnOk result (calls.set_any (kvs_session self.old).config (kvs_session self.old).visible name.now
+            value.now ≡ Ok (kvs_session self.new).visible) }
+        ensures refused { IfErr result (λ error.
+            IsRefusal (calls.set_any (kvs_session self.old).config (kvs_session self.old).visible name.now value.now)
+            error) }
+        // Memory runs out where only a lack of room could still refuse it, or for the types in `DataTypeMismatch`.
+        ensures memory { IfErr result (λ error. error ≡ PerError.OutOfMemory
+            → NeedsMemory (calls.takes_any (kvs_session self.old).config (kvs_session self.old).visible name.now
+            (type_of value.now))) }
+        ensures beside { self.new ≡ showing self.old (kvs_session self.new).visible }
+        ensures unchanged { OnErr result (self.new ≡ self.old) }
+    {
+        self.session.set_copy(name, value)
+    }
+
     /// Sets a key to a value of a Rust type. The key is created where the name is not visible.
     ///
     /// # Errors
