@@ -1,5 +1,5 @@
 -- What is known of applications, and what may come of each command, as the laws of a run take it.
-use Rattle.std.specs.Prelude.{◌≡◌, ℕ}
+use Rattle.std.specs.Prelude.{◌≡◌, ◌≤◌, ◌+◌, ℕ}
 use Rattle.disk_model.specs.Frame.{Spares, IsSettledOn}
 use Rattle.disk_model.specs.Medium.{Medium, Quiet, EachCase, Elapses}
 use Rattle.disk_model.specs.Place.{IsNoSlot}
@@ -9,6 +9,7 @@ use Rattle.deploy_laws.specs.Stands.{StandsCase, IsLater}
 use Rattle.deploy_laws.specs.Laws.{UntouchedAppLaw, StillAppLaw, OtherApplicationsLaw, OthersCaseLaw, StandsCleanLaw}
 use Rattle.deploy_laws.specs.Laws.{RootMendLaw}
 use Rattle.deploy_rows.specs.Rows.{reopened}
+use Rattle.run_model.specs.Costs.{greatest_cost}
 use Rattle.run_model.specs.Worlds.{Disks, disk_at}
 
 -- the laws of applications that a run relies on
@@ -37,7 +38,7 @@ pub record Calls (a : ℕ) (after : Disks) (old new : Medium) : Type 0 where
   pub elsewhere : Spares (IsNoFileOf a) old.image new.image
 
 -- What the opening of a root promises: the application is the one with its root mended, and at every moment it stands
--- between what it was and any later state.
+-- between what it was and any later state; no more is written than the longest root costs.
 pub record OpensRoot (a : ℕ) (old new : Medium) : Type 0 where
   pub app : app_at new.image a ≡ reopened (app_at old.image a)
   pub any_moment : Quiet old → IsCleanApp a old.image → (after : App) → IsLater (app_at old.image a) after
@@ -46,6 +47,7 @@ pub record OpensRoot (a : ℕ) (old new : Medium) : Type 0 where
   pub elsewhere : Spares (IsNoFileOf a) old.image new.image
   -- and of its own none but slots of the root
   pub slots : Spares (IsNoSlot (root_place a)) old.image new.image
+  pub written : new.written ≤ old.written + greatest_cost
   pub clean : IsCleanApp a old.image → IsCleanApp a new.image
   pub quiet : Quiet new
   pub time : Elapses old new

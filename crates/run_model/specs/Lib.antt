@@ -3,14 +3,17 @@ pub mod Sessions
 pub mod Worlds
 pub mod Calls
 pub mod Steps
+pub mod Costs
 pub mod Lasting
 pub mod Moments
 pub mod Runtimes
 pub mod Lines
 pub mod Turns
+pub mod Writes
 pub mod Bounds
 pub mod Endings
 pub mod Runs
+pub mod WriteLaws
 pub mod AppLaws
 pub mod MomentLaws
 pub mod KeepLaws
@@ -28,6 +31,7 @@ pub mod SamplesDamage
 pub mod SamplesLimits
 pub mod SamplesEndings
 pub mod SamplesManifests
+pub mod SamplesCosts
 pub mod Resting
 pub mod Lives
 pub mod Onward

@@ -1,6 +1,6 @@
 -- A run, command by command: what was said of it before a command is said of it with that command, and at its end all
 -- that is promised follows.
-use Rattle.std.specs.Prelude.{◌≡◌, ◌⊎◌, ℕ, zero, suc, ◌+◌, ◌≤◌, ◌<◌, List, [], ◌∷◌, ◌++◌, length, map, Option, Some}
+use Rattle.std.specs.Prelude.{◌≡◌, ◌⊎◌, ℕ, zero, suc, ◌+◌, ◌<◌, List, [], ◌∷◌, ◌++◌, length, map, Option, Some}
 use Rattle.std.specs.Prelude.{None, Bool, IsTrue, true, false}
 use Rattle.std.specs.List.{AllByRecursion}
 use Rattle.std.proofs.Common.{refl, sym, ap, ap₂, ◌∙◌, subst, le_trans, inl, inr, ⊎_elim, arith}
@@ -88,7 +88,7 @@ pub record Going (rules : List Rule) (answers : Answers) (entry start : World) (
   -- what each command wrote, from the bytes that the start left on
   pub begun : DiskBytes
   pub starts : StartsWithin (bytes_now old) begun
-  pub bounded : AreBounded start begun turns
+  pub bounded : AreBounded rules answers start begun turns
   pub held : bytes_now now ≡ bytes_after begun turns
   pub time : Elapses old now
 
@@ -202,12 +202,13 @@ after_on : (b : DiskBytes) (ts : List Turn) (t : Turn) → bytes_after b (ts ++ 
 after_on b [] t = refl
 after_on b (u ∷ us) t = after_on u.bytes us t
 
-bounded_on : (w : World) (b : DiskBytes) (ts : List Turn) (t : Turn) → AreBounded w b ts
-    → IsBounded (last_of w (worlds_of ts)) t.event
+bounded_on : (rules : List Rule) (answers : Answers) (w : World) (b : DiskBytes) (ts : List Turn) (t : Turn)
+    → AreBounded rules answers w b ts
+    → IsBounded rules answers (last_of w (worlds_of ts)) t.event
     (writes_none (last_of w (worlds_of ts)) t.event t.reply) (bytes_after b ts) t.bytes
-    → AreBounded w b (ts ++ t ∷ [])
-bounded_on w b [] t are is = (is, tt)
-bounded_on w b (u ∷ us) t are is = (are.0, bounded_on u.world u.bytes us t are.1 is)
+    → AreBounded rules answers w b (ts ++ t ∷ [])
+bounded_on rules answers w b [] t are is = (is, tt)
+bounded_on rules answers w b (u ∷ us) t are is = (are.0, bounded_on rules answers u.world u.bytes us t are.1 is)
 
 same_bytes : (old new : Medium) → IsUnwritten old new → bytes_now new ≡ bytes_now old
 same_bytes old new is = ap₂ (λ (i : Image) (n : ℕ). record { image = i; written = n }) is.0 is.1
@@ -218,17 +219,20 @@ module _ (rules : List Rule) (answers : Answers) (entry start : World) (calm : s
       (old now new : Medium) → Elapses now new
       → (going : Going rules answers entry start turns memory doubt old now)
       → Stepped rules answers e reply memory memory' doubt now new
-      → IsBounded (last_of start (worlds_of turns)) e (writes_none (last_of start (worlds_of turns)) e reply)
+      → IsBounded rules answers (last_of start (worlds_of turns)) e
+      (writes_none (last_of start (worlds_of turns)) e reply)
       (bytes_after going.begun turns) (bytes_now new)
   bounded_here turns e reply memory memory' doubt old now new time going s =
-      subst (λ (w : World). IsBounded w e (writes_none w e reply) (bytes_after going.begun turns) (bytes_now new))
+      subst (λ (w : World). IsBounded rules answers w e (writes_none w e reply) (bytes_after going.begun turns)
+      (bytes_now new))
       (sym going.last)
-      (subst (λ (b : DiskBytes). IsBounded (world_of now.image memory doubt) e
+      (subst (λ (b : DiskBytes). IsBounded rules answers (world_of now.image memory doubt) e
       (writes_none (world_of now.image memory doubt) e reply) b (bytes_now new)) going.held (record {
         elsewhere = s.aside.elsewhere;
         place = s.place;
         unwritten = λ none. same_bytes now new (s.unwritten none);
         written = s.written;
+        within = s.within;
         later = time.written;
       }))
 
@@ -236,15 +240,17 @@ module _ (rules : List Rule) (answers : Answers) (entry start : World) (calm : s
   begun_here : (turns : List Turn) (e : Event) (memory : Memory) (doubt : Option Doubt) (old now new : Medium)
       → Elapses now new → (going : Going rules answers entry start turns memory doubt old now)
       → Stopped rules answers e memory doubt now new
-      → IsBegunWithin (last_of start (worlds_of turns)) e (bytes_after going.begun turns) (bytes_now new)
+      → IsBegunWithin rules answers (last_of start (worlds_of turns)) e (bytes_after going.begun turns) (bytes_now new)
   begun_here turns e memory doubt old now new time going s =
-      subst (λ (w : World). IsBegunWithin w e (bytes_after going.begun turns) (bytes_now new)) (sym going.last)
-      (subst (λ (b : DiskBytes). IsBegunWithin (world_of now.image memory doubt) e b (bytes_now new))
+      subst (λ (w : World). IsBegunWithin rules answers w e (bytes_after going.begun turns) (bytes_now new))
+      (sym going.last)
+      (subst (λ (b : DiskBytes). IsBegunWithin rules answers (world_of now.image memory doubt) e b (bytes_now new))
       going.held (record {
         elsewhere = s.aside.elsewhere;
         place = s.place;
         unwritten = λ none. same_bytes now new (s.unwritten none);
         written = s.written;
+        within = s.within;
         later = time.written;
       }))
 
@@ -302,7 +308,7 @@ module _ (rules : List Rule) (answers : Answers) (entry start : World) (calm : s
             (going.stayed app lt clean (sound_front app (worlds_of turns) w' sound')));
         begun = going.begun;
         starts = going.starts;
-        bounded = bounded_on start going.begun turns t going.bounded (bounded_here turns e reply memory memory' doubt
+        bounded = bounded_on rules answers start going.begun turns t going.bounded (bounded_here turns e reply memory memory' doubt
             old now new time going s);
         held = sym (after_on going.begun turns t);
         time = elapses_on going.time time;
@@ -418,7 +424,7 @@ starts_going rules answers memory old new time s = record {
       (start_calm old) (s.keeps.always app lt clean)
       (record { clean = s.clean app lt clean; quiet = λ none. s.quiet });
   begun = bytes_now new;
-  starts = record { roots = s.keeps.roots; later = time.written };
+  starts = record { roots = s.keeps.roots; written = s.keeps.written; later = time.written };
   bounded = tt;
   held = refl;
   time = time;
@@ -449,7 +455,7 @@ start_disk rules answers how before after told old new lawful time open_end keep
   reached = [];
   next = disks (after_start (world_at old.image));
   begun = bytes_now new;
-  starts = record { roots = keeps.roots; later = time.written };
+  starts = record { roots = keeps.roots; written = keeps.written; later = time.written };
   bounded = tt;
   progress = starting open_end refl refl refl refl refl refl;
   clean = λ over. absurd (open_end (has_started how over));

@@ -67,7 +67,7 @@ pub record IsInProgress (rules : List Rule) (answers : Answers) (w : World) (lin
   pub is_next : all ≡ lines ++ text ∷ others
   pub spelled : IsLine text (line.Event event)
   pub leads : Leads rules answers w event next
-  pub bounded : IsBegunWithin w event left now
+  pub bounded : IsBegunWithin rules answers w event left now
 
 -- How far a run came, through the commands that were answered, of the lines `all`: `reached` are the worlds, and `next`
 -- is what was in progress; `before` and `now` are the bytes written, and the disk's bytes were `begun` after the start
@@ -104,7 +104,7 @@ pub record DiskSide (rules : List Rule) (answers : Answers) (ending : Ending) (l
   -- what the start and each command wrote; `begun` are the bytes that the start left, however it ended
   pub begun : DiskBytes
   pub starts : StartsWithin (bytes_now old) begun
-  pub bounded : AreBounded (after_start (world_at old.image)) begun turns
+  pub bounded : AreBounded rules answers (after_start (world_at old.image)) begun turns
   pub progress : Progress rules answers ending (after_start (world_at old.image)) lines all turns before now reached
       next
       begun (bytes_now new)

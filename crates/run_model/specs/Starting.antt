@@ -1,6 +1,6 @@
 -- The start: the roots are opened one after another, and at every moment each application stands between what it was
 -- and itself with its root mended.
-use Rattle.std.specs.Prelude.{◌≡◌, ◌≢◌, ◌⊎◌, ◌<◌, ◌≤◌, ◌+◌, ℕ, zero, suc, map, true, false, nat_lt}
+use Rattle.std.specs.Prelude.{◌≡◌, ◌≢◌, ◌⊎◌, ◌<◌, ◌≤◌, ◌+◌, ◌*◌, ℕ, zero, suc, map, true, false, nat_lt}
 use Rattle.std.proofs.Common.{refl, sym, ap, ◌∙◌, subst, le_refl, inl, inr, ⊎_elim, arith, eq-or-lt_of_le}
 use Rattle.std.proofs.lemmas.Bool.{cases_Bool}
 use Rattle.std.proofs.lemmas.Bool.Decides.{nat_tests}
@@ -15,6 +15,7 @@ use Rattle.deploy_laws.specs.Apps.{App, app_at, IsCleanApp}
 use Rattle.deploy_laws.specs.Stands.{StandsCase, IsLater, same_root}
 use Rattle.deploy_rows.specs.Rows.{reopened}
 use Rattle.run_model.specs.AppLaws.{AppLaws, OpensRoot}
+use Rattle.run_model.specs.Costs.{greatest_cost}
 use Rattle.run_model.specs.Moments.{Between, OrBefore}
 use Rattle.run_model.specs.Runtimes.{IsNoRoot, StartKeeps}
 use Rattle.run_model.specs.Worlds.{Application, disks, disk_at, all_resting, world_at, after_start}
@@ -47,7 +48,8 @@ at_start image b lt = start_disk (app_at image) 0 8 b lt ∙ ap (λ (k : ℕ). r
 
 -- ---- a start that is under way
 
--- the roots below this number are opened, the others are as they were, and each application stood so at every moment
+-- the roots below this number are opened, the others are as they were, and each application stood so at every moment; no
+-- more is written than these roots cost
 pub record OpenedUpTo (count : ℕ) (old now : Medium) : Type 0 where
   pub moments : (b : ℕ) → b < 8 → IsCleanApp b old.image
       → EachCase (OrBefore old (StandsCase b (app_at old.image b) (reopened (app_at old.image b)))) old now
@@ -55,6 +57,7 @@ pub record OpenedUpTo (count : ℕ) (old now : Medium) : Type 0 where
   pub closed : (b : ℕ) → count ≤ b → b < 8 → app_at now.image b ≡ app_at old.image b
   pub clean : (b : ℕ) → b < 8 → IsCleanApp b old.image → IsCleanApp b now.image
   pub roots : Spares IsNoRoot old.image now.image
+  pub written : now.written ≤ old.written + count * greatest_cost
   pub quiet : Quiet now
   pub time : Elapses old now
 
@@ -76,6 +79,11 @@ which a b = ⊎_elim (λ less. inr (λ e. omega (arith, less, e)))
     (λ le. ⊎_elim (λ (e : b ≡ a). inl (sym e)) (λ less. inr (λ e. omega (arith, less, e))) (eq-or-lt_of_le le))
     (below_or a b)
 
+-- what it costs
+one_more_cost : (was mid now count : ℕ) → mid ≤ was + count * greatest_cost → now ≤ mid + greatest_cost
+    → now ≤ was + (count + 1) * greatest_cost
+one_more_cost was mid now count before cost = omega (arith, before, cost)
+
 -- one root more
 pub open_next : AppLaws → (a : ℕ) (old now new : Medium) → a < 8 → OpenedUpTo a old now → OpensRoot a now new
     → OpenedUpTo (a + 1) old new
@@ -88,6 +96,7 @@ open_next laws a old now new lta o r = record {
   closed = λ b above lt. elsewhere b lt (λ e. omega (arith, e, above)) ∙ o.closed b (omega (arith, above)) lt;
   clean = λ b lt clean. clean_on b lt clean (which a b);
   roots = λ f is. r.slots f (is a lta) ∙ o.roots f is;
+  written = one_more_cost old.written now.written new.written a o.written r.written;
   quiet = r.quiet;
   time = elapses_on o.time r.time;
 }
@@ -143,6 +152,7 @@ open_none laws old now time nothing quiet = record {
   closed = λ b above lt. ap (λ (i : Image). app_at i b) nothing.image;
   clean = λ b lt clean. subst (λ i. IsCleanApp b i) (sym nothing.image) clean;
   roots = λ f is. ap (λ (i : Image). i f) nothing.image;
+  written = let same = nothing.written in omega (arith, same);
   quiet = quiet;
   time = time;
 }
@@ -179,15 +189,21 @@ pub keeps_worlds : (old new : Medium) → ((b : ℕ) → b < 8 → IsCleanApp b 
     → EachCase (OrBefore old (StandsCase b (app_at old.image b) (reopened (app_at old.image b)))) old new)
     → OnlyReads old new ⊎ ((b : ℕ) → b < 8 → IsCleanApp b old.image → (c : Case) → new.now c
     → StandsCase b (app_at old.image b) (reopened (app_at old.image b)) c)
-    → Spares IsNoRoot old.image new.image
+    → Spares IsNoRoot old.image new.image → new.written ≤ old.written + 8 * greatest_cost
     → StartKeeps old new
-keeps_worlds old new moments exit roots = record {
+keeps_worlds old new moments exit roots cost = record {
   always = λ b lt clean c s. ⊎_elim (λ before. inl before) (λ stands. inr (between_worlds old.image b lt c stands))
       (moments b lt clean c s);
   at_exit = ⊎_elim (λ reads. inl reads)
       (λ each. inr (λ b lt clean c at. between_worlds old.image b lt c (each b lt clean c at))) exit;
   roots = roots;
+  written = cost;
 }
 
-pub opened_keeps : AppLaws → (count : ℕ) (old now : Medium) → OpenedUpTo count old now → StartKeeps old now
-opened_keeps laws count old now o = keeps_worlds old now o.moments (inr (opened_rests laws count old now o)) o.roots
+-- what so many roots cost, all eight cost too
+pub some_cost : (was now count : ℕ) → count ≤ 8 → now ≤ was + count * greatest_cost → now ≤ was + 8 * greatest_cost
+some_cost was now count few cost = omega (arith, few, cost)
+
+pub opened_keeps : AppLaws → (count : ℕ) (old now : Medium) → count ≤ 8 → OpenedUpTo count old now → StartKeeps old now
+opened_keeps laws count old now few o = keeps_worlds old now o.moments (inr (opened_rests laws count old now o)) o.roots
+    (some_cost old.written now.written count few o.written)

@@ -1,3 +1,4 @@
+use Rattle.std.proofs.Common.{arith}
 use Rattle.run_model.specs.Starting.{open_next, open_none, opened_keeps}
 use Rattle.run_model.proofs.laws.a_start_keeps.Goals as goal
 
@@ -12,4 +13,4 @@ returns-clause-one g c a less opened opens = open_next c.applications_stand.ensu
 
 pub returns-clause-all : goal.returns-clause-all
 returns-clause-all g c opened = opened_keeps c.applications_stand.ensures 8 (g.D.Disk.medium c.args.old.now)
-    (g.D.Disk.medium c.args.new.now) opened
+    (g.D.Disk.medium c.args.new.now) (omega arith) opened

@@ -1,0 +1,159 @@
+-- What is known of the bound on a command: one that writes nothing keeps it, one that names a storage where it stays in
+-- that storage's place, and one whose root was opened first.
+use Rattle.std.specs.Prelude.{◌≡◌, ◌≤◌, ℕ, ◌+◌, List, Option, Some, None, Ok}
+use Rattle.std.proofs.Common.{refl, sym, ap, ◌∙◌, subst, le_trans, inl, inr, arith}
+use Rattle.disk_model.specs.Frame.{Spares}
+use Rattle.disk_model.specs.Image.{Image}
+use Rattle.disk_model.specs.Place.{IsNoSlot}
+use Rattle.migrate_fns.specs.Rules.{Rule, Answers}
+use Rattle.command_text.specs.declared.calls.Call.{Call}
+use Rattle.command_text.specs.declared.calls.Call.TheVariants as call
+use Rattle.command_text.specs.declared.calls.Event.{Event}
+use Rattle.command_text.specs.declared.calls.Event.TheVariants as event
+use Rattle.deploy_laws.specs.Apps.{App}
+use Rattle.deploy_laws.specs.Places.{IsBeside, root_place}
+use Rattle.deploy_rows.specs.Rows.{offered, reopened}
+use Rattle.run_model.specs.Costs.{greatest_cost, update_cost}
+use Rattle.run_model.specs.Found.{FoundStorage}
+use Rattle.run_model.specs.Steps.{device_storage, found_named}
+use Rattle.run_model.specs.Turns.{DiskBytes}
+use Rattle.run_model.specs.Worlds.{Application, Sessions, Stage, World, app_of, at_rest, to_open}
+use Rattle.run_model.specs.Writes.{CostsCall, IsBesidePlaces, IsCallWithin, IsCommandWithin}
+use Rattle.run_model.specs.Writes.{opening_cost}
+
+none_some : {A : Type 0} (x : Option A) (a : A) → x ≡ None → x ≡ Some a → ⊥
+none_some x a none some = cc
+
+-- ---- what is within any bound
+
+-- more is allowed than nothing
+allowed : (before after cost : ℕ) → after ≤ before → after ≤ before + cost
+allowed before after cost le = omega (arith, le)
+
+module _ (rules : List Rule) (answers : Answers) (now : ℕ) (r : Application) where
+  -- where nothing is written
+  pub costs_nothing : (c : Call) (before after : ℕ) → after ≤ before → CostsCall rules answers now r c before after
+  costs_nothing (call.Install text) before after le = allowed before after _ le
+  costs_nothing (call.Update text) before after le = inl le
+  costs_nothing call.UpdateNext before after le = allowed before after _ le
+  costs_nothing call.UpdateCommit before after le = allowed before after _ le
+  costs_nothing call.Finish before after le = allowed before after _ le
+  costs_nothing call.Rollback before after le = allowed before after _ le
+  costs_nothing call.Wipe before after le = allowed before after _ le
+  costs_nothing other before after le = λ none. le
+
+  -- of a call that names a storage nothing is said
+  pub costs_unsaid : (c : Call) (name : List ℕ) → device_storage c ≡ Some name → (before after : ℕ)
+      → CostsCall rules answers now r c before after
+  costs_unsaid (call.Install text) name some before after = absurd cc
+  costs_unsaid (call.Update text) name some before after = absurd cc
+  costs_unsaid call.UpdateNext name some before after = absurd cc
+  costs_unsaid call.UpdateCommit name some before after = absurd cc
+  costs_unsaid call.Finish name some before after = absurd cc
+  costs_unsaid call.Rollback name some before after = absurd cc
+  costs_unsaid call.Wipe name some before after = absurd cc
+  costs_unsaid other name some before after = λ none. absurd (none_some (device_storage other) name none some)
+
+  -- and only the place of that storage is touched
+  pub files_named : (app : ℕ) (c : Call) (name : List ℕ) → device_storage c ≡ Some name → (old new : Image)
+      → ((f : FoundStorage) → found_named r c ≡ Some (Ok f) → Spares (IsBeside app f.bank f.number) old new)
+      → (file : ℕ) → IsBesidePlaces app r c file → new file ≡ old file
+  files_named app (call.Install text) name some old new place file is = absurd cc
+  files_named app (call.Update text) name some old new place file is = absurd cc
+  files_named app call.UpdateNext name some old new place file is = absurd cc
+  files_named app call.UpdateCommit name some old new place file is = absurd cc
+  files_named app other name some old new place file (inl none) =
+      absurd (none_some (device_storage other) name none some)
+  files_named app other name some old new place file (inr found) = place found.0 found.1 file found.2
+
+-- where the image is the same, and no more is written
+pub call_unwritten : (rules : List Rule) (answers : Answers) (app now : ℕ) (r : Application) (c : Call)
+    (old new : DiskBytes) → new.image ≡ old.image → new.written ≡ old.written
+    → IsCallWithin rules answers app now r c old new
+call_unwritten rules answers app now r c old new image written = record {
+  costs = costs_nothing rules answers now r c (old.written + opening_cost r.stage) new.written
+      (omega (arith, written));
+  files = λ file beside. ap (λ (i : Image). i file) image;
+}
+
+-- of a call that names a storage
+pub call_named : (rules : List Rule) (answers : Answers) (app now : ℕ) (r : Application) (c : Call) (name : List ℕ)
+    (old new : DiskBytes) → device_storage c ≡ Some name
+    → ((f : FoundStorage) → found_named r c ≡ Some (Ok f)
+    → Spares (IsBeside app f.bank f.number) old.image new.image)
+    → IsCallWithin rules answers app now r c old new
+call_named rules answers app now r c name old new some place = record {
+  costs = costs_unsaid rules answers now r c name some (old.written + opening_cost r.stage) new.written;
+  files = λ file beside. files_named rules answers now r app c name some old.image new.image place file beside.1;
+}
+
+pub command_unwritten : (rules : List Rule) (answers : Answers) (w : World) (e : Event) (old new : DiskBytes)
+    → new.image ≡ old.image → new.written ≡ old.written → IsCommandWithin rules answers w e old new
+command_unwritten rules answers w (event.Now t) old new image written = tt
+command_unwritten rules answers w (event.App app c) old new image written =
+    call_unwritten rules answers app w.now (app_of w app) c old new image written
+
+-- ---- a root that is opened first
+
+-- more is allowed where more was written before
+raised : (before before' after cost : ℕ) → before ≤ before' → after ≤ before + cost → after ≤ before' + cost
+raised before before' after cost more le = omega (arith, more, le)
+
+module _ (a : App) (sessions : Sessions) where
+  -- before it is opened
+  abbrev marked : Application
+  marked = record { disk = a; stage = to_open; sessions = sessions }
+
+  -- and after it: what it says is the same
+  abbrev opened : Application
+  opened = record { disk = reopened a; stage = at_rest; sessions = sessions }
+
+  costs_marked : (rules : List Rule) (answers : Answers) (now : ℕ) (c : Call) (before before' after : ℕ)
+      → before ≤ before' → CostsCall rules answers now opened c before after
+      → CostsCall rules answers now marked c before' after
+  unfolding offered
+  costs_marked rules answers now (call.Install text) before before' after more le = raised before before' after _ more
+      le
+  costs_marked rules answers now (call.Update text) before before' after more (inl le) = inl (le_trans le more)
+  costs_marked rules answers now (call.Update text) before before' after more (inr of) =
+      inr (of.0, of.1, raised before before' after (update_cost text of.0) more of.2)
+  costs_marked rules answers now call.UpdateNext before before' after more le = raised before before' after _ more le
+  costs_marked rules answers now call.UpdateCommit before before' after more le = raised before before' after _ more le
+  costs_marked rules answers now call.Finish before before' after more le = raised before before' after _ more le
+  costs_marked rules answers now call.Rollback before before' after more le = raised before before' after _ more le
+  costs_marked rules answers now call.Wipe before before' after more le = raised before before' after _ more le
+  costs_marked rules answers now other before before' after more le = λ none. le_trans (le none) more
+
+  beside_marked : (app : ℕ) (c : Call) (file : ℕ) → IsBesidePlaces app marked c file → IsBesidePlaces app opened c file
+  beside_marked app (call.Install text) file beside = beside
+  beside_marked app (call.Update text) file beside = beside
+  beside_marked app call.UpdateNext file beside = beside
+  beside_marked app call.UpdateCommit file beside = beside
+  beside_marked app other file beside = beside
+
+  call_marked : (rules : List Rule) (answers : Answers) (app now : ℕ) (c : Call) (old mid new : DiskBytes)
+      → Spares (IsNoSlot (root_place app)) old.image mid.image → mid.written ≤ old.written + greatest_cost
+      → IsCallWithin rules answers app now opened c mid new → IsCallWithin rules answers app now marked c old new
+  call_marked rules answers app now c old mid new slots cost within = record {
+    costs = costs_marked rules answers now c (mid.written + 0) (old.written + greatest_cost) new.written
+        (omega (arith, cost)) within.costs;
+    files = λ file beside. within.files file (beside.0, beside_marked app c file beside.1) ∙ slots file beside.0;
+  }
+
+-- A call over an opened root, and before it the opening, which changed slots of the root alone.
+pub call_behind : (rules : List Rule) (answers : Answers) (app now : ℕ) (r : Application) (c : Call)
+    (old mid new : DiskBytes) → r.stage ≡ to_open → Spares (IsNoSlot (root_place app)) old.image mid.image
+    → mid.written ≤ old.written + greatest_cost
+    → IsCallWithin rules answers app now (record r { disk = reopened r.disk; stage = at_rest }) c mid new
+    → IsCallWithin rules answers app now r c old new
+call_behind rules answers app now r c old mid new marked_is slots cost within =
+    subst (λ (s : Stage). IsCallWithin rules answers app now (record r { stage = s }) c old new) (sym marked_is)
+    (call_marked r.disk r.sessions rules answers app now c old mid new slots cost within)
+
+-- and the opening alone, where the call did nothing
+pub call_unbegun : (rules : List Rule) (answers : Answers) (app now : ℕ) (r : Application) (c : Call)
+    (old new : DiskBytes) → r.stage ≡ to_open → Spares (IsNoSlot (root_place app)) old.image new.image
+    → new.written ≤ old.written + greatest_cost → IsCallWithin rules answers app now r c old new
+call_unbegun rules answers app now r c old new marked_is slots cost =
+    call_behind rules answers app now r c old new new marked_is slots cost
+    (call_unwritten rules answers app now (record r { disk = reopened r.disk; stage = at_rest }) c new new refl refl)

@@ -1,0 +1,99 @@
+-- What a command writes at most: how many bytes, where it names no storage, and into which files.
+use Rattle.std.specs.Prelude.{◌≡◌, ◌≤◌, ◌⊎◌, ℕ, ◌+◌, ◌-◌, List, [], drop, take, cond, Option, Some, None, Ok, ⊤}
+use Rattle.std.specs.List.{AllByRecursion}
+use Rattle.disk_model.specs.Frame.{Spares}
+use Rattle.disk_model.specs.Place.{IsNoSlot, IsOutside}
+use Rattle.element_state.specs.declared.shapes.Shape.{Shape}
+use Rattle.migrate_fns.specs.Rules.{Rule, Answers}
+use Rattle.command_text.specs.declared.calls.Call.{Call}
+use Rattle.command_text.specs.declared.calls.Call.TheVariants as call
+use Rattle.command_text.specs.declared.calls.Event.{Event}
+use Rattle.command_text.specs.declared.calls.Event.TheVariants as event
+use Rattle.deploy_laws.specs.Apps.{Says, nothing, absent, installed}
+use Rattle.deploy_laws.specs.Places.{IsBeside, root_place, shapes_from}
+use Rattle.deploy_rows.specs.Rows.{BeginsUpdate, InProgress}
+use Rattle.run_model.specs.Calls.{least_open}
+use Rattle.run_model.specs.Costs.{format_cost, greatest_cost, install_cost, lone_cost, longest_manifest, next_cost}
+use Rattle.run_model.specs.Costs.{storages_said, unmade_cost, update_cost}
+use Rattle.run_model.specs.Found.{FoundStorage}
+use Rattle.run_model.specs.Steps.{device_storage, found_named}
+use Rattle.run_model.specs.Turns.{DiskBytes}
+use Rattle.run_model.specs.Worlds.{Application, Stage, World, app_of, is_to_open, update_in}
+
+-- ---- bytes
+
+-- an update writes nothing, or no more than it costs with the contents that it may begin with
+abbrev pub CostsUpdate : List Rule → Answers → (now : ℕ) → Application → List ℕ → (before after : ℕ) → Type 0
+CostsUpdate rules answers now r manifest before after = (after ≤ before)
+    ⊎ ((p : InProgress) × BeginsUpdate rules answers now (least_open r) manifest r.disk (Ok p)
+    × (after ≤ before + update_cost manifest p))
+
+-- The most that a call writes at the moment `now`, of an application whose root is open, where it names no storage: the
+-- storages that it makes, and one root. A call that makes none and leaves the root as it is writes nothing.
+abbrev pub CostsCall : List Rule → Answers → (now : ℕ) → Application → Call → (before after : ℕ) → Type 0
+CostsCall rules answers now r (call.Install manifest) before after = after ≤ before + install_cost now manifest
+CostsCall rules answers now r (call.Update manifest) before after =
+    CostsUpdate rules answers now r manifest before after
+CostsCall rules answers now r call.UpdateNext before after = after ≤ before + next_cost (update_in r.stage)
+CostsCall rules answers now r call.UpdateCommit before after =
+    after ≤ before + (unmade_cost (update_in r.stage) + greatest_cost)
+CostsCall rules answers now r call.Finish before after = after ≤ before + lone_cost longest_manifest
+CostsCall rules answers now r call.Rollback before after = after ≤ before + lone_cost longest_manifest
+CostsCall rules answers now r call.Wipe before after = after ≤ before + format_cost
+CostsCall rules answers now r other before after = device_storage other ≡ None → after ≤ before
+
+-- what the opening of the root before a call costs, where it is to be opened
+abbrev pub opening_cost : Stage → ℕ
+opening_cost stage = cond (is_to_open stage) greatest_cost 0
+
+-- ---- files
+
+-- the file is in the place of none of these storages: no slot and no area of one
+abbrev pub IsInNone : List Shape → ℕ → Type 0
+IsInNone shapes file = AllByRecursion (λ (shape : Shape). IsOutside shape.place file) shapes
+
+-- the bank in which the next version is made
+abbrev pub next_bank : Says → ℕ
+next_bank nothing = 0
+next_bank (absent g) = 0
+next_bank (installed g active previous) = 1 - active.bank
+
+-- where the storages of an update in progress go that are not made yet, in this bank
+abbrev pub unmade_shapes : (app bank : ℕ) → Option InProgress → List Shape
+unmade_shapes app bank None = []
+unmade_shapes app bank (Some p) = drop p.built (shapes_from app bank 0 p.deployment.storages)
+
+-- the call names no storage, or the file is none of those of the storage that it names
+abbrev pub IsBesideFound : (app : ℕ) → Application → Call → ℕ → Type 0
+IsBesideFound app r c file = (device_storage c ≡ None)
+    ⊎ ((f : FoundStorage) × (found_named r c ≡ Some (Ok f)) × IsBeside app f.bank f.number file)
+
+-- the file is in no place of a storage that the call makes or names
+abbrev pub IsBesidePlaces : (app : ℕ) → Application → Call → ℕ → Type 0
+IsBesidePlaces app r (call.Install manifest) file = IsInNone (shapes_from app 0 0 (storages_said manifest)) file
+IsBesidePlaces app r (call.Update manifest) file =
+    IsInNone (shapes_from app (next_bank r.disk.says) 0 (storages_said manifest)) file
+IsBesidePlaces app r call.UpdateNext file =
+    IsInNone (take 1 (unmade_shapes app (next_bank r.disk.says) (update_in r.stage))) file
+IsBesidePlaces app r call.UpdateCommit file =
+    IsInNone (unmade_shapes app (next_bank r.disk.says) (update_in r.stage)) file
+IsBesidePlaces app r other file = IsBesideFound app r other file
+
+-- the file is no slot of the root, and in no place of a storage that the call makes or names
+abbrev pub IsBesideCall : (app : ℕ) → Application → Call → ℕ → Type 0
+IsBesideCall app r c file = IsNoSlot (root_place app) file × IsBesidePlaces app r c file
+
+-- ---- both
+
+-- What a call on application `r` wrote, and which files it may have changed, also where its root was opened first: the
+-- root may then have been written once for that.
+pub record IsCallWithin (rules : List Rule) (answers : Answers) (app now : ℕ) (r : Application) (c : Call)
+    (old new : DiskBytes) : Type 0 where
+  pub costs : CostsCall rules answers now r c (old.written + opening_cost r.stage) new.written
+  pub files : Spares (IsBesideCall app r c) old.image new.image
+
+-- the same of a command
+abbrev pub IsCommandWithin : List Rule → Answers → World → Event → (old new : DiskBytes) → Type 0
+IsCommandWithin rules answers w (event.Now t) old new = ⊤
+IsCommandWithin rules answers w (event.App app c) old new =
+    IsCallWithin rules answers app w.now (app_of w app) c old new
