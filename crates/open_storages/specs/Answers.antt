@@ -1,6 +1,7 @@
 -- How a call on an open storage is answered.
-use Rattle.std.specs.Prelude.{◌≡◌, ◌⊎◌, ℕ, Bool, true, false, IsTrue, Result, Ok, Err}
+use Rattle.std.specs.Prelude.{◌≡◌, ◌⊎◌, ⊤, ℕ, Bool, true, false, Result, Ok, Err}
 use Rattle.per_base.specs.declared.errors.PerError.{PerError}
+use Rattle.per_base.specs.declared.errors.PerError.TheVariants.{OutOfStorageSpace}
 use Rattle.per_base.specs.Refusals.{IsRefusal, NeedsMemory}
 use Rattle.deployment_model.specs.Data.{StorageData}
 use Rattle.command_text.specs.declared.calls.Call.{Call}
@@ -17,14 +18,19 @@ abbrev pub IsAnsweredAsRow : {S : Type 0} → (row : Result (Answer × S) PerErr
 IsAnsweredAsRow row old new (Ok answer) = (row ≡ Ok (answer, new)) × HasText answer
 IsAnsweredAsRow row old new (Err error) = IsRefusal row error × (new ≡ old)
 
--- a key is set, to a copy of the value, which is made before the storage is asked
-abbrev pub sets_key : Call → Bool
-sets_key (call.Set n k x) = true
-sets_key other = false
+-- a value that is set does not fit, which is known once it was copied and encoded
+abbrev pub IsForRoom : Call → PerError → Type 0
+IsForRoom (call.Set n k x) (OutOfStorageSpace needed allowed) = ⊤
+IsForRoom other error = ⊥
 
--- memory may run out for a call: it is not refused, or with names or texts, or it copies a value first
+-- a set is refused for its room
+abbrev pub LacksRoom : {A : Type 0} → Call → (row : Result A PerError) → Type 0
+LacksRoom c (Ok answer) = ⊥
+LacksRoom c (Err error) = IsForRoom c error
+
+-- memory may run out for a call: it is not refused, or with names or texts, or for the room of a value that is set
 abbrev pub SessionNeedsMemory : StorageData → (now : ℕ) → Session → Call → Type 0
-SessionNeedsMemory c now s l = IsTrue (sets_key l) ⊎ NeedsMemory (in_session c now s l)
+SessionNeedsMemory c now s l = NeedsMemory (in_session c now s l) ⊎ LacksRoom l (in_session c now s l)
 
 -- ---- the calls on files, in three groups
 

@@ -23,7 +23,7 @@ impl Open {
     ///
     /// Those of the call, in their order, and then nothing changes; `StorageNotFound` for every call that does not come
     /// to an open storage of this kind; `OutOfMemory`, but never in the place of a refusal without names or texts, save
-    /// where a key is set.
+    /// that a value that is set does not fit.
     #[tactic(auto, using(crate::proofs::Rows::answered_ok, crate::proofs::Rows::answered_refused))]
     pub fn call(&mut self, alloc: Global, now: u64, call: &Call) -> Result<Answer, PerError>
         // The row `in_session` gives the answer and the session then; a refusal is the row's, or `OutOfMemory` where

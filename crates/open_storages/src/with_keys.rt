@@ -1,11 +1,11 @@
 //! The calls on keys.
 
-ghost use Rattle.std.specs.Prelude.{◌≡◌, ◌⊎◌, IfErr, IfOk, IsTrue, OnErr, OnOk, Ok};
+ghost use Rattle.std.specs.Prelude.{◌≡◌, ◌⊎◌, IfErr, IfOk, Ok};
 ghost use Rattle.per_base.specs.Refusals.{IsRefusal, NeedsMemory};
 ghost use Rattle.kvs_core.specs.Calls as calls;
 ghost use Rattle.kvs_store.specs.Storages.{kvs_session, showing};
 ghost use Rattle.run_model.specs.Sessions.{on_keys};
-ghost use Rattle.open_storages.specs.Answers.{IsAnsweredAsRow, sets_key};
+ghost use Rattle.open_storages.specs.Answers.{IsAnsweredAsRow, LacksRoom};
 ghost use Rattle.open_storages.specs.Opens.{keys_of};
 
 use command_text::{Answer, AskedType, Call};
@@ -19,8 +19,9 @@ use value_model::Value;
 pub(crate) fn answer_keys(kvs: &mut Kvs, alloc: Global, call: &Call) -> Result<Answer, PerError>
     ensures answered { IsAnsweredAsRow (on_keys kvs.old.config (keys_of kvs.old) call.now) (keys_of kvs.old)
         (keys_of kvs.new) result }
-    ensures memory { IfErr result (λ error. error ≡ PerError.OutOfMemory → IsTrue (sets_key call.now)
-        ⊎ NeedsMemory (on_keys kvs.old.config (keys_of kvs.old) call.now)) }
+    ensures memory { IfErr result (λ error. error ≡ PerError.OutOfMemory
+        → NeedsMemory (on_keys kvs.old.config (keys_of kvs.old) call.now)
+        ⊎ LacksRoom call.now (on_keys kvs.old.config (keys_of kvs.old) call.now)) }
     ensures beside { kvs.new ≡ showing kvs.old kvs.new.session.visible }
 {
     match call {
@@ -30,7 +31,7 @@ pub(crate) fn answer_keys(kvs: &mut Kvs, alloc: Global, call: &Call) -> Result<A
         Call::Get(_, key) => Ok(Answer::Val(value_of(kvs, alloc, key)?)),
         Call::GetAs(_, key, asked) => Ok(Answer::Val(value_as(kvs, alloc, key, asked)?)),
         Call::Set(_, key, value) => {
-            set(kvs, alloc, key, value)?;
+            kvs.set_copy(key, value)?;
             Ok(Answer::Done)
         }
         Call::Remove(_, key) => {
@@ -78,19 +79,6 @@ fn value_as(kvs: &Kvs, alloc: Global, key: &Name, asked: &AskedType) -> Result<V
         → NeedsMemory (calls.get_as kvs.now.config kvs.now.session.visible key.now asked.now)) }
 {
     copy_of(alloc, kvs.get_as(key, asked.value_type())?)
-}
-
-/// Makes a copy of a value visible under a name.
-fn set(kvs: &mut Kvs, alloc: Global, key: &Name, value: &Value) -> Result<(), PerError>
-    ensures ok { OnOk result (calls.set_any kvs.old.config kvs.old.session.visible key.now value.now
-        ≡ Ok kvs.new.session.visible) }
-    ensures refused { IfErr result (λ error. IsRefusal (calls.set_any kvs.old.config kvs.old.session.visible key.now
-        value.now) error) }
-    ensures beside { kvs.new ≡ showing kvs.old kvs.new.session.visible }
-    ensures unchanged { OnErr result (kvs.new ≡ kvs.old) }
-{
-    let copy = copy_of(alloc, value)?;
-    kvs.set_any(key, copy)
 }
 
 fn copy_of(alloc: Global, value: &Value) -> Result<Value, PerError>
