@@ -1,14 +1,11 @@
 -- When a call of an application may need memory. Every other call is answered also where no memory is left.
-use Rattle.std.specs.Prelude.{◌⊎◌, ℕ, Some, IsTrue, is_ok}
-use Rattle.per_base.specs.declared.elements.StoreKind.TheVariants as kinds
+use Rattle.std.specs.Prelude.{◌⊎◌, ℕ, IsTrue}
 use Rattle.per_base.specs.Refusals.{NeedsMemory}
 use Rattle.command_text.specs.declared.calls.Call.{Call}
-use Rattle.command_text.specs.declared.calls.Call.TheVariants as call
-use Rattle.deploy_rows.specs.Rows.{◌>>=◌}
-use Rattle.run_model.specs.Calls.{app_step, opened_session}
-use Rattle.run_model.specs.Found.{storage_in}
+use Rattle.run_model.specs.Calls.{app_step}
 use Rattle.run_model.specs.Steps.{reaches_device}
 use Rattle.run_model.specs.Worlds.{Application}
+use Rattle.open_storages.specs.Answers.{LacksRoom}
 
 -- the call gets past the refusals that are known without the device, and reads what is on it
 abbrev pub NeedsReading : (app now : ℕ) → Call → (before : Application) → Type 0
@@ -18,13 +15,7 @@ NeedsReading app now c before = IsTrue (reaches_device app before now c)
 abbrev pub RowNeedsMemory : (app now : ℕ) → Call → (before : Application) → Type 0
 RowNeedsMemory app now c before = NeedsMemory (app_step app before now c)
 
--- it sets a key of an open storage: the value is copied before the storage is asked
-abbrev pub CopiesValue : Call → (before : Application) → Type 0
-CopiesValue (call.Set n k x) before = IsTrue (is_ok (storage_in before.disk n (Some kinds.Keys)
-    >>= opened_session before))
-CopiesValue other before = ⊥
-
 -- memory may run out for a call that names a storage
 abbrev pub CallNeedsMemory : (app now : ℕ) → Call → (before : Application) → Type 0
 CallNeedsMemory app now c before = NeedsReading app now c before
-    ⊎ (RowNeedsMemory app now c before ⊎ CopiesValue c before)
+    ⊎ (RowNeedsMemory app now c before ⊎ LacksRoom c (app_step app before now c))
