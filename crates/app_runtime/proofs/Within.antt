@@ -110,7 +110,7 @@ module _ (short : IsShortLaw) (app : ℕ) where
       let few : length s.version.text ≤ 65536 =
       short s.version.text (deployment_data s.version.deployment) is.offers.said in
       let both : root_cost (s.version.text ∷ s.root.active.text ∷ previous_texts s.root.previous)
-          ≤ pair_cost (length s.version.text) longest_manifest =
+      ≤ pair_cost (length s.version.text) longest_manifest =
       beside_most s.version.text s.root.active.text s.root.previous is.no_previous
       (short s.root.active.text (deployment_data s.root.active.deployment) is.root.1.active.said) in
       omega (arith, few, both)
