@@ -176,7 +176,7 @@ module _ (told : Bool) (rules : List Rule) (answers : Answers) (now : ℕ) (text
           p,
           begins_there tells begun.0 (Ok p) (begun.2 tells) begun.3,
           (let le : new.written ≤ old.written + opening_cost r.stage + update_cost text p =
-          omega (arith, most, same, cost) in le),
+              omega (arith, most, same, cost) in le),
         )
 
     bank_is : next_bank r.disk.says ≡ free_bank root

@@ -1,16 +1,13 @@
 -- What a call of a deployment writes at most, by what `deploy` promises of its bytes and of its files.
 use Rattle.std.proofs.Common.{◌≡◌, ◌≤◌, ◌+◌, ℕ, List, [], ◌∷◌, length, take, drop, Bool, IsTrue, Option, Some, None}
-use Rattle.std.proofs.Common.{Result, Ok, Err, refl, sym, ap, ◌∙◌, subst, arith, inl, inr, true≢false}
-use Rattle.std.specs.Prelude.{option_map}
+use Rattle.std.proofs.Common.{Result, Ok, Err, refl, sym, ap, subst, arith}
 use Rattle.per_base.specs.declared.elements.Fresh.{Fresh}
 use Rattle.per_base.specs.declared.errors.PerError.{PerError}
 use Rattle.disk_model.specs.Medium.{Medium}
 use Rattle.deployment_model.specs.Data.{DeploymentData, StorageData, deployment_data}
 use Rattle.manifest.specs.Reading.{deployment_in}
 use Rattle.migrate_fns.specs.Rules.{Answers, Rule}
-use Rattle.root_text.specs.Views.{version_said}
 use Rattle.root_text.specs.declared.versions.VersionText.{VersionText}
-use Rattle.command_text.specs.declared.calls.Call.{Call}
 use Rattle.command_text.specs.declared.calls.Call.TheVariants as call
 use Rattle.deploy.specs.declared.roots.Installed as parts
 use Rattle.deploy.specs.declared.roots.Root.{Root}
@@ -23,7 +20,6 @@ use Rattle.deploy.specs.Making as making
 use Rattle.deploy.specs.Roots.{IfKept, IsRootOf, free_bank, previous_texts, root_says, root_texts}
 use Rattle.deploy.specs.Written.{WritesRoot, root_cost}
 use Rattle.deploy.specs.Written as making_roots
-use Rattle.deploy_laws.specs.Apps.{Says, installed, named_in_bank}
 use Rattle.deploy_laws.specs.Places.{shapes_from, shapes_in}
 use Rattle.deploy_rows.specs.Rows.{deployment_of, initial_all}
 use Rattle.run_model.specs.Costs.{greatest_cost, install_cost, lone_cost, longest_manifest, making_cost, making_costs}
@@ -110,7 +106,7 @@ module _ (short : IsShortLaw) (app : ℕ) where
       let few : length s.version.text ≤ 65536 =
       short s.version.text (deployment_data s.version.deployment) is.offers.said in
       let both : root_cost (s.version.text ∷ s.root.active.text ∷ previous_texts s.root.previous)
-          ≤ pair_cost (length s.version.text) longest_manifest =
+      ≤ pair_cost (length s.version.text) longest_manifest =
       beside_most s.version.text s.root.active.text s.root.previous is.no_previous
       (short s.root.active.text (deployment_data s.root.active.deployment) is.root.1.active.said) in
       omega (arith, few, both)
