@@ -30,6 +30,9 @@ use Rattle.run_model.specs.Found.{FoundStorage, storage_in}
 use Rattle.run_model.specs.Runtimes.{IsUnwritten, WritesWithin, is_refusal}
 use Rattle.run_model.specs.Sessions.{Session}
 use Rattle.run_model.specs.Steps.{after_failure, device_storage, found_named}
+use Rattle.run_model.specs.Turns.{bytes_now}
+use Rattle.run_model.specs.WriteLaws.{call_unwritten}
+use Rattle.run_model.specs.Writes.{IsCallWithin}
 use Rattle.run_model.specs.Worlds.{Application, none_open}
 use Rattle.run_model.specs.Worlds as worlds
 use Rattle.app_storages.specs.declared.slots.OpenSlots.{OpenSlots}
@@ -103,7 +106,9 @@ module _ (told : Bool) (rules : List Rule) (answers : Answers) (now : ℕ) (c : 
     (old new : Medium) (Untouched : Type 0)
     (unwritten : Untouched → IsUnwritten old new) (resting : IsResting told old.image b.app root b.slots)
     (in_use : RootInUseLaw) (row : App → Result App PerError) (Due : PerError → Type 0)
-    (word : IsWord told rules answers b.app now c (resting_with old.image b.app b.slots) row Due) where
+    (word : IsWord told rules answers b.app now c (resting_with old.image b.app b.slots) row Due)
+    (within : IsTrue told → IsCallWithin rules answers b.app now (resting_with old.image b.app b.slots) c (bytes_now old)
+    (bytes_now new)) where
   abbrev before : Running
   before = record b { stage = AtRest root }
 
@@ -166,6 +171,7 @@ module _ (told : Bool) (rules : List Rule) (answers : Answers) (now : ℕ) (c : 
       unwritten = not_written o.refused refl;
       looks = λ plans. absurd (true≢false (sym plans ∙ word.no_plan));
       written = λ tells durable. absurd (true≢false (sym durable ∙ word.not_durable));
+      within = within;
       place = λ tells. names_none b.app c r word.no_storage old.image new.image;
       cause = λ bad. absurd cc;
       passes = m.passes;
@@ -198,6 +204,7 @@ module _ (told : Bool) (rules : List Rule) (answers : Answers) (now : ℕ) (c : 
         unwritten = tt;
         looks = λ plans. absurd (true≢false (sym plans ∙ word.no_plan));
         written = λ tells durable. absurd (true≢false (sym durable ∙ word.not_durable));
+        within = within;
         place = λ tells. names_none b.app c r word.no_storage old.image new.image;
         cause = λ bad. m.cause refl;
         passes = tt;
@@ -232,6 +239,7 @@ module _ (told : Bool) (rules : List Rule) (answers : Answers) (now : ℕ) (c : 
         unwritten = tt;
         looks = λ plans. absurd (true≢false (sym plans ∙ word.no_plan));
         written = λ tells durable. absurd (true≢false (sym durable ∙ word.not_durable));
+        within = within;
         place = λ tells. names_none b.app c r word.no_storage old.image new.image;
         cause = λ bad. absurd cc;
         passes = tt;
@@ -277,15 +285,17 @@ module _ (told : Bool) (rules : List Rule) (answers : Answers) (now : ℕ) (c : 
     (taken_is : taken ≡ record s { stage = ToOpen }) (in_use : RootInUseLaw) (row : App → Result App PerError)
     (Due : PerError → Type 0) where
   pub word_promises : IsWord told rules answers s.app now c (resting_with old.image s.app s.slots) row Due
+      → (IsTrue told → IsCallWithin rules answers s.app now (resting_with old.image s.app s.slots) c (bytes_now old)
+      (bytes_now new))
       → (made : Result Outcome Stop) → Made told row Due s.app root Untouched old new made
       → IfOk made (λ o. o.refused ≡ None → AreOpenOn told new.image s.app (root_says o.root) s.slots)
       → (after' : Running) (result : Result Reply Stop) → ConcludesCall made taken after' result
       → Promises told rules answers now c s after' Untouched old new result
-  word_promises word made m kept after' result settles =
+  word_promises word within made m kept after' result settles =
       subst (λ (x : Running). Promises told rules answers now c x after' Untouched old new result)
       (stage_back s root rest root_is)
       (rowed_promises told rules answers now c s root old new Untouched unwritten
-      (resting_in told old.image s root is rest root_is) in_use row Due word made m kept after' result
+      (resting_in told old.image s root is rest root_is) in_use row Due word within made m kept after' result
       (subst (λ (x : Running). ConcludesCall made x after' result) taken_is settles))
 
 -- what is so of every end is so of one that ended well
@@ -326,6 +336,8 @@ module _ (told : Bool) (rules : List Rule) (answers : Answers) (now : ℕ) (c : 
     unwritten = λ refused. (refl, refl);
     looks = λ plans. (refl, refl);
     written = λ tells durable f x found there. writes_nothing s.app f x m;
+    within = λ tells. call_unwritten rules answers s.app now (application m.image s) c (bytes_now m) (bytes_now m)
+        refl refl;
     place = λ tells f named file beside. refl;
     cause = λ bad. absurd cc;
     passes = refl;
@@ -356,6 +368,8 @@ module _ (told : Bool) (rules : List Rule) (answers : Answers) (now : ℕ) (c : 
         unwritten = tt;
         looks = λ plans. (refl, refl);
         written = λ tells durable f x found there. writes_nothing s.app f x m;
+        within = λ tells. call_unwritten rules answers s.app now (application m.image s) c (bytes_now m) (bytes_now m)
+            refl refl;
         place = λ tells f named file beside. refl;
         cause = λ bad. absurd cc;
         passes = tt;

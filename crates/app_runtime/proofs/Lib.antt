@@ -3,6 +3,7 @@ mod InWorld
 mod Frames
 mod Plain
 mod Rowed
+mod Within
 mod Ended
 mod Kept
 mod Words

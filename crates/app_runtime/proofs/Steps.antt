@@ -1,5 +1,5 @@
 -- An update in steps: one more storage, the commit, the abort, and each of them where no update is in progress.
-use Rattle.std.proofs.Common.{◌≡◌, ◌≢◌, ◌<◌, ◌≤◌, ◌-◌, ℕ, List, length, Bool, true, false, IsTrue, Option, Some}
+use Rattle.std.proofs.Common.{◌≡◌, ◌≢◌, ◌<◌, ◌≤◌, ◌+◌, ◌-◌, ℕ, List, ◌∷◌, length, take, drop, Bool, true, false, IsTrue, Option, Some}
 use Rattle.std.proofs.Common.{None, is_ok, Result, Ok, Err, refl, sym, ap, ◌∙◌, subst, inl}
 use Rattle.std.proofs.Common.{inr, arith, true≢false}
 use Rattle.std.specs.Prelude.{IfNone, map, option_map}
@@ -22,13 +22,16 @@ use Rattle.deploy.specs.declared.errors.Stop.{Stop}
 use Rattle.deploy.specs.declared.errors.Stop.TheVariants as stop
 use Rattle.deploy.specs.declared.roots.Root.{Root}
 use Rattle.deploy.specs.declared.updating.Staged.{Staged}
-use Rattle.deploy.specs.Building.{StagedAt, staged_progress, staged_root}
+use Rattle.deploy.specs.Building.{StagedAt, offered_in, staged_progress, staged_root, staged_text}
 use Rattle.deploy.specs.Building as building
+use Rattle.deploy.specs.Clauses.{Leaves}
 use Rattle.deploy.specs.Laws.{RootInUseLaw}
-use Rattle.deploy.specs.Roots.{RootAt, root_says}
+use Rattle.deploy.specs.Making as making
+use Rattle.deploy.specs.Roots.{RootAt, root_says, root_texts}
+use Rattle.deploy.specs.Written.{root_cost}
 use Rattle.deploy_laws.specs.Apps.{App, IsCleanApp, Says, absent, app_at, installed, named_in_bank, nothing}
 use Rattle.deploy_laws.specs.Laws.{UntouchedAppLaw}
-use Rattle.deploy_laws.specs.Places.{Named}
+use Rattle.deploy_laws.specs.Places.{Named, shapes_in}
 use Rattle.deploy_laws.specs.Stands.{IsLater}
 use Rattle.deploy_rows.specs.Laws.{UpdateLaterLaw}
 use Rattle.deploy_rows.specs.Rows.{◌>>=◌, InProgress, installing, updated_app, one_more}
@@ -37,8 +40,10 @@ use Rattle.run_model.specs.Calls.{StepBeside, answered, app_step, beside_update,
 use Rattle.run_model.specs.Calls.{abort_step, progress_of, remaining, concluded}
 use Rattle.run_model.specs.Runtimes.{is_durable, is_refusal, only_plans}
 use Rattle.run_model.specs.Steps.{after_failure, device_storage, reaches_device, uses_device}
+use Rattle.run_model.specs.Turns.{bytes_now}
 use Rattle.run_model.specs.Worlds.{Application}
 use Rattle.run_model.specs.Worlds as worlds
+use Rattle.run_model.specs.Writes.{IsCallWithin}
 use Rattle.app_storages.specs.Answers.{CallsTo}
 use Rattle.app_storages.specs.declared.slots.OpenSlots.{OpenSlots}
 use Rattle.app_storages.specs.Slots.{sessions_in}
@@ -54,6 +59,7 @@ use Rattle.app_runtime.proofs.InWorld.{fit_length}
 use Rattle.app_runtime.proofs.Kept.{open_by_none}
 use Rattle.app_runtime.proofs.LeadOn.{still}
 use Rattle.app_runtime.proofs.Plain.{IsPlain}
+use Rattle.app_runtime.proofs.Within.{IsShortLaw, commit_most, commit_within, next_within}
 
 -- ---- the root that is in memory
 
@@ -302,7 +308,8 @@ module _ (told : Bool) (rules : List Rule) (answers : Answers) (now : ℕ) (b : 
       (calls : IsTrue told → CallsTo b.app next old new)
       (reaches : IsTrue told → IsTrue (reaches_device b.app r now c)) (no_storage : device_storage c ≡ None)
       (not_durable : is_durable c ≡ false) (no_plan : only_plans c ≡ false) (uses : uses_device r.disk c ≡ true)
-      (free : beside_update (worlds.update_in r.stage) c ≡ None) (time : Elapses old new) where
+      (free : beside_update (worlds.update_in r.stage) c ≡ None) (time : Elapses old new)
+      (within : IsTrue told → IsCallWithin rules answers b.app now r c (bytes_now old) (bytes_now new)) where
     pub failed_step : (e : Stop) → (e ≡ stop.Device → Rose old.faults new.faults)
         → Promises told rules answers now c before after' Untouched old new (Err e)
     failed_step stop.Device cause = record {
@@ -324,6 +331,7 @@ module _ (told : Bool) (rules : List Rule) (answers : Answers) (now : ℕ) (b : 
       unwritten = tt;
       looks = λ plans. absurd (true≢false (sym plans ∙ no_plan));
       written = λ tells durable. absurd (true≢false (sym durable ∙ not_durable));
+      within = within;
       place = λ tells. names_none b.app c r no_storage old.image new.image;
       cause = λ bad. cause refl;
       passes = tt;
@@ -348,6 +356,7 @@ module _ (told : Bool) (rules : List Rule) (answers : Answers) (now : ℕ) (b : 
       unwritten = tt;
       looks = λ plans. absurd (true≢false (sym plans ∙ no_plan));
       written = λ tells durable. absurd (true≢false (sym durable ∙ not_durable));
+      within = within;
       place = λ tells. names_none b.app c r no_storage old.image new.image;
       cause = λ bad. absurd cc;
       passes = tt;
@@ -374,7 +383,8 @@ module _ (told : Bool) (rules : List Rule) (answers : Answers) (now : ℕ) (b : 
       (done : is_refusal reply.answer ≡ false) (sound : reply.answer ≢ answer.Error error.PhysicalStorageFailure)
       (text : HasText reply.answer)
       (not_durable : is_durable c ≡ false) (no_plan : only_plans c ≡ false) (no_storage : device_storage c ≡ None)
-      (uses : uses_device r.disk c ≡ true) (passes : new.faults ≡ old.faults) (time : Elapses old new) where
+      (uses : uses_device r.disk c ≡ true) (passes : new.faults ≡ old.faults) (time : Elapses old new)
+      (within : IsTrue told → IsCallWithin rules answers b.app now r c (bytes_now old) (bytes_now new)) where
     pub done_step : Promises told rules answers now c before (record b { stage = stage }) Untouched old new (Ok reply)
     done_step = record {
       app = refl;
@@ -387,6 +397,7 @@ module _ (told : Bool) (rules : List Rule) (answers : Answers) (now : ℕ) (b : 
       unwritten = λ refused. absurd (true≢false (sym refused ∙ done));
       looks = λ plans. absurd (true≢false (sym plans ∙ no_plan));
       written = λ tells durable. absurd (true≢false (sym durable ∙ not_durable));
+      within = within;
       place = λ tells. names_none b.app c r no_storage old.image new.image;
       cause = λ bad. absurd cc;
       passes = passes;
@@ -397,22 +408,36 @@ module _ (told : Bool) (rules : List Rule) (answers : Answers) (now : ℕ) (b : 
 
   -- ---- one more storage
 
+  says_here : IsTrue told → r.disk.says ≡ root_says (staged_root s)
+  says_here tells = says_in_use in_use told old.image b.app (staged_root s)
+      (record { memory = is.memory.root; disk = is.root_on }) tells
+
+  pub next_written : new.written ≤ old.written
+      + making.making_costs (take 1 (drop (staged_progress s).built (staged_progress s).deployment.storages))
+      (drop (staged_progress s).built (staged_progress s).contents)
+      → Leaves told (making.IsInNone (take 1 (drop (staged_progress s).built (shapes_in b.app (offered_in s))))) old new
+      → IsTrue told → IsCallWithin rules answers b.app now r call.UpdateNext (bytes_now old) (bytes_now new)
+  next_written cost leaves tells = next_within told rules answers b.app now r old new tells s refl (says_here tells) cost
+      leaves
+
   pub next_failed : (e : Stop) (after' : Running) → after' ≡ record b { stage = ToOpen }
       → (e ≡ stop.Device → Rose old.faults new.faults) → (IsTrue told → CallsTo b.app r.disk old new) → Elapses old new
+      → (IsTrue told → IsCallWithin rules answers b.app now r call.UpdateNext (bytes_now old) (bytes_now new))
       → Promises told rules answers now call.UpdateNext before after' Untouched old new (Err e)
-  next_failed e after' is_after cause calls time = failed_step call.UpdateNext after'
+  next_failed e after' is_after cause calls time within = failed_step call.UpdateNext after'
       (ap (λ (x : Running). x.app) is_after) (ap (λ (x : Running). x.stage) is_after)
       (subst (λ (x : Running). NoneOpen x.slots) (sym is_after) none) r.disk (λ tells. inl refl) (λ tells. still r.disk)
-      calls next_reaches refl refl refl refl refl time e cause
+      calls next_reaches refl refl refl refl refl time within e cause
 
   pub next_done : (t : Staged) (count : ℕ) → staged_progress t ≡ one_more (staged_progress s)
       → count ≡ remaining (staged_progress t) → StagedAt told new.image b.app t
       → (IsTrue told → app_at new.image b.app ≡ r.disk)
       → (IsTrue told → CallsTo b.app r.disk old new) → (IsTrue told → IsCleanApp b.app old.image
       → IsCleanApp b.app new.image) → (Quiet old → Quiet new) → new.faults ≡ old.faults → Elapses old new
+      → (IsTrue told → IsCallWithin rules answers b.app now r call.UpdateNext (bytes_now old) (bytes_now new))
       → Promises told rules answers now call.UpdateNext before (record b { stage = Updating t }) Untouched old new
       (Ok (reply_with (answer.Number count)))
-  next_done t count progress counts at same calls clean quiet passes time =
+  next_done t count progress counts at same calls clean quiet passes time within =
       done_step call.UpdateNext (Updating t) (reply_with (answer.Number count))
       (λ tells. next_row tells _ (ap (λ (n : ℕ). (
         reply_with (answer.Number n),
@@ -435,9 +460,18 @@ module _ (told : Bool) (rules : List Rule) (answers : Answers) (now : ℕ) (b : 
       (same tells))))
       (at, none) (λ tells. subst (λ (a : App). IsLater r.disk a) (sym (same tells)) (still r.disk))
       (λ tells. subst (λ (a : App). CallsTo b.app a old new) (sym (same tells)) (calls tells))
-      clean quiet refl (λ e. cc) tt refl refl refl refl passes time
+      clean quiet refl (λ e. cc) tt refl refl refl refl passes time within
 
   -- ---- the commit
+
+  pub commit_written : IsShortLaw → new.written ≤ old.written
+      + (making.making_costs (drop (staged_progress s).built (staged_progress s).deployment.storages)
+      (drop (staged_progress s).built (staged_progress s).contents)
+      + root_cost (staged_text s ∷ root_texts (staged_root s)))
+      → Leaves told (making.IsBesideMade b.app (drop (staged_progress s).built (shapes_in b.app (offered_in s)))) old new
+      → IsTrue told → IsCallWithin rules answers b.app now r call.UpdateCommit (bytes_now old) (bytes_now new)
+  commit_written short cost leaves tells = commit_within told rules answers b.app now r old new tells s refl
+      (says_here tells) (commit_most short b.app s is.memory) cost leaves
 
   module _ (update_later : UpdateLaterLaw) where
     abbrev next : App
@@ -445,8 +479,9 @@ module _ (told : Bool) (rules : List Rule) (answers : Answers) (now : ℕ) (b : 
 
     pub commit_failed : (e : Stop) (after' : Running) → after' ≡ record b { stage = ToOpen }
         → (e ≡ stop.Device → Rose old.faults new.faults) → (IsTrue told → CallsTo b.app next old new) → Elapses old new
+        → (IsTrue told → IsCallWithin rules answers b.app now r call.UpdateCommit (bytes_now old) (bytes_now new))
         → Promises told rules answers now call.UpdateCommit before after' Untouched old new (Err e)
-    commit_failed e after' is_after cause calls time = failed_step call.UpdateCommit after'
+    commit_failed e after' is_after cause calls time within = failed_step call.UpdateCommit after'
         (ap (λ (x : Running). x.app) is_after) (ap (λ (x : Running). x.stage) is_after)
         (subst (λ (x : Running). NoneOpen x.slots) (sym is_after) none) next
         (λ tells. inr (
@@ -454,15 +489,17 @@ module _ (told : Bool) (rules : List Rule) (answers : Answers) (now : ℕ) (b : 
           commit_row tells (answered answer.Done (record r { disk = next; stage = worlds.at_rest })) refl,
           refl,
         ))
-        (λ tells. update_later (staged_progress s) r.disk) calls commit_reaches refl refl refl refl refl time e cause
+        (λ tells. update_later (staged_progress s) r.disk) calls commit_reaches refl refl refl refl refl time within e
+        cause
 
     pub commit_done : (root : Root) → RootAt told new.image b.app root → (IsTrue told → app_at new.image b.app ≡ next)
         → (IsTrue told → CallsTo b.app next old new)
         → (IsTrue told → IsCleanApp b.app old.image → IsCleanApp b.app new.image) → (Quiet old → Quiet new)
         → new.faults ≡ old.faults → Elapses old new
+        → (IsTrue told → IsCallWithin rules answers b.app now r call.UpdateCommit (bytes_now old) (bytes_now new))
         → Promises told rules answers now call.UpdateCommit before (record b { stage = AtRest root }) Untouched old new
         (Ok (reply_with answer.Done))
-    commit_done root at is_next calls clean quiet passes time =
+    commit_done root at is_next calls clean quiet passes time within =
         done_step call.UpdateCommit (AtRest root) (reply_with answer.Done)
         (λ tells. commit_row tells _ (ap (λ (a : App). (
           reply_with answer.Done,
@@ -475,7 +512,7 @@ module _ (told : Bool) (rules : List Rule) (answers : Answers) (now : ℕ) (b : 
         })
         (λ tells. subst (λ (a : App). IsLater r.disk a) (sym (is_next tells)) (update_later (staged_progress s) r.disk))
         (λ tells. subst (λ (a : App). CallsTo b.app a old new) (sym (is_next tells)) (calls tells)) clean quiet refl
-        (λ e. cc) tt refl refl refl refl passes time
+        (λ e. cc) tt refl refl refl refl passes time within
 
 -- ---- an install beside an update
 

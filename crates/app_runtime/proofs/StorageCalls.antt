@@ -1,6 +1,6 @@
 -- A call that names a storage, of an application at rest.
-use Rattle.std.proofs.Common.{◌≡◌, ◌≢◌, ℕ, List, Bool, true, false, IsTrue, Some, IfOk, IsErrOf, OnOk, Result, Ok}
-use Rattle.std.proofs.Common.{Err, refl, sym, subst, inl, inr, true≢false}
+use Rattle.std.proofs.Common.{◌≡◌, ◌≢◌, ℕ, List, Bool, true, false, IsTrue, Option, Some, None, IfOk, IsErrOf, OnOk}
+use Rattle.std.proofs.Common.{Result, Ok, Err, refl, sym, subst, inl, inr, true≢false}
 use Rattle.per_base.specs.Causes.{Rose}
 use Rattle.per_base.specs.declared.errors.PerError.TheVariants as error
 use Rattle.disk_model.specs.Medium.{Elapses, Medium, Quiet}
@@ -19,7 +19,10 @@ use Rattle.run_model.specs.Calls.{CallStep, Outcome, app_step, session_at, concl
 use Rattle.run_model.specs.Found.{FoundStorage}
 use Rattle.run_model.specs.Runtimes.{IsUnwritten, WritesWithin, is_durable, is_refusal, only_plans}
 use Rattle.run_model.specs.Sessions.{Session}
-use Rattle.run_model.specs.Steps.{found_named, uses_device}
+use Rattle.run_model.specs.Steps.{device_storage, found_named, uses_device}
+use Rattle.run_model.specs.Turns.{bytes_now}
+use Rattle.run_model.specs.WriteLaws.{call_named, call_unwritten}
+use Rattle.run_model.specs.Writes.{IsCallWithin}
 use Rattle.run_model.specs.Worlds.{Application}
 use Rattle.app_storages.specs.declared.slots.OpenSlots.{OpenSlots}
 use Rattle.app_storages.specs.Answers.{is_on_storage}
@@ -43,6 +46,27 @@ call_step rules answers app now r other o on row = row
 no_plan : (c : Call) → IsTrue (is_on_storage c) → only_plans c ≡ true → ⊥
 no_plan (call.UpdateBegin text) on plans = absurd cc
 no_plan other on plans = true≢false (sym plans)
+
+-- one that does not call the device by its storage calls none
+stays_off : (a : App) (c : Call) → IsTrue (is_on_storage c) → device_storage c ≡ None → uses_device a c ≡ false
+stays_off a call.Status on none = refl
+stays_off a (call.Install text) on none = absurd cc
+stays_off a (call.Update text) on none = absurd cc
+stays_off a call.Finish on none = absurd cc
+stays_off a call.Rollback on none = absurd cc
+stays_off a call.Wipe on none = absurd cc
+stays_off a (call.UpdateBegin text) on none = absurd cc
+stays_off a call.UpdateNext on none = absurd cc
+stays_off a call.UpdateCommit on none = absurd cc
+stays_off a call.UpdateAbort on none = refl
+stays_off a (call.OpenKvs n) on none = absurd cc
+stays_off a (call.OpenFiles n) on none = absurd cc
+stays_off a (call.Close n) on none = absurd cc
+stays_off a (call.RecoverStorage n) on none = absurd cc
+stays_off a (call.ResetStorage n) on none = absurd cc
+stays_off a (call.Sync n) on none = absurd cc
+stays_off a (call.Flush n h) on none = absurd cc
+stays_off a other on none = refl
 
 on_each : {T E : Type 0} (P Q : T → Type 0) (result : Result T E) → ((x : T) → P x → Q x) → IfOk result P
     → IfOk result Q
@@ -81,7 +105,7 @@ LeadsOn rules answers = (app now : ℕ) (c : Call) (r : Application) (o : Outcom
 
 module _ (told : Bool) (rules : List Rule) (answers : Answers) (now : ℕ) (c : Call) (b : Running) (root : Root)
     (slots : OpenSlots) (Untouched : Type 0) (old new : Medium) (result : Result Reply Stop)
-    (on : IsTrue (is_on_storage c)) (leads_on : LeadsOn rules answers)
+    (unwritten : Untouched → IsUnwritten old new) (on : IsTrue (is_on_storage c)) (leads_on : LeadsOn rules answers)
     (s : Stores told b.app now c root b.slots slots Untouched old new result) where
   abbrev r : Application
   r = resting_with old.image b.app b.slots
@@ -110,6 +134,13 @@ module _ (told : Bool) (rules : List Rule) (answers : Answers) (now : ℕ) (c : 
     calls = is.calls;
     clean = is.clean;
   }
+
+  within_by : (named : Option (List ℕ)) → device_storage c ≡ named → IsTrue told
+      → IsCallWithin rules answers b.app now r c (bytes_now old) (bytes_now new)
+  within_by (Some name) is tells = call_named rules answers b.app now r c name (bytes_now old) (bytes_now new) is
+      (s.place tells)
+  within_by None is tells = let same = unwritten (s.idle tells (stays_off (app_at old.image b.app) c on is)) in
+      call_unwritten rules answers b.app now r c (bytes_now old) (bytes_now new) same.0 same.1
 
   pub stored_promises : Promises told rules answers now c (record b { stage = AtRest root })
       (record b { stage = AtRest root; slots = slots }) Untouched old new result
@@ -141,6 +172,7 @@ module _ (told : Bool) (rules : List Rule) (answers : Answers) (now : ℕ) (c : 
     unwritten = s.unwritten;
     looks = λ plans. absurd (no_plan c on plans);
     written = s.written;
+    within = within_by (device_storage c) refl;
     place = s.place;
     cause = s.cause;
     passes = s.passes;

@@ -1,5 +1,5 @@
 -- An update in one call, and the beginning of one in steps.
-use Rattle.std.proofs.Common.{◌≡◌, ◌≢◌, ◌≤◌, ℕ, List, [], Bool, true, IsTrue, Option, Some, None}
+use Rattle.std.proofs.Common.{◌≡◌, ◌≢◌, ◌≤◌, ◌+◌, ℕ, List, [], ◌∷◌, length, Bool, true, IsTrue, Option, Some, None}
 use Rattle.std.proofs.Common.{IfOk, IsErrOf, IsOk, OnOk, is_ok, Result, Ok, Err, refl, sym, ap, ◌∙◌, subst, inl, inr}
 use Rattle.std.proofs.Common.{true≢false, arith}
 use Rattle.std.specs.Prelude.{map}
@@ -8,6 +8,7 @@ use Rattle.per_base.specs.declared.errors.PerError.{PerError}
 use Rattle.per_base.specs.declared.errors.PerError.TheVariants as error
 use Rattle.disk_model.specs.Image.{Image}
 use Rattle.disk_model.specs.Medium.{Elapses, IsIdle, Medium, Quiet}
+use Rattle.deployment_model.specs.Data.{StorageData}
 use Rattle.element_state.specs.States.{State, store_at}
 use Rattle.migrate_fns.specs.Rules.{Answers, Rule}
 use Rattle.command_text.specs.declared.calls.Call.{Call}
@@ -26,10 +27,12 @@ use Rattle.deploy.specs.declared.updating.Staged.{Staged}
 use Rattle.deploy.specs.Building.{IsUpdateBegun, begun_as, staged_progress}
 use Rattle.deploy.specs.Laws.{RootInUseLaw}
 use Rattle.deploy.specs.Clauses.{IsBesideNext, Leaves}
-use Rattle.deploy.specs.Roots.{RootAt, free_bank, root_app, root_says}
+use Rattle.deploy.specs.Making as making
+use Rattle.deploy.specs.Roots.{RootAt, free_bank, root_app, root_says, root_texts}
+use Rattle.deploy.specs.Written.{root_cost}
 use Rattle.deploy.specs.Updates.{IsUpdated, LeadsTo}
 use Rattle.deploy_laws.specs.Apps.{App, IsCleanApp, Says, absent, app_at, installed, nothing, shapes_named}
-use Rattle.deploy_laws.specs.Places.{Named}
+use Rattle.deploy_laws.specs.Places.{Named, shapes_from}
 use Rattle.deploy_laws.specs.Stands.{IsLater, StandsThroughout}
 use Rattle.deploy_rows.specs.Laws.{RefusesAlike, UpdateLaterLaw}
 use Rattle.deploy_rows.specs.Rows as rows
@@ -38,9 +41,13 @@ use Rattle.deploy_rows.specs.Rows.{newer_version}
 use Rattle.deploy_rows.specs.Rows.{offer_over, offered, updated_app}
 use Rattle.run_model.specs.Calls.{active_storages, answered, first_open, least_open, concluded}
 use Rattle.run_model.specs.Calls.{with_update}
+use Rattle.run_model.specs.Costs.{longest_manifest, pair_cost, said_storages, update_cost}
 use Rattle.run_model.specs.Runtimes.{IsUnwritten, is_refusal}
+use Rattle.run_model.specs.Turns.{bytes_now}
+use Rattle.run_model.specs.WriteLaws.{call_unwritten}
 use Rattle.run_model.specs.Worlds.{Application}
 use Rattle.run_model.specs.Worlds as worlds
+use Rattle.run_model.specs.Writes.{CostsUpdate, IsCallWithin, IsInNone, next_bank, opening_cost}
 use Rattle.app_storages.specs.Answers.{CallsTo}
 use Rattle.app_storages.specs.Slots.{AreOpenOn, IsResting, resting_with, sessions_in}
 use Rattle.app_runtime.specs.declared.running.Running.{Running}
@@ -56,6 +63,7 @@ use Rattle.app_runtime.proofs.Kept.{free_kept, free_slots, none_taken}
 use Rattle.app_runtime.proofs.LeadOn.{still}
 use Rattle.app_runtime.proofs.Plain.{begins_plain}
 use Rattle.app_runtime.proofs.Rowed.{ok_alike}
+use Rattle.app_runtime.proofs.Within.{IsShortLaw, same_bank, same_making, same_said, update_most}
 
 -- ---- an offer that is taken
 
@@ -97,6 +105,8 @@ pub record Updates (told : Bool) (rules : List Rule) (answers : Answers) (now : 
   pub passes : OnOk made (new.faults ≡ old.faults)
   pub device_only : IsErrOf made stop.Device → IsOk (offered busy text (root_app root []))
   pub outside : Leaves told (IsBesideNext app (free_bank root)) old new
+  pub places : Leaves told (making.IsBesideMade app (shapes_from app (free_bank root) 0 (making.storages_said text))) old new
+  pub written : making.WritesUpdate told (BeginsUpdate rules answers now busy text) app root text old new
   pub any_moment : IsTrue told → LeadsTo app (rows.UpdateMayLead rules answers now busy text (app_at old.image app))
       made old
       new
@@ -150,6 +160,42 @@ module _ (told : Bool) (rules : List Rule) (answers : Answers) (now : ℕ) (text
   some_refused : (refused : Option PerError) (e : PerError) → refused ≡ Some e → refused ≡ None → ⊥
   some_refused refused e is none = let both = sym is ∙ none in cc
 
+  -- ---- what is written
+
+  module _ (short : IsShortLaw) (lone : no_update_over (root_says root) ≡ None) (tells : IsTrue told) where
+    costs_by : making.WritesUpdate told (BeginsUpdate rules answers now busy text) b.app root text old new
+        → CostsUpdate rules answers now r text (old.written + opening_cost r.stage) new.written
+    costs_by (inl none) = inl (omega (arith, none))
+    costs_by (inr begun) =
+        let p = begun.1 in
+        let most : root_cost (text ∷ root_texts root) ≤ pair_cost (length text) longest_manifest =
+        update_most short b.app root resting.root_at.memory lone text in
+        let same = same_making p.deployment.storages p.contents in
+        let cost = begun.4 in
+        inr (
+          p,
+          begins_there tells begun.0 (Ok p) (begun.2 tells) begun.3,
+          (let le : new.written ≤ old.written + opening_cost r.stage + update_cost text p =
+              omega (arith, most, same, cost) in le),
+        )
+
+    bank_is : next_bank r.disk.says ≡ free_bank root
+    bank_is = ap next_bank (sym (says_same tells)) ∙ same_bank root
+
+    within_by : making.WritesUpdate told (BeginsUpdate rules answers now busy text) b.app root text old new
+        → Leaves told (making.IsBesideMade b.app (shapes_from b.app (free_bank root) 0 (making.storages_said text))) old new
+        → IsCallWithin rules answers b.app now r (call.Update text) (bytes_now old) (bytes_now new)
+    within_by cost leaves = record {
+      costs = costs_by cost;
+      files = λ file beside. leaves.at_the_end tells file (
+        beside.0,
+        subst (λ (ss : List StorageData). IsInNone (shapes_from b.app (free_bank root) 0 ss) file)
+            (sym (same_said (deployment_of text)))
+            (subst (λ (bank : ℕ). IsInNone (shapes_from b.app bank 0 (said_storages (deployment_of text))) file)
+            bank_is beside.1),
+      );
+    }
+
   -- ---- in one call
 
   -- of what an update may lead to
@@ -189,7 +235,9 @@ module _ (told : Bool) (rules : List Rule) (answers : Answers) (now : ℕ) (text
     updated_row tells (Some e) a' (Err f) answers is = ap (λ (d : App). (reply_of (Some e), record r { disk = d })) is
         ∙ ap (λ (x : PerError). answered (answer.Error x) r) (sym answers)
 
-    module _ (o : Outcome) (u : Updates told rules answers now text b.app root busy old new (Ok o)) where
+    module _ (o : Outcome) (u : Updates told rules answers now text b.app root busy old new (Ok o))
+        (within : IsTrue told → IsCallWithin rules answers b.app now r (call.Update text) (bytes_now old)
+        (bytes_now new)) where
       taken_free : (refused : Option PerError) (row : Result InProgress PerError) → rows.AnswersRow refused row
           → refused ≡ None → BeginsUpdate rules answers now busy text (root_app root u.updates.states) row → busy ≡ None
       taken_free None (Ok p) answers_row none begins = begins_free rules answers now busy text
@@ -255,6 +303,7 @@ module _ (told : Bool) (rules : List Rule) (answers : Answers) (now : ℕ) (text
         unwritten = not_written o.refused refl;
         looks = λ plans. absurd (true≢false (sym plans));
         written = λ tells durable. absurd (true≢false (sym durable));
+        within = within;
         place = λ tells. names_none b.app (call.Update text) r refl old.image new.image;
         cause = λ bad. absurd cc;
         passes = u.passes;
@@ -264,7 +313,9 @@ module _ (told : Bool) (rules : List Rule) (answers : Answers) (now : ℕ) (text
       }
 
     module _ (after' : Running) (app : after'.app ≡ b.app) (stage : after'.stage ≡ ToOpen)
-        (none : NoneOpen after'.slots) where
+        (none : NoneOpen after'.slots)
+        (within : IsTrue told → IsCallWithin rules answers b.app now r (call.Update text) (bytes_now old)
+        (bytes_now new)) where
       calls_next : (e : Stop) (u : Updates told rules answers now text b.app root busy old new (Err e))
           (tells : IsTrue told) → CallsTo b.app (u.any_moment tells).next old new
       calls_next e u tells =
@@ -292,6 +343,7 @@ module _ (told : Bool) (rules : List Rule) (answers : Answers) (now : ℕ) (text
         unwritten = tt;
         looks = λ plans. absurd (true≢false (sym plans));
         written = λ tells durable. absurd (true≢false (sym durable));
+        within = within;
         place = λ tells. names_none b.app (call.Update text) r refl old.image new.image;
         cause = λ bad. u.cause refl;
         passes = tt;
@@ -320,6 +372,7 @@ module _ (told : Bool) (rules : List Rule) (answers : Answers) (now : ℕ) (text
         unwritten = tt;
         looks = λ plans. absurd (true≢false (sym plans));
         written = λ tells durable. absurd (true≢false (sym durable));
+        within = within;
         place = λ tells. names_none b.app (call.Update text) r refl old.image new.image;
         cause = λ bad. absurd cc;
         passes = tt;
@@ -334,17 +387,18 @@ module _ (told : Bool) (rules : List Rule) (answers : Answers) (now : ℕ) (text
       stopped_promises lone stop.Device u = device_promises u
       stopped_promises lone stop.OutOfMemory u = memory_promises lone u
 
-    pub updated_promises : no_update_over (root_says root) ≡ None → (made : Result Outcome Stop)
+    pub updated_promises : IsShortLaw → no_update_over (root_says root) ≡ None → (made : Result Outcome Stop)
         → Updates told rules answers now text b.app root busy old new made → (after' : Running) (result : Result Reply Stop)
         → ConcludesCall made (record b { stage = ToOpen }) after' result
         → Promises told rules answers now (call.Update text) before after' Untouched old new result
-    updated_promises lone (Ok o) u after' result s = subst (λ (x : Running).
+    updated_promises short lone (Ok o) u after' result s = subst (λ (x : Running).
         Promises told rules answers now (call.Update text) before x Untouched old new result) (sym s.0)
         (subst (λ (x : Result Reply Stop). Promises told rules answers now (call.Update text) before
-        (record b { stage = AtRest o.root }) Untouched old new x) (sym s.1) (done_promises o u))
-    updated_promises lone (Err e) u after' result s = subst (λ (x : Result Reply Stop).
+        (record b { stage = AtRest o.root }) Untouched old new x) (sym s.1) (done_promises o u
+        (λ tells. within_by short lone tells u.written u.places)))
+    updated_promises short lone (Err e) u after' result s = subst (λ (x : Result Reply Stop).
         Promises told rules answers now (call.Update text) before after' Untouched old new x) (sym s.3)
-        (stopped_promises after' s.0 s.1 s.2 lone e u)
+        (stopped_promises after' s.0 s.1 s.2 (λ tells. within_by short lone tells u.written u.places) lone e u)
 
 -- what `begin_update` promises
 pub record Beginning (told : Bool) (rules : List Rule) (answers : Answers) (now : ℕ) (text : List ℕ) (app : ℕ)
@@ -434,6 +488,8 @@ module _ (told : Bool) (rules : List Rule) (answers : Answers) (now : ℕ) (text
     unwritten = λ refused. absurd (true≢false (sym refused));
     looks = λ plans. (x.image, x.written);
     written = λ tells durable. absurd (true≢false (sym durable));
+    within = λ tells. call_unwritten rules answers b.app now here c (bytes_now old) (bytes_now new) x.image
+        x.written;
     place = λ tells. names_none b.app c here refl old.image new.image;
     cause = λ bad. absurd cc;
     passes = x.passes;
@@ -483,6 +539,8 @@ module _ (told : Bool) (rules : List Rule) (answers : Answers) (now : ℕ) (text
     unwritten = λ refused. (x.image, x.written);
     looks = λ plans. (x.image, x.written);
     written = λ tells durable. absurd (true≢false (sym durable));
+    within = λ tells. call_unwritten rules answers b.app now here c (bytes_now old) (bytes_now new) x.image
+        x.written;
     place = λ tells. names_none b.app c here refl old.image new.image;
     cause = λ bad. absurd cc;
     passes = x.passes;
@@ -515,6 +573,8 @@ module _ (told : Bool) (rules : List Rule) (answers : Answers) (now : ℕ) (text
         unwritten = tt;
         looks = λ plans. (x.image, x.written);
         written = λ tells durable. absurd (true≢false (sym durable));
+        within = λ tells. call_unwritten rules answers b.app now here c (bytes_now old) (bytes_now new) x.image
+            x.written;
         place = λ tells. names_none b.app c here refl old.image new.image;
         cause = λ bad. x.cause refl;
         passes = tt;
@@ -543,6 +603,8 @@ module _ (told : Bool) (rules : List Rule) (answers : Answers) (now : ℕ) (text
         unwritten = tt;
         looks = λ plans. (x.image, x.written);
         written = λ tells durable. absurd (true≢false (sym durable));
+        within = λ tells. call_unwritten rules answers b.app now here c (bytes_now old) (bytes_now new) x.image
+            x.written;
         place = λ tells. names_none b.app c here refl old.image new.image;
         cause = λ bad. absurd cc;
         passes = tt;

@@ -16,6 +16,8 @@ use Rattle.run_model.specs.Found.{FoundStorage}
 use Rattle.run_model.specs.Runtimes.{IsUnwritten, WritesWithin, is_durable, is_refusal, only_plans}
 use Rattle.run_model.specs.Sessions.{Session}
 use Rattle.run_model.specs.Steps.{found_named, uses_device}
+use Rattle.run_model.specs.Turns.{bytes_now}
+use Rattle.run_model.specs.Writes.{IsCallWithin}
 use Rattle.app_storages.specs.Handled.{StaysInPlace}
 use Rattle.app_runtime.specs.declared.running.Running.{Running}
 use Rattle.app_runtime.specs.Answers.{HasFailed, HasStopped, IsAnswered}
@@ -40,6 +42,9 @@ pub record Promises (told : Bool) (rules : List Rule) (answers : Answers) (now :
   pub written : IsTrue told → is_durable c ≡ true → (f : FoundStorage) (s : Session)
       → found_named (application old.image before) c ≡ Some (Ok f)
       → session_at (application old.image before) f.number ≡ Some s → WritesWithin before.app f s old new
+  -- no more is written than the storages cost that the call makes, and one root, and no file changes elsewhere
+  pub within : IsTrue told → IsCallWithin rules answers before.app now (application old.image before) c (bytes_now old)
+      (bytes_now new)
   -- no file changes beside those of a storage that the call names
   pub place : IsTrue told → StaysInPlace before.app c (application old.image before) old.image new.image
   pub cause : IsErrOf result stop.Device → Rose old.faults new.faults

@@ -12,17 +12,19 @@ ghost use Rattle.guarded_cell.specs.Register.{IsAlone};
 ghost use Rattle.migrate_fns.specs.Stored.{answers_of, rules_of};
 ghost use Rattle.command_text.specs.declared.replies.Answer.{Answer};
 ghost use Rattle.command_text.specs.Replies.{HasText};
-ghost use Rattle.deploy.specs.Written.{greatest_cost};
 ghost use Rattle.deploy_laws.specs.Apps.{App, app_at};
 ghost use Rattle.deploy_laws.specs.Places.{root_place};
 ghost use Rattle.deploy_laws.specs.Stands.{IsLater};
 ghost use Rattle.run_model.specs.AppLaws.{OpensRoot};
 ghost use Rattle.run_model.specs.Calls.{beside_update, session_at};
+ghost use Rattle.run_model.specs.Costs.{greatest_cost};
 ghost use Rattle.run_model.specs.Found.{FoundStorage};
 ghost use Rattle.run_model.specs.Runtimes.{IsUnwritten, WritesWithin, is_durable, is_refusal, only_plans};
 ghost use Rattle.run_model.specs.Sessions.{Session};
 ghost use Rattle.run_model.specs.Steps.{calls_device, found_named, uses_device};
+ghost use Rattle.run_model.specs.Turns.{bytes_now};
 ghost use Rattle.run_model.specs.Worlds.{at_rest, is_to_open, none_open, to_open, update_in};
+ghost use Rattle.run_model.specs.Writes.{IsCallWithin};
 ghost use Rattle.app_storages.specs.Answers.{CallsTo};
 ghost use Rattle.app_storages.specs.Handled.{StaysInPlace};
 ghost use Rattle.app_runtime.specs.Answers.{HasFailed, HasStopped, IsAnswered};
@@ -175,7 +177,12 @@ impl Running {
             → found_named (application (D.medium disk.old).image self.old) call.now ≡ Some (Ok f)
             → session_at (application (D.medium disk.old).image self.old) f.number ≡ Some s
             → WritesWithin self.old.app f s (D.medium disk.old) (D.medium disk.new) }
-        // However it ends, no file changes beside those of a storage that it names.
+        // However it ends, no more is written than the storages cost that it makes, and one root, and beside slots of the
+        // root no file changes but in the places of the storages that it makes or names.
+        ensures within { IsTrue D.told → IsCallWithin (rules_of migrations.now) (answers_of migrations.now)
+            self.old.app now (application (D.medium disk.old).image self.old) call.now
+            (bytes_now (D.medium disk.old)) (bytes_now (D.medium disk.new)) }
+        // Of a call that names a storage not even those of the root do.
         ensures place { IsTrue D.told → StaysInPlace self.old.app call.now
             (application (D.medium disk.old).image self.old) (D.medium disk.old).image (D.medium disk.new).image }
         ensures cause { IsErrOf result Stop.Device → Rose (D.medium disk.old).faults (D.medium disk.new).faults }

@@ -56,6 +56,7 @@ unbegun told m lawful = record {
   always = λ app lt clean c since. inl (lawful.only_now c since);
   at_exit = inl (reads_none lawful);
   roots = λ f is. refl;
+  written = omega arith;
 }
 
 -- a run that did not come to its lines

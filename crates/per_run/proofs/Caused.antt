@@ -296,7 +296,7 @@ done_none laws told medium Serve rules answers left before source sink disk lawf
     serves_short told medium rules answers left before source sink disk disk lawful (elapses_none lawful)
     (inr (inr (reads_none lawful)))
 done_none laws told medium Format rules answers left before source sink disk lawful =
-    formats_none told 4 before (medium disk) (medium disk) (inr refl) (λ unfailed. refl)
+    formats_none told 4 before (medium disk) (medium disk) (inr refl) (omega arith) (λ unfailed. refl)
 done_none laws told medium (Generate n) rules answers left before source sink disk lawful =
     generates_none told rules answers n 4 before (medium disk) (medium disk) (inr refl) (elapses_none lawful).faults
 done_none laws told medium Audit rules answers left before source sink disk lawful =

@@ -1,5 +1,5 @@
 -- Disks that were formatted, and jobs that did not come to their output.
-use Rattle.std.proofs.Common.{ℕ, zero, suc, List, [], ◌∷◌, replicate, ◌≡◌, ◌≤◌, ◌<◌, ◌+◌, ◌⊎◌, inl, inr, refl, sym, ◌∙◌}
+use Rattle.std.proofs.Common.{ℕ, zero, suc, List, [], ◌∷◌, replicate, ◌≡◌, ◌≤◌, ◌<◌, ◌+◌, ◌*◌, ◌⊎◌, inl, inr, refl, sym, ◌∙◌}
 use Rattle.std.proofs.Common.{ap, ap₂, subst, arith, Option, None, Bool, IsTrue}
 use Rattle.disk_model.specs.Image.{Image}
 use Rattle.disk_model.specs.Medium.{Medium}
@@ -8,6 +8,7 @@ use Rattle.command_text.specs.Generated.{generated}
 use Rattle.deploy_laws.specs.Apps.{App, app_at}
 use Rattle.deploy_rows.specs.Rows.{empty_app}
 use Rattle.run_model.specs.Bounds.{AreBounded}
+use Rattle.run_model.specs.Costs.{format_cost, greatest_cost}
 use Rattle.run_model.specs.Moments.{last_of}
 use Rattle.run_model.specs.RunLaws.{ends_settled}
 use Rattle.run_model.specs.Runs.{IsSettled}
@@ -39,12 +40,14 @@ is_formatted image each = ap (λ (apps : List Application). record formatted { a
 -- ---- jobs that did not come to their output
 
 pub formats_none : (told : Bool) (status : ℕ) (now : Option (List ℕ)) (old new : Medium) → (status ≡ 3) ⊎ (status ≡ 4)
-    → FailsAtThree status old.faults new.faults → Formats told status now now old new
-formats_none told status now old new is failed = record {
+    → new.written ≤ old.written + 8 * format_cost → FailsAtThree status old.faults new.faults
+    → Formats told status now now old new
+formats_none told status now old new is cost failed = record {
   output = writes_none status now _ is;
   world = λ tells done. absurd (not_done status is done);
   clean = λ tells done. absurd (not_done status is done);
   quiet = λ done. absurd (not_done status is done);
+  written = cost;
   failed = failed;
 }
 
@@ -62,7 +65,12 @@ generates_none told rules answers n status now old new is later = record {
     passes = λ done. absurd (not_done status is done);
   };
   follow = λ tells. tt;
-  bounded = λ tells. (bytes_now new, tt);
+  bounded = λ tells. record {
+    begun = bytes_now old;
+    starts = omega arith;
+    bounded = tt;
+    held = λ done. absurd (not_done status is done);
+  };
   settled = λ tells done. absurd (not_done status is done);
   clean = λ tells done. absurd (not_done status is done);
 }
@@ -86,6 +94,11 @@ counted_none told rules answers memory tally old middle new begun none = record 
   goes = goes_none told rules answers memory middle new begun.time begun.started begun.starts;
   tallies = none;
 }
+
+-- what the formatting and the start cost
+within : (was mid now : ℕ) → mid ≤ was + 8 * format_cost → now ≤ mid + 8 * greatest_cost
+    → now ≤ was + (8 * format_cost + 8 * greatest_cost)
+within was mid now formats starts = omega (arith, formats, starts)
 
 follow_from : (rules : List Rule) (answers : Answers) (w v : World) (ts : List Turn) → w ≡ v → Follow rules answers w ts
     → Follow rules answers v ts
@@ -111,10 +124,12 @@ generates_all told rules answers n status before now memory after tally old midd
       let g : IsGoing rules answers middle counted.turns after new = counted.goes.disk tells in
       follow_from rules answers (after_start (world_at middle.image)) formatted counted.turns (here tells) g.2.follow;
   bounded = λ tells.
-      let g : IsGoing rules answers middle counted.turns after new = counted.goes.disk tells in (
-        g.2.begun,
-        subst (λ (w : World). AreBounded w g.2.begun counted.turns) (here tells) g.2.bounded,
-      );
+      let g : IsGoing rules answers middle counted.turns after new = counted.goes.disk tells in record {
+        begun = g.2.begun;
+        starts = within old.written middle.written g.2.begun.written b.written g.2.starts.written;
+        bounded = subst (λ (w : World). AreBounded rules answers w g.2.begun counted.turns) (here tells) g.2.bounded;
+        held = λ done. g.2.held;
+      };
   settled = λ tells done.
       let g : IsGoing rules answers middle counted.turns after new = counted.goes.disk tells in
       subst (λ (w : World). IsSettled (last_of w (worlds_of counted.turns)) new) (here tells)

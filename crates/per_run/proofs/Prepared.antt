@@ -80,6 +80,7 @@ keeps_on {a} {b} {c} first reads later keeps = record {
       (each app lt (subst (IsCleanApp app) (sym reads.image) clean) x now)))
       keeps.at_exit;
   roots = λ f spared. keeps.roots f spared ∙ ap (λ (i : Image). i f) reads.image;
+  written = let same = reads.written in let cost = keeps.written in omega (arith, same, cost);
 }
 
 pub starts_on : {a b c : Medium} (memory : Memory) → Elapses a b → OnlyReads a b → Elapses b c → Starts memory b c
@@ -96,23 +97,24 @@ starts_on {a} {b} {c} memory first reads later s = record {
 -- after the formatting
 pub readied_first : {D : Type 0} (told : Bool) (medium : D → Medium) (r : Result Runtime Stop) (old mid new : D)
     → (IsTrue told → HasNoBytes (medium old).image) → Elapses (medium old) (medium mid)
-    → (medium mid).faults ≡ (medium old).faults
+    → OnlyReads (medium old) (medium mid) → (medium mid).faults ≡ (medium old).faults
     → IfOk r (λ x. (m : D) × IsServeBegun told (memory_of x) (medium mid) (medium m) (medium new))
     → IfOk r (λ x. IsReadied told medium (memory_of x) old new)
-readied_first told medium (Ok x) old mid new blank first same begun = record {
+readied_first told medium (Ok x) old mid new blank first reads same begun = record {
   start = begun.0;
   prepared = formatted_first blank (record {
     world = begun.1.world;
     clean = begun.1.clean;
     quiet = begun.1.quiet;
     passes = begun.1.passes ∙ same;
+    written = let formats = begun.1.written in let nothing = reads.written in omega (arith, formats, nothing);
     time = elapses_on first begun.1.formats;
   });
   passes = begun.1.started;
   starts = begun.1.starts;
   time = begun.1.time;
 }
-readied_first told medium (Err e) old mid new blank first same begun = tt
+readied_first told medium (Err e) old mid new blank first reads same begun = tt
 
 -- on the disk as it was
 pub readied_as : {D : Type 0} (told : Bool) (medium : D → Medium) (r : Result Runtime Stop) (old mid new : D)

@@ -1,7 +1,7 @@
 -- What each job promises, and by which statuses it ends. Of bytes `before` and `now` are what the sink took before and
 -- has taken now, `left_before` and `left_now` what the source has left, each None where nothing is said of it; `old`
 -- and `new` are the disk. `rules` are the converters of values between types, and `answers` what each may answer.
-use Rattle.std.specs.Prelude.{◌≡◌, ◌≢◌, ◌⊎◌, ◌<◌, ◌≤◌, ℕ, List, [], ◌∷◌, ◌++◌, length, take, Option, Some, None}
+use Rattle.std.specs.Prelude.{◌≡◌, ◌≢◌, ◌⊎◌, ◌<◌, ◌≤◌, ◌+◌, ◌*◌, ℕ, List, [], ◌∷◌, ◌++◌, length, take, Option, Some, None}
 use Rattle.std.specs.Prelude.{Bool, true, false, codes, count_by, not, ◌&&◌, IsTrue, IsFalse, Result, Ok, Err, IsOk}
 use Rattle.std.specs.Prelude.{IsErr}
 use Rattle.std.specs.List.{Contains}
@@ -18,14 +18,15 @@ use Rattle.command_text.specs.declared.replies.Reply.{Reply}
 use Rattle.command_text.specs.Generated.{generated}
 use Rattle.command_text.specs.Replies.{answer_text, number_or_dash}
 use Rattle.deploy_laws.specs.Apps.{App, IsCleanApp}
-use Rattle.run_model.specs.Bounds.{AreBounded}
+use Rattle.run_model.specs.Bounds.{AreBounded, bytes_after}
+use Rattle.run_model.specs.Costs.{format_cost, greatest_cost}
 use Rattle.run_model.specs.Endings.{FailureCounts}
 use Rattle.run_model.specs.Lines.{Give}
 use Rattle.run_model.specs.Lives.{LooksOnly}
 use Rattle.run_model.specs.Moments.{AreSoundDoubts, last_of}
 use Rattle.run_model.specs.Runs as runs
 use Rattle.run_model.specs.Runs.{IsSettled}
-use Rattle.run_model.specs.Turns.{DiskBytes, Turn, events_of, replies_of, worlds_of, CountsFailures, Follow}
+use Rattle.run_model.specs.Turns.{DiskBytes, Turn, bytes_now, events_of, replies_of, worlds_of, CountsFailures, Follow}
 use Rattle.run_model.specs.Worlds.{world_at, formatted}
 use Rattle.per_audit.specs.Audits.{elements_at, findings_at}
 use Rattle.per_audit.specs.AuditText.{audit_text}
@@ -79,6 +80,8 @@ pub record Formats (told : Bool) (status : ℕ) (before now : Option (List ℕ))
   pub world : IsTrue told → CameToOutput status → world_at new.image ≡ formatted
   pub clean : IsTrue told → CameToOutput status → (app : ℕ) → app < 8 → IsCleanApp app new.image
   pub quiet : CameToOutput status → Quiet new
+  -- no more is written than the formatting of eight roots costs
+  pub written : new.written ≤ old.written + 8 * format_cost
   pub failed : FailsAtThree status old.faults new.faults
 
 -- ---- a synthetic workload, generated from a number
@@ -123,6 +126,15 @@ abbrev pub summary : (lines : ℕ) → List Reply → List ℕ
 summary lines rs = summary_text lines (count_by is_done rs) (count_by is_other rs) (count_by is_error rs)
     (size_given rs)
 
+-- What these commands wrote: each from the bytes on that were there before it, the first from those that the start left,
+-- which formatted eight roots and opened them; and after the last nothing, where the job came to its output.
+pub record IsGeneratedWithin (rules : List Rule) (answers : Answers) (turns : List Turn) (Whole : Type 0)
+    (old new : Medium) : Type 0 where
+  pub begun : DiskBytes
+  pub starts : begun.written ≤ old.written + (8 * format_cost + 8 * greatest_cost)
+  pub bounded : AreBounded rules answers formatted begun turns
+  pub held : Whole → bytes_now new ≡ bytes_after begun turns
+
 -- the lines that the number gives, each with its reply and its world from the formatted one on: the applications as the
 -- disk denotes them and memory keeps them
 pub record Generates (told : Bool) (rules : List Rule) (answers : Answers) (n status : ℕ) (before now : Option (List ℕ))
@@ -132,8 +144,7 @@ pub record Generates (told : Bool) (rules : List Rule) (answers : Answers) (n st
   pub output : WritesOutput status before now (summary (length (generated n)) (replies_of turns))
   pub failures : CountsFailures (CameToOutput status) old.faults turns new.faults
   pub follow : IsTrue told → Follow rules answers formatted turns
-  -- what each command wrote, from the bytes that the start left on
-  pub bounded : IsTrue told → (begun : DiskBytes) × AreBounded formatted begun turns
+  pub bounded : IsTrue told → IsGeneratedWithin rules answers turns (CameToOutput status) old new
   pub settled : IsTrue told → CameToOutput status → IsSettled (last_of formatted (worlds_of turns)) new
   pub clean : IsTrue told → CameToOutput status → (app : ℕ) → app < 8 → AreSoundDoubts app (worlds_of turns)
       → IsCleanApp app new.image

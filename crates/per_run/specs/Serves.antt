@@ -1,6 +1,6 @@
 -- What a run that stays promises: its input has no bound, a line outside the grammar is answered and changes nothing,
 -- and an empty disk is formatted first.
-use Rattle.std.specs.Prelude.{◌≡◌, ◌⊎◌, ◌≤◌, ◌<◌, ◌+◌, ◌-◌, ◌^◌, min, ℕ, List, [], ◌∷◌, ◌++◌, length, map, take, Option}
+use Rattle.std.specs.Prelude.{◌≡◌, ◌⊎◌, ◌≤◌, ◌<◌, ◌+◌, ◌*◌, ◌-◌, ◌^◌, min, ℕ, List, [], ◌∷◌, ◌++◌, length, map, take, Option}
 use Rattle.std.specs.Prelude.{None, Bool, false, IsTrue, IsFalse, codes, ⊤}
 use Rattle.std.specs.List.{AllByRecursion, flat_map}
 use Rattle.std.specs.Io.KnownBytes.{Appends, Consumes, IsAtEnd, Keeps}
@@ -12,6 +12,7 @@ use Rattle.command_text.specs.declared.lines.Line.TheVariants as line
 use Rattle.command_text.specs.Grammar.{IsLine}
 use Rattle.command_text.specs.Replies.{reply_text}
 use Rattle.deploy_laws.specs.Apps.{IsCleanApp}
+use Rattle.run_model.specs.Costs.{format_cost}
 use Rattle.run_model.specs.Endings as endings
 use Rattle.run_model.specs.Endings.{Ending, HasCauseOf, HasEnded, bad_line_text, ending_status}
 use Rattle.run_model.specs.Lines.{IsBad, lines_of}
@@ -167,12 +168,14 @@ pub record Serve (told : Bool) (rules : List Rule) (answers : Answers) (status :
 abbrev pub HasNoBytes : Image → Type 0
 HasNoBytes image = (file : ℕ) → file < 32768 → image file ≡ []
 
--- eight applications of which nothing is installed, in clean places, and nothing pending
+-- eight applications of which nothing is installed, in clean places, and nothing pending; no more was written than the
+-- formatting of eight roots costs
 pub record IsFreshlyFormatted (told : Bool) (old start : Medium) : Type 0 where
   pub world : IsTrue told → world_at start.image ≡ formatted
   pub clean : IsTrue told → (app : ℕ) → app < 8 → IsCleanApp app start.image
   pub quiet : Quiet start
   pub passes : start.faults ≡ old.faults
+  pub written : start.written ≤ old.written + 8 * format_cost
   pub time : Elapses old start
 
 -- a run that stays starts on the disk as it was; or on one that it formatted, since it was empty

@@ -1,7 +1,7 @@
 -- What the parts of a run keep, from line to line and from byte to byte. Of bytes `before` and `now` are what the sink
 -- took before and has taken now, `left_before` and `left_now` what the source has left, each None where nothing is said
 -- of it. `rules` are the converters of values between types, and `answers` what each may answer.
-use Rattle.std.specs.Prelude.{◌≡◌, ◌⊎◌, ◌≤◌, ◌<◌, ℕ, List, [], ◌∷◌, ◌++◌, length, take, Option, Bool, false, IsTrue}
+use Rattle.std.specs.Prelude.{◌≡◌, ◌⊎◌, ◌≤◌, ◌<◌, ◌+◌, ◌*◌, ℕ, List, [], ◌∷◌, ◌++◌, length, take, Option, Bool, false, IsTrue}
 use Rattle.std.specs.Prelude.{Result, Ok, Err, IsErrOf, IfErr, count_by, ⊤}
 use Rattle.std.specs.List.{AllByRecursion, flat_map}
 use Rattle.std.specs.Io.KnownBytes.{Appends, Consumes, IsAtEnd}
@@ -14,6 +14,7 @@ use Rattle.command_text.specs.declared.lines.Line.TheVariants as line
 use Rattle.command_text.specs.declared.replies.Reply.{Reply}
 use Rattle.command_text.specs.Grammar.{IsLine, has_feed}
 use Rattle.command_text.specs.Replies.{HasText}
+use Rattle.run_model.specs.Costs.{format_cost}
 use Rattle.run_model.specs.Endings as endings
 use Rattle.run_model.specs.Endings.{EndsBy, IsInput}
 use Rattle.run_model.specs.Lines.{Give, IsBad, lines_of}
@@ -218,9 +219,11 @@ pub record Counted (told : Bool) (rules : List Rule) (answers : Answers) (start 
   pub goes : Goes told rules answers start turns memory medium
   pub tallies : Tallies (replies_of turns) tally
 
--- A runtime that started on a disk which was formatted before.
+-- A runtime that started on a disk which was formatted before; no more was written until then than the formatting of
+-- eight roots costs.
 pub record IsServeBegun (told : Bool) (memory : Memory) (old middle new : Medium) : Type 0 where
   pub passes : middle.faults ≡ old.faults
+  pub written : middle.written ≤ old.written + 8 * format_cost
   pub started : new.faults ≡ middle.faults
   pub world : IsTrue told → world_at middle.image ≡ formatted
   pub clean : IsTrue told → (app : ℕ) → app < 8 → IsCleanApp app middle.image

@@ -13,12 +13,12 @@ use Rattle.disk_model.specs.Place.{IsNoSlot}
 use Rattle.disk_model.specs.lemmas.Frames.{settled_on}
 use Rattle.deploy.specs.declared.errors.Stop.{Stop}
 use Rattle.deploy.specs.declared.errors.Stop.TheVariants.{Device, OutOfMemory}
-use Rattle.deploy.specs.Written.{greatest_cost}
 use Rattle.deploy_laws.specs.Apps.{App, app_at, IsCleanApp}
 use Rattle.deploy_laws.specs.Places.{IsFileOf, root_place}
 use Rattle.deploy_laws.specs.Stands.{IsLater, StandsCase, same_root}
 use Rattle.deploy_rows.specs.Rows.{reopened}
 use Rattle.run_model.specs.AppLaws.{AppLaws, OpensRoot}
+use Rattle.run_model.specs.Costs.{greatest_cost}
 use Rattle.run_model.specs.Runtimes.{StartKeeps, Starts, with_disk}
 use Rattle.run_model.specs.Runtimes as memory
 use Rattle.run_model.specs.Starting.{OpenedUpTo, keeps_worlds, open_next, open_none, opened_keeps, which}
@@ -37,10 +37,18 @@ use Rattle.per_runtime.proofs.Worlds.{StaysInUse, apart}
 is_reopened : (a : App) → IsLater a (reopened a)
 is_reopened a = same_root refl refl
 
+-- what is written where the sync failed, and where some roots were opened
+pub unsynced_written : (old new : Medium) → OnlyReads old new → new.written ≤ old.written + 8 * greatest_cost
+unsynced_written old new reads = let same = reads.written in omega (arith, same)
+
+pub some_written : (was mid now app : ℕ) → app < 8 → mid ≤ was + app * greatest_cost → now ≤ mid + greatest_cost
+    → now ≤ was + 8 * greatest_cost
+some_written was mid now app lt before cost = omega (arith, lt, before, cost)
+
 -- the sync failed
 pub unsynced_keeps : (old new : Medium) → OnlyReads old new → StartKeeps old new
 unsynced_keeps old new reads = keeps_worlds old new (λ b lt clean c s. inl (reads.during c s)) (inl reads)
-    (λ f is. ap (λ (i : Image). i f) reads.image)
+    (λ f is. ap (λ (i : Image). i f) reads.image) (unsynced_written old new reads)
 
 -- what any opening promises, however it ends
 abbrev pub IsOnTheWay : ℕ → (old new : Medium) → Type 0
@@ -58,14 +66,16 @@ root_at k a old new is opens = subst (λ (n : ℕ). OpensRoot n old new) is open
 
 -- the opening of one root failed, or memory ran out in it
 pub stops_at : AppLaws → (told : Bool) (a : ℕ) (old now new : Medium) → a < 8 → IsLawful told new → OpenedUpTo a old now
-    → Elapses now new → IsOnTheWay a now new → Spares (IsNoSlot (root_place a)) now.image new.image → StartKeeps old new
-stops_at laws told a old now new lta lawful o time way slots = keeps_worlds old new
+    → Elapses now new → IsOnTheWay a now new → Spares (IsNoSlot (root_place a)) now.image new.image
+    → new.written ≤ now.written + greatest_cost → StartKeeps old new
+stops_at laws told a old now new lta lawful o time way slots cost = keeps_worlds old new
     (λ b lt clean c s. ⊎_elim
     (λ was. o.moments b lt clean c was)
     (λ at. inr (here b lt clean c at (which a b)))
     (cases_on o.time time c s))
     (inr (λ b lt clean c at. here b lt clean c (lawful.counts_now now.moment c time.later at) (which a b)))
     (λ f is. slots f (is a lta) ∙ o.roots f is)
+    (some_written old.written now.written new.written a lta o.written cost)
   where
     calls : CallsTo a (reopened (app_at now.image a)) now new
     calls = way (reopened (app_at now.image a)) (is_reopened (app_at now.image a))
@@ -223,16 +233,7 @@ pub all_begun : AppLaws → (told : Bool) (count : ℕ) (apps : Vec Running Glob
 all_begun laws told count apps old now all are = let eight : AreOpened told 8 apps.items old now =
     subst (λ (n : ℕ). AreOpened told n apps.items old now) all are in record {
       end = eight;
-      keeps = λ tells. opened_keeps laws 8 old now (eight.opened tells);
+      keeps = λ tells. opened_keeps laws 8 old now (omega arith) (eight.opened tells);
       written = eight.written;
       time = eight.time;
     }
-
--- ---- what is written
-
-pub unsynced_written : (old new : Medium) → OnlyReads old new → new.written ≤ old.written + 8 * greatest_cost
-unsynced_written old new reads = let same = reads.written in omega (arith, same)
-
-pub some_written : (was mid now app : ℕ) → app < 8 → mid ≤ was + app * greatest_cost → now ≤ mid + greatest_cost
-    → now ≤ was + 8 * greatest_cost
-some_written was mid now app lt before cost = omega (arith, lt, before, cost)

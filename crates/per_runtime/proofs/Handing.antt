@@ -102,11 +102,11 @@ module _ (laws : AppLaws) (makes : MakesOne) (stays : StaysInUse) (rules : List 
       → Stepped rules answers (event.App n c) reply (kept now apps b) (kept now (slice_set apps n a') b) doubt old new
   answered_steps reply is tells None sure = answered_sure laws rules answers told tells old new now n c apps a a' below
       are.eight there_is number h.time (λ none. reads (h.idle tells none)) (h.written tells) h.looks
-      (h.place tells)
+      (h.place tells) (h.within tells)
       reply b sure is (quiet (sym sure)) (world_on tells (answered_use reply is))
   answered_steps reply is tells (Some d) sure = answered_doubtful laws rules answers told tells old new now n c apps a
       a' below are.eight there_is number h.time (λ none. reads (h.idle tells none)) (h.written tells) h.looks
-      (h.place tells)
+      (h.place tells) (h.within tells)
       reply d b sure is (calm_here sure tells) (world_on tells (answered_use reply is))
 
   -- failed at the device
@@ -120,7 +120,7 @@ module _ (laws : AppLaws) (makes : MakesOne) (stays : StaysInUse) (rules : List 
       new
   failed_steps is lawful tells None sure = failed_sure laws rules answers told tells old new now n c apps a a' below
       are.eight there_is number h.time (λ none. reads (h.idle tells none)) (h.written tells) h.looks
-      (h.place tells)
+      (h.place tells) (h.within tells)
       b sure is lawful (quiet (sym sure)) (world_on tells (failed_use is))
   failed_steps is lawful tells (Some d) sure = absurd (never_fails a.app now (app_at new.image a.app)
       (application old.image a) c (application new.image a') (calm_here sure tells) (is.fails tells))
@@ -132,9 +132,9 @@ module _ (laws : AppLaws) (makes : MakesOne) (stays : StaysInUse) (rules : List 
       → Stopped rules answers (event.App n c) (kept now apps b) doubt old new
   stopped_steps is tells None sure = stopped_sure laws rules answers told tells old new now n c apps a a' below
       are.eight there_is number h.time (λ none. reads (h.idle tells none)) (h.written tells) h.looks
-      (h.place tells)
+      (h.place tells) (h.within tells)
       b sure (is tells) (quiet (sym sure))
   stopped_steps is tells (Some d) sure = stopped_doubtful laws rules answers told tells old new now n c apps a a' below
       are.eight there_is number h.time (λ none. reads (h.idle tells none)) (h.written tells) h.looks
-      (h.place tells)
+      (h.place tells) (h.within tells)
       d b sure (calm_here sure tells)

@@ -31,9 +31,10 @@ use Rattle.run_model.specs.Starting.{which}
 use Rattle.run_model.specs.Steps.{AppStep, FailsAs, Leads, calls_device, doubt_after, failure, found_named}
 use Rattle.run_model.specs.Steps.{passes_refusals}
 use Rattle.run_model.specs.Steps.{root_opened, uses_device}
-use Rattle.run_model.specs.Turns.{IsBlamed}
+use Rattle.run_model.specs.Turns.{IsBlamed, bytes_now}
 use Rattle.run_model.specs.Worlds.{Application, Disks, Doubt, World, app_of, disk_at, disks, is_to_open, update_in}
 use Rattle.run_model.specs.Worlds.{with_app, world_at}
+use Rattle.run_model.specs.Writes.{IsCallWithin, IsCommandWithin}
 use Rattle.app_storages.specs.Answers.{CallsTo}
 use Rattle.app_storages.specs.Handled.{StaysInPlace}
 use Rattle.app_runtime.specs.declared.running.Running.{Running}
@@ -111,6 +112,7 @@ now_steps laws makes rules answers told m now t apps b tells lawful are quiet do
   unwritten = λ none. (refl, refl);
   place = λ f beside. refl;
   written = tt;
+  within = tt;
   blamed = record { later = le_refl m.faults; cause = λ four. absurd (not_four four); passes = λ other. refl };
 }
 
@@ -126,7 +128,8 @@ module _ (laws : AppLaws) (rules : List Rule) (answers : Answers) (told : Bool) 
     → session_at (application old.image a) f.number ≡ Some s → WritesWithin a.app f s old new)
     (looks : only_plans c ≡ true → is_to_open (stage_in a.stage) ≡ false → IsUnwritten old new)
     (place : is_to_open (stage_in a.stage) ≡ false
-    → StaysInPlace a.app c (application old.image a) old.image new.image) where
+    → StaysInPlace a.app c (application old.image a) old.image new.image)
+    (within : IsCallWithin rules answers a.app now (application old.image a) c (bytes_now old) (bytes_now new)) where
   -- the world before, and what is on the disk then
   before : Option Doubt → World
   before doubt = world old.image now apps doubt
@@ -182,6 +185,13 @@ module _ (laws : AppLaws) (rules : List Rule) (answers : Answers) (told : Bool) 
   written_on doubt durable f s found open_there = subst (λ k. WritesWithin k f s old new) number (written durable f s
       (subst (λ (r : Application). found_named r c ≡ Some (Ok f)) (it_is doubt) found)
       (subst (λ (r : Application). session_at r f.number ≡ Some s) (it_is doubt) open_there))
+
+  within_on : (doubt : Option Doubt) → IsCommandWithin rules answers (before doubt) e (bytes_now old) (bytes_now new)
+  unfolding e before
+  within_on doubt = subst (λ (r : Application). IsCallWithin rules answers n now r c (bytes_now old) (bytes_now new))
+      (sym (it_is doubt))
+      (subst (λ (k : ℕ). IsCallWithin rules answers k now (application old.image a) c (bytes_now old) (bytes_now new))
+      number within)
 
   place_on : (doubt : Option Doubt) → Spares (IsBesideNamed (before doubt) e) old.image new.image
   unfolding e
@@ -319,6 +329,7 @@ module _ (laws : AppLaws) (rules : List Rule) (answers : Answers) (told : Bool) 
         unwritten = refused_on None reply h.unwritten;
         place = place_on None;
         written = written_on None;
+        within = within_on None;
         blamed = blamed_on reply h;
       }
 
@@ -370,6 +381,7 @@ module _ (laws : AppLaws) (rules : List Rule) (answers : Answers) (told : Bool) 
         unwritten = λ none. (reads.image, reads.written);
         place = place_on (Some d);
         written = written_on (Some d);
+        within = within_on (Some d);
         blamed = blamed_on reply h;
       }
 
@@ -427,6 +439,7 @@ module _ (laws : AppLaws) (rules : List Rule) (answers : Answers) (told : Bool) 
             (either (only_looks (before None) e) false none));
         place = place_on None;
         written = written_on None;
+        within = within_on None;
         blamed = record { later = time.faults; cause = λ four. h.cause; passes = λ other. absurd (other refl) };
       }
 
@@ -449,6 +462,7 @@ module _ (laws : AppLaws) (rules : List Rule) (answers : Answers) (told : Bool) 
         unwritten = looked_on None;
         place = place_on None;
         written = written_on None;
+        within = within_on None;
       }
 
   pub stopped_doubtful : (d : Doubt) (b : Bool) → true ≡ b → calls_device (application old.image a) c ≡ false
@@ -464,4 +478,5 @@ module _ (laws : AppLaws) (rules : List Rule) (answers : Answers) (told : Bool) 
         unwritten = λ none. (reads.image, reads.written);
         place = place_on (Some d);
         written = written_on (Some d);
+        within = within_on (Some d);
       }

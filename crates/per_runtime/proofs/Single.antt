@@ -1,13 +1,15 @@
 -- A call of one application: as its row says where its root is in use, and after the opening of one that is to be opened.
-use Rattle.std.specs.Prelude.{◌≡◌, ◌≢◌, ◌⊎◌, ℕ, List, Bool, true, false, cond, ◌||◌, IsTrue, Some, None, Result, Ok}
+use Rattle.std.specs.Prelude.{◌≡◌, ◌≢◌, ◌⊎◌, ◌≤◌, ◌+◌, ℕ, List, Bool, true, false, cond, ◌||◌, IsTrue, Some, None, Result, Ok}
 use Rattle.std.specs.Prelude.{Err, IfOk, IsErrOf, OnOk, slice_get}
 use Rattle.std.proofs.Common.{refl, sym, ap, ◌∙◌, subst, inl, inr, ⊎_elim, true≢false}
 use Rattle.per_base.specs.Causes.{Rose}
 use Rattle.per_base.specs.declared.errors.PerError.TheVariants as error
 use Rattle.disk_model.specs.Case.{Case}
+use Rattle.disk_model.specs.Frame.{Spares}
 use Rattle.disk_model.specs.Image.{Image}
 use Rattle.disk_model.specs.Laws.{cases_on, reads_none, rose_before}
 use Rattle.disk_model.specs.Medium.{Medium, Quiet, Elapses, IsLawful, OnlyReads}
+use Rattle.disk_model.specs.Place.{IsNoSlot}
 use Rattle.migrate_fns.specs.Rules.{Rule, Answers}
 use Rattle.command_text.specs.declared.calls.Call.{Call}
 use Rattle.command_text.specs.declared.replies.Answer.TheVariants as answer
@@ -17,10 +19,12 @@ use Rattle.deploy.specs.declared.errors.Stop.{Stop}
 use Rattle.deploy.specs.declared.errors.Stop.TheVariants.{Device, OutOfMemory}
 use Rattle.deploy_laws.specs.Apps.{App, app_at, IsCleanApp}
 use Rattle.deploy_laws.specs.Laws.{RootMendLaw}
+use Rattle.deploy_laws.specs.Places.{root_place}
 use Rattle.deploy_laws.specs.Stands.{IsLater, StandsCase, next_root, same_root}
 use Rattle.deploy_rows.specs.Rows.{reopened}
 use Rattle.run_model.specs.AppLaws.{OpensRoot}
 use Rattle.run_model.specs.Calls.{Outcome, StepBeside, beside_update, if_open, session_at}
+use Rattle.run_model.specs.Costs.{greatest_cost}
 use Rattle.run_model.specs.Found.{FoundStorage}
 use Rattle.run_model.specs.Lasting.{IsApplication, IsStageOn}
 use Rattle.run_model.specs.OneApp.{as_app, none_there}
@@ -29,7 +33,10 @@ use Rattle.run_model.specs.Runtimes as memory
 use Rattle.run_model.specs.Sessions.{Session}
 use Rattle.run_model.specs.Steps.{AppStep, FailsAs, after_failure, calls_device, found_named, reaches_device}
 use Rattle.run_model.specs.Steps.{root_opened, uses_device}
+use Rattle.run_model.specs.Turns.{bytes_now}
+use Rattle.run_model.specs.WriteLaws.{call_behind, call_unbegun}
 use Rattle.run_model.specs.Worlds.{Application, Stage, Sessions, at_rest, is_to_open, none_open, to_open, update_in}
+use Rattle.run_model.specs.Writes.{IsCallWithin}
 use Rattle.app_storages.specs.Answers.{CallsTo}
 use Rattle.app_runtime.specs.Answers as calls
 use Rattle.app_runtime.specs.Answers.{HasRow}
@@ -214,6 +221,14 @@ whole_calls mend app next old mid new opens time later calls = record {
   elsewhere = λ f inside. calls.elsewhere f inside ∙ opens.elsewhere f inside;
 }
 
+-- the opening failed, and nothing more was written
+pub opened_alone : (told : Bool) (rules : List Rule) (answers : Answers) (now : ℕ) (c : Call) (a : Running)
+    (old mid : Medium) → stage_in a.stage ≡ to_open → Spares (IsNoSlot (root_place a.app)) old.image mid.image
+    → mid.written ≤ old.written + greatest_cost
+    → IsCallWithin rules answers a.app now (application old.image a) c (bytes_now old) (bytes_now mid)
+opened_alone told rules answers now c a old mid marked slots cost = call_unbegun rules answers a.app now
+    (application old.image a) c (bytes_now old) (bytes_now mid) marked slots cost
+
 module _ (mend : RootMendLaw) (told : Bool) (rules : List Rule) (answers : Answers) (now : ℕ) (c : Call) (a b : Running)
     (old mid : Medium)
     (marked : stage_in a.stage ≡ to_open) (same : b.app ≡ a.app)
@@ -230,6 +245,30 @@ module _ (mend : RootMendLaw) (told : Bool) (rules : List Rule) (answers : Answe
       → session_at (application old.image a) f.number ≡ Some s → WritesWithin a.app f s old new
   none_written new tells durable f s found there = absurd (none_some s (sym (none_there 16 f.number)
       ∙ sym (ap (λ (r : memory.Running). if_open (slice_get r.sessions f.number)) (closed tells)) ∙ there))
+
+  -- ---- what is written
+
+  pub within_behind : running_in b ≡ record { stage = at_rest; sessions = none_open }
+      → (IsTrue told → Spares (IsNoSlot (root_place a.app)) old.image mid.image)
+      → mid.written ≤ old.written + greatest_cost → (IsTrue told → OpensRoot a.app old mid) → (new : Medium)
+      → (IsTrue told → IsCallWithin rules answers b.app now (application mid.image b) c (bytes_now mid) (bytes_now new))
+      → IsTrue told → IsCallWithin rules answers a.app now (application old.image a) c (bytes_now old) (bytes_now new)
+  within_behind opened slots cost opens new within tells =
+      let was : Application = as_app (app_at old.image a.app) (record { stage = to_open; sessions = none_open }) in
+      let is : Application = as_app (reopened (app_at old.image a.app)) (record {
+        stage = at_rest;
+        sessions = none_open;
+      }) in
+      let there : application mid.image b ≡ is =
+      ap (λ (r : memory.Running). as_app (app_at mid.image b.app) r) opened
+      ∙ ap (λ (x : App). as_app x (record { stage = at_rest; sessions = none_open }))
+      (ap (app_at mid.image) same ∙ (opens tells).app) in
+      subst (λ (r : memory.Running). IsCallWithin rules answers a.app now (as_app (app_at old.image a.app) r) c
+      (bytes_now old) (bytes_now new)) (sym (closed tells))
+      (call_behind rules answers a.app now was c (bytes_now old) (bytes_now mid) (bytes_now new) refl (slots tells) cost
+      (subst (λ (k : ℕ). IsCallWithin rules answers k now is c (bytes_now mid) (bytes_now new)) same
+      (subst (λ (r : Application). IsCallWithin rules answers b.app now r c (bytes_now mid) (bytes_now new)) there
+      (within tells))))
 
   -- ---- the opening failed
 

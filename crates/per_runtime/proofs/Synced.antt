@@ -1,7 +1,7 @@
 -- A doubt is ended by a sync, and then the command goes on; where the sync fails nothing changes.
 use Rattle.std.specs.Prelude.{◌≡◌, ◌⊎◌, ◌<◌, ◌≤◌, ◌+◌, ◌*◌, ◌&&◌, ℕ, List, length, Bool, true, false, IsTrue, Option}
 use Rattle.std.specs.Prelude.{Some, None, Result, Ok, Err}
-use Rattle.std.proofs.Common.{refl, sym, ap, ◌∙◌, subst, inl, inr, ⊎_elim, le_refl, le_trans, arith, true≢false}
+use Rattle.std.proofs.Common.{refl, sym, ap, ap₂, ◌∙◌, subst, inl, inr, ⊎_elim, le_refl, le_trans, arith, true≢false}
 use Rattle.std.proofs.lemmas.List.{length-map}
 use Rattle.disk_model.specs.Case.{Case, IsSettledAt}
 use Rattle.disk_model.specs.Frame.{IsSettledOn, Spares}
@@ -27,7 +27,9 @@ use Rattle.run_model.specs.Moments.{IsMoment, IsReady, StepKeeps, StopKeeps}
 use Rattle.run_model.specs.Runtimes.{Memory, IsDoubt, IsElsewhere, IsUnwritten, StaysAside, Stepped, StepsOn, Stopped}
 use Rattle.run_model.specs.Runtimes.{IsBesideNamed, WrittenBy, WritesWithin, calls_none, only_looks, world_of}
 use Rattle.run_model.specs.Runtimes.{writes_none}
-use Rattle.run_model.specs.Turns.{IsBlamed}
+use Rattle.run_model.specs.Turns.{DiskBytes, IsBlamed, bytes_now}
+use Rattle.run_model.specs.WriteLaws.{command_unwritten}
+use Rattle.run_model.specs.Writes.{IsCommandWithin}
 use Rattle.run_model.specs.Steps.{Leads, calls_device, doubt_after, failure}
 use Rattle.run_model.specs.Lasting.{IsWorld}
 use Rattle.run_model.specs.Worlds.{Application, Doubt, World, app_of, with_app, without_doubt}
@@ -51,6 +53,10 @@ and_none false = refl
 
 both_true : (b : Bool) → b ≡ true → IsTrue (b && true)
 both_true b is = ap (λ (x : Bool). x && true) is
+
+-- what is on the disk
+same_bytes : (old new : Medium) → new.image ≡ old.image → new.written ≡ old.written → bytes_now new ≡ bytes_now old
+same_bytes old new image written = ap₂ (λ (i : Image) (k : ℕ). record { image = i; written = k }) image written
 
 -- where nothing is written, no bound is passed
 within : (copies contents index before after : ℕ) → after ≡ before → IsWithin copies contents index before after
@@ -127,6 +133,17 @@ module _ (rules : List Rule) (answers : Answers) (told : Bool) (n : ℕ) (c : Ca
               old.written new.written nothing.written (within.at_most v others opens);
         }
 
+    within_on : IsCommandWithin rules answers (world_of mid.image (sure m) None) (event.App n c) (bytes_now mid)
+        (bytes_now new)
+        → IsCommandWithin rules answers before (event.App n c) (bytes_now old) (bytes_now new)
+    unfolding before
+    within_on is =
+        let same : bytes_now mid ≡ bytes_now old = same_bytes old mid nothing.image nothing.written in
+        subst (λ (b : DiskBytes). IsCommandWithin rules answers (without_doubt before) (event.App n c) b (bytes_now new))
+        same
+        (subst (λ (w : World). IsCommandWithin rules answers w (event.App n c) (bytes_now mid) (bytes_now new)) synced_is
+        is)
+
     place_on : Spares (IsBesideNamed (world_of mid.image (sure m) None) (event.App n c)) mid.image new.image
         → Spares (IsBesideNamed before (event.App n c)) old.image new.image
     unfolding before
@@ -171,6 +188,7 @@ module _ (rules : List Rule) (answers : Answers) (told : Bool) (n : ℕ) (c : Ca
               (λ (w : World). writes_none w (event.App n c) reply ≡ true) (sym synced_is) none));
           place = place_on s.place;
           written = written_on s.written;
+          within = within_on s.within;
           blamed = blamed_behind reply old mid new time.faults passes s.blamed;
         }
 
@@ -202,6 +220,7 @@ module _ (rules : List Rule) (answers : Answers) (told : Bool) (n : ℕ) (c : Ca
           (sym synced_is) none));
       place = place_on s.place;
       written = written_on s.written;
+      within = within_on s.within;
     }
 
   -- the sync failed
@@ -235,6 +254,8 @@ module _ (rules : List Rule) (answers : Answers) (told : Bool) (n : ℕ) (c : Ca
               (seen_of s)).entries) old.written
               mid.written reads.written;
         };
+        within = command_unwritten rules answers before (event.App n c) (bytes_now old) (bytes_now mid) reads.image
+            reads.written;
         blamed = record { later = time.faults; cause = λ four. rose; passes = λ other. absurd (other refl) };
       }
 

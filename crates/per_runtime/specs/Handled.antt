@@ -19,6 +19,8 @@ use Rattle.run_model.specs.Found.{FoundStorage}
 use Rattle.run_model.specs.Calls.{Outcome, session_at}
 use Rattle.run_model.specs.Steps.{AppStep, FailsAs, calls_device, found_named}
 use Rattle.run_model.specs.Runtimes.{IsUnwritten, WritesWithin, is_refusal, is_durable, only_plans}
+use Rattle.run_model.specs.Turns.{bytes_now}
+use Rattle.run_model.specs.Writes.{IsCallWithin}
 use Rattle.app_storages.specs.Answers.{CallsTo}
 use Rattle.app_storages.specs.Handled.{StaysInPlace}
 use Rattle.app_runtime.specs.declared.running.Running.{Running}
@@ -92,6 +94,10 @@ pub record IsHandled (told : Bool) (rules : List Rule) (answers : Answers) (now 
   pub written : IsTrue told → is_durable c ≡ true → (f : FoundStorage) (s : Session)
       → found_named (application old.image a) c ≡ Some (Ok f)
       → session_at (application old.image a) f.number ≡ Some s → WritesWithin a.app f s old new
+  -- no more is written than the storages cost that the call makes, one root, and the opening of a root before it; and no
+  -- file changes elsewhere
+  pub within : IsTrue told → IsCallWithin rules answers a.app now (application old.image a) c (bytes_now old)
+      (bytes_now new)
   -- no file changes beside those of a storage that the call names
   pub place : IsTrue told → is_to_open (stage_in a.stage) ≡ false
       → StaysInPlace a.app c (application old.image a) old.image new.image

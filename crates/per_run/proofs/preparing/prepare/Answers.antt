@@ -9,7 +9,7 @@ returns-in-Ok-true-clause-readied g c =
     readied_first _ g.D.Disk.medium c.start_formatted.result c.args.disk.now c.is_blank.new.disk
     c.start_formatted.new.disk
     (λ tells. says_true _ _ c.in-Ok-true.field-0-test (c.in-Ok-true.ensures.says tells))
-    c.is_blank.ensures.time c.in-Ok-true.ensures.passes c.start_formatted.ensures.begun
+    c.is_blank.ensures.time c.is_blank.ensures.reads c.in-Ok-true.ensures.passes c.start_formatted.ensures.begun
 
 pub returns-in-Ok-true-clause-unready : goal.returns-in-Ok-true-clause-unready
 returns-in-Ok-true-clause-unready g c = on_err c.start_formatted.result

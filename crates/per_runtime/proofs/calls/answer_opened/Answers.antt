@@ -17,6 +17,7 @@ returns g c =
           (said.idle tells);
       looks = λ plans closed. said.looks plans;
       written = said.written;
+      within = said.within;
       place = λ tells opened. said.place tells;
       time = said.time;
     }

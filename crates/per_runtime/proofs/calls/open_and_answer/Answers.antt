@@ -4,7 +4,8 @@ use Rattle.disk_model.specs.Laws.{elapses_on}
 use Rattle.deploy.specs.declared.errors.Stop.{Stop}
 use Rattle.run_model.specs.Worlds.{is_to_open}
 use Rattle.migrate_fns.specs.Stored.{answers_of, rules_of}
-use Rattle.per_runtime.proofs.Single.{marked_at, none_idle, none_written, not_in_use, opened_first, opening_failed}
+use Rattle.per_runtime.proofs.Single.{marked_at, none_idle, none_written, not_in_use, opened_alone, opened_first}
+use Rattle.per_runtime.proofs.Single.{opening_failed, within_behind}
 use Rattle.per_runtime.proofs.calls.open_and_answer.Goals as goal
 
 pub returns-in_err-open_root : goal.returns-in_err-open_root
@@ -37,6 +38,8 @@ returns-in_err-open_root g c =
       written = none_written c.applications_stand.ensures.mend g.D.Disk.told (rules_of c.args.migrations.now)
           (answers_of c.args.migrations.now) c.args.now c.args.call.now a c.open_root.new.self old mid
           c.requires.marked said.app closed mid;
+      within = λ tells. opened_alone g.D.Disk.told (rules_of c.args.migrations.now) (answers_of c.args.migrations.now)
+          c.args.now c.args.call.now a old mid c.requires.marked (said.slots tells) said.written;
       time = said.time;
     })
 
@@ -69,5 +72,9 @@ returns g c =
       written = none_written c.applications_stand.ensures.mend g.D.Disk.told (rules_of c.args.migrations.now)
           (answers_of c.args.migrations.now) c.args.now c.args.call.now a c.open_root.new.self old mid
           c.requires.marked said.app closed new;
+      within = within_behind c.applications_stand.ensures.mend g.D.Disk.told (rules_of c.args.migrations.now)
+          (answers_of c.args.migrations.now) c.args.now c.args.call.now a c.open_root.new.self old mid
+          c.requires.marked said.app closed said.opened said.slots said.written said.root new
+          c.answer_opened.ensures.within;
       time = elapses_on said.time c.answer_opened.ensures.time;
     }

@@ -33,7 +33,7 @@ returns-in_err-running g c =
     rw (p.1, p.2) (record {
       end = tt;
       keeps = λ tells. opened_keeps c.applications_stand.ensures c.loop-app.app (g.D.Disk.medium c.args.disk.now)
-          (g.D.Disk.medium c.loop-app.disk) (it.opened tells);
+          (g.D.Disk.medium c.loop-app.disk) (omega arith) (it.opened tells);
       written = some_written _ _ _ c.loop-app.app (omega arith) it.written (omega arith);
       time = it.time;
     })
@@ -55,7 +55,8 @@ returns-in_err-open_root g c =
           (g.met.D.Disk.lawful c.open_root.new.disk) (it.opened tells) said.time
           (way_at c.in_ok-running.running.app c.loop-app.app now new c.in_ok-running.ensures.app
           (said.on_the_way tells))
-          (slots_at c.in_ok-running.running.app c.loop-app.app now new c.in_ok-running.ensures.app (said.slots tells));
+          (slots_at c.in_ok-running.running.app c.loop-app.app now new c.in_ok-running.ensures.app (said.slots tells))
+          said.written;
       written = some_written _ _ _ c.loop-app.app lt it.written said.written;
       time = elapses_on it.time said.time;
     })
@@ -75,7 +76,8 @@ returns-in_err-push g c =
           (g.met.D.Disk.lawful c.open_root.new.disk) (it.opened tells) said.time
           (way_at c.in_ok-running.running.app c.loop-app.app now new c.in_ok-running.ensures.app
           (said.on_the_way tells))
-          (slots_at c.in_ok-running.running.app c.loop-app.app now new c.in_ok-running.ensures.app (said.slots tells));
+          (slots_at c.in_ok-running.running.app c.loop-app.app now new c.in_ok-running.ensures.app (said.slots tells))
+          said.written;
       written = some_written _ _ _ c.loop-app.app lt it.written said.written;
       time = elapses_on it.time said.time;
     })

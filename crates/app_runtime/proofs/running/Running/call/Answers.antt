@@ -12,6 +12,7 @@ returns g c = record {
   unwritten = c.answer.ensures.unwritten;
   looks = c.answer.ensures.looks;
   written = c.answer.ensures.written;
+  within = c.answer.ensures.within;
   place = c.answer.ensures.place;
   cause = c.answer.ensures.cause;
   passes = c.answer.ensures.passes;

@@ -1,4 +1,4 @@
-use Rattle.std.proofs.Common.{◌≡◌, sym, subst}
+use Rattle.std.proofs.Common.{◌≡◌, ap, sym, subst}
 use Rattle.migrate_fns.specs.Stored.{answers_of, rules_of}
 use Rattle.app_runtime.specs.declared.running.Stage.{Stage}
 use Rattle.app_runtime.specs.Promises.{Promises}
@@ -32,7 +32,8 @@ returns g c =
     subst (λ (x : Stage). Promises told rules answers c.args.now c.args.call.now (record s { stage = x })
     (record s { stage = x; slots = c.call.new.self }) Untouched old new c.call.result) (sym c.in-AtRest.is)
     (stored_promises told rules answers c.args.now c.args.call.now s c.in-AtRest.root c.call.new.self Untouched old new
-    c.call.result c.requires.on_storage
+    c.call.result (λ same. (ap (λ d. (g.D.Disk.medium d).image) same, ap (λ d. (g.D.Disk.medium d).written) same))
+    c.requires.on_storage
     (leads_on c.storages_lead_on.ensures c.rows_lead_on.ensures.install c.rows_lead_on.ensures.finish
     c.rows_lead_on.ensures.rollback c.rows_lead_on.ensures.wipe c.rows_lead_on.ensures.update rules answers)
     (record {

@@ -1,12 +1,15 @@
-use Rattle.std.proofs.Common.{◌≡◌, ◌<◌, ◌∙◌, length, IsTrue, Result, Err, Ok, ap, refl, sym, subst}
+use Rattle.std.proofs.Common.{◌≡◌, ◌<◌, ◌∙◌, drop, length, IsTrue, Result, Err, Ok, ap, refl, sym, subst}
 use Rattle.command_text.specs.declared.calls.Call.TheVariants as call
 use Rattle.command_text.specs.declared.replies.Answer.TheVariants as answer
 use Rattle.command_text.specs.declared.replies.Reply.{Reply}
 use Rattle.deploy.specs.declared.errors.Stop.{Stop}
-use Rattle.deploy.specs.Building.{StagedAt, staged_progress, staged_root}
+use Rattle.deploy.specs.Building.{StagedAt, offered_in, staged_progress, staged_root}
+use Rattle.deploy.specs.Clauses.{Leaves}
+use Rattle.deploy.specs.Making.{IsBesideMade}
 use Rattle.deploy.specs.Remaining.{IsBesideCommit}
 use Rattle.deploy.specs.Roots.{RootAt, free_bank}
 use Rattle.deploy_laws.specs.Apps.{IsCleanApp, app_at}
+use Rattle.deploy_laws.specs.Places.{shapes_in}
 use Rattle.deploy_rows.specs.Rows.{updated_app}
 use Rattle.migrate_fns.specs.Stored.{answers_of, rules_of}
 use Rattle.app_storages.specs.Answers.{CallsTo}
@@ -16,8 +19,8 @@ use Rattle.app_runtime.specs.Promises.{Promises}
 use Rattle.app_runtime.specs.Stages.{reply_with, staged_in}
 use Rattle.app_runtime.proofs.Ended.{not_some, passed_on}
 use Rattle.app_runtime.proofs.Frames.{beside_commit, calls_to}
-use Rattle.app_runtime.proofs.Steps.{an_update, commit_done, commit_failed, commit_refused_row, contents_few}
-use Rattle.app_runtime.proofs.Steps.{same_if_none, staged_at, update_back, without_promises, without_same}
+use Rattle.app_runtime.proofs.Steps.{an_update, commit_done, commit_failed, commit_refused_row, commit_written}
+use Rattle.app_runtime.proofs.Steps.{contents_few, same_if_none, staged_at, update_back, without_promises, without_same}
 use Rattle.app_runtime.proofs.Updated.{free_low}
 use Rattle.app_runtime.proofs.running.Running.commit_update.Goals as goal
 
@@ -78,7 +81,12 @@ returns-in_err-root g c = λ now.
     (commit_failed told rules answers now s t old new (c.commit_update.new.disk ≡ c.args.disk.now) at.0
     c.requires.memory.below at.1 c.roots_in_use.ensures.app c.rows_lead_on.ensures.update
     e taken c.in-Some.ensures.left (λ is. c.commit_update.ensures.cause
-    (c.in_err-root.was ∙ ap (λ (x : Stop). Err x) is)) calls c.commit_update.ensures.time))
+    (c.in_err-root.was ∙ ap (λ (x : Stop). Err x) is)) calls c.commit_update.ensures.time
+    (commit_written told rules answers now s t old new (c.commit_update.new.disk ≡ c.args.disk.now) at.0
+    c.requires.memory.below at.1 c.roots_in_use.ensures.app c.said_is_kept.ensures.short
+    c.commit_update.ensures.written
+    (subst (λ n. Leaves told (IsBesideMade n (drop (staged_progress t).built (shapes_in n (offered_in t)))) old new)
+    of_app c.commit_update.ensures.places))))
 
 pub returns : goal.returns
 returns g c = λ now.
@@ -119,4 +127,9 @@ returns g c = λ now.
     (λ tells. subst (λ n. app_at new.image n ≡ updated_app (staged_progress t) (app_at old.image n)) of_app
     (c.in_ok-root.ensures.app tells)) calls
     (λ tells. subst (λ n. IsCleanApp n old.image → IsCleanApp n new.image) of_app (c.in_ok-root.ensures.clean tells))
-    (λ quiet. c.in_ok-root.ensures.quiet) c.in_ok-root.ensures.passes c.commit_update.ensures.time)))
+    (λ quiet. c.in_ok-root.ensures.quiet) c.in_ok-root.ensures.passes c.commit_update.ensures.time
+    (commit_written told rules answers now s t old new (c.commit_update.new.disk ≡ c.args.disk.now) at.0
+    c.requires.memory.below at.1 c.roots_in_use.ensures.app c.said_is_kept.ensures.short
+    c.commit_update.ensures.written
+    (subst (λ n. Leaves told (IsBesideMade n (drop (staged_progress t).built (shapes_in n (offered_in t)))) old new)
+    of_app c.commit_update.ensures.places)))))

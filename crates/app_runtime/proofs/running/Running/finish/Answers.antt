@@ -1,14 +1,17 @@
-use Rattle.std.proofs.Common.{◌≡◌, ap}
+use Rattle.std.proofs.Common.{◌≡◌, ap, take}
 use Rattle.std.specs.Prelude.{⊤}
 use Rattle.deploy.specs.Clauses.{IsNoRootSlot}
+use Rattle.deploy.specs.Roots.{root_texts}
 use Rattle.deploy_laws.specs.Apps.{IsCleanApp}
 use Rattle.deploy_rows.specs.Rows.{after, finishing}
 use Rattle.deploy_laws.specs.Apps.{app_at}
 use Rattle.command_text.specs.declared.calls.Call.TheVariants as call
 use Rattle.migrate_fns.specs.Stored.{answers_of, rules_of}
+use Rattle.app_storages.specs.Slots.{resting_with}
 use Rattle.app_runtime.proofs.Ended.{on_clean, resting_in, word_promises}
 use Rattle.app_runtime.proofs.Frames.{calls_to, no_root}
 use Rattle.app_runtime.proofs.Kept.{finish_kept}
+use Rattle.app_runtime.proofs.Within.{finish_most, finish_within}
 use Rattle.app_runtime.proofs.Words.{finish_word}
 use Rattle.app_runtime.proofs.running.Running.finish.Goals as goal
 
@@ -35,6 +38,9 @@ returns g c = λ now.
     c.roots_in_use.ensures.app finishing (λ e. ⊤)
     (finish_word told (rules_of c.args.migrations.now) (answers_of c.args.migrations.now) s.app now old.image s.slots
     c.rows_read_the_root.ensures.finish c.rows_lead_on.ensures.finish)
+    (λ tells. finish_within told (rules_of c.args.migrations.now) (answers_of c.args.migrations.now) s.app now
+    (resting_with old.image s.app s.slots) old new tells (take 1 (root_texts root))
+    (finish_most c.said_is_kept.ensures.short s.app root resting.root_at.memory) c.finish-made.ensures.written outside)
     made
     (record {
       root_at = c.finish-made.ensures.root s.app resting.below resting.root_at;

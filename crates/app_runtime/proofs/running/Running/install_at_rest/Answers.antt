@@ -7,10 +7,14 @@ use Rattle.deploy_rows.specs.Rows.{after, installing}
 use Rattle.command_text.specs.declared.calls.Call.TheVariants as call
 use Rattle.app_runtime.specs.declared.running.Running.{Running}
 use Rattle.migrate_fns.specs.Stored.{answers_of, rules_of}
+use Rattle.run_model.specs.Turns.{bytes_now}
+use Rattle.run_model.specs.Writes.{IsCallWithin}
+use Rattle.app_storages.specs.Slots.{resting_with}
 use Rattle.app_runtime.proofs.Ended.{clean_less, resting_in, word_promises}
 use Rattle.app_runtime.proofs.Frames.{beside_next, calls_to}
 use Rattle.app_runtime.proofs.Kept.{install_kept}
 use Rattle.app_runtime.proofs.Rowed.{Made}
+use Rattle.app_runtime.proofs.Within.{install_within}
 use Rattle.app_runtime.proofs.Words.{install_word}
 use Rattle.app_runtime.proofs.running.Running.install_at_rest.Goals as goal
 
@@ -45,6 +49,12 @@ returns g c =
     (install_word told (rules_of c.args.migrations.now) (answers_of c.args.migrations.now) s.app c.args.now old.image
     s.slots c.args.manifest.now (c.rows_read_the_root.ensures.install c.args.now c.args.manifest.now)
     c.rows_lead_on.ensures.install)
+    (λ tells. subst (λ n. IsCallWithin (rules_of c.args.migrations.now) (answers_of c.args.migrations.now) n c.args.now
+    (resting_with old.image s.app s.slots) (call.Install c.args.manifest.now) (bytes_now old) (bytes_now new))
+    (ap (λ (x : Running). x.app) c.take_root-root.ensures.left)
+    (install_within told (rules_of c.args.migrations.now) (answers_of c.args.migrations.now) taken.app c.args.now
+    (resting_with old.image s.app s.slots) old new tells c.args.manifest.now c.install-made.ensures.written
+    c.install-made.ensures.places))
     made
     (subst (λ n. Made told row AllocatesNothing n root (c.install-made.new.disk ≡ c.args.disk.now) old new made)
     (ap (λ (x : Running). x.app) c.take_root-root.ensures.left) (record {

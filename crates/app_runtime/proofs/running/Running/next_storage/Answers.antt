@@ -1,12 +1,14 @@
-use Rattle.std.proofs.Common.{◌≡◌, ◌∙◌, IsTrue, Result, Err, Ok, ap, refl, sym, subst}
+use Rattle.std.proofs.Common.{◌≡◌, ◌≤◌, ◌+◌, ◌∙◌, take, drop, IsTrue, Result, Err, Ok, ap, refl, sym, subst}
 use Rattle.command_text.specs.declared.calls.Call.TheVariants as call
 use Rattle.command_text.specs.declared.replies.Answer.TheVariants as answer
 use Rattle.command_text.specs.declared.replies.Reply.{Reply}
 use Rattle.deploy.specs.declared.errors.Stop.{Stop}
-use Rattle.deploy.specs.Building.{StagedAt, staged_progress, staged_root}
+use Rattle.deploy.specs.Building.{StagedAt, offered_in, staged_progress, staged_root}
+use Rattle.deploy.specs.Clauses.{Leaves}
+use Rattle.deploy.specs.Making.{IsInNone, making_costs}
 use Rattle.deploy.specs.Roots.{RootAt, free_bank}
 use Rattle.deploy_laws.specs.Apps.{IsCleanApp, app_at}
-use Rattle.deploy_laws.specs.Places.{IsBeside}
+use Rattle.deploy_laws.specs.Places.{IsBeside, shapes_in}
 use Rattle.deploy_rows.specs.Rows.{updated_app}
 use Rattle.migrate_fns.specs.Stored.{answers_of, rules_of}
 use Rattle.app_storages.specs.Answers.{CallsTo}
@@ -16,8 +18,8 @@ use Rattle.app_runtime.specs.Promises.{Promises}
 use Rattle.app_runtime.specs.Stages.{reply_with, staged_in}
 use Rattle.app_runtime.proofs.Ended.{not_some, passed_on}
 use Rattle.app_runtime.proofs.Frames.{beside, calls_to}
-use Rattle.app_runtime.proofs.Steps.{an_update, built_few, next_done, next_failed, next_refused_row, same_if_none}
-use Rattle.app_runtime.proofs.Steps.{staged_at, update_back, without_promises, without_same}
+use Rattle.app_runtime.proofs.Steps.{an_update, built_few, next_done, next_failed, next_refused_row, next_written}
+use Rattle.app_runtime.proofs.Steps.{same_if_none, staged_at, update_back, without_promises, without_same}
 use Rattle.app_runtime.proofs.Updated.{free_low}
 use Rattle.app_runtime.proofs.running.Running.next_storage.Goals as goal
 
@@ -72,7 +74,11 @@ returns-in_err-staged g c = λ now.
     (next_failed told rules answers now s t old new (c.next_storage.new.disk ≡ c.args.disk.now) at.0
     c.requires.memory.below at.1 c.roots_in_use.ensures.app
     e taken c.in-Some.ensures.left (λ is. c.next_storage.ensures.cause
-    (c.in_err-staged.was ∙ ap (λ (x : Stop). Err x) is)) calls c.next_storage.ensures.time))
+    (c.in_err-staged.was ∙ ap (λ (x : Stop). Err x) is)) calls c.next_storage.ensures.time
+    (next_written told rules answers now s t old new (c.next_storage.new.disk ≡ c.args.disk.now) at.0
+    c.requires.memory.below at.1 c.roots_in_use.ensures.app c.next_storage.ensures.written
+    (subst (λ n. Leaves told (IsInNone (take 1 (drop (staged_progress t).built (shapes_in n (offered_in t))))) old new)
+    of_app c.next_storage.ensures.places))))
 
 pub returns : goal.returns
 returns g c = λ now.
@@ -108,4 +114,8 @@ returns g c = λ now.
     (subst (λ n. StagedAt told new.image n c.in_ok-staged.staged) of_app c.in_ok-staged.ensures.staged)
     (λ tells. subst (λ n. app_at new.image n ≡ app_at old.image n) of_app (c.next_storage.ensures.app tells)) calls
     (λ tells. subst (λ n. IsCleanApp n old.image → IsCleanApp n new.image) of_app (c.next_storage.ensures.clean tells))
-    c.in_ok-staged.ensures.quiet c.in_ok-staged.ensures.passes c.next_storage.ensures.time)))
+    c.in_ok-staged.ensures.quiet c.in_ok-staged.ensures.passes c.next_storage.ensures.time
+    (next_written told rules answers now s t old new (c.next_storage.new.disk ≡ c.args.disk.now) at.0
+    c.requires.memory.below at.1 c.roots_in_use.ensures.app c.next_storage.ensures.written
+    (subst (λ n. Leaves told (IsInNone (take 1 (drop (staged_progress t).built (shapes_in n (offered_in t))))) old new)
+    of_app c.next_storage.ensures.places)))))

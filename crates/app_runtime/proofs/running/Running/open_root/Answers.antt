@@ -32,6 +32,7 @@ returns-clause-root g c = λ tells. record {
       (g.D.Disk.medium c.args.disk.now) (g.D.Disk.medium c.open_root.new.disk) tells
       (λ f is. no_root c.args.self.now.app f c.requires.memory.below is) c.open_root.ensures.outside;
   slots = c.open_root.ensures.outside.at_the_end tells;
+  written = c.open_root.ensures.at_most;
   clean = λ clean. c.in_ok-root.ensures.clean tells clean;
   quiet = c.in_ok-root.ensures.quiet;
   time = c.open_root.ensures.time;

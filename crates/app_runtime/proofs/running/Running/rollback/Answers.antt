@@ -1,13 +1,14 @@
-use Rattle.std.proofs.Common.{◌≡◌, ◌⊎◌, ◌∙◌, None, ap, refl, sym}
+use Rattle.std.proofs.Common.{◌≡◌, ◌⊎◌, ◌∙◌, None, ap, drop, refl, sym}
 use Rattle.std.specs.Prelude.{option_map}
 use Rattle.deploy.specs.Clauses.{IsNoRootSlot}
 use Rattle.deploy.specs.Refusals.{AllocatesNothing}
 use Rattle.per_base.specs.declared.errors.PerError.{PerError}
-use Rattle.deploy.specs.Roots.{root_says}
+use Rattle.deploy.specs.Roots.{root_says, root_texts}
 use Rattle.deploy_laws.specs.Apps.{IsCleanApp, app_at}
 use Rattle.deploy_rows.specs.Rows.{after, rolling_back}
 use Rattle.command_text.specs.declared.calls.Call.TheVariants as call
 use Rattle.migrate_fns.specs.Stored.{answers_of, rules_of}
+use Rattle.app_storages.specs.Slots.{resting_with}
 use Rattle.app_runtime.specs.declared.running.Running.{Running}
 use Rattle.app_runtime.specs.Needs.{no_way_back}
 use Rattle.app_runtime.specs.Stages.{stage_root}
@@ -17,6 +18,7 @@ use Rattle.app_runtime.proofs.Ended.{starved_promises}
 use Rattle.app_runtime.proofs.Ended.{word_promises}
 use Rattle.app_runtime.proofs.Frames.{calls_to, no_root}
 use Rattle.app_runtime.proofs.Kept.{rollback_kept}
+use Rattle.app_runtime.proofs.Within.{rollback_most, rollback_within}
 use Rattle.app_runtime.proofs.Words.{rollback_word}
 use Rattle.app_runtime.proofs.running.Running.rollback.Goals as goal
 
@@ -81,6 +83,10 @@ returns g c = λ now.
     (rollback_word told (rules_of c.args.migrations.now) (answers_of c.args.migrations.now) s.app now old.image s.slots
     busy (busy_least told old.image s.app root s.slots c.roots_in_use.ensures.app resting busy busy_is)
     (c.rows_read_the_root.ensures.rollback busy) c.rows_lead_on.ensures.rollback)
+    (λ tells. rollback_within told (rules_of c.args.migrations.now) (answers_of c.args.migrations.now) s.app now
+    (resting_with old.image s.app s.slots) old new tells (drop 1 (root_texts root))
+    (rollback_most c.said_is_kept.ensures.short s.app root resting.root_at.memory) c.rollback-made.ensures.written
+    (c.rollback-made.ensures.outside s.app resting.below resting.root_at))
     made
     (record {
       root_at = c.rollback-made.ensures.root s.app resting.below resting.root_at;

@@ -78,7 +78,7 @@ returns g c =
     (stage_back s root c.requires.rests c.take_root-root.ensures.root)
     (updated_promises told rules answers c.args.now text s root old new (c.update-made.new.disk ≡ c.args.disk.now)
     resting c.roots_in_use.ensures.app c.rows_read_the_root.ensures.offer busy busy_is
-    c.rows_lead_on.ensures.update
+    c.rows_lead_on.ensures.update c.said_is_kept.ensures.short
     (goes_over s root c.no_update_over.result c.take_root-root.ensures.root c.no_update_over.ensures
     c.in_default.not-Some)
     made
@@ -94,6 +94,8 @@ returns g c =
       passes = c.update-made.ensures.passes;
       device_only = c.update-made.ensures.device_only;
       outside = c.update-made.ensures.outside;
+      places = c.update-made.ensures.places;
+      written = c.update-made.ensures.written;
       any_moment = c.update-made.ensures.any_moment;
       time = c.update-made.ensures.time;
     }))

@@ -7,6 +7,9 @@ use Rattle.deploy_laws.specs.Apps.{IsCleanApp, app_at}
 use Rattle.deploy_rows.specs.Rows.{after, wiping}
 use Rattle.command_text.specs.declared.calls.Call.TheVariants as call
 use Rattle.migrate_fns.specs.Stored.{answers_of, rules_of}
+use Rattle.run_model.specs.Turns.{bytes_now}
+use Rattle.run_model.specs.Writes.{IsCallWithin}
+use Rattle.app_storages.specs.Slots.{resting_with}
 use Rattle.app_runtime.specs.declared.running.Running.{Running}
 use Rattle.app_runtime.proofs.Early.{unnamed, wipe_starves}
 use Rattle.app_runtime.proofs.Ended.{busy_here, busy_least, clean_less, resting_in, starved, starved_promises}
@@ -14,6 +17,7 @@ use Rattle.app_runtime.proofs.Ended.{word_promises}
 use Rattle.app_runtime.proofs.Frames.{calls_to, no_root}
 use Rattle.app_runtime.proofs.Kept.{wipe_kept}
 use Rattle.app_runtime.proofs.Rowed.{Made}
+use Rattle.app_runtime.proofs.Within.{wipe_within}
 use Rattle.app_runtime.proofs.Words.{wipe_word}
 use Rattle.app_runtime.proofs.running.Running.wipe.Goals as goal
 
@@ -68,6 +72,11 @@ returns g c = λ now.
     (wipe_word told (rules_of c.args.migrations.now) (answers_of c.args.migrations.now) s.app now old.image s.slots busy
     (busy_least told old.image s.app root s.slots c.roots_in_use.ensures.app resting busy busy_is)
     (c.rows_read_the_root.ensures.wipe busy) c.rows_lead_on.ensures.wipe)
+    (λ tells. subst (λ n. IsCallWithin (rules_of c.args.migrations.now) (answers_of c.args.migrations.now) n now
+    (resting_with old.image s.app s.slots) call.Wipe (bytes_now old) (bytes_now new))
+    (ap (λ (x : Running). x.app) c.take_root-root.ensures.left)
+    (wipe_within told (rules_of c.args.migrations.now) (answers_of c.args.migrations.now) taken.app now
+    (resting_with old.image s.app s.slots) old new tells c.wipe-made.ensures.at_most c.wipe-made.ensures.outside))
     made
     (subst (λ n. Made told row Due n root (c.wipe-made.new.disk ≡ c.args.disk.now) old new made)
     (ap (λ (x : Running). x.app) c.take_root-root.ensures.left) (record {
