@@ -98,6 +98,8 @@ fn answers_failure(bytes: &[u8]) -> bool {
 }
 
 /// Whether a line of an audit says so. The text of an audit is handed over at once.
+#[cold]
+#[inline(never)]
 fn says_damage(bytes: &[u8]) -> bool {
     bytes.split(|byte| *byte == b'\n').any(|line| line.starts_with(b"damaged ")
         || line.starts_with(b"lost "))
@@ -111,9 +113,16 @@ fn refusal_in(bytes: &[u8]) -> Option<&[u8]> {
     }
     let lines = bytes.strip_suffix(b"\n")?;
     let answer = if lines.starts_with(b"report ") {
-        lines.rsplit(|byte| *byte == b'\n').next()?
+        last_line(lines)?
     } else {
         lines
     };
     (answer.starts_with(b"error ") || answer.starts_with(b"bad-line ")).then_some(answer)
+}
+
+/// The last of these lines, each but the last with its line feed.
+#[cold]
+#[inline(never)]
+fn last_line(lines: &[u8]) -> Option<&[u8]> {
+    lines.rsplit(|byte| *byte == b'\n').next()
 }
