@@ -4,7 +4,9 @@ ghost use Rattle.std.specs.Prelude.{◌≡◌, ◌⊎◌, ◌<◌, ◌+◌, ◌-
 ghost use Rattle.std.specs.Prelude.{IfErr, IfNone, IfSome, OnOk, length, min, take};
 ghost use Rattle.disk_model.specs.Medium.{Elapses};
 ghost use Rattle.migrate_fns.specs.Stored.{answers_of, rules_of};
+ghost use Rattle.command_text.specs.Grammar.{IsEvent, IsLine};
 ghost use Rattle.command_text.specs.Replies.{HasText, reply_text};
+ghost use Rattle.command_text.specs.declared.lines.Line.{Line};
 ghost use Rattle.run_model.specs.AppLaws.{AppLaws};
 ghost use Rattle.run_model.specs.Endings.{bad_line_text};
 ghost use Rattle.run_model.specs.Lines.{lines_of};
@@ -13,11 +15,10 @@ ghost use Rattle.per_run.specs.Steps.{Blamed, Blames, Course, Handled, HasNoFeed
 ghost use Rattle.per_run.specs.Steps.{PutsOutput, Reached};
 ghost use Rattle.per_run.specs.Steps.{ending_of};
 
-use crate::answering::{LineOutcome, answer_line};
 use crate::endings::Ending;
 use crate::octets::{many_octets, write_octets};
 use crate::writing::{write_made, write_text};
-use command_text::{LINE_BYTES, Reply, push_reply};
+use command_text::{Event, LINE_BYTES, Line, LineError, Reply, parse_line, push_reply};
 use disk_model::Disk;
 use memchr::memchr;
 use migrate_fns::Migrations;
@@ -276,12 +277,48 @@ fn handle_text<D: Disk, K: Sink>(
     ensures blames { Blames (K.faults sink.old) (K.faults sink.new) result }
     ensures time { Elapses (D.medium disk.old) (D.medium disk.new) }
 {
-    match answer_line(alloc, runtime, migrations, disk, text) {
-        LineOutcome::Nothing => Ok(()),
-        LineOutcome::Answered(reply) => write_reply(alloc, sink, room, &reply),
-        LineOutcome::End => Err(Ending::EndLine),
-        LineOutcome::Bad => Err(refuse(alloc, sink, number)),
-        LineOutcome::OutOfMemory => Err(Ending::OutOfMemory),
+    match parse_line(alloc, text) {
+        Ok(Line::Nothing) => Ok(()),
+        Ok(Line::Event(event)) => handle_event(alloc, runtime, migrations, sink, disk, room, &event),
+        Ok(Line::End) => Err(Ending::EndLine),
+        Err(LineError::NotALine) => Err(refuse(alloc, sink, number)),
+        Err(LineError::OutOfMemory) => Err(Ending::OutOfMemory),
+    }
+}
+
+/// Does what a command says, and writes its reply where it is, which is not small.
+#[inline(never)]
+fn handle_event<D: Disk, K: Sink>(
+    alloc: Global,
+    runtime: &mut Runtime,
+    migrations: &Migrations,
+    sink: &mut K,
+    disk: &mut D,
+    room: &mut String,
+    event: &Event,
+) -> Result<(), Ending>
+    requires event { IsEvent event.now }
+    requires memory { IsRuntime D.told (D.medium disk.old) runtime.old }
+    ensures goes_on { OnOk result ((start : D) (before : Option (List ℕ)) (lines : List (List ℕ)) (text : List ℕ)
+        → IsLine text (Line.Event event.now)
+        → Handled D.told (rules_of migrations.now) (answers_of migrations.now) (D.medium start) before lines
+        (K.written sink.old) (memory_of runtime.old) (D.medium disk.old)
+        → Handled D.told (rules_of migrations.now) (answers_of migrations.now) (D.medium start) before
+        (lines ++ text ∷ []) (K.written sink.new) (memory_of runtime.new) (D.medium disk.new)) }
+    ensures ends { IfErr result (λ ending. AppLaws → (start : D) (before : Option (List ℕ))
+        (lines others : List (List ℕ)) (text : List ℕ)
+        → IsLine text (Line.Event event.now)
+        → Handled D.told (rules_of migrations.now) (answers_of migrations.now) (D.medium start) before lines
+        (K.written sink.old) (memory_of runtime.old) (D.medium disk.old)
+        → Course D.told (rules_of migrations.now) (answers_of migrations.now) (ending_of ending) (D.medium start) before
+        (lines ++ text ∷ others) (K.written sink.new) (D.medium disk.new)) }
+    ensures memory { OnOk result (IsRuntime D.told (D.medium disk.new) runtime.new) }
+    ensures blames { Blames (K.faults sink.old) (K.faults sink.new) result }
+    ensures time { Elapses (D.medium disk.old) (D.medium disk.new) }
+{
+    match runtime.step(disk, migrations, event) {
+        Ok(reply) => write_reply(alloc, sink, room, &reply),
+        Err(_) => Err(Ending::OutOfMemory),
     }
 }
 
@@ -324,6 +361,8 @@ fn write_at_once<K: Sink>(sink: &mut K, room: &mut String, reply: &Reply) -> Res
 }
 
 /// Answers a line that is outside the grammar, and gives how the handling ends.
+#[cold]
+#[inline(never)]
 fn refuse<K: Sink>(alloc: Global, sink: &mut K, number: u64) -> Ending
     ensures refuses { IsBadLineAnswer (bad_line_text number) (K.written sink.old) (K.written sink.new) result }
     ensures blamed { Blamed result (K.faults sink.old) (K.faults sink.new) }
