@@ -279,7 +279,9 @@ fn handle_text<D: Disk, K: Sink>(
 {
     match parse_line(alloc, text) {
         Ok(Line::Nothing) => Ok(()),
-        Ok(Line::Event(event)) => handle_event(alloc, runtime, migrations, sink, disk, room, &event),
+        Ok(Line::Event(event)) => handle_event(
+            alloc, runtime, migrations, sink, disk, room, &event,
+        ),
         Ok(Line::End) => Err(Ending::EndLine),
         Err(LineError::NotALine) => Err(refuse(alloc, sink, number)),
         Err(LineError::OutOfMemory) => Err(Ending::OutOfMemory),
