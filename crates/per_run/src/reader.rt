@@ -175,6 +175,9 @@ fn feed_line<D: Disk, K: Sink>(
     ensures blames { Blames (K.faults sink.old) (K.faults sink.new) result }
     ensures time { Elapses (D.medium disk.old) (D.medium disk.new) }
 {
+    if reader.kept.as_slice().is_empty() {
+        return handle_whole(reader, migrations, sink, disk, line);
+    }
     match keep(&mut reader.kept, line) {
         Ok(()) => {}
         Err(ending) => return Err(ending),
@@ -198,6 +201,54 @@ pub fn keep(kept: &mut Vec<u8>, bytes: &[u8]) -> Result<(), Ending>
     match kept.extend_from_slice(&bytes[..count]) {
         Ok(()) => Ok(()),
         Err(_) => Err(Ending::OutOfMemory),
+    }
+}
+
+/// Handles a line of which nothing is kept, where it lies.
+fn handle_whole<D: Disk, K: Sink>(
+    reader: &mut Reader,
+    migrations: &Migrations,
+    sink: &mut K,
+    disk: &mut D,
+    line: &[u8],
+) -> Result<(), Ending>
+    requires { IsRuntime D.told (D.medium disk.old) reader.old.runtime }
+    ensures goes_on { OnOk result ((start : D) (before : Option (List ℕ)) (lines : List (List ℕ)) (text : List ℕ)
+        → take 262145 line.now ≡ take 262145 text
+        → Handled D.told (rules_of migrations.now) (answers_of migrations.now) (D.medium start) before lines
+        (K.written sink.old) (memory_of reader.old.runtime) (D.medium disk.old)
+        → Handled D.told (rules_of migrations.now) (answers_of migrations.now) (D.medium start) before
+        (lines ++ text ∷ []) (K.written sink.new) (memory_of reader.new.runtime) (D.medium disk.new)) }
+    ensures counts { OnOk result (reader.new.number ≡ min (reader.old.number + 1) (2 ^ 64 - 1)) }
+    ensures keeps { OnOk result (reader.new.kept.items ≡ reader.old.kept.items) }
+    ensures ends { IfErr result (λ ending. AppLaws → (start : D) (before : Option (List ℕ))
+        (lines others : List (List ℕ)) (text : List ℕ)
+        → take 262145 line.now ≡ take 262145 text → reader.old.number ≡ length lines → length lines < 2 ^ 63
+        → Handled D.told (rules_of migrations.now) (answers_of migrations.now) (D.medium start) before lines
+        (K.written sink.old) (memory_of reader.old.runtime) (D.medium disk.old)
+        → Course D.told (rules_of migrations.now) (answers_of migrations.now) (ending_of ending) (D.medium start) before
+        (lines ++ text ∷ others) (K.written sink.new) (D.medium disk.new)) }
+    ensures memory { OnOk result (IsRuntime D.told (D.medium disk.new) reader.new.runtime) }
+    ensures blames { Blames (K.faults sink.old) (K.faults sink.new) result }
+    ensures time { Elapses (D.medium disk.old) (D.medium disk.new) }
+{
+    let number = reader.number.saturating_add(1);
+    let count = line.len().min(LINE_BYTES + 1);
+    match handle_text(
+        reader.alloc,
+        &mut reader.runtime,
+        migrations,
+        sink,
+        disk,
+        &mut reader.room,
+        &line[..count],
+        number,
+    ) {
+        Ok(()) => {
+            reader.number = number;
+            Ok(())
+        }
+        Err(ending) => Err(ending),
     }
 }
 
