@@ -23,9 +23,9 @@ use Rattle.run_model.specs.Runtimes.{StartKeeps, Starts, with_disk}
 use Rattle.run_model.specs.Runtimes as memory
 use Rattle.run_model.specs.Starting.{OpenedUpTo, keeps_worlds, open_next, open_none, opened_keeps, which}
 use Rattle.run_model.specs.Worlds.{Application, after_start, all_resting, disk_at, disks, world_at}
-use Rattle.app_storages.specs.Answers.{CallsTo}
-use Rattle.app_runtime.specs.declared.running.Running.{Running}
-use Rattle.app_runtime.specs.Running.{IsRunning, running_in}
+use Rattle.per_runtime.specs.storages.Answers.{CallsTo}
+use Rattle.per_runtime.specs.declared.application.running.Running.{Running}
+use Rattle.per_runtime.specs.application.Running.{IsRunning, running_in}
 use Rattle.per_runtime.specs.Begun.{AreOpened, HasBegun, IsBegun, fresh, idle}
 use Rattle.per_runtime.specs.Memories.{AreRunning}
 use Rattle.per_runtime.proofs.Lifted.{kept}

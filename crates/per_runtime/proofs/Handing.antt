@@ -19,8 +19,8 @@ use Rattle.run_model.specs.Runtimes.{IsDoubt, Stepped, Stopped, calls_none, worl
 use Rattle.run_model.specs.Steps.{calls_device, failure}
 use Rattle.run_model.specs.Lasting.{IsWorld}
 use Rattle.run_model.specs.Worlds.{Application, Doubt, app_of}
-use Rattle.app_runtime.specs.declared.running.Running.{Running}
-use Rattle.app_runtime.specs.Running.{IsRunning, application}
+use Rattle.per_runtime.specs.declared.application.running.Running.{Running}
+use Rattle.per_runtime.specs.application.Running.{IsRunning, application}
 use Rattle.per_runtime.specs.Handled.{IfEnded, IsCallInProgress, IsCommandAnswered, IsFailed, IsHandled}
 use Rattle.per_runtime.specs.Memories.{AreRunning}
 use Rattle.per_runtime.specs.Needs.{CommandMayStarve, OpensOrStarves}

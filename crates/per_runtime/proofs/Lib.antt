@@ -5,3 +5,5 @@ pub mod Places
 pub mod Single
 pub mod Synced
 pub mod Worlds
+pub mod storage_lemmas
+pub mod application_lemmas

@@ -35,10 +35,10 @@ use Rattle.run_model.specs.Turns.{IsBlamed, bytes_now}
 use Rattle.run_model.specs.Worlds.{Application, Disks, Doubt, World, app_of, disk_at, disks, is_to_open, update_in}
 use Rattle.run_model.specs.Worlds.{with_app, world_at}
 use Rattle.run_model.specs.Writes.{IsCallWithin, IsCommandWithin}
-use Rattle.app_storages.specs.Answers.{CallsTo}
-use Rattle.app_storages.specs.Handled.{StaysInPlace}
-use Rattle.app_runtime.specs.declared.running.Running.{Running}
-use Rattle.app_runtime.specs.Running.{application, running_in, stage_in}
+use Rattle.per_runtime.specs.storages.Answers.{CallsTo}
+use Rattle.per_runtime.specs.storages.Handled.{StaysInPlace}
+use Rattle.per_runtime.specs.declared.application.running.Running.{Running}
+use Rattle.per_runtime.specs.application.Running.{application, running_in, stage_in}
 use Rattle.per_runtime.specs.Handled.{IsCallInProgress, IsCommandAnswered, IsFailed, IsLedTo}
 use Rattle.per_runtime.specs.Memories.{AreRunning}
 use Rattle.per_runtime.proofs.Places.{none_some, set_same, some_is}

@@ -1,6 +1,6 @@
 -- A call of one application: as its row says where its root is in use, and after the opening of one that is to be opened.
-use Rattle.std.specs.Prelude.{◌≡◌, ◌≢◌, ◌⊎◌, ◌≤◌, ◌+◌, ℕ, List, Bool, true, false, cond, ◌||◌, IsTrue, Some, None, Result, Ok}
-use Rattle.std.specs.Prelude.{Err, IfOk, IsErrOf, OnOk, slice_get}
+use Rattle.std.specs.Prelude.{◌≡◌, ◌≢◌, ◌⊎◌, ◌≤◌, ◌+◌, ℕ, List, Bool, true, false, cond, ◌||◌, IsTrue, Some, None, Result}
+use Rattle.std.specs.Prelude.{Ok, Err, IfOk, IsErrOf, OnOk, slice_get}
 use Rattle.std.proofs.Common.{refl, sym, ap, ◌∙◌, subst, inl, inr, ⊎_elim, true≢false}
 use Rattle.per_base.specs.Causes.{Rose}
 use Rattle.per_base.specs.declared.errors.PerError.TheVariants as error
@@ -37,11 +37,11 @@ use Rattle.run_model.specs.Turns.{bytes_now}
 use Rattle.run_model.specs.WriteLaws.{call_behind, call_unbegun}
 use Rattle.run_model.specs.Worlds.{Application, Stage, Sessions, at_rest, is_to_open, none_open, to_open, update_in}
 use Rattle.run_model.specs.Writes.{IsCallWithin}
-use Rattle.app_storages.specs.Answers.{CallsTo}
-use Rattle.app_runtime.specs.Answers as calls
-use Rattle.app_runtime.specs.Answers.{HasRow}
-use Rattle.app_runtime.specs.declared.running.Running.{Running}
-use Rattle.app_runtime.specs.Running.{IsRunning, application, running_in, stage_in}
+use Rattle.per_runtime.specs.storages.Answers.{CallsTo}
+use Rattle.per_runtime.specs.application.Answers as calls
+use Rattle.per_runtime.specs.application.Answers.{HasRow}
+use Rattle.per_runtime.specs.declared.application.running.Running.{Running}
+use Rattle.per_runtime.specs.application.Running.{IsRunning, application, running_in, stage_in}
 use Rattle.per_runtime.proofs.Places.{none_some}
 use Rattle.per_runtime.proofs.Worlds.{MakesOne}
 use Rattle.per_runtime.specs.Handled.{IfEnded, IsCallInProgress, IsCommandAnswered, IsFailed, IsLedTo}

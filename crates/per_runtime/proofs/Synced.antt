@@ -33,7 +33,7 @@ use Rattle.run_model.specs.Writes.{IsCommandWithin}
 use Rattle.run_model.specs.Steps.{Leads, calls_device, doubt_after, failure}
 use Rattle.run_model.specs.Lasting.{IsWorld}
 use Rattle.run_model.specs.Worlds.{Application, Doubt, World, app_of, with_app, without_doubt}
-use Rattle.app_runtime.specs.Running.{running_in}
+use Rattle.per_runtime.specs.application.Running.{running_in}
 use Rattle.per_runtime.specs.declared.runtime.Runtime.{Runtime}
 use Rattle.per_runtime.specs.Commands.{CallsDevice, IsCommand}
 use Rattle.per_runtime.specs.Needs.{CommandMayStarve}

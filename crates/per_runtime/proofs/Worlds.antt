@@ -17,8 +17,8 @@ use Rattle.run_model.specs.Runtimes as memory
 use Rattle.run_model.specs.Starting.{which}
 use Rattle.run_model.specs.Worlds.{Application, World, Disks, Doubt, disks, disk_at, or_none, or_idle, resting, app_of}
 use Rattle.run_model.specs.Worlds.{with_app, all_resting, world_at, after_run}
-use Rattle.app_runtime.specs.declared.running.Running.{Running}
-use Rattle.app_runtime.specs.Running.{IsRunning, application, running_in}
+use Rattle.per_runtime.specs.declared.application.running.Running.{Running}
+use Rattle.per_runtime.specs.application.Running.{IsRunning, application, running_in}
 use Rattle.per_runtime.specs.Memories.{AreRunning}
 use Rattle.per_runtime.proofs.Places.{get_set, get_set_other, less_or_more, none_some, some_is}
 

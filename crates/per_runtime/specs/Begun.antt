@@ -11,8 +11,8 @@ use Rattle.run_model.specs.Runtimes.{StartKeeps}
 use Rattle.run_model.specs.Runtimes as memory
 use Rattle.run_model.specs.Starting.{OpenedUpTo}
 use Rattle.run_model.specs.Worlds.{at_rest, none_open}
-use Rattle.app_runtime.specs.declared.running.Running.{Running}
-use Rattle.app_runtime.specs.Running.{IsRunning, running_in}
+use Rattle.per_runtime.specs.declared.application.running.Running.{Running}
+use Rattle.per_runtime.specs.application.Running.{IsRunning, running_in}
 
 -- nothing is going on, and nothing is open
 abbrev pub idle : memory.Running

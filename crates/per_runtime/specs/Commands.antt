@@ -13,8 +13,8 @@ use Rattle.run_model.specs.Worlds.{Doubt}
 use Rattle.run_model.specs.Steps.{calls_device}
 use Rattle.run_model.specs.Runtimes.{IsDoubt, Stepped, Stopped, calls_none, world_of}
 use Rattle.run_model.specs.Turns.{IsBlamed}
-use Rattle.app_runtime.specs.declared.running.Running.{Running}
-use Rattle.app_runtime.specs.Running.{application}
+use Rattle.per_runtime.specs.declared.application.running.Running.{Running}
+use Rattle.per_runtime.specs.application.Running.{application}
 use Rattle.per_runtime.specs.declared.runtime.Runtime.{Runtime}
 use Rattle.per_runtime.specs.Handled.{IfEnded}
 use Rattle.per_runtime.specs.Memories.{IsRuntime, memory_of}

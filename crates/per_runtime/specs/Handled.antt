@@ -21,10 +21,10 @@ use Rattle.run_model.specs.Steps.{AppStep, FailsAs, calls_device, found_named}
 use Rattle.run_model.specs.Runtimes.{IsUnwritten, WritesWithin, is_refusal, is_durable, only_plans}
 use Rattle.run_model.specs.Turns.{bytes_now}
 use Rattle.run_model.specs.Writes.{IsCallWithin}
-use Rattle.app_storages.specs.Answers.{CallsTo}
-use Rattle.app_storages.specs.Handled.{StaysInPlace}
-use Rattle.app_runtime.specs.declared.running.Running.{Running}
-use Rattle.app_runtime.specs.Running.{IsRunning, application, stage_in}
+use Rattle.per_runtime.specs.storages.Answers.{CallsTo}
+use Rattle.per_runtime.specs.storages.Handled.{StaysInPlace}
+use Rattle.per_runtime.specs.declared.application.running.Running.{Running}
+use Rattle.per_runtime.specs.application.Running.{IsRunning, application, stage_in}
 use Rattle.per_runtime.specs.Needs.{OpensOrStarves}
 
 -- by how a call ends: answered, failed at the device, or out of memory

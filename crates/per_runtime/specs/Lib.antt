@@ -3,3 +3,5 @@ pub mod Begun
 pub mod Needs
 pub mod Handled
 pub mod Commands
+pub mod storages
+pub mod application

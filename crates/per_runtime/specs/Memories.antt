@@ -3,8 +3,8 @@ use Rattle.std.specs.Prelude.{◌≡◌, ℕ, List, length, map, Bool, false, So
 use Rattle.disk_model.specs.Image.{Image}
 use Rattle.disk_model.specs.Medium.{Medium, Quiet}
 use Rattle.run_model.specs.Runtimes.{Memory}
-use Rattle.app_runtime.specs.declared.running.Running.{Running}
-use Rattle.app_runtime.specs.Running.{IsRunning, running_in}
+use Rattle.per_runtime.specs.declared.application.running.Running.{Running}
+use Rattle.per_runtime.specs.application.Running.{IsRunning, running_in}
 use Rattle.per_runtime.specs.declared.runtime.Runtime.{Runtime}
 
 -- what a runtime keeps in memory, as the world has it

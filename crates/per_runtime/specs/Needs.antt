@@ -4,7 +4,7 @@ use Rattle.command_text.specs.declared.calls.Call.{Call}
 use Rattle.command_text.specs.declared.calls.Event.{Event}
 use Rattle.command_text.specs.declared.calls.Event.TheVariants as event
 use Rattle.run_model.specs.Worlds.{Application, World, app_of, is_to_open}
-use Rattle.app_runtime.specs.Needs.{MayStarve}
+use Rattle.per_runtime.specs.application.Needs.{MayStarve}
 
 -- memory may run out for a call of this application: its root is to be opened first, or the call needs memory
 abbrev pub OpensOrStarves : (app now : ℕ) → Call → (before : Application) → Type 0

@@ -3,10 +3,10 @@
 ghost use Rattle.std.specs.Prelude.{◌≡◌, false};
 ghost use Rattle.migrate_fns.specs.Stored.{answers_of, rules_of};
 ghost use Rattle.run_model.specs.Worlds.{is_to_open, to_open};
-ghost use Rattle.app_runtime.specs.Running.{IsRunning, stage_in};
+ghost use Rattle.per_runtime.specs.application.Running.{IsRunning, stage_in};
 ghost use Rattle.per_runtime.specs.Handled.{IsHandled};
 
-use app_runtime::{Running, running_is_application};
+use crate::application::{Running, running_is_application};
 use command_text::{Call, Reply};
 use deploy::Stop;
 use disk_model::Disk;

@@ -13,9 +13,11 @@
 //! `told` is that the disk's bytes are modelled, and `time` that its moments go on and no count falls.
 #![tactic(auto)]
 
+mod application;
 mod calls;
 mod runtime;
 mod starting;
+mod storages;
 
 pub use runtime::Runtime;
 pub use starting::start;

@@ -13,8 +13,8 @@ ghost use Rattle.per_runtime.specs.Commands.{CallsDevice, IsCommand};
 ghost use Rattle.per_runtime.specs.Memories.{IsRuntime, memory_of};
 ghost use Rattle.per_runtime.specs.Needs.{CommandMayStarve};
 
+use crate::application::{Running, running_is_application, running_stays};
 use crate::calls::answer;
-use app_runtime::{Running, running_is_application, running_stays};
 use command_text::{Answer, Call, Event, Reply};
 use deploy::Stop;
 use disk_model::Disk;

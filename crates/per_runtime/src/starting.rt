@@ -8,8 +8,8 @@ ghost use Rattle.run_model.specs.Runtimes.{StartKeeps, Starts};
 ghost use Rattle.per_runtime.specs.Begun.{IsBegun, fresh};
 ghost use Rattle.per_runtime.specs.Memories.{IsRuntime, memory_of};
 
+use crate::application::{Running, running_stays};
 use crate::runtime::Runtime;
-use app_runtime::{Running, running_stays};
 use deploy::Stop;
 use disk_model::Disk;
 use run_model::applications_stand;

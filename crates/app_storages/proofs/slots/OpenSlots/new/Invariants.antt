@@ -1,6 +1,0 @@
-use Rattle.std.proofs.Common.{◌≡◌, None, Option, replicate}
-use Rattle.open_storages.specs.declared.opens.Open.{Open}
-use Rattle.app_storages.proofs.slots.OpenSlots.new.Given as goal
-
-abbrev pub invariant-loop : goal.invariant-loop
-invariant-loop l = l.open.items ≡ replicate {A = Option Open} l.counter None

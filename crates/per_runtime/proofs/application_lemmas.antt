@@ -1,0 +1,15 @@
+pub mod LeadOn
+pub mod InWorld
+pub mod Frames
+pub mod Plain
+pub mod Rowed
+pub mod Within
+pub mod Ended
+pub mod Kept
+pub mod Words
+pub mod Updated
+pub mod Steps
+pub mod StorageCalls
+pub mod KnownCalls
+pub mod Arms
+pub mod Early

@@ -1,0 +1,136 @@
+//! The calls that install, finish, roll back and wipe.
+
+ghost use Rattle.std.specs.Prelude.{◌≡◌, ℕ, false};
+ghost use Rattle.migrate_fns.specs.Stored.{answers_of, rules_of};
+ghost use Rattle.command_text.specs.declared.calls.Call.{Call};
+ghost use Rattle.run_model.specs.Worlds.{at_rest, is_to_open};
+ghost use Rattle.per_runtime.specs.application.Promises.{Promises};
+ghost use Rattle.per_runtime.specs.application.Running.{IsRunning, stage_in};
+
+use crate::application::running::{Running, Stage};
+use command_text::Reply;
+use deploy::{Stop, finish, install, rollback, roots_in_use, wipe};
+use deploy_laws::{files_lie_apart, untouched_stands};
+use deploy_rows::{rows_lead_on, rows_read_the_root};
+use disk_model::Disk;
+use element_laws::places_stand_apart;
+use manifest::said_is_kept;
+use migrate_fns::Migrations;
+use per_base::PerError;
+
+impl Running {
+    /// Installs the version that a manifest describes. Refused during an update, since a version is installed then.
+    pub(crate) fn install<D: Disk>(
+        &mut self,
+        disk: &mut D,
+        manifest: &[u8],
+        migrations: &Migrations,
+        now: u64,
+    ) -> Result<Reply, Stop>
+        requires memory { IsRunning D.told (D.medium disk.old).image self.old }
+        requires opened { is_to_open (stage_in self.old.stage) ≡ false }
+        ensures { Promises D.told (rules_of migrations.now) (answers_of migrations.now) now (Call.Install manifest.now)
+            self.old self.new
+            (disk.new ≡ disk.old) (D.medium disk.old) (D.medium disk.new) result }
+    {
+        untouched_stands();
+        roots_in_use();
+        if let Stage::Updating(_) = self.stage {
+            return Ok(self.refuse(PerError::AlreadyInstalled));
+        }
+        self.install_at_rest(disk, manifest, migrations, now)
+    }
+
+    // Installs where no update is in progress.
+    fn install_at_rest<D: Disk>(
+        &mut self,
+        disk: &mut D,
+        manifest: &[u8],
+        migrations: &Migrations,
+        now: u64,
+    ) -> Result<Reply, Stop>
+        requires memory { IsRunning D.told (D.medium disk.old).image self.old }
+        requires rests { stage_in self.old.stage ≡ at_rest }
+        ensures { Promises D.told (rules_of migrations.now) (answers_of migrations.now) now (Call.Install manifest.now)
+            self.old self.new
+            (disk.new ≡ disk.old) (D.medium disk.old) (D.medium disk.new) result }
+    {
+        rows_lead_on();
+        rows_read_the_root();
+        roots_in_use();
+        let root = self.take_root();
+        let made = install(self.alloc, disk, self.app, root, manifest, now);
+        self.conclude(made)
+    }
+
+    /// Forgets the previous version. The storages that are open stay open: they are those of the active one.
+    pub(crate) fn finish<D: Disk>(
+        &mut self,
+        disk: &mut D,
+        migrations: &Migrations,
+    ) -> Result<Reply, Stop>
+        requires memory { IsRunning D.told (D.medium disk.old).image self.old }
+        requires rests { stage_in self.old.stage ≡ at_rest }
+        ensures { (now : ℕ) → Promises D.told (rules_of migrations.now) (answers_of migrations.now) now Call.Finish
+            self.old self.new
+            (disk.new ≡ disk.old) (D.medium disk.old) (D.medium disk.new) result }
+    {
+        rows_lead_on();
+        rows_read_the_root();
+        roots_in_use();
+        files_lie_apart();
+        places_stand_apart();
+        said_is_kept();
+        let root = self.take_root();
+        let made = finish(self.alloc, disk, root);
+        self.conclude(made)
+    }
+
+    /// Makes the previous version active again, where no storage is open.
+    pub(crate) fn rollback<D: Disk>(
+        &mut self,
+        disk: &mut D,
+        migrations: &Migrations,
+    ) -> Result<Reply, Stop>
+        requires memory { IsRunning D.told (D.medium disk.old).image self.old }
+        requires rests { stage_in self.old.stage ≡ at_rest }
+        ensures { (now : ℕ) → Promises D.told (rules_of migrations.now) (answers_of migrations.now) now Call.Rollback
+            self.old self.new
+            (disk.new ≡ disk.old) (D.medium disk.old) (D.medium disk.new) result }
+    {
+        rows_lead_on();
+        rows_read_the_root();
+        roots_in_use();
+        untouched_stands();
+        said_is_kept();
+        if let Some(error) = self.no_way_back() {
+            return Ok(self.refuse(error));
+        }
+        let root = self.take_root();
+        let busy = self.busy(&root)?;
+        let made = rollback(self.alloc, disk, root, busy.as_ref());
+        self.conclude(made)
+    }
+
+    /// Removes everything that is installed, where no storage is open.
+    pub(crate) fn wipe<D: Disk>(
+        &mut self,
+        disk: &mut D,
+        migrations: &Migrations,
+    ) -> Result<Reply, Stop>
+        requires memory { IsRunning D.told (D.medium disk.old).image self.old }
+        requires rests { stage_in self.old.stage ≡ at_rest }
+        ensures { (now : ℕ) → Promises D.told (rules_of migrations.now) (answers_of migrations.now) now Call.Wipe
+            self.old self.new
+            (disk.new ≡ disk.old) (D.medium disk.old) (D.medium disk.new) result }
+    {
+        rows_lead_on();
+        rows_read_the_root();
+        roots_in_use();
+        untouched_stands();
+        let root = self.take_root();
+        let busy = self.busy(&root)?;
+        let made = wipe(self.alloc, disk, self.app, root, busy.as_ref());
+        self.conclude(made)
+    }
+}
