@@ -1,10 +1,11 @@
 -- The first line of a piece of the input, the start of a line with more bytes, and how far a piece is handled.
 use Rattle.std.proofs.Common.{ℕ, zero, suc, List, [], ◌∷◌, ◌++◌, length, take, drop, ◌≡◌, ◌<◌, ◌≤◌, ◌+◌, ◌-◌}
-use Rattle.std.proofs.Common.{min, get_or, add-one, refl}
+use Rattle.std.proofs.Common.{min, get_or, add-one, refl, Bool, true, ◌==◌}
 use Rattle.std.proofs.Common.{sym, ◌∙◌, ap, subst, arith, ⊎_elim, append_assoc, append-nil, length-append}
 use Rattle.std.proofs.Math.Seq.{drop-cons, take-suc}
 use Rattle.std.proofs.lemmas.List.{length-take, take-append-drop, take_all, take-append-le}
 use Rattle.std.proofs.lemmas.Bool.{cases_lt, ne_eqb}
+use Rattle.std.proofs.lemmas.Bool.Decides.{nat_tests}
 use Rattle.per_run.specs.Steps.{HasNoFeed}
 use Rattle.per_run.proofs.Splits.{clean_more}
 
@@ -37,6 +38,22 @@ take_over (x ∷ xs) ys n =
 take_few : (bytes : List ℕ) (room count : ℕ) → count ≡ min (length bytes) room → take count bytes ≡ take room bytes
 take_few bytes room count is = ⊎_elim (λ many. ap (λ (n : ℕ). take n bytes) (omega (arith, is, many)))
     (λ few. take_all count bytes (omega (arith, is, few)) ∙ sym (take_all room bytes few)) (cases_lt room (length bytes))
+
+-- nothing is kept only of a line of which nothing is there
+pub no_rest : (rest : List ℕ) → take 262145 rest ≡ [] → rest ≡ []
+no_rest [] is = refl
+no_rest (b ∷ rest) is = let bad : b ∷ take 262144 rest ≡ [] = is in cc
+
+pub is_empty : (text kept : List ℕ) (none : Bool) → text ≡ kept → none ≡ (length text == 0) → none ≡ true → kept ≡ []
+is_empty text [] none same says is = refl
+is_empty text (b ∷ kept) none same says is = let long : length text ≡ length (b ∷ kept) =
+    ap length same in absurd (grind (arith, nat_tests))
+
+-- the start of a line of which nothing was kept
+pub front_alone : (line kept : List ℕ) → kept ≡ [] → (rest : List ℕ) → kept ≡ take 262145 rest
+    → take 262145 line ≡ take 262145 (rest ++ line)
+front_alone line kept none rest is = ap (λ (r : List ℕ). take 262145 (r ++ line))
+    (sym (no_rest rest (sym is ∙ none)))
 
 -- as many bytes as the start of a line still takes
 pub keeps_front : (n : ℕ) (kept rest bytes : List ℕ) (count : ℕ) → kept ≡ take n rest

@@ -14,6 +14,7 @@ use Rattle.per_run.specs.declared.endings.Ending.{Ending}
 use Rattle.per_run.specs.declared.endings.Ending.TheVariants.{OutOfMemory}
 use Rattle.per_run.specs.Steps.{Course, Handled, HasNoFeed, Reached, ending_of, with_feed}
 use Rattle.per_run.proofs.Courses.{course_along, course_memory, course_read}
+use Rattle.per_run.proofs.Fronts.{no_rest}
 use Rattle.per_run.proofs.Splits.{all_clean_more, clean_append, lines_false, lines_next, lines_short, lines_true}
 use Rattle.per_run.proofs.Splits.{with_line}
 
@@ -147,10 +148,6 @@ module _ (told : Bool) (rules : List Rule) (answers : Answers) (start : Medium) 
       (Appends-nil now)))
 
   -- ---- the end of the input
-
-  no_rest : (rest : List ℕ) → take 262145 rest ≡ [] → rest ≡ []
-  no_rest [] is = refl
-  no_rest (b ∷ rest) is = let bad : b ∷ take 262144 rest ≡ [] = is in cc
 
   last_of : (rest : List ℕ) → (rest ≡ [] → ⊥) → last_line rest ≡ rest ∷ []
   last_of [] some = absurd (some refl)

@@ -1,8 +1,32 @@
 -- The line is kept and handled, or the handling ends at it.
-use Rattle.std.proofs.Common.{◌∷◌, ◌++◌}
+use Rattle.std.proofs.Common.{◌∷◌, ◌++◌, ◌∙◌, take, Result, Ok, Err, OnOk}
+use Rattle.std.proofs.lemmas.Result.{IfErr-weaker}
 use Rattle.per_run.specs.Steps.{ending_of}
+use Rattle.per_run.proofs.Fronts.{front_alone, is_empty}
 use Rattle.per_run.proofs.Reaches.{ends_line, ends_short, reached_line}
 use Rattle.per_run.proofs.reader.feed_line.Goals as goal
+
+on_all : {T E P Q R S : Type 0} (r : Result T E) → (P → Q → R → S) → OnOk r P → OnOk r Q → OnOk r R → OnOk r S
+on_all (Ok x) then p q r = then p q r
+on_all (Err e) then p q r = tt
+
+pub returns-then-is_empty-clause-goes_on : goal.returns-then-is_empty-clause-goes_on
+returns-then-is_empty-clause-goes_on g c =
+    let none = is_empty _ _ _ c.as_slice.ensures.value c.is_empty.ensures c.if-is_empty.true in
+    on_all c.handle_whole.result
+    (λ goes_on counts keeps start before given small reached.
+    reached_line _ _ _ _ before given c.args.line.now _ _ _ _ _ _ _ (take 262145 c.args.line.now) _ _ _ small reached
+    c.requires.clean (front_alone c.args.line.now _ none) (λ lines text. goes_on start before lines text) counts
+    (keeps ∙ none)) c.handle_whole.ensures.goes_on c.handle_whole.ensures.counts c.handle_whole.ensures.keeps
+
+pub returns-then-is_empty-clause-ends : goal.returns-then-is_empty-clause-ends
+returns-then-is_empty-clause-ends g c =
+    let none = is_empty _ _ _ c.as_slice.ensures.value c.is_empty.ensures c.if-is_empty.true in
+    IfErr-weaker c.handle_whole.result _ _
+    (λ ending ends laws start before given others small reached.
+    ends_line _ _ _ _ before (ending_of ending) given c.args.line.now others _ _ _ _ _ _ (take 262145 c.args.line.now) _
+    small reached c.requires.clean (front_alone c.args.line.now _ none)
+    (λ lines more text. ends laws start before lines more text)) c.handle_whole.ensures.ends
 
 pub returns-in-Err-clause-ends : goal.returns-in-Err-clause-ends
 returns-in-Err-clause-ends g c = λ laws start before given others small reached.

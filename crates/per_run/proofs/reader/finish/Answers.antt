@@ -1,14 +1,10 @@
 -- No line is left, or the last one is handled.
-use Rattle.std.proofs.Common.{ℕ, List, [], ◌∷◌, length, Bool, true, false, ◌==◌, ◌≡◌, refl, ◌∙◌, ap, arith}
+use Rattle.std.proofs.Common.{ℕ, List, [], length, Bool, false, ◌==◌, ◌≡◌, ◌∙◌, ap, arith}
 use Rattle.std.proofs.lemmas.Bool.Decides.{nat_tests}
 use Rattle.per_run.specs.Steps.{ending_of}
+use Rattle.per_run.proofs.Fronts.{is_empty}
 use Rattle.per_run.proofs.Reaches.{ends_read, ends_last, ends_at_last}
 use Rattle.per_run.proofs.reader.finish.Goals as goal
-
-empty_is : (text kept : List ℕ) (none : Bool) → text ≡ kept → none ≡ (length text == 0) → none ≡ true → kept ≡ []
-empty_is text [] none same says is = refl
-empty_is text (b ∷ kept) none same says is = let long : length text ≡ length (b ∷ kept) =
-    ap length same in absurd (grind (arith, nat_tests))
 
 some_is : (text kept : List ℕ) (none : Bool) → text ≡ kept → none ≡ (length text == 0) → none ≡ false → kept ≡ [] → ⊥
 some_is text kept none same says is empty = let long : length text ≡ 0 =
@@ -17,7 +13,7 @@ some_is text kept none same says is empty = let long : length text ≡ 0 =
 pub returns-then-is_empty-clause-ends : goal.returns-then-is_empty-clause-ends
 returns-then-is_empty-clause-ends g c = λ laws start before given small reached.
     ends_read _ _ _ _ before laws given _ _ _ _ _ reached
-    (empty_is _ _ _ c.as_slice.ensures.value c.is_empty.ensures c.if-is_empty.true)
+    (is_empty _ _ _ c.as_slice.ensures.value c.is_empty.ensures c.if-is_empty.true)
 
 pub returns-in-Ok-clause-ends : goal.returns-in-Ok-clause-ends
 returns-in-Ok-clause-ends g c = λ laws start before given small reached.
