@@ -8,9 +8,8 @@ use Rattle.disk_model.specs.Case.{Case}
 use Rattle.disk_model.specs.Frame.{IsSettledOn, Spares}
 use Rattle.disk_model.specs.Image.{Image}
 use Rattle.disk_model.specs.Laws.{cases_on, elapses_on}
-use Rattle.disk_model.specs.Medium.{Medium, Quiet, IsLawful, Elapses, EachCase, OnlyReads, WritesNothing}
+use Rattle.disk_model.specs.Medium.{Medium, Quiet, IsLawful, Elapses, OnlyReads, WritesNothing}
 use Rattle.disk_model.specs.Place.{IsNoSlot}
-use Rattle.disk_model.specs.lemmas.Frames.{settled_on}
 use Rattle.deploy.specs.declared.errors.Stop.{Stop}
 use Rattle.deploy.specs.declared.errors.Stop.TheVariants.{Device, OutOfMemory}
 use Rattle.deploy_laws.specs.Apps.{App, app_at, IsCleanApp}
@@ -22,7 +21,7 @@ use Rattle.run_model.specs.Costs.{greatest_cost}
 use Rattle.run_model.specs.Runtimes.{StartKeeps, Starts, with_disk}
 use Rattle.run_model.specs.Runtimes as memory
 use Rattle.run_model.specs.Starting.{OpenedUpTo, keeps_worlds, open_next, open_none, opened_keeps, which}
-use Rattle.run_model.specs.Worlds.{Application, after_start, all_resting, disk_at, disks, world_at}
+use Rattle.run_model.specs.Worlds.{Application, all_resting, world_at}
 use Rattle.per_runtime.specs.storages.Answers.{CallsTo}
 use Rattle.per_runtime.specs.declared.application.running.Running.{Running}
 use Rattle.per_runtime.specs.application.Running.{IsRunning, running_in}

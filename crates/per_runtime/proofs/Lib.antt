@@ -3,6 +3,7 @@ pub mod Handing
 pub mod Lifted
 pub mod Places
 pub mod Single
+pub mod Sorted
 pub mod Synced
 pub mod Worlds
 pub mod storage_lemmas

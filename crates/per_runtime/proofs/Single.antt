@@ -1,9 +1,8 @@
 -- A call of one application: as its row says where its root is in use, and after the opening of one that is to be opened.
-use Rattle.std.specs.Prelude.{◌≡◌, ◌≢◌, ◌⊎◌, ◌≤◌, ◌+◌, ℕ, List, Bool, true, false, cond, ◌||◌, IsTrue, Some, None, Result}
-use Rattle.std.specs.Prelude.{Ok, Err, IfOk, IsErrOf, OnOk, slice_get}
+use Rattle.std.specs.Prelude.{◌≡◌, ◌⊎◌, ◌≤◌, ◌+◌, ℕ, List, Bool, true, false, cond, ◌||◌, IsTrue, Some, None, Result}
+use Rattle.std.specs.Prelude.{Ok, Err, IsErrOf, slice_get}
 use Rattle.std.proofs.Common.{refl, sym, ap, ◌∙◌, subst, inl, inr, ⊎_elim, true≢false}
 use Rattle.per_base.specs.Causes.{Rose}
-use Rattle.per_base.specs.declared.errors.PerError.TheVariants as error
 use Rattle.disk_model.specs.Case.{Case}
 use Rattle.disk_model.specs.Frame.{Spares}
 use Rattle.disk_model.specs.Image.{Image}
@@ -12,9 +11,7 @@ use Rattle.disk_model.specs.Medium.{Medium, Quiet, Elapses, IsLawful, OnlyReads}
 use Rattle.disk_model.specs.Place.{IsNoSlot}
 use Rattle.migrate_fns.specs.Rules.{Rule, Answers}
 use Rattle.command_text.specs.declared.calls.Call.{Call}
-use Rattle.command_text.specs.declared.replies.Answer.TheVariants as answer
 use Rattle.command_text.specs.declared.replies.Reply.{Reply}
-use Rattle.command_text.specs.Replies.{HasText}
 use Rattle.deploy.specs.declared.errors.Stop.{Stop}
 use Rattle.deploy.specs.declared.errors.Stop.TheVariants.{Device, OutOfMemory}
 use Rattle.deploy_laws.specs.Apps.{App, app_at, IsCleanApp}
@@ -41,10 +38,11 @@ use Rattle.per_runtime.specs.storages.Answers.{CallsTo}
 use Rattle.per_runtime.specs.application.Answers as calls
 use Rattle.per_runtime.specs.application.Answers.{HasRow}
 use Rattle.per_runtime.specs.declared.application.running.Running.{Running}
+use Rattle.per_runtime.specs.application.Promises.{Promises}
 use Rattle.per_runtime.specs.application.Running.{IsRunning, application, running_in, stage_in}
 use Rattle.per_runtime.proofs.Places.{none_some}
 use Rattle.per_runtime.proofs.Worlds.{MakesOne}
-use Rattle.per_runtime.specs.Handled.{IfEnded, IsCallInProgress, IsCommandAnswered, IsFailed, IsLedTo}
+use Rattle.per_runtime.specs.Handled.{IfEnded, IsCallInProgress, IsCommandAnswered, IsFailed, IsHandled, IsLedTo}
 
 -- ---- a root that is in use
 
@@ -76,65 +74,50 @@ memory_left : IsErrOf {T = Reply} (Err Device) OutOfMemory → ⊥
 memory_left e = cc
 
 -- by how the call ends
-pub called : (told : Bool) (rules : List Rule) (answers : Answers) (now : ℕ) (c : Call) (a a' : Running)
-    (old new : Medium) (result : Result Reply Stop)
-    → is_to_open (stage_in a.stage) ≡ false → a'.app ≡ a.app
-    → ((IsErrOf result OutOfMemory → ⊥) → IsRunning told new.image a')
-    → (IsTrue told → IfOk result (λ reply. calls.IsAnswered rules answers a.app now c (application old.image a)
-    (application new.image a') reply old new))
-    → (IsTrue told → IsErrOf result Device → calls.HasFailed rules answers a.app now c (application old.image a)
-    (application new.image a') old new)
-    → (IsTrue told → IsErrOf result OutOfMemory → calls.HasStopped rules answers a.app now c (application old.image a)
-    old new)
-    → (Quiet old → OnOk result (Quiet new))
-    → IfOk result (λ reply. is_refusal reply.answer ≡ true → IsUnwritten old new)
-    → (IsErrOf result Device → Rose old.faults new.faults) → OnOk result (new.faults ≡ old.faults)
-    → IfOk result (λ reply. reply.answer ≢ answer.Error error.PhysicalStorageFailure)
-    → IfOk result (λ reply. HasText reply.answer)
+called : (told : Bool) (rules : List Rule) (answers : Answers) (now : ℕ) (c : Call) (a a' : Running)
+    (Untouched : Type 0) (old new : Medium) (result : Result Reply Stop) → is_to_open (stage_in a.stage) ≡ false
+    → Promises told rules answers now c a a' Untouched old new result
     → IfEnded result (IsCommandAnswered told rules answers now c a a' old new)
     (IsFailed told rules answers now c a a' old new)
     (IsTrue told → IsCallInProgress rules answers a.app now c (application old.image a) old new)
-called told rules answers now c a a' old new (Ok reply) rests app memory answered failed stopped quiet unwritten cause
-    passes unfailed text = record {
-      app = app;
-      memory = memory (λ e. absurd cc);
-      text = text;
-      passes = passes;
-      unfailed = unfailed;
-      quiet = quiet;
-      unwritten = λ refused closed. unwritten refused;
-      done = λ tells. let is = answered tells in record {
-        step = row_step rules answers a.app now c (application old.image a) (application old.image a)
-            (reply, application new.image a')
-            (sym (not_opened (application old.image a) rests)) is.row;
-        later = is.later;
-        calls = subst (λ k. CallsTo a.app (app_at new.image k) old new) app is.calls;
-        clean = is.clean;
-      };
-    }
-called told rules answers now c a a' old new (Err Device) rests app memory answered failed stopped quiet unwritten cause
-    passes unfailed text = record {
-      app = app;
-      memory = memory memory_left;
-      cause = cause refl;
-      fails = λ tells. let is = failed tells refl in
-          let same : application old.image a ≡ root_opened (application old.image a) =
-          sym (not_opened (application old.image a) rests) in
-          subst (λ (r : Application). (IsTrue (is_to_open (application old.image a).stage)
-          × (application new.image a' ≡ after_failure (app_at new.image a.app) (application old.image a) None))
-          ⊎ (IsTrue (reaches_device a.app r now c) × (application new.image a'
-          ≡ after_failure (app_at new.image a.app) r (found_named r c)))) same (inr (is.reaches, is.is_after));
-      progress = λ tells. let is = failed tells refl in record {
-        next = is.next;
-        leads = led rules answers a.app now c (application old.image a) is.next
-            (sym (not_opened (application old.image a) rests)) is.leads;
-        later = is.later;
-        calls = is.calls;
-      };
-    }
-called told rules answers now c a a' old new (Err OutOfMemory) rests app memory answered failed stopped quiet unwritten
-    cause passes unfailed text = λ tells.
-    let is = stopped tells refl in record {
+called told rules answers now c a a' Untouched old new (Ok reply) rests said = record {
+  app = said.app;
+  memory = said.memory (λ e. absurd cc);
+  text = said.text;
+  passes = said.passes;
+  unfailed = said.unfailed;
+  quiet = said.quiet;
+  unwritten = λ refused closed. said.unwritten refused;
+  done = λ tells. let is = said.answered tells in record {
+    step = row_step rules answers a.app now c (application old.image a) (application old.image a)
+        (reply, application new.image a')
+        (sym (not_opened (application old.image a) rests)) is.row;
+    later = is.later;
+    calls = subst (λ k. CallsTo a.app (app_at new.image k) old new) said.app is.calls;
+    clean = is.clean;
+  };
+}
+called told rules answers now c a a' Untouched old new (Err Device) rests said = record {
+  app = said.app;
+  memory = said.memory memory_left;
+  cause = said.cause refl;
+  fails = λ tells. let is = said.failed tells refl in
+      let same : application old.image a ≡ root_opened (application old.image a) =
+      sym (not_opened (application old.image a) rests) in
+      subst (λ (r : Application). (IsTrue (is_to_open (application old.image a).stage)
+      × (application new.image a' ≡ after_failure (app_at new.image a.app) (application old.image a) None))
+      ⊎ (IsTrue (reaches_device a.app r now c) × (application new.image a'
+      ≡ after_failure (app_at new.image a.app) r (found_named r c)))) same (inr (is.reaches, is.is_after));
+  progress = λ tells. let is = said.failed tells refl in record {
+    next = is.next;
+    leads = led rules answers a.app now c (application old.image a) is.next
+        (sym (not_opened (application old.image a) rests)) is.leads;
+    later = is.later;
+    calls = is.calls;
+  };
+}
+called told rules answers now c a a' Untouched old new (Err OutOfMemory) rests said = λ tells.
+    let is = said.stopped tells refl in record {
       next = is.next;
       leads = led rules answers a.app now c (application old.image a) is.next
           (sym (not_opened (application old.image a) rests)) is.leads;
@@ -142,13 +125,23 @@ called told rules answers now c a a' old new (Err OutOfMemory) rests app memory 
       calls = is.calls;
     }
 
--- a call that needs no device calls none
-pub none_called : {Untouched : Type 0} (image : Image) (a : Running) (c : Call)
-    → (uses_device (app_at image a.app) c ≡ false → Untouched)
-    → calls_device (application image a) c ≡ false → Untouched
-none_called image a c idle none = idle (uses_none (application image a) c none)
+-- a call whose root is in use promises as one whose root is opened first where it is to be opened
+pub promised : (told : Bool) (rules : List Rule) (answers : Answers) (now : ℕ) (c : Call) (a a' : Running)
+    (Untouched : Type 0) (old new : Medium) (result : Result Reply Stop) → is_to_open (stage_in a.stage) ≡ false
+    → Promises told rules answers now c a a' Untouched old new result
+    → IsHandled told rules answers now c a a' Untouched old new result
+promised told rules answers now c a a' Untouched old new result rests said = record {
+  end = called told rules answers now c a a' Untouched old new result rests said;
+  needs = λ tells bad. inr (said.stopped tells bad).needs;
+  idle = λ tells none. said.idle tells (uses_none (application old.image a) c none);
+  looks = λ plans closed. said.looks plans;
+  written = said.written;
+  within = said.within;
+  place = λ tells closed. said.place tells;
+  time = said.time;
+}
 
--- and so it only reads
+-- a call that calls no device only reads
 pub only_reads : {D : Type 0} (medium : D → Medium) (disk disk' : D) (told : Bool) → IsLawful told (medium disk)
     → disk' ≡ disk → OnlyReads (medium disk) (medium disk')
 only_reads {D} medium disk disk' told lawful same = subst (λ (d : D). OnlyReads (medium disk) (medium d)) (sym same)

@@ -5,3 +5,4 @@ pub mod Handled
 pub mod Commands
 pub mod storages
 pub mod application
+pub mod Sorting

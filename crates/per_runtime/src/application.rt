@@ -21,5 +21,5 @@ mod running;
 mod storing;
 mod updating;
 
-pub(crate) use laws::{calls_lead_on, running_is_application, running_stays};
+pub(crate) use laws::{running_is_application, running_stays};
 pub(crate) use running::{Running, Stage};

@@ -15,7 +15,10 @@
 
 mod application;
 mod calls;
+mod local_call;
+mod replying;
 mod runtime;
+mod sorting;
 mod starting;
 mod storages;
 

@@ -1,25 +1,27 @@
 //! The runtime and its commands.
 
-ghost use Rattle.std.specs.Prelude.{◌≡◌, ◌<◌, [], IfOk, IsErrOf, IsTrue, None, OnErr, Option, true, false};
+ghost use Rattle.std.specs.Prelude.{◌≡◌, ◌<◌, IfOk, IsErrOf, IsTrue, None, OnErr, Option, true, false};
 ghost use Rattle.disk_model.specs.Medium.{Elapses};
 ghost use Rattle.migrate_fns.specs.Stored.{answers_of, rules_of};
 ghost use Rattle.command_text.specs.Grammar.{IsEvent};
 ghost use Rattle.command_text.specs.Replies.{HasText};
 ghost use Rattle.run_model.specs.Runtimes.{IsDoubt, Stepped, Stopped, calls_none, world_of};
-ghost use Rattle.run_model.specs.Steps.{failure};
 ghost use Rattle.run_model.specs.Turns.{IsBlamed};
 ghost use Rattle.run_model.specs.Worlds.{Doubt};
 ghost use Rattle.per_runtime.specs.Commands.{CallsDevice, IsCommand};
 ghost use Rattle.per_runtime.specs.Memories.{IsRuntime, memory_of};
 ghost use Rattle.per_runtime.specs.Needs.{CommandMayStarve};
+ghost use Rattle.per_runtime.specs.Sorting.{asked_call};
 
 use crate::application::{Running, running_is_application, running_stays};
 use crate::calls::answer;
-use command_text::{Answer, Call, Event, Reply};
+use crate::replying::{answered, refusal};
+use crate::sorting::{Asked, sort};
+use command_text::{Answer, Event, Reply};
 use deploy::Stop;
 use disk_model::Disk;
 use migrate_fns::Migrations;
-use per_base::{PerError, Sequence};
+use per_base::PerError;
 use run_model::applications_stand;
 use std::alloc::Global;
 
@@ -98,52 +100,30 @@ impl Runtime {
         match event {
             Event::Now(moment) => {
                 self.now = *moment;
-                Ok(reply_of(self.alloc, Answer::Done))
+                Ok(answered(self.alloc, Answer::Done))
             }
-            Event::App(app, call) => self.call(disk, migrations, usize::from(*app), call),
+            Event::App(app, call) => self.call(disk, migrations, usize::from(*app), &sort(call)),
         }
     }
 
-    // Answers a call of the application with this number.
+    // Answers a call of the application with this number: in a doubt, one that calls the device after a sync.
     fn call<D: Disk>(
         &mut self,
         disk: &mut D,
         migrations: &Migrations,
         app: usize,
-        call: &Call,
+        asked: &Asked,
     ) -> Result<Reply, Stop>
         requires app { app < 8 }
         requires memory { IsRuntime D.told (D.medium disk.old) self.old }
-        ensures { IsCommand D.told (rules_of migrations.now) (answers_of migrations.now) (Event.App app call.now)
-            self.old self.new
+        ensures { IsCommand D.told (rules_of migrations.now) (answers_of migrations.now)
+            (Event.App app (asked_call asked.now)) self.old self.new
             (disk.new ≡ disk.old) (D.medium disk.old) (D.medium disk.new) result }
     {
-        if self.apps[app].calls_device(disk, call) {
-            self.call_device(disk, migrations, app, call)
+        if self.in_doubt && self.apps[app].calls_device(disk, asked) {
+            self.end_doubt(disk, migrations, app, asked)
         } else {
-            self.hand(disk, migrations, app, call)
-        }
-    }
-
-    // Answers a call that calls the device, in a doubt after a sync.
-    fn call_device<D: Disk>(
-        &mut self,
-        disk: &mut D,
-        migrations: &Migrations,
-        app: usize,
-        call: &Call,
-    ) -> Result<Reply, Stop>
-        requires app { app < 8 }
-        requires memory { IsRuntime D.told (D.medium disk.old) self.old }
-        requires device { CallsDevice D.told (D.medium disk.old).image self.old app call.now true }
-        ensures { IsCommand D.told (rules_of migrations.now) (answers_of migrations.now) (Event.App app call.now)
-            self.old self.new
-            (disk.new ≡ disk.old) (D.medium disk.old) (D.medium disk.new) result }
-    {
-        if self.in_doubt {
-            self.end_doubt(disk, migrations, app, call)
-        } else {
-            self.hand(disk, migrations, app, call)
+            self.hand(disk, migrations, app, asked)
         }
     }
 
@@ -155,22 +135,22 @@ impl Runtime {
         disk: &mut D,
         migrations: &Migrations,
         app: usize,
-        call: &Call,
+        asked: &Asked,
     ) -> Result<Reply, Stop>
         requires app { app < 8 }
         requires memory { IsRuntime D.told (D.medium disk.old) self.old }
-        requires device { CallsDevice D.told (D.medium disk.old).image self.old app call.now true }
+        requires device { CallsDevice D.told (D.medium disk.old).image self.old app (asked_call asked.now) true }
         requires doubt { self.old.in_doubt ≡ true }
-        ensures { IsCommand D.told (rules_of migrations.now) (answers_of migrations.now) (Event.App app call.now)
-            self.old self.new
+        ensures { IsCommand D.told (rules_of migrations.now) (answers_of migrations.now)
+            (Event.App app (asked_call asked.now)) self.old self.new
             (disk.new ≡ disk.old) (D.medium disk.old) (D.medium disk.new) result }
     {
         running_is_application();
         if disk.sync().is_err() {
-            return Ok(failed_reply(self.alloc));
+            return Ok(refusal(self.alloc, PerError::PhysicalStorageFailure));
         }
         self.in_doubt = false;
-        self.hand(disk, migrations, app, call)
+        self.hand(disk, migrations, app, asked)
     }
 
     // Hands a call to its application. Where the device fails, what it did is in doubt.
@@ -179,46 +159,27 @@ impl Runtime {
         disk: &mut D,
         migrations: &Migrations,
         app: usize,
-        call: &Call,
+        asked: &Asked,
     ) -> Result<Reply, Stop>
         requires app { app < 8 }
         requires memory { IsRuntime D.told (D.medium disk.old) self.old }
-        requires sure { self.old.in_doubt ≡ true → CallsDevice D.told (D.medium disk.old).image self.old app call.now
-            false }
-        ensures { IsCommand D.told (rules_of migrations.now) (answers_of migrations.now) (Event.App app call.now)
-            self.old self.new
+        requires sure { self.old.in_doubt ≡ true → CallsDevice D.told (D.medium disk.old).image self.old app
+            (asked_call asked.now) false }
+        ensures { IsCommand D.told (rules_of migrations.now) (answers_of migrations.now)
+            (Event.App app (asked_call asked.now)) self.old self.new
             (disk.new ≡ disk.old) (D.medium disk.old) (D.medium disk.new) result }
     {
         applications_stand();
         running_is_application();
         running_stays();
         let now = self.now;
-        match answer(&mut self.apps[app], disk, migrations, now, call) {
+        match answer(&mut self.apps[app], disk, migrations, now, asked) {
             Ok(reply) => Ok(reply),
             Err(Stop::Device) => {
                 self.in_doubt = true;
-                Ok(failed_reply(self.alloc))
+                Ok(refusal(self.alloc, PerError::PhysicalStorageFailure))
             }
             Err(Stop::OutOfMemory) => Err(Stop::OutOfMemory),
         }
     }
-}
-
-// An answer without reports. Does not allocate.
-fn reply_of(alloc: Global, answer: Answer) -> Reply
-    ensures { result ≡ record { reports = []; answer = answer } }
-{
-    Reply {
-        reports: Sequence::new(Vec::new(alloc)),
-        answer,
-    }
-}
-
-// The answer where the device failed.
-#[cold]
-#[inline(never)]
-fn failed_reply(alloc: Global) -> Reply
-    ensures { result ≡ failure }
-{
-    reply_of(alloc, Answer::Error(PerError::PhysicalStorageFailure))
 }

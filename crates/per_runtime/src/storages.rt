@@ -17,7 +17,6 @@ mod laws;
 mod local;
 mod opening;
 mod rebuilding;
-mod replying;
 mod slots;
 mod syncing;
 

@@ -1,12 +1,10 @@
 -- The arms of a call: one that is refused beside an update, the status, the abort, and those that come to an
 -- application at rest.
-use Rattle.std.proofs.Common.{◌≡◌, ◌≢◌, ◌∙◌, ℕ, List, Bool, true, false, cond, IsTrue, Option, Some, None, is_none}
-use Rattle.std.proofs.Common.{is_some, Result, Ok, refl, sym, ap, subst, true≢false}
-use Rattle.per_base.specs.declared.elements.StoreKind.TheVariants as kinds
+use Rattle.std.proofs.Common.{◌≡◌, ◌≢◌, ◌∙◌, ℕ, List, Bool, true, false, cond, Option, Some, None}
+use Rattle.std.proofs.Common.{Ok, refl, sym, ap, subst, true≢false}
 use Rattle.per_base.specs.declared.errors.Holder.TheVariants as holder
 use Rattle.per_base.specs.declared.errors.PerError.{PerError}
 use Rattle.per_base.specs.declared.errors.PerError.TheVariants as error
-use Rattle.disk_model.specs.Image.{Image}
 use Rattle.disk_model.specs.Medium.{IsLawful, Medium}
 use Rattle.migrate_fns.specs.Rules.{Answers, Rule}
 use Rattle.command_text.specs.declared.calls.Call.{Call}
@@ -18,19 +16,17 @@ use Rattle.deploy.specs.declared.updating.Staged.{Staged}
 use Rattle.deploy.specs.Building.{staged_root}
 use Rattle.deploy.specs.Laws.{RootInUseLaw}
 use Rattle.deploy.specs.Roots.{root_says}
-use Rattle.deploy_laws.specs.Apps.{App, Says, absent, installed, nothing}
+use Rattle.deploy_laws.specs.Apps.{Says, absent, installed, nothing}
 use Rattle.deploy_laws.specs.Laws.{UntouchedAppLaw}
 use Rattle.deploy_rows.specs.Rows.{InProgress}
-use Rattle.run_model.specs.Calls.{Outcome, StepBeside, answered, app_step, beside_update, goes_beside, local_on}
+use Rattle.run_model.specs.Calls.{StepBeside, app_step, beside_update, goes_beside}
 use Rattle.run_model.specs.Calls.{concluded}
 use Rattle.run_model.specs.Calls.{status_step}
-use Rattle.run_model.specs.Steps.{uses_device}
 use Rattle.run_model.specs.Worlds.{Application}
 use Rattle.run_model.specs.Worlds as worlds
-use Rattle.per_runtime.specs.storages.Answers.{is_on_storage}
 use Rattle.per_runtime.specs.declared.application.running.Running.{Running}
 use Rattle.per_runtime.specs.declared.application.running.Stage.{Stage}
-use Rattle.per_runtime.specs.declared.application.running.Stage.TheVariants.{AtRest, Updating}
+use Rattle.per_runtime.specs.declared.application.running.Stage.TheVariants.{AtRest}
 use Rattle.per_runtime.specs.application.Answers.{HasRow}
 use Rattle.per_runtime.specs.application.Promises.{Promises}
 use Rattle.per_runtime.specs.application.Running.{IsRunning, application, stage_in}
@@ -166,46 +162,3 @@ pub at_rest_for : (stage : Stage) (c d : Call) → c ≡ d → worlds.is_to_open
     → goes_beside d ≡ false → beside_update (worlds.update_in (stage_in stage)) c ≡ None
     → stage_in stage ≡ worlds.at_rest
 at_rest_for stage c d same opened alone free = free_by (stage_in stage) c opened (ap goes_beside same ∙ alone) free
-
--- a call that is none of the ten words of a deployment
-pub record IsOther (c : Call) : Type 0 where
-  pub status : c ≡ call.Status → ⊥
-  pub install : (text : List ℕ) → c ≡ call.Install text → ⊥
-  pub update : (text : List ℕ) → c ≡ call.Update text → ⊥
-  pub finish : c ≡ call.Finish → ⊥
-  pub rollback : c ≡ call.Rollback → ⊥
-  pub wipe : c ≡ call.Wipe → ⊥
-  pub begin_update : (text : List ℕ) → c ≡ call.UpdateBegin text → ⊥
-  pub next : c ≡ call.UpdateNext → ⊥
-  pub commit : c ≡ call.UpdateCommit → ⊥
-  pub abort : c ≡ call.UpdateAbort → ⊥
-
-pub other_on : (c : Call) → IsOther c → IsTrue (is_on_storage c)
-other_on call.Status is = absurd (is.status refl)
-other_on (call.Install text) is = absurd (is.install text refl)
-other_on (call.Update text) is = absurd (is.update text refl)
-other_on call.Finish is = absurd (is.finish refl)
-other_on call.Rollback is = absurd (is.rollback refl)
-other_on call.Wipe is = absurd (is.wipe refl)
-other_on (call.UpdateBegin text) is = absurd (is.begin_update text refl)
-other_on call.UpdateNext is = absurd (is.next refl)
-other_on call.UpdateCommit is = absurd (is.commit refl)
-other_on call.UpdateAbort is = absurd (is.abort refl)
-other_on other is = refl
-
-pub other_alone : (c : Call) → IsOther c → goes_beside c ≡ false
-other_alone call.Status is = absurd (is.status refl)
-other_alone (call.Install text) is = absurd (is.install text refl)
-other_alone call.UpdateNext is = absurd (is.next refl)
-other_alone call.UpdateCommit is = absurd (is.commit refl)
-other_alone call.UpdateAbort is = absurd (is.abort refl)
-other_alone other is = refl
-
--- ---- which calls call the device
-
-pub other_uses : (a : App) (c : Call) → (c ≡ call.Status → ⊥) → (c ≡ call.UpdateAbort → ⊥)
-    → ((name : List ℕ) → c ≡ call.Close name → ⊥) → uses_device a c ≡ is_none (local_on c)
-other_uses a call.Status status abort close = absurd (status refl)
-other_uses a call.UpdateAbort status abort close = absurd (abort refl)
-other_uses a (call.Close name) status abort close = absurd (close name refl)
-other_uses a other status abort close = refl

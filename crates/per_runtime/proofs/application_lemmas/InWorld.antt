@@ -1,7 +1,7 @@
 -- What is kept of an application in use makes one of a world.
-use Rattle.std.proofs.Common.{◌≡◌, ℕ, zero, suc, ◌-◌, ◌<◌, List, [], ◌∷◌, ◌++◌, length, Bool, IsTrue, Option, Some}
+use Rattle.std.proofs.Common.{◌≡◌, ℕ, zero, suc, ◌-◌, List, [], ◌∷◌, ◌++◌, length, Bool, IsTrue, Option, Some}
 use Rattle.std.proofs.Common.{None, slice_get, refl, sym, ap, ◌∙◌, subst}
-use Rattle.std.specs.Prelude.{map, option_map, replicate}
+use Rattle.std.specs.Prelude.{map, option_map}
 use Rattle.per_base.specs.declared.elements.Fresh.{Fresh}
 use Rattle.per_base.specs.declared.elements.StoreKind.{StoreKind}
 use Rattle.per_base.specs.declared.elements.StoreKind.TheVariants as kinds
@@ -19,7 +19,6 @@ use Rattle.deploy_laws.specs.Apps.{App, Says, absent, app_at, installed, named_i
 use Rattle.deploy_laws.specs.Laws.{NumberLaw}
 use Rattle.deploy_laws.specs.Places.{Named, shapes_if, shapes_in, storage_shape}
 use Rattle.deploy.specs.declared.roots.Root.{Root}
-use Rattle.deploy.specs.declared.roots.Root.TheVariants as roots
 use Rattle.deploy.specs.declared.updating.Staged.{Staged}
 use Rattle.deploy.specs.Building.{StagedAt, staged_progress, staged_root}
 use Rattle.deploy.specs.Laws.{RootInUseLaw}
@@ -32,7 +31,7 @@ use Rattle.run_model.specs.Sessions.{Session, files, keys, seen_in, synced_in_se
 use Rattle.run_model.specs.Worlds.{Application, none_open}
 use Rattle.run_model.specs.Worlds as worlds
 use Rattle.per_runtime.specs.declared.storages.slots.OpenSlots.{OpenSlots}
-use Rattle.per_runtime.specs.storages.Slots.{AreOpenOn, IsOpenAt, IsResting, active_in, sessions_in}
+use Rattle.per_runtime.specs.storages.Slots.{AreOpenOn, IsOpenAt, sessions_in}
 use Rattle.per_runtime.specs.declared.application.running.Running.{Running}
 use Rattle.per_runtime.specs.declared.application.running.Stage.{Stage}
 use Rattle.per_runtime.specs.declared.application.running.Stage.TheVariants.{ToOpen, AtRest, Updating}

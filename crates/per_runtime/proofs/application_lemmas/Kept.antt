@@ -1,6 +1,6 @@
 -- Which storages stay open when the root is written: those of the active version, where that stays; and none is open
 -- where it goes.
-use Rattle.std.proofs.Common.{◌≡◌, ℕ, zero, suc, ◌+◌, ◌*◌, ◌<◌, ◌≤◌, List, [], ◌∷◌, length, Bool, true, false, cond}
+use Rattle.std.proofs.Common.{◌≡◌, ℕ, zero, suc, ◌+◌, ◌<◌, ◌≤◌, List, [], ◌∷◌, length, Bool, true, false, cond}
 use Rattle.std.proofs.Common.{nat_le, IsTrue, Option, Some, None, Result, Ok, Err, slice_get, take, refl, sym, ap, ◌∙◌}
 use Rattle.std.proofs.Common.{subst, arith}
 use Rattle.std.specs.Prelude.{IfOk, map, option_map, replicate}
@@ -25,13 +25,12 @@ use Rattle.deploy.specs.Laws.{IsRootFile, RootFrameLaw, StagedFrameLaw}
 use Rattle.deploy.specs.Roots.{IsRootOf, root_app, root_says}
 use Rattle.deploy_laws.specs.Apps.{App, Says, absent, installed, nothing}
 use Rattle.deploy_laws.specs.Laws.{StorageFilesLaw}
-use Rattle.deploy_laws.specs.Places.{IsFileOf, Named, storage_file, storage_shape}
-use Rattle.deploy_rows.specs.Rows.{AnswersRow, after, deployment_of, finish_with, finishing, installing, not_busy}
-use Rattle.deploy_rows.specs.Rows.{not_worn, rollback_with, rolling_back, storage_count, wiping}
+use Rattle.deploy_laws.specs.Places.{IsFileOf, Named, storage_shape}
+use Rattle.deploy_rows.specs.Rows.{AnswersRow, after, finish_with, finishing, installing, not_busy}
+use Rattle.deploy_rows.specs.Rows.{rollback_with, rolling_back, storage_count, wiping}
 use Rattle.open_storages.specs.declared.opens.Open.{Open}
 use Rattle.open_storages.specs.Opens.{config_in, session_in, store_in}
 use Rattle.run_model.specs.Calls.{active_storages, first_open}
-use Rattle.run_model.specs.Sessions.{Session}
 use Rattle.per_runtime.specs.declared.storages.slots.OpenSlots.{OpenSlots}
 use Rattle.per_runtime.specs.storages.Slots.{AreOpenOn, IsOpenAt, IsResting, active_in, sessions_in}
 use Rattle.per_runtime.specs.declared.application.running.Running.{Running}

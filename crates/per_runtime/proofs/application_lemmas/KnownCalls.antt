@@ -1,10 +1,9 @@
 -- What is known in memory of the calls that call the device.
 use Rattle.std.proofs.Common.{◌≡◌, ◌<◌, ℕ, zero, suc, List, [], ◌∷◌, length, get_or, Bool, true, false, cond, IsTrue}
-use Rattle.std.proofs.Common.{Option, Some, None, is_none, is_ok, is_some, Result, Ok, Err, slice_get, refl, sym, ap}
+use Rattle.std.proofs.Common.{Option, Some, None, is_ok, Result, Ok, Err, slice_get, refl, sym, ap}
 use Rattle.std.proofs.Common.{◌∙◌, subst, arith}
 use Rattle.std.specs.Prelude.{map}
 use Rattle.per_base.specs.declared.elements.StoreKind.{StoreKind}
-use Rattle.per_base.specs.declared.elements.StoreKind.TheVariants as kinds
 use Rattle.per_base.specs.declared.errors.PerError.{PerError}
 use Rattle.per_base.specs.declared.errors.PerError.TheVariants as error
 use Rattle.disk_model.specs.Image.{Image}
@@ -19,7 +18,7 @@ use Rattle.deploy.specs.declared.roots.Installed as parts
 use Rattle.deploy.specs.declared.roots.Root.{Root}
 use Rattle.deploy.specs.declared.roots.Root.TheVariants.{Bad, Absent, Installed}
 use Rattle.deploy.specs.Laws.{RootInUseLaw}
-use Rattle.deploy.specs.Roots.{IsRootOf, RootAt, root_app, root_says}
+use Rattle.deploy.specs.Roots.{IsRootOf, RootAt, root_says}
 use Rattle.deploy_laws.specs.Apps.{App, app_at, named_in_bank}
 use Rattle.deploy_laws.specs.Laws.{NumberLaw}
 use Rattle.deploy_laws.specs.Places.{Named}

@@ -2,9 +2,7 @@
 use Rattle.std.proofs.Common.{◌≡◌, ℕ, List, Bool, true, false, Option, Some, None, IfOk, Result, Ok, Err, refl, sym}
 use Rattle.std.proofs.Common.{subst}
 use Rattle.per_base.specs.declared.elements.StoreKind.TheVariants as kinds
-use Rattle.per_base.specs.declared.errors.Holder.TheVariants as holder
 use Rattle.per_base.specs.declared.errors.PerError.{PerError}
-use Rattle.per_base.specs.declared.errors.PerError.TheVariants as error
 use Rattle.per_base.specs.Refusals.{refuse}
 use Rattle.element_state.specs.States.{State, Opens, Corrupt}
 use Rattle.migrate_fns.specs.Rules.{Rule, Answers}
@@ -15,7 +13,7 @@ use Rattle.deploy_laws.specs.Apps.{App, Says, absent, installed, nothing}
 use Rattle.deploy_laws.specs.Stands.{IsLater, same_root}
 use Rattle.deploy_rows.specs.Laws.{FinishLaterLaw, InstallLaterLaw, RollbackLaterLaw, UpdateLaterLaw, WipeLaterLaw}
 use Rattle.deploy_rows.specs.Recovering.{recovering, resetting}
-use Rattle.deploy_rows.specs.Rows.{◌>>=◌, InProgress, finishing, installing, rolling_back, updated_app, wiping}
+use Rattle.deploy_rows.specs.Rows.{◌>>=◌, InProgress, finishing, installing, rolling_back, wiping}
 use Rattle.run_model.specs.Calls.{BeginsBy, CallStep, Outcome, StepBeside, answered, app_step, beside_update}
 use Rattle.run_model.specs.Calls.{with_update_begun}
 use Rattle.run_model.specs.Calls.{close_step, closing, done_with, durable, durable_state, flush_step, least_open}

@@ -1,5 +1,5 @@
 -- What the rows refuse has a text, and is no failure of the device.
-use Rattle.std.proofs.Common.{◌≡◌, ◌≢◌, ℕ, List, [], ◌∷◌, length, map, Bool, true, false, cond, nat_le, nat_lt, Option}
+use Rattle.std.proofs.Common.{◌≢◌, ℕ, List, [], ◌∷◌, length, Bool, true, false, cond, nat_le, nat_lt, Option}
 use Rattle.std.proofs.Common.{Some, None, IfErr, IfSome, Result, Ok, Err, refl, sym, subst, filter_map, sum_by}
 use Rattle.std.specs.List.{cons_option}
 use Rattle.per_base.specs.declared.elements.Content.{Content}
@@ -9,7 +9,6 @@ use Rattle.per_base.specs.declared.elements.FileInfo.{FileInfo}
 use Rattle.per_base.specs.declared.elements.Fresh.{Fresh}
 use Rattle.per_base.specs.declared.elements.StoreKind.{StoreKind}
 use Rattle.per_base.specs.declared.elements.StoreKind.TheVariants as kinds
-use Rattle.per_base.specs.declared.errors.Holder.TheVariants as holder
 use Rattle.per_base.specs.declared.errors.Limit.TheVariants as limit
 use Rattle.per_base.specs.declared.errors.PerError.{PerError}
 use Rattle.per_base.specs.declared.errors.PerError.TheVariants as error
@@ -27,7 +26,7 @@ use Rattle.migrate_fns.specs.Rules.{Rule}
 use Rattle.migrate_fns.specs.Rules as fns
 use Rattle.update_plan.specs.declared.contents.StorageContents.{StorageContents}
 use Rattle.update_plan.specs.declared.contents.StorageContents.TheVariants.{Damaged, Missing, Present}
-use Rattle.update_plan.specs.Fates.{gets, by_chain, by_row, fate, of_bytes, of_content, of_type, of_value, refusal}
+use Rattle.update_plan.specs.Fates.{gets, by_chain, by_row, of_bytes, of_content, of_type, of_value, refusal}
 use Rattle.update_plan.specs.Fates.{strategy_of, initial_configured, type_configured}
 use Rattle.update_plan.specs.Plans.{Continues, PlansAll, PlansFor, PlansOver, entry_refusal, first_or_none}
 use Rattle.update_plan.specs.Plans.{first_refusal}
@@ -38,7 +37,7 @@ use Rattle.command_text.specs.declared.replies.Answer.TheVariants as answer
 use Rattle.command_text.specs.Replies.{HasText}
 use Rattle.deploy_laws.specs.Apps.{App, Says, absent, installed, nothing}
 use Rattle.deploy_laws.specs.Places.{Named}
-use Rattle.deploy_rows.specs.Rows.{◌>>=◌, BeginsUpdate, BeginsWith, InProgress, Offer, begun, deployment_of, empty_app}
+use Rattle.deploy_rows.specs.Rows.{◌>>=◌, BeginsUpdate, BeginsWith, InProgress, Offer, begun, deployment_of}
 use Rattle.deploy_rows.specs.Rows.{finish_with, finishing, installing, newer_version, not_busy, not_worn, offer_over}
 use Rattle.deploy_rows.specs.Rows.{offered}
 use Rattle.deploy_rows.specs.Rows.{contents_stored, rollback_with, rolling_back, said_or_broken, wiping}

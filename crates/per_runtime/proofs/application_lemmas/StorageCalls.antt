@@ -1,25 +1,18 @@
 -- A call that names a storage, of an application at rest.
-use Rattle.std.proofs.Common.{◌≡◌, ◌≢◌, ℕ, List, Bool, true, false, IsTrue, Option, Some, None, IfOk, IsErrOf, OnOk}
+use Rattle.std.proofs.Common.{◌≡◌, ℕ, List, Bool, true, false, IsTrue, Option, Some, None, IfOk}
 use Rattle.std.proofs.Common.{Result, Ok, Err, refl, sym, subst, inl, inr, true≢false}
-use Rattle.per_base.specs.Causes.{Rose}
-use Rattle.per_base.specs.declared.errors.PerError.TheVariants as error
-use Rattle.disk_model.specs.Medium.{Elapses, Medium, Quiet}
+use Rattle.disk_model.specs.Medium.{Medium}
 use Rattle.migrate_fns.specs.Rules.{Answers, Rule}
 use Rattle.command_text.specs.declared.calls.Call.{Call}
 use Rattle.command_text.specs.declared.calls.Call.TheVariants as call
-use Rattle.command_text.specs.declared.replies.Answer.TheVariants as answer
 use Rattle.command_text.specs.declared.replies.Reply.{Reply}
-use Rattle.command_text.specs.Replies.{HasText}
 use Rattle.deploy.specs.declared.errors.Stop.{Stop}
-use Rattle.deploy.specs.declared.errors.Stop.TheVariants as stop
 use Rattle.deploy.specs.declared.roots.Root.{Root}
 use Rattle.deploy_laws.specs.Apps.{App, app_at}
 use Rattle.deploy_laws.specs.Stands.{IsLater}
-use Rattle.run_model.specs.Calls.{CallStep, Outcome, app_step, session_at, concluded}
-use Rattle.run_model.specs.Found.{FoundStorage}
-use Rattle.run_model.specs.Runtimes.{IsUnwritten, WritesWithin, is_durable, is_refusal, only_plans}
-use Rattle.run_model.specs.Sessions.{Session}
-use Rattle.run_model.specs.Steps.{device_storage, found_named, uses_device}
+use Rattle.run_model.specs.Calls.{CallStep, Outcome, app_step, concluded}
+use Rattle.run_model.specs.Runtimes.{IsUnwritten, only_plans}
+use Rattle.run_model.specs.Steps.{device_storage, uses_device}
 use Rattle.run_model.specs.Turns.{bytes_now}
 use Rattle.run_model.specs.WriteLaws.{call_named, call_unwritten}
 use Rattle.run_model.specs.Writes.{IsCallWithin}
@@ -27,12 +20,14 @@ use Rattle.run_model.specs.Worlds.{Application}
 use Rattle.per_runtime.specs.declared.storages.slots.OpenSlots.{OpenSlots}
 use Rattle.per_runtime.specs.storages.Answers.{is_on_storage}
 use Rattle.per_runtime.specs.storages.Answers as stored
-use Rattle.per_runtime.specs.storages.Handled.{StaysInPlace}
-use Rattle.per_runtime.specs.storages.Slots.{IsResting, resting_with}
+use Rattle.per_runtime.specs.storages.Handled.{IsStorageCallHandled}
+use Rattle.per_runtime.specs.storages.Slots.{resting_with}
 use Rattle.per_runtime.specs.declared.application.running.Running.{Running}
 use Rattle.per_runtime.specs.declared.application.running.Stage.TheVariants.{AtRest}
 use Rattle.per_runtime.specs.application.Answers.{HasRow, IsAnswered, MayLead}
 use Rattle.per_runtime.specs.application.Promises.{Promises}
+use Rattle.per_runtime.proofs.storage_lemmas.Handled.{answered_of, cause_of, failed_of, memory_of, passes_of, quiet_of}
+use Rattle.per_runtime.proofs.storage_lemmas.Handled.{stopped_of, text_of, unfailed_of, unwritten_of}
 use Rattle.per_runtime.proofs.application_lemmas.LeadOn.{still}
 
 -- a call that names a storage begins no update
@@ -73,31 +68,6 @@ on_each : {T E : Type 0} (P Q : T → Type 0) (result : Result T E) → ((x : T)
 on_each P Q (Ok x) each is = each x is
 on_each P Q (Err e) each is = tt
 
--- what the open storages promise of the call
-pub record Stores (told : Bool) (app now : ℕ) (c : Call) (root : Root) (before after : OpenSlots) (Untouched : Type 0)
-    (old new : Medium) (result : Result Reply Stop) : Type 0 where
-  pub memory : (IsErrOf result stop.OutOfMemory → ⊥) → IsResting told new.image app root after
-  pub answered : IsTrue told → IfOk result (λ reply. stored.IsStorageCallAnswered app now c
-      (resting_with old.image app before)
-      (resting_with new.image app after) reply old new)
-  pub failed : IsTrue told → IsErrOf result stop.Device
-      → stored.HasStorageCallFailed app now c (resting_with old.image app before)
-      (resting_with new.image app after) old new
-  pub stopped : IsTrue told → IsErrOf result stop.OutOfMemory
-      → stored.HasStorageCallStopped app now c (resting_with old.image app before) old new
-  pub quiet : Quiet old → OnOk result (Quiet new)
-  pub idle : IsTrue told → uses_device (app_at old.image app) c ≡ false → Untouched
-  pub unwritten : IfOk result (λ reply. is_refusal reply.answer ≡ true → IsUnwritten old new)
-  pub written : IsTrue told → is_durable c ≡ true → (f : FoundStorage) (s : Session)
-      → found_named (resting_with old.image app before) c ≡ Some (Ok f)
-      → session_at (resting_with old.image app before) f.number ≡ Some s → WritesWithin app f s old new
-  pub place : IsTrue told → StaysInPlace app c (resting_with old.image app before) old.image new.image
-  pub cause : IsErrOf result stop.Device → Rose old.faults new.faults
-  pub passes : OnOk result (new.faults ≡ old.faults)
-  pub unfailed : IfOk result (λ reply. reply.answer ≢ answer.Error error.PhysicalStorageFailure)
-  pub text : IfOk result (λ reply. HasText reply.answer)
-  pub time : Elapses old new
-
 -- every row leads on
 abbrev pub LeadsOn : List Rule → Answers → Type 0
 LeadsOn rules answers = (app now : ℕ) (c : Call) (r : Application) (o : Outcome) → HasRow rules answers app now c r o
@@ -106,7 +76,7 @@ LeadsOn rules answers = (app now : ℕ) (c : Call) (r : Application) (o : Outcom
 module _ (told : Bool) (rules : List Rule) (answers : Answers) (now : ℕ) (c : Call) (b : Running) (root : Root)
     (slots : OpenSlots) (Untouched : Type 0) (old new : Medium) (result : Result Reply Stop)
     (unwritten : Untouched → IsUnwritten old new) (on : IsTrue (is_on_storage c)) (leads_on : LeadsOn rules answers)
-    (s : Stores told b.app now c root b.slots slots Untouched old new result) where
+    (s : IsStorageCallHandled told b.app now root c b.slots slots old new Untouched result) where
   abbrev r : Application
   r = resting_with old.image b.app b.slots
 
@@ -146,13 +116,9 @@ module _ (told : Bool) (rules : List Rule) (answers : Answers) (now : ℕ) (c : 
       (record b { stage = AtRest root; slots = slots }) Untouched old new result
   stored_promises = record {
     app = refl;
-    memory = λ fed. let is = s.memory fed in record { below = is.below; stage_at = is };
-    answered = λ tells. on_each (λ reply. stored.IsStorageCallAnswered b.app now c r
-        (resting_with new.image b.app slots) reply old
-        new)
-        (λ reply. IsAnswered rules answers b.app now c r (resting_with new.image b.app slots) reply old new) result
-        answers_it (s.answered tells);
-    failed = λ tells bad. let f = s.failed tells bad in record {
+    memory = λ fed. let is = memory_of result s fed in record { below = is.below; stage_at = is };
+    answered = λ tells. on_each _ _ result answers_it (answered_of result s tells);
+    failed = λ tells bad. let f = failed_of result s tells bad in record {
       reaches = f.reaches;
       next = f.next;
       leads = leads f.next f.leads;
@@ -160,23 +126,23 @@ module _ (told : Bool) (rules : List Rule) (answers : Answers) (now : ℕ) (c : 
       is_after = f.is_after;
       calls = f.calls;
     };
-    stopped = λ tells bad. let f = s.stopped tells bad in record {
+    stopped = λ tells bad. let f = stopped_of result s tells bad in record {
       needs = record { free = refl; needs = inl f.needs };
       next = f.next;
       leads = leads f.next f.leads;
       later = later f.next f.leads;
       calls = f.calls;
     };
-    quiet = s.quiet;
+    quiet = quiet_of result s;
     idle = s.idle;
-    unwritten = s.unwritten;
+    unwritten = unwritten_of result s;
     looks = λ plans. absurd (no_plan c on plans);
     written = s.written;
     within = within_by (device_storage c) refl;
     place = s.place;
-    cause = s.cause;
-    passes = s.passes;
-    unfailed = s.unfailed;
-    text = s.text;
+    cause = cause_of result s;
+    passes = passes_of result s;
+    unfailed = unfailed_of result s;
+    text = text_of result s;
     time = s.time;
   }

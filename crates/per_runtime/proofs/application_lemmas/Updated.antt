@@ -105,7 +105,8 @@ pub record Updates (told : Bool) (rules : List Rule) (answers : Answers) (now : 
   pub passes : OnOk made (new.faults ≡ old.faults)
   pub device_only : IsErrOf made stop.Device → IsOk (offered busy text (root_app root []))
   pub outside : Leaves told (IsBesideNext app (free_bank root)) old new
-  pub places : Leaves told (making.IsBesideMade app (shapes_from app (free_bank root) 0 (making.storages_said text))) old new
+  pub places : Leaves told (making.IsBesideMade app (shapes_from app (free_bank root) 0 (making.storages_said text))) old
+      new
   pub written : making.WritesUpdate told (BeginsUpdate rules answers now busy text) app root text old new
   pub any_moment : IsTrue told → LeadsTo app (rows.UpdateMayLead rules answers now busy text (app_at old.image app))
       made old

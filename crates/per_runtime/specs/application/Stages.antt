@@ -1,5 +1,5 @@
 -- The stage of an application in memory: its root, and how a call leaves it.
-use Rattle.std.specs.Prelude.{◌≡◌, List, [], Option, Some, None, option_map, Result, Ok, Err, IsErrOf}
+use Rattle.std.specs.Prelude.{◌≡◌, [], Option, Some, None, option_map, Result, Ok, Err, IsErrOf}
 use Rattle.per_base.specs.declared.errors.PerError.{PerError}
 use Rattle.per_base.specs.declared.errors.PerError.TheVariants as error
 use Rattle.per_base.specs.declared.errors.Unit.TheVariants as unit
@@ -19,7 +19,6 @@ use Rattle.deploy.specs.Building.{staged_root}
 use Rattle.deploy.specs.Roots.{root_says}
 use Rattle.deploy_laws.specs.Apps.{Says, nothing, absent, installed}
 use Rattle.deploy_laws.specs.Places.{Named}
-use Rattle.per_runtime.specs.declared.storages.slots.OpenSlots.{OpenSlots}
 use Rattle.per_runtime.specs.declared.application.running.Running.{Running}
 use Rattle.per_runtime.specs.declared.application.running.Stage.{Stage}
 use Rattle.per_runtime.specs.declared.application.running.Stage.TheVariants.{ToOpen, AtRest, Updating}

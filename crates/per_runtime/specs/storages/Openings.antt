@@ -1,6 +1,5 @@
 -- The opening of a storage that is closed, and what a refusal of a call in memory gives.
-use denote.Ref.{Bor}
-use Rattle.std.specs.Prelude.{◌≡◌, ◌≢◌, ℕ, List, [], ◌∷◌, Option, Result, Ok, Err}
+use Rattle.std.specs.Prelude.{◌≡◌, ◌≢◌, ℕ, List, [], ◌∷◌, Result, Ok, Err}
 use Rattle.per_base.specs.declared.elements.StoreKind.{StoreKind}
 use Rattle.per_base.specs.declared.elements.StoreKind.TheVariants.{Keys, Files}
 use Rattle.per_base.specs.declared.errors.PerError.{PerError}
@@ -38,7 +37,3 @@ TellsRefusal e (Err OutOfMemory) = e ≡ error.OutOfMemory
 abbrev pub TellsAnswer : Result Answer PerError → Result Reply Stop → Type 0
 TellsAnswer (Ok a) result = result ≡ Ok (record { reports = []; answer = a })
 TellsAnswer (Err e) result = TellsRefusal e result
-
--- the name and the kind that a call on an open storage asks for
-abbrev pub on_of : Bor (List ℕ) × Option StoreKind → List ℕ × Option StoreKind
-on_of on = (on.0.now, on.1)

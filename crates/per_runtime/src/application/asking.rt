@@ -1,15 +1,17 @@
 //! What is known in memory of an application: which calls go on beside an update, which call the device, and the
 //! status.
 
-ghost use Rattle.std.specs.Prelude.{◌≡◌, Bool, IfOk, IsSome, IsTrue, OnErr, Some, false, is_ok, is_some};
+ghost use Rattle.std.specs.Prelude.{◌≡◌, Bool, IfOk, IsSome, IsTrue, OnErr, Some, false, is_ok};
 ghost use Rattle.std.specs.Prelude.{option_map};
 ghost use Rattle.per_base.specs.declared.elements.StoreKind.{StoreKind};
 ghost use Rattle.disk_model.specs.Image.{Image};
 ghost use Rattle.deploy.specs.Roots.{root_says};
-ghost use Rattle.deploy_laws.specs.Apps.{app_at};
-ghost use Rattle.run_model.specs.Calls.{active_storages, beside_update, first_open, goes_beside, local_on};
+ghost use Rattle.deploy_laws.specs.Apps.{App, app_at};
+ghost use Rattle.run_model.specs.Calls.{active_storages, beside_update, first_open, goes_beside};
 ghost use Rattle.run_model.specs.Found.{storage_in};
+ghost use Rattle.run_model.specs.Steps.{uses_device};
 ghost use Rattle.run_model.specs.Worlds.{is_to_open, update_in};
+ghost use Rattle.per_runtime.specs.Sorting.{asked_call, deploying_call};
 ghost use Rattle.per_runtime.specs.storages.Slots.{sessions_in};
 ghost use Rattle.per_runtime.specs.application.Needs.{no_update_over, no_way_back};
 ghost use Rattle.per_runtime.specs.application.Running.{IsRunning, stage_in};
@@ -17,46 +19,57 @@ ghost use Rattle.per_runtime.specs.application.Stages.{installed_parts, reply_wi
 ghost use Rattle.per_runtime.specs.application.Stages.{without_update};
 
 use crate::application::running::{Running, Stage};
-use command_text::{Answer, AppStatus, Call, Reply};
+use crate::replying::{answered, refusal};
+use crate::sorting::{Asked, Deploying};
+use command_text::{Answer, AppStatus, Reply};
 use deploy::{Installed, Root, roots_in_use};
 use deploy_laws::roots_say;
 use per_base::{Holder, Name, PerError, StoreKind, Unit};
 use std::alloc::AllocError;
 
 /// The calls that go on beside an update in progress.
-pub(crate) fn goes_beside(call: &Call) -> bool
-    ensures { result ≡ goes_beside call.now }
+pub(crate) fn goes_beside(asked: &Asked) -> bool
+    ensures { result ≡ goes_beside (asked_call asked.now) }
 {
-    matches!(
-        call,
-        Call::Status | Call::Install(_) | Call::UpdateNext | Call::UpdateCommit | Call::UpdateAbort
-    )
+    match asked {
+        Asked::OnStorage(_) => false,
+        Asked::OfDeployment(deploying) => is_beside(deploying),
+    }
 }
 
-/// The calls on an open storage that touch no disk.
-pub(crate) fn is_local(call: &Call) -> bool
-    ensures { result ≡ is_some (local_on call.now) }
+fn is_beside(deploying: &Deploying) -> bool
+    ensures { result ≡ goes_beside (deploying_call deploying.now) }
 {
-    !matches!(
-        call,
-        Call::Status
-            | Call::Install(_)
-            | Call::Update(_)
-            | Call::Finish
-            | Call::Rollback
-            | Call::Wipe
-            | Call::UpdateBegin(_)
-            | Call::UpdateNext
-            | Call::UpdateCommit
-            | Call::UpdateAbort
-            | Call::OpenKvs(_)
-            | Call::OpenFiles(_)
-            | Call::Close(_)
-            | Call::RecoverStorage(_)
-            | Call::ResetStorage(_)
-            | Call::Sync(_)
-            | Call::Flush(_, _)
-    )
+    match deploying {
+        Deploying::Status => true,
+        Deploying::Install(_) => true,
+        Deploying::Update(_) => false,
+        Deploying::Finish => false,
+        Deploying::Rollback => false,
+        Deploying::Wipe => false,
+        Deploying::UpdateBegin(_) => false,
+        Deploying::UpdateNext => true,
+        Deploying::UpdateCommit => true,
+        Deploying::UpdateAbort => true,
+    }
+}
+
+/// The calls of a deployment that call the device.
+pub(crate) fn calls_device(deploying: &Deploying) -> bool
+    ensures { (a : App) → result ≡ uses_device a (deploying_call deploying.now) }
+{
+    match deploying {
+        Deploying::Status => false,
+        Deploying::Install(_) => true,
+        Deploying::Update(_) => true,
+        Deploying::Finish => true,
+        Deploying::Rollback => true,
+        Deploying::Wipe => true,
+        Deploying::UpdateBegin(_) => true,
+        Deploying::UpdateNext => true,
+        Deploying::UpdateCommit => true,
+        Deploying::UpdateAbort => false,
+    }
 }
 
 // The versions of what is installed.
@@ -74,11 +87,11 @@ fn versions_of(installed: &Installed) -> AppStatus
 
 impl Running {
     // Why a call is refused while an update is in progress, if it is.
-    pub(crate) fn busy_with(&self, call: &Call) -> Option<PerError>
-        ensures { result ≡ beside_update (update_in (stage_in self.now.stage)) call.now }
+    pub(crate) fn busy_with(&self, asked: &Asked) -> Option<PerError>
+        ensures { result ≡ beside_update (update_in (stage_in self.now.stage)) (asked_call asked.now) }
     {
         match &self.stage {
-            Stage::Updating(staged) if !goes_beside(call) => Some(PerError::ResourceBusy {
+            Stage::Updating(staged) if !goes_beside(asked) => Some(PerError::ResourceBusy {
                 holder: Holder::Update(staged.offered()),
             }),
             _ => None,
@@ -120,11 +133,17 @@ impl Running {
         ensures { result ≡ says_status (root_says (stage_root self.now.stage)) }
     {
         if let Some(installed) = self.installed() {
-            return self.reply(Answer::Status(versions_of(installed)));
+            return answered(self.alloc, Answer::Status(versions_of(installed)));
         }
         match &self.stage {
-            Stage::AtRest(Root::Absent(_)) => self.reply(Answer::Status(AppStatus::Absent)),
-            _ => self.refuse(PerError::IntegrityCorrupted { unit: Unit::Root }),
+            Stage::AtRest(Root::Absent(_)) => answered(
+                self.alloc,
+                Answer::Status(AppStatus::Absent),
+            ),
+            _ => refusal(
+                self.alloc,
+                PerError::IntegrityCorrupted { unit: Unit::Root },
+            ),
         }
     }
 
@@ -140,7 +159,7 @@ impl Running {
                 _ => PerError::IntegrityCorrupted { unit: Unit::Root },
             }
         };
-        self.refuse(error)
+        refusal(self.alloc, error)
     }
 
     // Why the root refuses an update before its manifest is read, if it does.

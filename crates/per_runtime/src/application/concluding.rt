@@ -1,13 +1,12 @@
 //! How a call of a deployment leaves what is in memory, and is answered.
 
 ghost use Rattle.std.specs.Prelude.{◌≡◌, Err, IfNone, IfSome, None, Some, length};
-ghost use Rattle.per_runtime.specs.application.Running.{NoneOpen};
-ghost use Rattle.per_runtime.specs.application.Stages.{ConcludesCall, reply_with, stage_root, staged_in};
+ghost use Rattle.per_runtime.specs.application.Stages.{ConcludesCall, stage_root, staged_in};
 
 use crate::application::running::{Running, Stage};
+use crate::replying::{answered, refusal};
 use command_text::{Answer, Reply};
 use deploy::{Outcome, Root, Staged, Stop};
-use per_base::{PerError, Sequence};
 use std::mem;
 
 impl Stage {
@@ -57,8 +56,8 @@ impl Running {
             Ok(Outcome { root, refused }) => {
                 self.stage = Stage::AtRest(root);
                 Ok(match refused {
-                    None => self.reply(Answer::Done),
-                    Some(error) => self.refuse(error),
+                    None => answered(self.alloc, Answer::Done),
+                    Some(error) => refusal(self.alloc, error),
                 })
             }
             Err(stop) => {
@@ -66,24 +65,5 @@ impl Running {
                 Err(stop)
             }
         }
-    }
-
-    // An answer without a report.
-    pub(crate) fn reply(&self, answer: Answer) -> Reply
-        ensures { result ≡ reply_with answer }
-    {
-        Reply {
-            reports: Sequence::new(Vec::new(self.alloc)),
-            answer,
-        }
-    }
-
-    // The call is refused.
-    #[cold]
-    #[inline(never)]
-    pub(crate) fn refuse(&self, error: PerError) -> Reply
-        ensures { result ≡ reply_with (Answer.Error error) }
-    {
-        self.reply(Answer::Error(error))
     }
 }

@@ -8,6 +8,7 @@ ghost use Rattle.per_runtime.specs.application.Promises.{Promises};
 ghost use Rattle.per_runtime.specs.application.Running.{IsRunning, stage_in};
 
 use crate::application::running::{Running, Stage};
+use crate::replying::refusal;
 use command_text::Reply;
 use deploy::{Stop, finish, install, rollback, roots_in_use, wipe};
 use deploy_laws::{files_lie_apart, untouched_stands};
@@ -33,31 +34,13 @@ impl Running {
             self.old self.new
             (disk.new ≡ disk.old) (D.medium disk.old) (D.medium disk.new) result }
     {
-        untouched_stands();
-        roots_in_use();
-        if let Stage::Updating(_) = self.stage {
-            return Ok(self.refuse(PerError::AlreadyInstalled));
-        }
-        self.install_at_rest(disk, manifest, migrations, now)
-    }
-
-    // Installs where no update is in progress.
-    fn install_at_rest<D: Disk>(
-        &mut self,
-        disk: &mut D,
-        manifest: &[u8],
-        migrations: &Migrations,
-        now: u64,
-    ) -> Result<Reply, Stop>
-        requires memory { IsRunning D.told (D.medium disk.old).image self.old }
-        requires rests { stage_in self.old.stage ≡ at_rest }
-        ensures { Promises D.told (rules_of migrations.now) (answers_of migrations.now) now (Call.Install manifest.now)
-            self.old self.new
-            (disk.new ≡ disk.old) (D.medium disk.old) (D.medium disk.new) result }
-    {
         rows_lead_on();
         rows_read_the_root();
         roots_in_use();
+        untouched_stands();
+        if let Stage::Updating(_) = self.stage {
+            return Ok(refusal(self.alloc, PerError::AlreadyInstalled));
+        }
         let root = self.take_root();
         let made = install(self.alloc, disk, self.app, root, manifest, now);
         self.conclude(made)
@@ -104,7 +87,7 @@ impl Running {
         untouched_stands();
         said_is_kept();
         if let Some(error) = self.no_way_back() {
-            return Ok(self.refuse(error));
+            return Ok(refusal(self.alloc, error));
         }
         let root = self.take_root();
         let busy = self.busy(&root)?;

@@ -1,39 +1,33 @@
 //! What is kept in memory of one application, and its calls.
 
-ghost use Rattle.std.specs.Prelude.{◌≡◌, ◌≢◌, ◌≤◌, ◌<◌, ◌+◌, ◌&&◌, ◌||◌, ℕ, List, Bool, Err, IfOk, IsErrOf, IsTrue};
+ghost use Rattle.std.specs.Prelude.{◌≡◌, ◌≤◌, ◌<◌, ◌+◌, ℕ, List, Bool, IfOk, IsErrOf, IsTrue};
 ghost use Rattle.std.specs.Prelude.{None, Ok, OnOk, Some, false, true};
 ghost use Rattle.per_base.specs.Causes.{Rose};
-ghost use Rattle.per_base.specs.declared.errors.PerError.{PerError};
 ghost use Rattle.disk_model.specs.Frame.{Spares};
 ghost use Rattle.disk_model.specs.Image.{Image};
 ghost use Rattle.disk_model.specs.Medium.{Elapses, Quiet};
 ghost use Rattle.disk_model.specs.Place.{IsNoSlot};
 ghost use Rattle.guarded_cell.specs.Register.{IsAlone};
 ghost use Rattle.migrate_fns.specs.Stored.{answers_of, rules_of};
-ghost use Rattle.command_text.specs.declared.replies.Answer.{Answer};
-ghost use Rattle.command_text.specs.Replies.{HasText};
 ghost use Rattle.deploy_laws.specs.Apps.{App, app_at};
 ghost use Rattle.deploy_laws.specs.Places.{root_place};
 ghost use Rattle.deploy_laws.specs.Stands.{IsLater};
 ghost use Rattle.run_model.specs.AppLaws.{OpensRoot};
-ghost use Rattle.run_model.specs.Calls.{beside_update, session_at};
+ghost use Rattle.run_model.specs.Calls.{beside_update};
 ghost use Rattle.run_model.specs.Costs.{greatest_cost};
-ghost use Rattle.run_model.specs.Found.{FoundStorage};
-ghost use Rattle.run_model.specs.Runtimes.{IsUnwritten, WritesWithin, is_durable, is_refusal, only_plans};
-ghost use Rattle.run_model.specs.Sessions.{Session};
-ghost use Rattle.run_model.specs.Steps.{calls_device, found_named, uses_device};
-ghost use Rattle.run_model.specs.Turns.{bytes_now};
+ghost use Rattle.run_model.specs.Runtimes.{IsUnwritten};
+ghost use Rattle.run_model.specs.Steps.{calls_device};
 ghost use Rattle.run_model.specs.Worlds.{at_rest, is_to_open, none_open, to_open, update_in};
-ghost use Rattle.run_model.specs.Writes.{IsCallWithin};
+ghost use Rattle.per_runtime.specs.Sorting.{asked_call, deploying_call};
 ghost use Rattle.per_runtime.specs.storages.Answers.{CallsTo};
-ghost use Rattle.per_runtime.specs.storages.Handled.{StaysInPlace};
-ghost use Rattle.per_runtime.specs.application.Answers.{HasFailed, HasStopped, IsAnswered};
 ghost use Rattle.per_runtime.specs.application.Promises.{Promises};
 ghost use Rattle.per_runtime.specs.application.Running.{IsRunning, application, running_in, stage_in};
 
-use crate::application::asking::is_local;
+use crate::application::asking::calls_device;
+use crate::replying::refusal;
+use crate::sorting::{Asked, Deploying, Storing};
 use crate::storages::OpenSlots;
-use command_text::{Call, Reply};
+use command_text::Reply;
 use deploy::{Root, Staged, Stop, open_root, roots_in_use};
 use deploy_laws::untouched_stands;
 use disk_model::Disk;
@@ -84,17 +78,21 @@ impl Running {
     }
 
     /// Whether a call calls the device, refused or not. Does not allocate.
-    pub(crate) fn calls_device<D: Disk>(&self, disk: &D, call: &Call) -> bool
+    pub(crate) fn calls_device<D: Disk>(&self, disk: &D, asked: &Asked) -> bool
         requires { IsRunning D.told (D.medium disk.now).image self.now }
-        ensures { IsTrue D.told → result ≡ calls_device (application (D.medium disk.now).image self.now) call.now }
+        ensures { IsTrue D.told → result ≡ calls_device (application (D.medium disk.now).image self.now)
+            (asked_call asked.now) }
     {
         if self.is_marked() {
             return true;
         }
-        match call {
-            Call::Status | Call::UpdateAbort => false,
-            Call::Close(name) => self.closes_files(name),
-            other => !is_local(other),
+        match asked {
+            Asked::OfDeployment(deploying) => calls_device(deploying),
+            Asked::OnStorage(storing) => match *storing {
+                Storing::Local(_) => false,
+                Storing::Close(name) => self.closes_files(name),
+                _ => true,
+            },
         }
     }
 
@@ -146,105 +144,56 @@ impl Running {
         disk: &mut D,
         migrations: &Migrations,
         now: u64,
-        call: &Call,
+        asked: &Asked,
     ) -> Result<Reply, Stop>
         requires memory { IsRunning D.told (D.medium disk.old).image self.old }
         requires opened { is_to_open (stage_in self.old.stage) ≡ false }
-        ensures app { self.new.app ≡ self.old.app }
-        ensures memory { ¬ (IsErrOf result Stop.OutOfMemory) → IsRunning D.told (D.medium disk.new).image self.new }
-        // The reply and the application after it are those of a row of the call. Where the device failed, or memory ran
-        // out, the disk has what a row leads to or what was there, and each moment stands between the two.
-        ensures answered { IsTrue D.told → IfOk result (λ reply.
-            IsAnswered (rules_of migrations.now) (answers_of migrations.now) self.old.app now call.now
-            (application (D.medium disk.old).image self.old) (application (D.medium disk.new).image self.new) reply
-            (D.medium disk.old) (D.medium disk.new)) }
-        ensures failed { IsTrue D.told → IsErrOf result Stop.Device
-            → HasFailed (rules_of migrations.now) (answers_of migrations.now) self.old.app now call.now
-            (application (D.medium disk.old).image self.old) (application (D.medium disk.new).image self.new)
-            (D.medium disk.old) (D.medium disk.new) }
-        ensures stopped { IsTrue D.told → IsErrOf result Stop.OutOfMemory
-            → HasStopped (rules_of migrations.now) (answers_of migrations.now) self.old.app now call.now
-            (application (D.medium disk.old).image self.old) (D.medium disk.old) (D.medium disk.new) }
-        ensures quiet { Quiet (D.medium disk.old) → OnOk result (Quiet (D.medium disk.new)) }
-        // A call that needs no device leaves the disk alone; a refused one writes nothing, nor does one that only plans
-        // an update; and one that makes a storage durable writes at most what differs.
-        ensures idle { IsTrue D.told → uses_device (app_at (D.medium disk.old).image self.old.app) call.now ≡ false
-            → disk.new ≡ disk.old }
-        ensures unwritten { IfOk result (λ reply. is_refusal reply.answer ≡ true
-            → IsUnwritten (D.medium disk.old) (D.medium disk.new)) }
-        ensures looks { only_plans call.now ≡ true → IsUnwritten (D.medium disk.old) (D.medium disk.new) }
-        ensures written { IsTrue D.told → is_durable call.now ≡ true → (f : FoundStorage) (s : Session)
-            → found_named (application (D.medium disk.old).image self.old) call.now ≡ Some (Ok f)
-            → session_at (application (D.medium disk.old).image self.old) f.number ≡ Some s
-            → WritesWithin self.old.app f s (D.medium disk.old) (D.medium disk.new) }
-        // However it ends, no more is written than the storages cost that it makes, and one root, and beside slots of the
-        // root no file changes but in the places of the storages that it makes or names.
-        ensures within { IsTrue D.told → IsCallWithin (rules_of migrations.now) (answers_of migrations.now)
-            self.old.app now (application (D.medium disk.old).image self.old) call.now
-            (bytes_now (D.medium disk.old)) (bytes_now (D.medium disk.new)) }
-        // Of a call that names a storage not even those of the root do.
-        ensures place { IsTrue D.told → StaysInPlace self.old.app call.now
-            (application (D.medium disk.old).image self.old) (D.medium disk.old).image (D.medium disk.new).image }
-        ensures cause { IsErrOf result Stop.Device → Rose (D.medium disk.old).faults (D.medium disk.new).faults }
-        ensures passes { OnOk result ((D.medium disk.new).faults ≡ (D.medium disk.old).faults) }
-        // That the device failed is no reply but the error `Device`; every reply has a text; and time goes on.
-        ensures unfailed { IfOk result (λ reply. reply.answer ≢ Answer.Error PerError.PhysicalStorageFailure) }
-        ensures text { IfOk result (λ reply. HasText reply.answer) }
-        ensures time { Elapses (D.medium disk.old) (D.medium disk.new) }
-    {
-        self.answer(disk, migrations, now, call)
-    }
-
-    // Does what `call` does; its promises are one record.
-    fn answer<D: Disk>(
-        &mut self,
-        disk: &mut D,
-        migrations: &Migrations,
-        now: u64,
-        call: &Call,
-    ) -> Result<Reply, Stop>
-        requires memory { IsRunning D.told (D.medium disk.old).image self.old }
-        requires opened { is_to_open (stage_in self.old.stage) ≡ false }
-        ensures { Promises D.told (rules_of migrations.now) (answers_of migrations.now) now call.now self.old self.new
+        ensures { Promises D.told (rules_of migrations.now) (answers_of migrations.now) now (asked_call asked.now)
+            self.old self.new
             (disk.new ≡ disk.old) (D.medium disk.old) (D.medium disk.new) result }
     {
         untouched_stands();
-        if let Some(busy) = self.busy_with(call) {
-            return Ok(self.refuse(busy));
+        if let Some(busy) = self.busy_with(asked) {
+            return Ok(refusal(self.alloc, busy));
         }
-        self.answer_beside(disk, migrations, now, call)
+        match asked {
+            Asked::OfDeployment(deploying) => self.deploy(disk, migrations, now, deploying),
+            Asked::OnStorage(storing) => self.call_on_storage(disk, migrations, now, storing),
+        }
     }
 
-    // A call that is not refused for an update in progress.
-    fn answer_beside<D: Disk>(
+    // A call of the deployment that is not refused for an update in progress.
+    fn deploy<D: Disk>(
         &mut self,
         disk: &mut D,
         migrations: &Migrations,
         now: u64,
-        call: &Call,
+        deploying: &Deploying,
     ) -> Result<Reply, Stop>
         requires memory { IsRunning D.told (D.medium disk.old).image self.old }
         requires opened { is_to_open (stage_in self.old.stage) ≡ false }
-        requires free { beside_update (update_in (stage_in self.old.stage)) call.now ≡ None }
-        ensures { Promises D.told (rules_of migrations.now) (answers_of migrations.now) now call.now self.old self.new
+        requires free { beside_update (update_in (stage_in self.old.stage)) (deploying_call deploying.now) ≡ None }
+        ensures { Promises D.told (rules_of migrations.now) (answers_of migrations.now) now
+            (deploying_call deploying.now) self.old self.new
             (disk.new ≡ disk.old) (D.medium disk.old) (D.medium disk.new) result }
     {
         untouched_stands();
         roots_in_use();
-        match call {
-            Call::Status => Ok(self.status()),
-            Call::Install(manifest) => self.install(disk, manifest.as_slice(), migrations, now),
-            Call::Update(manifest) => self.update(disk, manifest.as_slice(), migrations, now),
-            Call::Finish => self.finish(disk, migrations),
-            Call::Rollback => self.rollback(disk, migrations),
-            Call::Wipe => self.wipe(disk, migrations),
-            Call::UpdateBegin(manifest) => {
+        match *deploying {
+            Deploying::Status => Ok(self.status()),
+            Deploying::Install(manifest) => {
+                self.install(disk, manifest.as_slice(), migrations, now)
+            }
+            Deploying::Update(manifest) => self.update(disk, manifest.as_slice(), migrations, now),
+            Deploying::Finish => self.finish(disk, migrations),
+            Deploying::Rollback => self.rollback(disk, migrations),
+            Deploying::Wipe => self.wipe(disk, migrations),
+            Deploying::UpdateBegin(manifest) => {
                 self.begin_update(disk, manifest.as_slice(), migrations, now)
             }
-            Call::UpdateNext => self.next_storage(disk, migrations),
-            Call::UpdateCommit => self.commit_update(disk, migrations),
-            Call::UpdateAbort => Ok(self.abort_update()),
-            on_storage => self.call_on_storage(disk, migrations, now, on_storage),
+            Deploying::UpdateNext => self.next_storage(disk, migrations),
+            Deploying::UpdateCommit => self.commit_update(disk, migrations),
+            Deploying::UpdateAbort => Ok(self.abort_update()),
         }
     }
 }

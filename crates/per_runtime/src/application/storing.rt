@@ -1,14 +1,16 @@
 //! The calls that name a storage.
 
-ghost use Rattle.std.specs.Prelude.{◌≡◌, IsTrue};
+ghost use Rattle.std.specs.Prelude.{◌≡◌};
 ghost use Rattle.migrate_fns.specs.Stored.{answers_of, rules_of};
 ghost use Rattle.run_model.specs.Worlds.{at_rest};
-ghost use Rattle.per_runtime.specs.storages.Answers.{is_on_storage};
+ghost use Rattle.per_runtime.specs.Sorting.{storing_call};
 ghost use Rattle.per_runtime.specs.application.Promises.{Promises};
 ghost use Rattle.per_runtime.specs.application.Running.{IsRunning, stage_in};
 
 use crate::application::running::{Running, Stage};
-use command_text::{Call, Reply};
+use crate::replying::refusal;
+use crate::sorting::Storing;
+use command_text::Reply;
 use deploy::Stop;
 use deploy_rows::rows_lead_on;
 use disk_model::Disk;
@@ -23,19 +25,23 @@ impl Running {
         disk: &mut D,
         migrations: &Migrations,
         now: u64,
-        call: &Call,
+        storing: &Storing,
     ) -> Result<Reply, Stop>
         requires memory { IsRunning D.told (D.medium disk.old).image self.old }
         requires rests { stage_in self.old.stage ≡ at_rest }
-        requires on_storage { IsTrue (is_on_storage call.now) }
-        ensures { Promises D.told (rules_of migrations.now) (answers_of migrations.now) now call.now self.old self.new
+        ensures { Promises D.told (rules_of migrations.now) (answers_of migrations.now) now (storing_call storing.now)
+            self.old self.new
             (disk.new ≡ disk.old) (D.medium disk.old) (D.medium disk.new) result }
     {
         rows_lead_on();
         storages_lead_on();
         let Stage::AtRest(root) = &self.stage else {
-            return Ok(self.refuse(PerError::IntegrityCorrupted { unit: Unit::Root }));
+            return Ok(refusal(
+                self.alloc,
+                PerError::IntegrityCorrupted { unit: Unit::Root },
+            ));
         };
-        self.slots.call(self.alloc, disk, self.app, root, now, call)
+        self.slots
+            .call(self.alloc, disk, self.app, root, now, storing)
     }
 }

@@ -1,6 +1,6 @@
 //! The calls that update: in one call, and in steps.
 
-ghost use Rattle.std.specs.Prelude.{◌≡◌, ℕ, List, false, length};
+ghost use Rattle.std.specs.Prelude.{◌≡◌, ℕ, false, length};
 ghost use Rattle.command_text.specs.declared.calls.Call.{Call};
 ghost use Rattle.migrate_fns.specs.Stored.{answers_of, rules_of};
 ghost use Rattle.run_model.specs.Worlds.{at_rest, is_to_open};
@@ -9,6 +9,7 @@ ghost use Rattle.per_runtime.specs.application.Running.{IsRunning, stage_in};
 ghost use Rattle.per_runtime.specs.application.Stages.{Aborts, ConcludesBegun, staged_in};
 
 use crate::application::running::{Running, Stage};
+use crate::replying::{answered, refusal};
 use command_text::{Answer, Reply};
 use deploy::{Begin, Stop, begin_update, roots_in_use, update};
 use deploy_laws::untouched_stands;
@@ -38,7 +39,7 @@ impl Running {
         untouched_stands();
         said_is_kept();
         if let Some(error) = self.no_update_over() {
-            return Ok(self.refuse(error));
+            return Ok(refusal(self.alloc, error));
         }
         let root = self.take_root();
         let busy = self.busy(&root)?;
@@ -74,7 +75,7 @@ impl Running {
         roots_in_use();
         untouched_stands();
         if let Some(error) = self.no_update_over() {
-            return Ok(self.refuse(error));
+            return Ok(refusal(self.alloc, error));
         }
         let root = self.take_root();
         let busy = self.busy(&root)?;
@@ -100,11 +101,11 @@ impl Running {
         match begun {
             Ok(Begin::Ready(staged)) => {
                 self.stage = Stage::Updating(staged);
-                Ok(self.reply(Answer::Done))
+                Ok(answered(self.alloc, Answer::Done))
             }
             Ok(Begin::Refused(root, error)) => {
                 self.stage = Stage::AtRest(root);
-                Ok(self.refuse(error))
+                Ok(refusal(self.alloc, error))
             }
             Err(stop) => {
                 self.slots.clear();
@@ -133,7 +134,7 @@ impl Running {
         let staged = staged.next_storage(disk)?;
         let remaining = staged.remaining();
         self.stage = Stage::Updating(staged);
-        Ok(self.reply(Answer::Number(u64::from(remaining))))
+        Ok(answered(self.alloc, Answer::Number(u64::from(remaining))))
     }
 
     /// Makes the storages that remain, and then the next version active.
@@ -157,7 +158,7 @@ impl Running {
         };
         let root = staged.commit_update(disk)?;
         self.stage = Stage::AtRest(root);
-        Ok(self.reply(Answer::Done))
+        Ok(answered(self.alloc, Answer::Done))
     }
 
     /// Gives up the update in progress.
@@ -168,6 +169,6 @@ impl Running {
             return self.without_update();
         };
         self.stage = Stage::AtRest(staged.abort());
-        self.reply(Answer::Done)
+        answered(self.alloc, Answer::Done)
     }
 }

@@ -6,9 +6,9 @@ ghost use Rattle.per_runtime.specs.storages.Durables.{LeavesSlot};
 ghost use Rattle.per_runtime.specs.storages.Handled.{IsStorageCallHandled};
 ghost use Rattle.per_runtime.specs.storages.Slots.{IsResting};
 
+use crate::replying::{answered, refusal};
 use crate::storages::finding::find;
 use crate::storages::laws::storages_stand;
-use crate::storages::replying::{answered, refusal};
 use crate::storages::slots::OpenSlots;
 use command_text::{Answer, Reply, errors_have_texts};
 use deploy::{Root, Stop};

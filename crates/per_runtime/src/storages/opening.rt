@@ -5,9 +5,9 @@ ghost use Rattle.per_runtime.specs.storages.Handled.{IsStorageCallHandled};
 ghost use Rattle.per_runtime.specs.storages.Openings.{corrupt_reply, open_call};
 ghost use Rattle.per_runtime.specs.storages.Slots.{IsResting};
 
+use crate::replying::refusal;
 use crate::storages::finding::find;
 use crate::storages::laws::storages_stand;
-use crate::storages::replying::refusal;
 use crate::storages::slots::OpenSlots;
 use command_text::{Answer, Reply, errors_have_texts};
 use deploy::{Root, Stop};

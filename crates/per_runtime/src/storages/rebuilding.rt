@@ -1,16 +1,15 @@
 //! Rebuilding a closed storage.
 
-ghost use Rattle.std.specs.Prelude.{◌≡◌, ◌<◌, ℕ, IfErr, IfOk, IsErrOf, OnErr};
+ghost use Rattle.std.specs.Prelude.{◌≡◌, ◌<◌, IfErr, IfOk, OnErr};
 ghost use Rattle.command_text.specs.declared.calls.Call.{Call};
 ghost use Rattle.deploy.specs.Roots.{IsRootOf};
-ghost use Rattle.per_runtime.specs.storages.Finding.{config_of};
 ghost use Rattle.per_runtime.specs.storages.Handled.{IsStorageCallHandled};
 ghost use Rattle.per_runtime.specs.storages.Rebuilding.{IsClosed, IsNoneClosed, NamesOpen};
 ghost use Rattle.per_runtime.specs.storages.Slots.{IsResting};
 
+use crate::replying::{done_or, refusal};
 use crate::storages::finding::{Located, find};
 use crate::storages::laws::storages_stand;
-use crate::storages::replying::{done_or, refusal};
 use crate::storages::slots::OpenSlots;
 use command_text::{Reply, errors_have_texts};
 use deploy::{Root, Stop, recover_storage, reset_storage};

@@ -86,16 +86,6 @@ impl OpenSlots {
         self.is_taken(number as usize)
     }
 
-    // The open storage with this number.
-    pub(crate) fn get(&self, number: u32) -> Option<&Open>
-        ensures { option_map (λ o. o.now) result ≡ slot_at self.now number }
-    {
-        match self.open.get(number as usize) {
-            Some(slot) => slot.as_ref(),
-            None => None,
-        }
-    }
-
     // Takes the open storage with this number out of its slot. Does not allocate.
     pub(crate) fn take(&mut self, number: u32) -> Option<Open>
         requires { number < length self.old.open.items }

@@ -9,7 +9,7 @@ returns-in-Now g c =
     let r = c.args.self.now in
     let m = g.D.Disk.medium c.args.disk.now in
     let lawful = g.met.D.Disk.lawful c.args.disk.now in
-    rw (c.in-Now.is, c.reply_of.ensures) (record {
+    rw (c.in-Now.is, c.answered.ensures) (record {
       end = record {
         memory = record { apps = c.requires.memory.apps; quiet = c.requires.memory.quiet };
         text = tt;
@@ -29,4 +29,4 @@ returns-in-Now g c =
     })
 
 pub returns-in-App : goal.returns-in-App
-returns-in-App g c = rw (c.in-App.is, sym c.from.ensures) c.call.ensures
+returns-in-App g c = rw (c.in-App.is, sym c.from.ensures, sym c.sort.ensures) c.call.ensures

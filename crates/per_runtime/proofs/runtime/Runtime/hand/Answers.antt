@@ -1,6 +1,7 @@
 use Rattle.std.proofs.Common.{Err, ap, refl, true≢false}
 use Rattle.deploy.specs.declared.errors.Stop.{Stop}
 use Rattle.migrate_fns.specs.Stored.{answers_of, rules_of}
+use Rattle.per_runtime.specs.Sorting.{asked_call}
 use Rattle.per_runtime.proofs.Handing.{answered_steps, answered_use, device_end, failed_steps, failed_use, left_alone}
 use Rattle.per_runtime.proofs.Handing.{memory_end, starves_in, stopped_steps, there}
 use Rattle.per_runtime.proofs.Single.{only_reads}
@@ -33,7 +34,7 @@ returns-in-Ok g c =
       end = record {
         memory = record {
           apps = answered_use c.applications_stand.ensures c.running_is_application.ensures c.running_stays.ensures
-              rules answers told old new r.now c.args.app c.args.call.now r.apps.items a a' r.in_doubt
+              rules answers told old new r.now c.args.app (asked_call c.args.asked.now) r.apps.items a a' r.in_doubt
               c.requires.app c.requires.memory.apps c.requires.memory.quiet here c.requires.sure _ reads _ is
               c.in-Ok.reply is.end;
           quiet = λ sure. is.end.quiet (c.requires.memory.quiet sure);
@@ -45,14 +46,15 @@ returns-in-Ok g c =
           passes = λ other. is.end.passes;
         };
         stepped = λ tells doubt in_doubt. answered_steps c.applications_stand.ensures c.running_is_application.ensures
-            c.running_stays.ensures rules answers told old new r.now c.args.app c.args.call.now r.apps.items a a'
+            c.running_stays.ensures rules answers told old new r.now c.args.app (asked_call c.args.asked.now) r.apps.items
+            a a'
             r.in_doubt
             c.requires.app c.requires.memory.apps c.requires.memory.quiet here c.requires.sure _ reads _ is
             c.in-Ok.reply is.end tells doubt in_doubt;
       };
       needs = λ tells bad. absurd cc;
       idle = left_alone c.applications_stand.ensures c.running_is_application.ensures c.running_stays.ensures rules
-          answers told old new r.now c.args.app c.args.call.now r.apps.items a a' r.in_doubt
+          answers told old new r.now c.args.app (asked_call c.args.asked.now) r.apps.items a a' r.in_doubt
           c.requires.app c.requires.memory.apps c.requires.memory.quiet here c.requires.sure _ reads _ is;
       time = is.time;
     }
@@ -72,11 +74,11 @@ returns-in-Err-Device g c =
     let here = there r.apps.items c.args.app a c.requires.app c.requires.memory.apps.eight c.index_mut.ensures.value in
     let is = c.in-Err-Device.ensures in
     let end = device_end _ _ _ c.in-Err-Device.field-0 c.in-Err-Device.field-0-is is.end in
-    rw c.failed_reply.ensures (record {
+    rw c.refusal.ensures (record {
       end = record {
         memory = record {
           apps = failed_use c.applications_stand.ensures c.running_is_application.ensures c.running_stays.ensures rules
-              answers told old new r.now c.args.app c.args.call.now r.apps.items a a' r.in_doubt
+              answers told old new r.now c.args.app (asked_call c.args.asked.now) r.apps.items a a' r.in_doubt
               c.requires.app c.requires.memory.apps c.requires.memory.quiet here c.requires.sure _ reads _ is end;
           quiet = λ sure. absurd (true≢false sure);
         };
@@ -87,14 +89,15 @@ returns-in-Err-Device g c =
           passes = λ other. absurd (other refl);
         };
         stepped = λ tells doubt in_doubt. failed_steps c.applications_stand.ensures c.running_is_application.ensures
-            c.running_stays.ensures rules answers told old new r.now c.args.app c.args.call.now r.apps.items a a'
+            c.running_stays.ensures rules answers told old new r.now c.args.app (asked_call c.args.asked.now) r.apps.items
+            a a'
             r.in_doubt
             c.requires.app c.requires.memory.apps c.requires.memory.quiet here c.requires.sure _ reads _ is end
             (g.met.D.Disk.lawful c.answer.new.disk) tells doubt in_doubt;
       };
       needs = λ tells bad. absurd cc;
       idle = left_alone c.applications_stand.ensures c.running_is_application.ensures c.running_stays.ensures rules
-          answers told old new r.now c.args.app c.args.call.now r.apps.items a a' r.in_doubt
+          answers told old new r.now c.args.app (asked_call c.args.asked.now) r.apps.items a a' r.in_doubt
           c.requires.app c.requires.memory.apps c.requires.memory.quiet here c.requires.sure _ reads _ is;
       time = is.time;
     })
@@ -116,17 +119,19 @@ returns-in-Err-OutOfMemory g c =
     let end = memory_end _ _ _ c.in-Err-OutOfMemory.field-0 c.in-Err-OutOfMemory.field-0-is is.end in
     record {
       end = λ tells doubt in_doubt. stopped_steps c.applications_stand.ensures c.running_is_application.ensures
-          c.running_stays.ensures rules answers told old new r.now c.args.app c.args.call.now r.apps.items a a'
+          c.running_stays.ensures rules answers told old new r.now c.args.app (asked_call c.args.asked.now) r.apps.items a
+          a'
           r.in_doubt
           c.requires.app c.requires.memory.apps c.requires.memory.quiet here c.requires.sure _ reads _ is end tells
           doubt in_doubt;
       needs = λ tells bad. starves_in c.applications_stand.ensures c.running_is_application.ensures
-          c.running_stays.ensures rules answers told old new r.now c.args.app c.args.call.now r.apps.items a a'
+          c.running_stays.ensures rules answers told old new r.now c.args.app (asked_call c.args.asked.now) r.apps.items a
+          a'
           r.in_doubt
           c.requires.app c.requires.memory.apps c.requires.memory.quiet here c.requires.sure _ reads _ is
           (is.needs tells (ap (λ (x : Stop). Err x) c.in-Err-OutOfMemory.field-0-is));
       idle = left_alone c.applications_stand.ensures c.running_is_application.ensures c.running_stays.ensures rules
-          answers told old new r.now c.args.app c.args.call.now r.apps.items a a' r.in_doubt
+          answers told old new r.now c.args.app (asked_call c.args.asked.now) r.apps.items a a' r.in_doubt
           c.requires.app c.requires.memory.apps c.requires.memory.quiet here c.requires.sure _ reads _ is;
       time = is.time;
     }

@@ -35,7 +35,7 @@ returns-in-Some g c =
     c.roots_in_use.ensures.app no_update_over c.in-Some.error
     (update_plain (root_says (stage_root s.stage)) c.in-Some.error refused) refused
     (λ r rests is. begin_row (rules_of c.args.migrations.now) (answers_of c.args.migrations.now) s.app c.args.now r rests
-    c.in-Some.error c.args.manifest.now is) c.refuse.result c.refuse.ensures
+    c.in-Some.error c.args.manifest.now is) c.refusal.result c.refusal.ensures
 
 -- ---- it goes on
 

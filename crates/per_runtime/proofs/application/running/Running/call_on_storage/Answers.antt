@@ -1,9 +1,11 @@
 use Rattle.std.proofs.Common.{◌≡◌, ap, sym, subst}
 use Rattle.migrate_fns.specs.Stored.{answers_of, rules_of}
+use Rattle.per_runtime.specs.Sorting.{storing_call}
 use Rattle.per_runtime.specs.declared.application.running.Stage.{Stage}
 use Rattle.per_runtime.specs.application.Promises.{Promises}
 use Rattle.per_runtime.specs.application.Running.{IsStageAt}
 use Rattle.per_runtime.specs.application.Stages.{stage_root}
+use Rattle.per_runtime.proofs.Sorted.{storing_on}
 use Rattle.per_runtime.proofs.application_lemmas.Ended.{rests}
 use Rattle.per_runtime.proofs.application_lemmas.LeadOn.{leads_on}
 use Rattle.per_runtime.proofs.application_lemmas.StorageCalls.{stored_promises}
@@ -17,7 +19,6 @@ pub call-requires : goal.call-requires
 call-requires g c = record {
   memory = subst (λ (x : Stage). IsStageAt g.D.Disk.told (g.D.Disk.medium c.args.disk.now).image c.args.self.now.app
       c.args.self.now.slots x) c.in-AtRest.is c.requires.memory.stage_at;
-  on_storage = c.requires.on_storage;
 }
 
 pub returns : goal.returns
@@ -29,26 +30,12 @@ returns g c =
     let old = g.D.Disk.medium c.args.disk.now in
     let new = g.D.Disk.medium c.call.new.disk in
     let Untouched = c.call.new.disk ≡ c.args.disk.now in
-    subst (λ (x : Stage). Promises told rules answers c.args.now c.args.call.now (record s { stage = x })
+    subst (λ (x : Stage). Promises told rules answers c.args.now (storing_call c.args.storing.now) (record s { stage = x })
     (record s { stage = x; slots = c.call.new.self }) Untouched old new c.call.result) (sym c.in-AtRest.is)
-    (stored_promises told rules answers c.args.now c.args.call.now s c.in-AtRest.root c.call.new.self Untouched old new
+    (stored_promises told rules answers c.args.now (storing_call c.args.storing.now) s c.in-AtRest.root c.call.new.self
+    Untouched old new
     c.call.result (λ same. (ap (λ d. (g.D.Disk.medium d).image) same, ap (λ d. (g.D.Disk.medium d).written) same))
-    c.requires.on_storage
+    (storing_on c.args.storing.now)
     (leads_on c.storages_lead_on.ensures c.rows_lead_on.ensures.install c.rows_lead_on.ensures.finish
     c.rows_lead_on.ensures.rollback c.rows_lead_on.ensures.wipe c.rows_lead_on.ensures.update rules answers)
-    (record {
-      memory = c.call.ensures.memory;
-      answered = c.call.ensures.answered;
-      failed = c.call.ensures.failed;
-      stopped = c.call.ensures.stopped;
-      quiet = c.call.ensures.quiet;
-      idle = c.call.ensures.idle;
-      unwritten = c.call.ensures.unwritten;
-      written = c.call.ensures.written;
-      place = c.call.ensures.place;
-      cause = c.call.ensures.cause;
-      passes = c.call.ensures.passes;
-      unfailed = c.call.ensures.unfailed;
-      text = c.call.ensures.text;
-      time = c.call.ensures.time;
-    }))
+    c.call.ensures)

@@ -1,4 +1,4 @@
-use Rattle.std.proofs.Common.{◌≡◌, ◌∙◌, Some, ap, sym}
+use Rattle.std.proofs.Common.{◌∙◌, Some, ap, sym}
 use Rattle.std.specs.Prelude.{option_map}
 use Rattle.per_base.specs.declared.elements.StoreKind.TheVariants.{Files, Keys}
 use Rattle.per_runtime.proofs.application_lemmas.Ended.{not_some}

@@ -14,9 +14,9 @@ use Rattle.deploy_rows.specs.Rows.{updated_app}
 use Rattle.migrate_fns.specs.Stored.{answers_of, rules_of}
 use Rattle.per_runtime.specs.storages.Answers.{CallsTo}
 use Rattle.per_runtime.specs.declared.application.running.Running.{Running}
-use Rattle.per_runtime.specs.declared.application.running.Stage.TheVariants.{AtRest, Updating}
+use Rattle.per_runtime.specs.declared.application.running.Stage.TheVariants.{AtRest}
 use Rattle.per_runtime.specs.application.Promises.{Promises}
-use Rattle.per_runtime.specs.application.Stages.{reply_with, staged_in}
+use Rattle.per_runtime.specs.application.Stages.{reply_with}
 use Rattle.per_runtime.proofs.application_lemmas.Ended.{not_some, passed_on}
 use Rattle.per_runtime.proofs.application_lemmas.Frames.{beside_commit, calls_to}
 use Rattle.per_runtime.proofs.application_lemmas.Steps.{an_update, commit_done, commit_failed, commit_refused_row}
@@ -115,10 +115,10 @@ returns g c = λ now.
     is) c.commit_update.ensures.outside (c.commit_update.ensures.any_moment tells)) in
     subst (λ (x : Running). Promises told rules answers now call.UpdateCommit s
     (record x { stage = AtRest c.in_ok-root.root }) (c.commit_update.new.disk ≡ c.args.disk.now) old new
-    (Ok c.reply.result)) (sym c.in-Some.ensures.left)
+    (Ok c.answered.result)) (sym c.in-Some.ensures.left)
     (subst (λ (x : Reply). Promises told rules answers now call.UpdateCommit s
     (record s { stage = AtRest c.in_ok-root.root }) (c.commit_update.new.disk ≡ c.args.disk.now) old new (Ok x))
-    (sym c.reply.ensures)
+    (sym c.answered.ensures)
     (subst (λ (x : Running). Promises told rules answers now call.UpdateCommit x
     (record s { stage = AtRest c.in_ok-root.root }) (c.commit_update.new.disk ≡ c.args.disk.now) old new
     (Ok (reply_with answer.Done))) (update_back s t stage_is)

@@ -1,21 +1,20 @@
-use Rattle.std.proofs.Common.{◌≡◌, ◌≤◌, ◌+◌, ◌∙◌, take, drop, IsTrue, Result, Err, Ok, ap, refl, sym, subst}
+use Rattle.std.proofs.Common.{◌≡◌, ◌∙◌, take, drop, IsTrue, Result, Err, Ok, ap, refl, sym, subst}
 use Rattle.command_text.specs.declared.calls.Call.TheVariants as call
 use Rattle.command_text.specs.declared.replies.Answer.TheVariants as answer
 use Rattle.command_text.specs.declared.replies.Reply.{Reply}
 use Rattle.deploy.specs.declared.errors.Stop.{Stop}
 use Rattle.deploy.specs.Building.{StagedAt, offered_in, staged_progress, staged_root}
 use Rattle.deploy.specs.Clauses.{Leaves}
-use Rattle.deploy.specs.Making.{IsInNone, making_costs}
-use Rattle.deploy.specs.Roots.{RootAt, free_bank}
+use Rattle.deploy.specs.Making.{IsInNone}
+use Rattle.deploy.specs.Roots.{free_bank}
 use Rattle.deploy_laws.specs.Apps.{IsCleanApp, app_at}
 use Rattle.deploy_laws.specs.Places.{IsBeside, shapes_in}
-use Rattle.deploy_rows.specs.Rows.{updated_app}
 use Rattle.migrate_fns.specs.Stored.{answers_of, rules_of}
 use Rattle.per_runtime.specs.storages.Answers.{CallsTo}
 use Rattle.per_runtime.specs.declared.application.running.Running.{Running}
-use Rattle.per_runtime.specs.declared.application.running.Stage.TheVariants.{AtRest, Updating}
+use Rattle.per_runtime.specs.declared.application.running.Stage.TheVariants.{Updating}
 use Rattle.per_runtime.specs.application.Promises.{Promises}
-use Rattle.per_runtime.specs.application.Stages.{reply_with, staged_in}
+use Rattle.per_runtime.specs.application.Stages.{reply_with}
 use Rattle.per_runtime.proofs.application_lemmas.Ended.{not_some, passed_on}
 use Rattle.per_runtime.proofs.application_lemmas.Frames.{beside, calls_to}
 use Rattle.per_runtime.proofs.application_lemmas.Steps.{an_update, built_few, next_done, next_failed, next_refused_row}
@@ -102,10 +101,10 @@ returns g c = λ now.
     (c.next_storage.ensures.any_moment tells)) in
     subst (λ (x : Running). Promises told rules answers now call.UpdateNext s
     (record x { stage = Updating c.in_ok-staged.staged }) (c.next_storage.new.disk ≡ c.args.disk.now) old new
-    (Ok c.reply.result)) (sym c.in-Some.ensures.left)
+    (Ok c.answered.result)) (sym c.in-Some.ensures.left)
     (subst (λ (x : Reply). Promises told rules answers now call.UpdateNext s
     (record s { stage = Updating c.in_ok-staged.staged }) (c.next_storage.new.disk ≡ c.args.disk.now) old new
-    (Ok x)) (sym c.reply.ensures)
+    (Ok x)) (sym c.answered.ensures)
     (subst (λ (x : Running). Promises told rules answers now call.UpdateNext x
     (record s { stage = Updating c.in_ok-staged.staged }) (c.next_storage.new.disk ≡ c.args.disk.now) old new
     (Ok (reply_with (answer.Number c.from.result)))) (update_back s t stage_is)

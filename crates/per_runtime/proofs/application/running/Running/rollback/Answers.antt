@@ -39,7 +39,7 @@ returns-in-Some g c = λ now.
     (c.args.disk.now ≡ c.args.disk.now) refl c.requires.memory c.requires.rests c.roots_in_use.ensures.app no_way_back
     c.in-Some.error (back_plain (root_says (stage_root s.stage)) c.in-Some.error refused) refused
     (λ r rests is. back_row (rules_of c.args.migrations.now) (answers_of c.args.migrations.now) s.app now r rests
-    c.in-Some.error is) c.refuse.result c.refuse.ensures
+    c.in-Some.error is) c.refusal.result c.refusal.ensures
 
 -- ---- it goes on
 

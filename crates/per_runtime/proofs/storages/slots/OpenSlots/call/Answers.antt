@@ -1,21 +1,32 @@
-use Rattle.per_runtime.proofs.storage_lemmas.Handled.{answered_of, cause_of, failed_of, memory_of, passes_of, quiet_of}
-use Rattle.per_runtime.proofs.storage_lemmas.Handled.{stopped_of, text_of, unfailed_of, unwritten_of}
+use Rattle.std.proofs.Common.{ap, sym}
+use Rattle.per_runtime.specs.Sorting.{storing_call}
+use Rattle.per_runtime.proofs.storage_lemmas.OneCall.{handled_as}
 use Rattle.per_runtime.proofs.storages.slots.OpenSlots.call.Goals as goal
 
-pub returns : goal.returns
-returns g c = record {
-  answered = answered_of c.handle.result c.handle.ensures;
-  failed = failed_of c.handle.result c.handle.ensures;
-  stopped = stopped_of c.handle.result c.handle.ensures;
-  memory = memory_of c.handle.result c.handle.ensures;
-  quiet = quiet_of c.handle.result c.handle.ensures;
-  idle = c.handle.ensures.idle;
-  unwritten = unwritten_of c.handle.result c.handle.ensures;
-  written = c.handle.ensures.written;
-  place = c.handle.ensures.place;
-  cause = cause_of c.handle.result c.handle.ensures;
-  passes = passes_of c.handle.result c.handle.ensures;
-  unfailed = unfailed_of c.handle.result c.handle.ensures;
-  text = text_of c.handle.result c.handle.ensures;
-  time = c.handle.ensures.time;
-}
+pub returns-in-Open : goal.returns-in-Open
+returns-in-Open g c = handled_as (storing_call c.args.storing.now) _ (sym (ap storing_call c.in-Open.is))
+    (c.open.ensures c.args.now)
+
+pub returns-in-Close : goal.returns-in-Close
+returns-in-Close g c = handled_as (storing_call c.args.storing.now) _ (sym (ap storing_call c.in-Close.is))
+    (c.close.ensures c.args.now)
+
+pub returns-in-Recover : goal.returns-in-Recover
+returns-in-Recover g c = handled_as (storing_call c.args.storing.now) _ (sym (ap storing_call c.in-Recover.is))
+    c.recover.ensures
+
+pub returns-in-Reset : goal.returns-in-Reset
+returns-in-Reset g c = handled_as (storing_call c.args.storing.now) _ (sym (ap storing_call c.in-Reset.is))
+    c.reset.ensures
+
+pub returns-in-Sync : goal.returns-in-Sync
+returns-in-Sync g c = handled_as (storing_call c.args.storing.now) _ (sym (ap storing_call c.in-Sync.is))
+    (c.sync.ensures c.args.now)
+
+pub returns-in-Flush : goal.returns-in-Flush
+returns-in-Flush g c = handled_as (storing_call c.args.storing.now) _ (sym (ap storing_call c.in-Flush.is))
+    (c.flush.ensures c.args.now)
+
+pub returns-in-Local : goal.returns-in-Local
+returns-in-Local g c = handled_as (storing_call c.args.storing.now) _ (sym (ap storing_call c.in-Local.is))
+    c.local.ensures

@@ -1,17 +1,18 @@
-use Rattle.std.proofs.Common.{◌≡◌, ℕ, Ok, List, refl, sym, subst}
+use Rattle.std.proofs.Common.{◌≡◌, ℕ, Ok, List, ap, refl, sym, subst}
 use Rattle.command_text.specs.declared.calls.Call.{Call}
 use Rattle.command_text.specs.declared.calls.Call.TheVariants as call
 use Rattle.migrate_fns.specs.Stored.{answers_of, rules_of}
+use Rattle.per_runtime.specs.Sorting.{deploying_call}
 use Rattle.per_runtime.specs.application.Promises.{Promises}
-use Rattle.per_runtime.proofs.application_lemmas.Arms.{IsOther, abort_promises, at_rest_for, other_alone, other_on}
-use Rattle.per_runtime.proofs.application_lemmas.Arms.{status_promises}
-use Rattle.per_runtime.proofs.application.running.Running.answer_beside.Goals as goal
+use Rattle.per_runtime.proofs.application_lemmas.Arms.{abort_promises, at_rest_for, status_promises}
+use Rattle.per_runtime.proofs.application.running.Running.deploy.Goals as goal
 
 pub returns-in-Status : goal.returns-in-Status
 returns-in-Status g c = subst (λ (k : Call). Promises g.D.Disk.told (rules_of c.args.migrations.now)
     (answers_of c.args.migrations.now) c.args.now k c.args.self.now c.args.self.now
     (c.args.disk.now ≡ c.args.disk.now)
-    (g.D.Disk.medium c.args.disk.now) (g.D.Disk.medium c.args.disk.now) (Ok c.status.result)) (sym c.in-Status.is)
+    (g.D.Disk.medium c.args.disk.now) (g.D.Disk.medium c.args.disk.now) (Ok c.status.result)) (sym (ap deploying_call
+    c.in-Status.is))
     (status_promises g.D.Disk.told (rules_of c.args.migrations.now) (answers_of c.args.migrations.now) c.args.now
     c.args.self.now (g.D.Disk.medium c.args.disk.now) (g.met.D.Disk.lawful c.args.disk.now)
     c.untouched_stands.ensures.untouched (c.args.disk.now ≡ c.args.disk.now) refl c.requires.memory c.requires.opened
@@ -21,7 +22,7 @@ pub returns-in-UpdateAbort : goal.returns-in-UpdateAbort
 returns-in-UpdateAbort g c = subst (λ (k : Call). Promises g.D.Disk.told (rules_of c.args.migrations.now)
     (answers_of c.args.migrations.now) c.args.now k c.args.self.now c.abort_update.new.self
     (c.args.disk.now ≡ c.args.disk.now) (g.D.Disk.medium c.args.disk.now) (g.D.Disk.medium c.args.disk.now)
-    (Ok c.abort_update.result)) (sym c.in-UpdateAbort.is)
+    (Ok c.abort_update.result)) (sym (ap deploying_call c.in-UpdateAbort.is))
     (abort_promises g.D.Disk.told (rules_of c.args.migrations.now) (answers_of c.args.migrations.now) c.args.now
     c.args.self.now (g.D.Disk.medium c.args.disk.now) (g.met.D.Disk.lawful c.args.disk.now)
     c.untouched_stands.ensures.untouched (c.args.disk.now ≡ c.args.disk.now) refl c.requires.memory c.requires.opened
@@ -31,7 +32,7 @@ pub returns-in-Install : goal.returns-in-Install
 returns-in-Install g c = subst (λ (k : Call). Promises g.D.Disk.told (rules_of c.args.migrations.now)
     (answers_of c.args.migrations.now) c.args.now k c.args.self.now c.install.new.self
     (c.install.new.disk ≡ c.args.disk.now) (g.D.Disk.medium c.args.disk.now) (g.D.Disk.medium c.install.new.disk)
-    c.install.result) (sym c.in-Install.is)
+    c.install.result) (sym (ap deploying_call c.in-Install.is))
     (subst (λ (t : List ℕ). Promises g.D.Disk.told (rules_of c.args.migrations.now) (answers_of c.args.migrations.now)
     c.args.now (call.Install t) c.args.self.now c.install.new.self
     (c.install.new.disk ≡ c.args.disk.now) (g.D.Disk.medium c.args.disk.now) (g.D.Disk.medium c.install.new.disk)
@@ -41,7 +42,8 @@ pub update-requires : goal.update-requires
 update-requires g c = record {
   memory = c.requires.memory;
   rests =
-      at_rest_for c.args.self.now.stage c.args.call.now (call.Update c.in-Update.manifest) c.in-Update.is
+      at_rest_for c.args.self.now.stage (deploying_call c.args.deploying.now) (call.Update c.in-Update.manifest.now) (ap
+      deploying_call c.in-Update.is)
       c.requires.opened refl c.requires.free;
 }
 
@@ -49,7 +51,7 @@ pub returns-in-Update : goal.returns-in-Update
 returns-in-Update g c = subst (λ (k : Call). Promises g.D.Disk.told (rules_of c.args.migrations.now)
     (answers_of c.args.migrations.now) c.args.now k c.args.self.now c.update.new.self
     (c.update.new.disk ≡ c.args.disk.now) (g.D.Disk.medium c.args.disk.now) (g.D.Disk.medium c.update.new.disk)
-    c.update.result) (sym c.in-Update.is)
+    c.update.result) (sym (ap deploying_call c.in-Update.is))
     (subst (λ (t : List ℕ). Promises g.D.Disk.told (rules_of c.args.migrations.now) (answers_of c.args.migrations.now)
     c.args.now (call.Update t) c.args.self.now c.update.new.self
     (c.update.new.disk ≡ c.args.disk.now) (g.D.Disk.medium c.args.disk.now) (g.D.Disk.medium c.update.new.disk)
@@ -59,7 +61,8 @@ pub finish-requires : goal.finish-requires
 finish-requires g c = record {
   memory = c.requires.memory;
   rests =
-      at_rest_for c.args.self.now.stage c.args.call.now call.Finish c.in-Finish.is c.requires.opened refl
+      at_rest_for c.args.self.now.stage (deploying_call c.args.deploying.now) call.Finish (ap deploying_call
+      c.in-Finish.is) c.requires.opened refl
       c.requires.free;
 }
 
@@ -67,14 +70,15 @@ pub returns-in-Finish : goal.returns-in-Finish
 returns-in-Finish g c = subst (λ (k : Call). Promises g.D.Disk.told (rules_of c.args.migrations.now)
     (answers_of c.args.migrations.now) c.args.now k c.args.self.now c.finish.new.self
     (c.finish.new.disk ≡ c.args.disk.now) (g.D.Disk.medium c.args.disk.now) (g.D.Disk.medium c.finish.new.disk)
-    c.finish.result) (sym c.in-Finish.is)
+    c.finish.result) (sym (ap deploying_call c.in-Finish.is))
     (c.finish.ensures c.args.now)
 
 pub rollback-requires : goal.rollback-requires
 rollback-requires g c = record {
   memory = c.requires.memory;
   rests =
-      at_rest_for c.args.self.now.stage c.args.call.now call.Rollback c.in-Rollback.is c.requires.opened refl
+      at_rest_for c.args.self.now.stage (deploying_call c.args.deploying.now) call.Rollback (ap deploying_call
+      c.in-Rollback.is) c.requires.opened refl
       c.requires.free;
 }
 
@@ -82,28 +86,30 @@ pub returns-in-Rollback : goal.returns-in-Rollback
 returns-in-Rollback g c = subst (λ (k : Call). Promises g.D.Disk.told (rules_of c.args.migrations.now)
     (answers_of c.args.migrations.now) c.args.now k c.args.self.now c.rollback.new.self
     (c.rollback.new.disk ≡ c.args.disk.now) (g.D.Disk.medium c.args.disk.now) (g.D.Disk.medium c.rollback.new.disk)
-    c.rollback.result) (sym c.in-Rollback.is)
+    c.rollback.result) (sym (ap deploying_call c.in-Rollback.is))
     (c.rollback.ensures c.args.now)
 
 pub wipe-requires : goal.wipe-requires
 wipe-requires g c = record {
   memory = c.requires.memory;
   rests =
-      at_rest_for c.args.self.now.stage c.args.call.now call.Wipe c.in-Wipe.is c.requires.opened refl c.requires.free;
+      at_rest_for c.args.self.now.stage (deploying_call c.args.deploying.now) call.Wipe (ap deploying_call c.in-Wipe.is)
+      c.requires.opened refl c.requires.free;
 }
 
 pub returns-in-Wipe : goal.returns-in-Wipe
 returns-in-Wipe g c = subst (λ (k : Call). Promises g.D.Disk.told (rules_of c.args.migrations.now)
     (answers_of c.args.migrations.now) c.args.now k c.args.self.now c.wipe.new.self
     (c.wipe.new.disk ≡ c.args.disk.now) (g.D.Disk.medium c.args.disk.now) (g.D.Disk.medium c.wipe.new.disk)
-    c.wipe.result) (sym c.in-Wipe.is)
+    c.wipe.result) (sym (ap deploying_call c.in-Wipe.is))
     (c.wipe.ensures c.args.now)
 
 pub begin_update-requires : goal.begin_update-requires
 begin_update-requires g c = record {
   memory = c.requires.memory;
   rests =
-      at_rest_for c.args.self.now.stage c.args.call.now (call.UpdateBegin c.in-UpdateBegin.manifest) c.in-UpdateBegin.is
+      at_rest_for c.args.self.now.stage (deploying_call c.args.deploying.now) (call.UpdateBegin
+      c.in-UpdateBegin.manifest.now) (ap deploying_call c.in-UpdateBegin.is)
       c.requires.opened refl c.requires.free;
 }
 
@@ -111,7 +117,7 @@ pub returns-in-UpdateBegin : goal.returns-in-UpdateBegin
 returns-in-UpdateBegin g c = subst (λ (k : Call). Promises g.D.Disk.told (rules_of c.args.migrations.now)
     (answers_of c.args.migrations.now) c.args.now k c.args.self.now c.begin_update.new.self
     (c.begin_update.new.disk ≡ c.args.disk.now) (g.D.Disk.medium c.args.disk.now)
-    (g.D.Disk.medium c.begin_update.new.disk) c.begin_update.result) (sym c.in-UpdateBegin.is)
+    (g.D.Disk.medium c.begin_update.new.disk) c.begin_update.result) (sym (ap deploying_call c.in-UpdateBegin.is))
     (subst (λ (t : List ℕ). Promises g.D.Disk.told (rules_of c.args.migrations.now) (answers_of c.args.migrations.now)
     c.args.now (call.UpdateBegin t) c.args.self.now c.begin_update.new.self
     (c.begin_update.new.disk ≡ c.args.disk.now) (g.D.Disk.medium c.args.disk.now)
@@ -122,36 +128,12 @@ pub returns-in-UpdateNext : goal.returns-in-UpdateNext
 returns-in-UpdateNext g c = subst (λ (k : Call). Promises g.D.Disk.told (rules_of c.args.migrations.now)
     (answers_of c.args.migrations.now) c.args.now k c.args.self.now c.next_storage.new.self
     (c.next_storage.new.disk ≡ c.args.disk.now) (g.D.Disk.medium c.args.disk.now)
-    (g.D.Disk.medium c.next_storage.new.disk) c.next_storage.result) (sym c.in-UpdateNext.is)
+    (g.D.Disk.medium c.next_storage.new.disk) c.next_storage.result) (sym (ap deploying_call c.in-UpdateNext.is))
     (c.next_storage.ensures c.args.now)
 
 pub returns-in-UpdateCommit : goal.returns-in-UpdateCommit
 returns-in-UpdateCommit g c = subst (λ (k : Call). Promises g.D.Disk.told (rules_of c.args.migrations.now)
     (answers_of c.args.migrations.now) c.args.now k c.args.self.now c.commit_update.new.self
     (c.commit_update.new.disk ≡ c.args.disk.now) (g.D.Disk.medium c.args.disk.now)
-    (g.D.Disk.medium c.commit_update.new.disk) c.commit_update.result) (sym c.in-UpdateCommit.is)
+    (g.D.Disk.medium c.commit_update.new.disk) c.commit_update.result) (sym (ap deploying_call c.in-UpdateCommit.is))
     (c.commit_update.ensures c.args.now)
-
-pub call_on_storage-requires : goal.call_on_storage-requires
-call_on_storage-requires g c =
-    let other : IsOther c.args.call.now = record {
-      status = c.in_default.not-Status;
-      install = c.in_default.not-Install;
-      update = c.in_default.not-Update;
-      finish = c.in_default.not-Finish;
-      rollback = c.in_default.not-Rollback;
-      wipe = c.in_default.not-Wipe;
-      begin_update = c.in_default.not-UpdateBegin;
-      next = c.in_default.not-UpdateNext;
-      commit = c.in_default.not-UpdateCommit;
-      abort = c.in_default.not-UpdateAbort;
-    } in
-    record {
-      memory = c.requires.memory;
-      rests = at_rest_for c.args.self.now.stage c.args.call.now c.args.call.now refl c.requires.opened
-          (other_alone c.args.call.now other) c.requires.free;
-      on_storage = other_on c.args.call.now other;
-    }
-
-pub returns-in_default : goal.returns-in_default
-returns-in_default g c = c.call_on_storage.ensures
