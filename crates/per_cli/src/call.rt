@@ -58,6 +58,24 @@ enum Unmade {
     OutOfMemory,
 }
 
+/// What the words of a call say, where they are none that are refused.
+#[derive(Drop)]
+enum Accepted<'a> {
+    /// All of its lines.
+    Lines(Vec<u8>),
+    /// A manifest is taken from a file.
+    Manifest {
+        call: &'a [u8],
+        target: &'a [u8],
+        file: &'a [u8],
+    },
+    /// The content of a file is taken from standard input.
+    Content {
+        target: &'a [u8],
+        file: &'a [u8],
+    },
+}
+
 impl From<AllocError> for Unmade {
     fn from(_error: AllocError) -> Unmade {
         Unmade::OutOfMemory
@@ -189,11 +207,18 @@ fn why_refused(alloc: Global, named: &[&[u8]]) -> Result<Option<String>, AllocEr
         return Ok(None);
     }
     let [call, target, arguments @ ..] = named else {
-        return Ok(None);
+        return why_no_words(alloc, named);
     };
     let Some((digit, storage)) = target_in(target) else {
         return why_no_target(alloc, call, target);
     };
+    if storage.is_some() && is_of_application(alloc, call)? {
+        return why_no_target(alloc, call, target);
+    }
+    if takes_manifest(call) && arguments.is_empty() {
+        let missing = "what is missing is a file with a manifest";
+        return Ok(Some(String::from_str(alloc, missing)?));
+    }
     if storage.is_none_or(|name| name.is_empty()) && !is_of_application(alloc, call)? {
         let missing = "what is missing is a storage, as 0:k";
         return Ok(Some(String::from_str(alloc, missing)?));
@@ -222,13 +247,27 @@ fn target_in(target: &[u8]) -> Option<(u8, Option<&[u8]>)> {
     }
 }
 
+/// What is said of a call that stands alone.
+fn why_no_words(alloc: Global, named: &[&[u8]]) -> Result<Option<String>, AllocError> {
+    let [call] = named else {
+        return Ok(None);
+    };
+    let needed = target_needed(alloc, call)?;
+    Ok(Some(format!(in alloc; "what is missing is {needed}")?))
+}
+
+/// To what the call is made.
+fn target_needed(alloc: Global, call: &[u8]) -> Result<&'static str, AllocError> {
+    if is_of_application(alloc, call)? {
+        Ok("an application, 0 to 7")
+    } else {
+        Ok("an application, 0 to 7, and a storage, as 0:k")
+    }
+}
+
 /// What is said of a word to which no call is made.
 fn why_no_target(alloc: Global, call: &[u8], target: &[u8]) -> Result<Option<String>, AllocError> {
-    let needed = if is_of_application(alloc, call)? {
-        "an application, 0 to 7"
-    } else {
-        "an application, 0 to 7, and a storage, as 0:k"
-    };
+    let needed = target_needed(alloc, call)?;
     let dots = dots_after(target);
     match str::from_utf8(word_shown(target)) {
         Ok("") | Err(_) => Ok(None),
@@ -254,30 +293,29 @@ fn made<R: Files<File = File> + AllocGlobal + Input + Print + Screen>(
     named: &[&[u8]],
 ) -> Result<u8, Unmade> {
     let alloc = rt.alloc();
-    let options = options_of(alloc, words, named)?;
-    let text = lines_of_call(rt, alloc, named)?;
-    let part = Vec::with_capacity(alloc, text.part_bytes())?;
-    Ok(status_of_lines(rt, alloc, options.as_slice(), text, part))
-}
-
-/// The options of the run that makes the call, none of which asks for another job. An installation makes an empty
-/// folder ready first.
-fn options_of(alloc: Global, words: &[String], named: &[&[u8]]) -> Result<Vec<String>, Unmade> {
     let mut options = options_in(alloc, words)?;
-    if asks_for_another(alloc, options.as_slice())? {
-        return Err(Unmade::Beside);
-    }
+    let are_valid = are_valid(alloc, options.as_slice())?;
+    let accepted = accepted_in(alloc, named)?;
+    // Where the options are refused the run says so, and nothing is read before.
+    let text = if are_valid {
+        lines_of_call(rt, alloc, accepted)?
+    } else {
+        CallText::whole(alloc, Vec::new(alloc))
+    };
+    // An installation makes an empty folder ready first.
     if is_first(named, b"install") {
         let serve = String::from_str(alloc, "--serve")?;
         options.push(serve).map_err(AllocError::from)?;
     }
-    Ok(options)
+    let part = Vec::with_capacity(alloc, text.part_bytes())?;
+    Ok(status_of_lines(rt, alloc, options.as_slice(), text, part))
 }
 
-/// Whether the options are those of a job that handles no lines. Where they are refused the run says so.
-fn asks_for_another(alloc: Global, options: &[String]) -> Result<bool, Unmade> {
+/// Whether the options of the run that makes the call are valid, none of which may ask for another job.
+fn are_valid(alloc: Global, options: &[String]) -> Result<bool, Unmade> {
     match read_words(alloc, options) {
-        Ok(job) => Ok(!matches!(job.kind, JobKind::Run)),
+        Ok(job) if matches!(job.kind, JobKind::Run) => Ok(true),
+        Ok(_) => Err(Unmade::Beside),
         Err(WordsError::Refused) => Ok(false),
         Err(WordsError::OutOfMemory) => Err(Unmade::OutOfMemory),
     }
@@ -318,31 +356,56 @@ fn status_of_lines<R: Files<File = File> + AllocGlobal + Print + Screen>(
     refusal.status_after(status)
 }
 
-/// The lines of the call: its name, its application or storage, and what it takes.
-fn lines_of_call<R: Files<File = File> + AllocGlobal + Input + Screen>(
-    rt: &R,
-    alloc: Global,
-    named: &[&[u8]],
-) -> Result<CallText, Unmade> {
+/// What the words of the call say: its name, its application or storage, and what it takes. They are refused before
+/// anything is read.
+fn accepted_in<'a>(alloc: Global, named: &[&'a [u8]]) -> Result<Accepted<'a>, Unmade> {
     let [call, target, arguments @ ..] = named else {
         return Err(Unmade::Refused);
     };
-    let lines = match arguments {
+    match arguments {
         [file] if takes_manifest(call) => {
-            let manifest = manifest_in(rt, alloc, file)?;
-            lines_of_manifest(alloc, call, target, manifest.as_slice())?
+            if !is_application(target) {
+                return Err(Unmade::Refused);
+            }
+            Ok(Accepted::Manifest {
+                call: *call,
+                target: *target,
+                file: *file,
+            })
         }
         [file] if is_first(named, b"put") => {
-            say_awaited(rt, CONTENT_AWAITED);
-            let pieces = pieces_of_input(rt, alloc)?;
-            return Ok(content_lines(alloc, target, file, pieces)?);
+            drop(content_lines(alloc, target, file, Vec::new(alloc))?);
+            Ok(Accepted::Content {
+                target: *target,
+                file: *file,
+            })
         }
-        _ => call_lines(alloc, call, target, arguments)?,
-    };
-    Ok(CallText::whole(alloc, lines))
+        _ => Ok(Accepted::Lines(call_lines(alloc, call, target, arguments)?)),
+    }
 }
 
-/// The line of a call with this manifest.
+/// The lines of the call, with what it takes of a file or of standard input.
+fn lines_of_call<R: Files<File = File> + AllocGlobal + Input + Screen>(
+    rt: &R,
+    alloc: Global,
+    accepted: Accepted<'_>,
+) -> Result<CallText, Unmade> {
+    match accepted {
+        Accepted::Lines(lines) => Ok(CallText::whole(alloc, lines)),
+        Accepted::Manifest { call, target, file } => {
+            let manifest = manifest_in(rt, alloc, file)?;
+            let lines = lines_of_manifest(alloc, call, target, manifest.as_slice())?;
+            Ok(CallText::whole(alloc, lines))
+        }
+        Accepted::Content { target, file } => {
+            say_awaited(rt, CONTENT_AWAITED);
+            let pieces = pieces_of_input(rt, alloc)?;
+            Ok(content_lines(alloc, target, file, pieces)?)
+        }
+    }
+}
+
+/// The line of a call of an application with this manifest.
 fn lines_of_manifest(
     alloc: Global,
     call: &[u8],
@@ -351,15 +414,8 @@ fn lines_of_manifest(
 ) -> Result<Vec<u8>, Unmade> {
     match manifest_lines(alloc, call, target, manifest) {
         Ok(lines) => Ok(lines),
-        Err(LineError::NotALine) if is_application(target) => {
-            if manifest.is_empty() {
-                Err(Unmade::NoManifest)
-            } else if manifest.len() > MANIFEST_BYTES {
-                Err(Unmade::LongManifest)
-            } else {
-                Err(Unmade::Refused)
-            }
-        }
+        Err(LineError::NotALine) if manifest.is_empty() => Err(Unmade::NoManifest),
+        Err(LineError::NotALine) if manifest.len() > MANIFEST_BYTES => Err(Unmade::LongManifest),
         Err(error) => Err(Unmade::from(error)),
     }
 }

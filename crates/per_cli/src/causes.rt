@@ -1,10 +1,10 @@
 //! Why a run ended, in one line on standard error. It is said after the run and changes nothing of it, and no clause
 //! speaks of it: each line is tested.
 
-use crate::saying::{Screen, say as say_line, say_command, typed};
+use crate::saying::{Screen, say as say_line, say_command, typed_option};
 use per_reasons::{dots_after, word_shown};
 use per_run::{WordsError, read_words};
-use per_words::unknown_in;
+use per_words::{is_line_word, unknown_in};
 use std::alloc::{AllocError, Global};
 use std::rt::Files;
 use std::{fmt, fs, io};
@@ -67,6 +67,8 @@ pub(crate) struct Ended<'a> {
     pub(crate) lists: bool,
     /// Whether a file of the disk or of the flash is in the folder.
     pub(crate) has_files: bool,
+    /// Whether it was said that none is.
+    pub(crate) is_told: bool,
     /// Whether a line of an audit says that something is damaged or lost.
     pub(crate) has_damage: bool,
     /// The last calls that failed.
@@ -101,13 +103,13 @@ pub(crate) fn say_foreign<R: Screen>(
     dir: &str,
     flash: Option<u32>,
 ) -> io::Result<()> {
-    let word = typed(alloc, dir)?;
+    let option = typed_option(alloc, dir)?;
     let line = match flash {
         Some(blocks) => format!(in alloc;
-            "per: the folder {dir} holds other files and no flash: ./per --format --flash {blocks} --dir {word}"
+            "per: the folder {dir} holds other files and no flash: ./per --format --flash {blocks} {option}"
         ),
         None => format!(in alloc;
-            "per: the folder {dir} holds other files, and is not formatted: ./per --format --dir {word}"
+            "per: the folder {dir} holds other files, and is not formatted: ./per --format {option}"
         ),
     };
     say_command(rt, alloc, dir, line)
@@ -128,7 +130,7 @@ pub(crate) fn say<R: Files + Screen>(rt: &R, alloc: Global, ended: &Ended<'_>) -
         5 => say_stream(rt, alloc, "standard input", ended.source),
         6 => say_stream(rt, alloc, "standard output", ended.sink),
         7 => rt.eprintln("per: the first 67108864 bytes of the input have no line `end`"),
-        8 | 9 if !ended.has_files => say_of_folder(rt, alloc, ended.dir, ended.flash),
+        8 | 9 if !ended.has_files => say_if_untold(rt, alloc, ended),
         8 if ended.has_damage => rt.eprintln(
             "per: the audit found something damaged or lost; its lines say what",
         ),
@@ -205,6 +207,9 @@ pub(crate) fn none_of_these(alloc: Global, word: &[u8]) -> Result<Option<String>
         Ok("") | Err(_) => Ok(None),
         Ok("--demo") => Ok(Some(String::from_str(alloc, "--demo stands alone")?)),
         Ok("--json") => Ok(Some(String::from_str(alloc, "--json stands beside ls alone")?)),
+        Ok(text) if is_line_word(word) => Ok(Some(format!(in alloc;
+            "{text} is a call of a line: ./per --dir DIR handles lines"
+        )?)),
         Ok(word) => Ok(Some(format!(in alloc; "{word}{dots} is none of these")?)),
     }
 }
@@ -244,10 +249,7 @@ fn is_option(word: &String, option: &str) -> bool {
 
 fn say_of_answers<R: Files + Screen>(rt: &R, alloc: Global, ended: &Ended<'_>) -> io::Result<()> {
     if (ended.takes_lines || ended.lists) && !ended.has_files {
-        if is_told(rt, ended) {
-            return Ok(());
-        }
-        say_of_folder(rt, alloc, ended.dir, ended.flash)
+        say_if_untold(rt, alloc, ended)
     } else if ended.disk.is_some() && !ended.takes_lines {
         say_answered(rt, alloc, ended.dir, ended.disk)
     } else {
@@ -255,9 +257,14 @@ fn say_of_answers<R: Files + Screen>(rt: &R, alloc: Global, ended: &Ended<'_>) -
     }
 }
 
-/// Whether it was said already that there is no folder: of a command for which the disk failed.
-fn is_told<R: Files>(rt: &R, ended: &Ended<'_>) -> bool {
-    ended.disk.is_some() && !has_folder(rt, ended.dir)
+/// Says that the folder is not formatted, or not there, where it was not said already, also of a command for which the
+/// disk failed.
+fn say_if_untold<R: Files + Screen>(rt: &R, alloc: Global, ended: &Ended<'_>) -> io::Result<()> {
+    let has_failed = ended.disk.is_some() && !has_folder(rt, ended.dir);
+    if ended.is_told || (ended.status == 0 && has_failed) {
+        return Ok(());
+    }
+    say_of_folder(rt, alloc, ended.dir, ended.flash)
 }
 
 /// Says why a flash has the wrong size.
@@ -302,13 +309,13 @@ pub(crate) fn say_of_folder<R: Files + Screen>(
     if !has_folder(rt, dir) {
         return say_no_folder(rt, alloc, dir);
     }
-    let word = typed(alloc, dir)?;
+    let option = typed_option(alloc, dir)?;
     let line = match flash {
         Some(blocks) => format!(in alloc;
-            "per: the flash in {dir} is not formatted: ./per --format --flash {blocks} --dir {word}"
+            "per: the flash in {dir} is not formatted: ./per --format --flash {blocks} {option}"
         ),
         None => format!(in alloc;
-            "per: the folder {dir} is not formatted: ./per --format --dir {word}"
+            "per: the folder {dir} is not formatted: ./per --format {option}"
         ),
     };
     say_command(rt, alloc, dir, line)
@@ -333,7 +340,7 @@ fn say_failure<R: Screen>(
     say_line(rt, alloc, line)
 }
 
-fn say_stream<R: Screen>(
+pub(crate) fn say_stream<R: Screen>(
     rt: &R,
     alloc: Global,
     name: &str,

@@ -3,7 +3,7 @@
 //! A dump changes nothing. A restore reads its whole text before it holds the folder, and then installs one application
 //! after another, each whole or not at all.
 
-use crate::causes::{Ended, Fault, say};
+use crate::causes::{Ended, Fault, say, say_of_folder};
 use crate::saying::{Screen, say as say_line, say_awaited};
 use crate::{
     NO_DISK, NO_INPUT, NO_MEMORY, NO_OUTPUT, REFUSED_CALL, REFUSED_WORDS, WRONG_SIZE, program,
@@ -13,6 +13,7 @@ use deploy::Stop;
 use disk_model::Disk;
 use dump_text::{DumpError, DumpedApplication, read_dump, write_dump};
 use flash_disk::{FlashDisk, FlashOpenError};
+use flash_model::Flash;
 use folder_disk::FolderDisk;
 use folder_flash::{FolderFlash, of_flash};
 use per_base::{PerError, Sequence};
@@ -78,6 +79,8 @@ struct Outcome {
     /// What is to be written.
     output: Vec<u8>,
     has_files: bool,
+    /// Whether it was said that it has none.
+    is_told: bool,
     fault: Option<Fault>,
 }
 
@@ -230,7 +233,7 @@ fn done<R: Files<File = File> + AllocGlobal + Print + Screen>(
         Wanted::Restore(_) => Access::Write,
     };
     let outcome = match HostSystem::hold(rt, alloc, copy, kind, access) {
-        Ok(system) => over_folder(rt, alloc, wanted, flash, system, &notes),
+        Ok(system) => over_folder(rt, alloc, wanted, dir.as_str(), flash, system, &notes),
         Err(failure) => not_held(alloc, &notes, Some(failure)),
     };
     let (status, sink) = written(rt, &outcome);
@@ -243,6 +246,7 @@ fn done<R: Files<File = File> + AllocGlobal + Print + Screen>(
             takes_lines: false,
             lists: false,
             has_files: outcome.has_files,
+            is_told: outcome.is_told,
             has_damage: false,
             disk: notes.last().map(Fault::System).or(outcome.fault),
             source: None,
@@ -269,6 +273,7 @@ fn over_folder<'a, R: Files<File = File> + Screen>(
     rt: &'a R,
     alloc: Global,
     wanted: &Wanted,
+    dir: &str,
     flash: Option<u32>,
     system: HostSystem<'a, R>,
     notes: &'a Notes,
@@ -287,25 +292,46 @@ fn over_folder<'a, R: Files<File = File> + Screen>(
     match flash {
         Some(blocks) => {
             let flash = NotedFlash::new(FolderFlash::new(alloc, disk, blocks), notes);
-            over_flash(rt, alloc, wanted, flash)
+            over_flash(rt, alloc, wanted, dir, flash)
         }
         None => {
             let mut disk = Noted::new(disk, notes);
+            let is_told = !disk.device().has_files() && tell(rt, alloc, wanted, dir, None);
             let (status, output) = over_disk(rt, alloc, wanted, &mut disk);
             Outcome {
                 status,
                 output,
                 has_files: disk.device().has_files(),
+                is_told,
                 fault: None,
             }
         }
     }
 }
 
-fn over_flash<'a, R: Screen, Y: System + Drop>(
+/// Says that the folder is not formatted, or not there, before something of it is refused; whether something is.
+fn tell<R: Files + Screen>(
     rt: &R,
     alloc: Global,
     wanted: &Wanted,
+    dir: &str,
+    flash: Option<u32>,
+) -> bool {
+    let is_refused = match wanted {
+        Wanted::Dump(_) => true,
+        Wanted::Restore(applications) => !applications.is_empty(),
+    };
+    if is_refused {
+        let _ = say_of_folder(rt, alloc, dir, flash);
+    }
+    is_refused
+}
+
+fn over_flash<'a, R: Files + Screen, Y: System + Drop>(
+    rt: &R,
+    alloc: Global,
+    wanted: &Wanted,
+    dir: &str,
     flash: NotedFlash<'a, FolderFlash<Y>>,
 ) -> Outcome {
     let mut flash = flash;
@@ -314,6 +340,8 @@ fn over_flash<'a, R: Screen, Y: System + Drop>(
         Ok(true) => return unopened(alloc, WRONG_SIZE, Some(Fault::Longer), flash.device()),
         Err(_) => return unopened(alloc, NO_DISK, None, flash.device()),
     }
+    let blocks = flash.blocks();
+    let is_told = !flash.device().has_file() && tell(rt, alloc, wanted, dir, Some(blocks));
     match FlashDisk::open(alloc, flash) {
         Ok(disk) => {
             let mut disk = disk;
@@ -323,6 +351,7 @@ fn over_flash<'a, R: Screen, Y: System + Drop>(
                 status,
                 output,
                 has_files: disk.into_flash().device().has_file(),
+                is_told,
                 fault,
             }
         }
@@ -349,6 +378,7 @@ fn unopened<Y: System + Drop>(
         status,
         output: Vec::new(alloc),
         has_files: flash.has_file(),
+        is_told: false,
         fault,
     }
 }
@@ -360,6 +390,7 @@ fn not_held(alloc: Global, notes: &Notes, failure: Option<Failure>) -> Outcome {
         status: NO_DISK,
         output: Vec::new(alloc),
         has_files: false,
+        is_told: false,
         fault: None,
     }
 }

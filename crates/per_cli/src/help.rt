@@ -1,6 +1,7 @@
 //! What a person gets who asks for help.
 
 use crate::NO_OUTPUT;
+use crate::causes::say_stream;
 use crate::saying::{Screen, say};
 use per_words::{Needed, column_after, flaw_in, is_line_word, row_word, rows_of};
 use std::alloc::{AllocError, Global};
@@ -263,13 +264,13 @@ const STATUS: &str = "Status
 ";
 
 /// Writes the help, and gives the status.
-pub(crate) fn show(rt: &impl Print) -> u8 {
-    status_of(written(rt))
+pub(crate) fn show<R: Print + Screen>(rt: &R, alloc: Global) -> u8 {
+    status_of(rt, alloc, written(rt))
 }
 
 /// Writes the version, and gives the status.
-pub(crate) fn show_version(rt: &impl Print) -> u8 {
-    status_of(println!(rt; "per {VERSION}"))
+pub(crate) fn show_version<R: Print + Screen>(rt: &R, alloc: Global) -> u8 {
+    status_of(rt, alloc, println!(rt; "per {VERSION}"))
 }
 
 fn written(rt: &impl Print) -> io::Result<()> {
@@ -280,10 +281,14 @@ fn written(rt: &impl Print) -> io::Result<()> {
     print!(rt; "{STATUS}")
 }
 
-fn status_of(written: io::Result<()>) -> u8 {
+/// The status, where this was written or not, which is then said.
+fn status_of<R: Screen>(rt: &R, alloc: Global, written: io::Result<()>) -> u8 {
     match written {
         Ok(()) => 0,
-        Err(_) => NO_OUTPUT,
+        Err(error) => {
+            let _ = say_stream(rt, alloc, "standard output", Some(error));
+            NO_OUTPUT
+        }
     }
 }
 

@@ -114,8 +114,8 @@ fn main(rt: HostRuntime) -> ExitCode {
         return ExitCode::from(program::no_memory(&rt));
     };
     let status = match wish_of(&words, named.as_slice()) {
-        Asked::Help => help::show(&rt),
-        Asked::Version => help::show_version(&rt),
+        Asked::Help => help::show(&rt, rt.alloc()),
+        Asked::Version => help::show_version(&rt, rt.alloc()),
         Asked::Demo => demo::show(&rt, process::id(rt.process())),
         Asked::Call => call::run(&rt, &words, named.as_slice()),
         Asked::Listing => listing::run(&rt, &words),

@@ -3,7 +3,7 @@
 use crate::causes::{Ended, Fault, has_folder, say, say_foreign, say_of_folder};
 use crate::hearing::{LastRead, NotedInput};
 use crate::saying::Screen;
-use crate::telling::Telling;
+use crate::telling::{Marks, Telling};
 use crate::trying::Place;
 use crate::{NO_DISK, NO_MEMORY, WRONG_SIZE};
 use flash_disk::{FlashOpenError, erase_all};
@@ -19,7 +19,6 @@ use per_system::{
     Access, DeviceKind, HostSystem, Noted, NotedFlash, Notes, StdSink, StdSource, holds_only_others,
 };
 use std::alloc::{AllocError, Global};
-use std::cell::Cell;
 use std::fs::File;
 use std::io::{Read, Write};
 use std::rt::Files;
@@ -143,19 +142,9 @@ fn run_with<R: Files<File = File> + Screen, I: Read + Drop, O: Write + Drop>(
         has_lines: target.takes_lines,
         last: &last,
     };
-    let has_damage = Cell::new(false);
+    let marks = Marks::new();
     run_noting(
-        rt,
-        alloc,
-        migrations,
-        words,
-        input,
-        output,
-        &target,
-        dir,
-        &notes,
-        &last,
-        &has_damage,
+        rt, alloc, migrations, words, input, output, &target, dir, &notes, &last, &marks,
     )
 }
 
@@ -171,7 +160,7 @@ fn run_noting<'a, R: Files<File = File> + Screen, I: Read + Drop, O: Write + Dro
     dir: String,
     notes: &'a Notes,
     last: &'a LastRead,
-    has_damage: &'a Cell<bool>,
+    marks: &'a Marks,
 ) -> u8 {
     if is_foreign(rt, alloc, target) {
         let dir = target.dir.as_str();
@@ -194,7 +183,8 @@ fn run_noting<'a, R: Files<File = File> + Screen, I: Read + Drop, O: Write + Dro
         notes,
         otherwise: target.flash.map(|_| Fault::Full),
         last,
-        has_damage: target.audits.then_some(has_damage),
+        audits: target.audits,
+        marks,
         output,
     });
     let kind = device_kind_of(target);
@@ -209,6 +199,7 @@ fn run_noting<'a, R: Files<File = File> + Screen, I: Read + Drop, O: Write + Dro
             target,
             system,
             notes,
+            marks,
         ),
         Err(failure) => not_held(notes, Some(failure)),
     };
@@ -219,8 +210,9 @@ fn run_noting<'a, R: Files<File = File> + Screen, I: Read + Drop, O: Write + Dro
         flash: target.flash,
         takes_lines: target.takes_lines,
         lists: target.lists,
-        has_files: outcome.has_files || target.is_asked,
-        has_damage: has_damage.get(),
+        has_files: outcome.has_files,
+        is_told: marks.is_told(),
+        has_damage: marks.has_damage(),
         disk: notes.last().map(Fault::System).or(outcome.fault),
         source: source.failure(),
         sink: sink.failure(),
@@ -258,6 +250,7 @@ fn run_over<'a, R: Files<File = File> + Screen, S: Source, K: Sink>(
     target: &Target,
     system: HostSystem<'a, R>,
     notes: &'a Notes,
+    marks: &Marks,
 ) -> Outcome {
     let disk = match FolderDisk::open(alloc, system) {
         Ok(disk) => disk,
@@ -270,11 +263,15 @@ fn run_over<'a, R: Files<File = File> + Screen, S: Source, K: Sink>(
     match target.flash {
         Some(blocks) => {
             let flash = NotedFlash::new(FolderFlash::new(alloc, disk, blocks), notes);
-            run_over_flash(rt, alloc, words, migrations, source, sink, flash, target)
+            run_over_flash(
+                rt, alloc, words, migrations, source, sink, flash, target, marks,
+            )
         }
         None => {
             let mut disk = Noted::new(disk, notes);
-            say_before(rt, alloc, target, disk.device().has_files());
+            if !disk.device().has_files() {
+                note_blank(rt, alloc, target, marks);
+            }
             let status = per_run(alloc, words, migrations, source, sink, &mut disk);
             Outcome {
                 status,
@@ -285,9 +282,17 @@ fn run_over<'a, R: Files<File = File> + Screen, S: Source, K: Sink>(
     }
 }
 
-/// Says that the folder is not formatted, or not there, where a person is about to be asked for lines.
-fn say_before<R: Files + Screen>(rt: &R, alloc: Global, target: &Target, has_files: bool) {
-    if target.is_asked && !target.formats_blank && !has_files {
+/// Says that the folder is not formatted, or not there, before a person is asked for lines, and before a job that reads
+/// or rebuilds something. Where lines are read it is said of the first that is refused for that. Nothing is said of
+/// arguments that are invalid, which name no folder, and where the folder is formatted.
+fn note_blank<R: Files + Screen>(rt: &R, alloc: Global, target: &Target, marks: &Marks) {
+    if target.dir.is_empty() || target.formats || target.formats_blank {
+        return;
+    }
+    if target.takes_lines && !target.is_asked {
+        marks.note_blank();
+    } else {
+        marks.note_told();
         let _ = say_of_folder(rt, alloc, target.dir.as_str(), target.flash);
     }
 }
@@ -314,6 +319,7 @@ fn run_over_flash<'a, R: Files + Screen, Y: System + Drop, S: Source, K: Sink>(
     sink: &mut K,
     flash: NotedFlash<'a, FolderFlash<Y>>,
     target: &Target,
+    marks: &Marks,
 ) -> Outcome {
     let mut flash = flash;
     match flash.device_mut().is_too_long() {
@@ -321,7 +327,9 @@ fn run_over_flash<'a, R: Files + Screen, Y: System + Drop, S: Source, K: Sink>(
         Ok(true) => return outcome_of(WRONG_SIZE, Some(Fault::Longer), flash.device()),
         Err(_) => return outcome_of(NO_DISK, None, flash.device()),
     }
-    say_before(rt, alloc, target, flash.device().has_file());
+    if !flash.device().has_file() {
+        note_blank(rt, alloc, target, marks);
+    }
     if target.formats && is_right_size(flash.blocks()) && erase_all(&mut flash).is_err() {
         return outcome_of(NO_DISK, None, flash.device());
     }

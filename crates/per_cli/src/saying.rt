@@ -1,6 +1,6 @@
 //! What is said on standard error: lines, which are broken between their words where a screen shows them.
 
-use per_words::{broken, quoted};
+use per_words::{broken, dir_option, quoted};
 use std::alloc::{AllocError, Global};
 use std::io::{self, IsTerminal};
 
@@ -36,6 +36,15 @@ pub(crate) fn typed(alloc: Global, dir: &str) -> Result<String, AllocError> {
     match str::from_utf8(word.as_slice()) {
         Ok(word) => String::from_str(alloc, word),
         Err(_) => String::from_str(alloc, dir),
+    }
+}
+
+/// The option that names a folder, as it is typed in a shell.
+pub(crate) fn typed_option(alloc: Global, dir: &str) -> Result<String, AllocError> {
+    let option = dir_option(alloc, dir.as_bytes())?;
+    match str::from_utf8(option.as_slice()) {
+        Ok(option) => String::from_str(alloc, option),
+        Err(_) => format!(in alloc; "--dir={dir}"),
     }
 }
 

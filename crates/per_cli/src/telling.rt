@@ -1,6 +1,6 @@
 //! The output of a run: why the disk failed, and why a line was refused, is told where it is answered.
 
-use crate::causes::{Fault, say_answered};
+use crate::causes::{Fault, say_answered, say_of_folder};
 use crate::hearing::LastRead;
 use crate::saying::{Screen, say};
 use crate::trying::{Place, why_not_updated_in};
@@ -15,6 +15,47 @@ use std::rt::Files;
 /// The reply where the disk failed.
 const FAILED: &[u8] = b"error 4 PhysicalStorageFailure\n";
 
+/// The reply where too few copies of a root agree, as in a folder that is not formatted.
+const NO_ROOT: &[u8] = b"error 5 IntegrityCorrupted root\n";
+
+/// What shows while a run goes on.
+#[derive(Drop)]
+pub(crate) struct Marks {
+    /// Whether a line of an audit says that something is damaged or lost.
+    has_damage: Cell<bool>,
+    /// Whether the folder has no file of the disk or of the flash, and this is to be said.
+    is_blank: Cell<bool>,
+    /// Whether it was said.
+    is_told: Cell<bool>,
+}
+
+impl Marks {
+    pub(crate) fn new() -> Marks {
+        Marks {
+            has_damage: Cell::new(false),
+            is_blank: Cell::new(false),
+            is_told: Cell::new(false),
+        }
+    }
+
+    pub(crate) fn has_damage(&self) -> bool {
+        self.has_damage.get()
+    }
+
+    pub(crate) fn is_told(&self) -> bool {
+        self.is_told.get()
+    }
+
+    pub(crate) fn note_blank(&self) {
+        self.is_blank.set(true);
+    }
+
+    pub(crate) fn note_told(&self) {
+        self.is_blank.set(false);
+        self.is_told.set(true);
+    }
+}
+
 /// An output that says on standard error why the disk failed, or a line was refused, before it takes the reply.
 #[derive(Drop)]
 pub(crate) struct Telling<'a, R: Files<File = File> + Screen, O: Write + Drop> {
@@ -27,8 +68,9 @@ pub(crate) struct Telling<'a, R: Files<File = File> + Screen, O: Write + Drop> {
     pub(crate) otherwise: Option<Fault>,
     /// The lines that are answered.
     pub(crate) last: &'a LastRead,
-    /// Where it is noted that a line of an audit says that something is damaged or lost.
-    pub(crate) has_damage: Option<&'a Cell<bool>>,
+    /// Whether what is written is an audit.
+    pub(crate) audits: bool,
+    pub(crate) marks: &'a Marks,
     pub(crate) output: O,
 }
 
@@ -37,9 +79,11 @@ impl<'a, R: Files<File = File> + Screen, O: Write + Drop> Write for Telling<'a, 
         if answers_failure(bytes) {
             self.say_fault();
         }
-        match self.has_damage {
-            Some(has_damage) if says_damage(bytes) => has_damage.set(true),
-            _ => {}
+        if self.marks.is_blank.get() {
+            self.say_blank(bytes);
+        }
+        if self.audits && says_damage(bytes) {
+            self.marks.has_damage.set(true);
         }
         if let Some(answer) = refusal_in(bytes) {
             let _ = self.say_why(answer);
@@ -57,6 +101,28 @@ impl<'a, R: Files<File = File> + Screen, O: Write + Drop> Write for Telling<'a, 
 }
 
 impl<'a, R: Files<File = File> + Screen, O: Write + Drop> Telling<'a, R, O> {
+    /// Says of the first line that is refused for it that the folder is not formatted, or not there. A wipe makes files
+    /// there, after which nothing is said.
+    #[cold]
+    #[inline(never)]
+    fn say_blank(&self, reply: &[u8]) {
+        if reply == NO_ROOT {
+            self.marks.note_told();
+            let place = self.place;
+            let _ = say_of_folder(self.rt, self.alloc, place.dir, place.flash);
+        } else if reply == b"ok\n".as_slice() && !self.answers_now() {
+            self.marks.is_blank.set(false);
+        }
+    }
+
+    /// Whether the line that is answered sets the moment.
+    fn answers_now(&self) -> bool {
+        match self.last.text() {
+            Some(text) => self.last.next_line(text.as_slice()).starts_with(b"now "),
+            None => false,
+        }
+    }
+
     /// Says why the disk failed.
     #[cold]
     #[inline(never)]

@@ -2,30 +2,18 @@
 use Rattle.std.specs.Prelude.{◌≡◌, ◌-◌, ⊤, ℕ, List, [], ◌∷◌, ◌++◌, codes, drop, take, ◌&&◌, nat_eq}
 use Rattle.std.specs.Prelude.{nat_lt, if◌then◌else◌}
 use Rattle.std.specs.Prelude.{Option, Some, None, option_map}
-use Rattle.std.specs.List.{ends_with, starts_with}
+use Rattle.std.specs.List.{ends_with}
 use Rattle.std.specs.Fmt.{decimal}
 use Rattle.std.specs.Str.{IsUtf8}
 use Rattle.per_words.specs.Flaws.{after_space, flaw_in, has_space, leading_length, leading_word, takes_text}
 use Rattle.per_words.specs.declared.flaws.Flaw.{Flaw}
 use Rattle.per_words.specs.declared.needs.Needed.{Needed}
 use Rattle.per_words.specs.declared.needs.Needed.TheVariants as needed
+use Rattle.per_words.specs.Numbers.{leading_number}
+use Rattle.per_reasons.specs.Numbers.{needed_number}
 use Rattle.per_reasons.specs.Rules.{rule_text}
 
 -- ---- a text that is no line
-
--- a value, in the place of this text: one of the type of numbers with which it begins
-abbrev pub needed_value : List ℕ → List ℕ
-needed_value text =
-    if starts_with nat_eq text (codes "u8:") then codes "one of u8:0 to u8:255" else (
-    if starts_with nat_eq text (codes "u16:") then codes "one of u16:0 to u16:65535" else (
-    if starts_with nat_eq text (codes "u32:") then codes "one of u32:0 to u32:4294967295" else (
-    if starts_with nat_eq text (codes "u64:") then codes "one of u64:0 to u64:18446744073709551615" else (
-    if starts_with nat_eq text (codes "i8:") then codes "one of i8:-128 to i8:127" else (
-    if starts_with nat_eq text (codes "i16:") then codes "one of i16:-32768 to i16:32767" else (
-    if starts_with nat_eq text (codes "i32:") then codes "one of i32:-2147483648 to i32:2147483647" else (
-    if starts_with nat_eq text (codes "i64:")
-    then codes "one of i64:-9223372036854775808 to i64:9223372036854775807"
-    else codes "a value, as u8:1 or text:\"a\"")))))))
 
 -- what a line has at a place, in the place of this text; none where it has nothing more
 abbrev pub needed_text : Needed → (text : List ℕ) → Option (List ℕ)
@@ -35,7 +23,8 @@ needed_text needed.Name text = Some (codes "a name of 1 to 255 ASCII letters, di
 needed_text needed.Handle text = Some (codes "the number of a handle")
 needed_text needed.Number text = Some (codes "a number")
 needed_text needed.TypeText text = Some (codes "a type, as u8")
-needed_text needed.ValueText text = Some (needed_value text)
+needed_text needed.ValueText text = Some (codes "a value, as u8:1 or text:\"a\"")
+needed_text needed.TypedNumber text = Some (needed_number text)
 needed_text needed.Octets text = Some (codes "bytes in two hexadecimal digits each, as 00ff")
 needed_text needed.Octet text = Some (codes "a byte in two hexadecimal digits, as 0a")
 needed_text needed.Manifest text = Some (codes "a manifest")
@@ -90,11 +79,20 @@ abbrev pub IsWordText : Option (List ℕ) → (rest text : List ℕ) → Type 0
 IsWordText None rest text = text ≡ codes "it takes fewer words"
 IsWordText (Some needed) rest text = IsNeededText (word_shown rest) (dots_after rest) needed text
 
+-- the part of a text that is wrong, where this is needed at its beginning: of a value a number alone
+abbrev pub wrong_part : Needed → List ℕ → List ℕ
+wrong_part needed.TypedNumber text = leading_number text
+wrong_part other text = text
+
+-- what is said of this part, where this is needed in its place
+abbrev pub IsFlawText : Needed → (part text : List ℕ) → Type 0
+IsFlawText n part text = IsWordText (needed_text n part) part text
+
 -- which word is none of the call with this line, where it has a flaw: it says so exactly then
 abbrev pub SaysNoCall : List ℕ → Option Flaw → Option (List ℕ) → Type 0
 SaysNoCall line None None = ⊤
 SaysNoCall line (Some flaw) (Some text) =
-    IsWordText (needed_text flaw.needed (drop (flaw.column - 1) line)) (drop (flaw.column - 1) line) text
+    IsFlawText flaw.needed (wrong_part flaw.needed (drop (flaw.column - 1) line)) text
 SaysNoCall line flaw why = ⊥
 
 -- ---- a line that was answered

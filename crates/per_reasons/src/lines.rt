@@ -4,10 +4,12 @@ ghost use Rattle.std.specs.Prelude.{◌≡◌, ◌-◌, IfOk, drop, option_map, 
 ghost use Rattle.value_text.specs.Readers.{Finds};
 ghost use Rattle.per_words.specs.Flaws.{flaw_in};
 ghost use Rattle.per_reasons.specs.Reasons.{IsNeededText, IsWordText, SaysNoCall, column_text, ending_text};
-ghost use Rattle.per_reasons.specs.Reasons.{needed_text, needed_value, no_line_text};
+ghost use Rattle.per_reasons.specs.Reasons.{needed_text, no_line_text, wrong_part};
+ghost use Rattle.per_reasons.specs.Numbers.{after_minus, begins_with_digit, bounds_text, has_leading_zero};
+ghost use Rattle.per_reasons.specs.Numbers.{magnitude_in, needed_number, type_length};
 
 use crate::words::{dots_after, word_shown};
-use per_words::{Needed, flaw_in};
+use per_words::{Needed, flaw_in, leading_number};
 use std::alloc::{AllocError, Global};
 
 /// Why a text is no line, in words: the first of its words that is not what is needed there, by its column, or its end.
@@ -74,10 +76,20 @@ pub fn why_no_call(alloc: Global, line: &[u8]) -> Result<Option<String>, AllocEr
 {
     match flaw_in(alloc, line)? {
         Some(flaw) => {
-            let rest = text_at(line, flaw.column);
+            let rest = wrong_part(flaw.needed, text_at(line, flaw.column));
             Ok(Some(word_text(alloc, needed_text(flaw.needed, rest), rest)?))
         }
         None => Ok(None),
+    }
+}
+
+/// The part of a text that is wrong, where this is needed at its beginning: of a value a number alone.
+fn wrong_part(needed: Needed, text: &[u8]) -> &[u8]
+    ensures { result.now ≡ wrong_part needed text.now }
+{
+    match needed {
+        Needed::TypedNumber => leading_number(text),
+        _ => text,
     }
 }
 
@@ -115,7 +127,8 @@ fn needed_text(needed: Needed, text: &[u8]) -> Option<&'static str>
         Needed::Handle => Some("the number of a handle"),
         Needed::Number => Some("a number"),
         Needed::TypeText => Some("a type, as u8"),
-        Needed::ValueText => Some(needed_value(text)),
+        Needed::ValueText => Some("a value, as u8:1 or text:\"a\""),
+        Needed::TypedNumber => Some(needed_number(text)),
         Needed::Octets => Some("bytes in two hexadecimal digits each, as 00ff"),
         Needed::Octet => Some("a byte in two hexadecimal digits, as 0a"),
         Needed::Manifest => Some("a manifest"),
@@ -129,9 +142,68 @@ fn needed_text(needed: Needed, text: &[u8]) -> Option<&'static str>
     }
 }
 
-/// A value, in the place of this text: one of the type of numbers with which it begins.
-fn needed_value(text: &[u8]) -> &'static str
-    ensures { result.now ≡ needed_value text.now }
+/// A number in the place of this text: one of the type with which it begins, and spelled as one.
+fn needed_number(text: &[u8]) -> &'static str
+    ensures { result.now ≡ needed_number text.now }
+{
+    if has_leading_zero(text) {
+        "a number without leading zeros"
+    } else {
+        bounds_text(text)
+    }
+}
+
+/// Whether a number that has a type has a zero before another digit.
+fn has_leading_zero(text: &[u8]) -> bool
+    ensures { result ≡ has_leading_zero text.now }
+{
+    match magnitude_in(text).split_first() {
+        Some((zero, rest)) => *zero == b'0' && begins_with_digit(rest),
+        None => false,
+    }
+}
+
+fn begins_with_digit(text: &[u8]) -> bool
+    ensures { result ≡ begins_with_digit text.now }
+{
+    match text.first() {
+        Some(byte) => byte.is_ascii_digit(),
+        None => false,
+    }
+}
+
+/// What stands after the type of a number, and after its minus, where it has one.
+fn magnitude_in(text: &[u8]) -> &[u8]
+    ensures { result.now ≡ magnitude_in text.now }
+{
+    after_minus(text.get(type_length(text)..).unwrap_or(&[]))
+}
+
+/// What stands after a minus, where there is one.
+fn after_minus(text: &[u8]) -> &[u8]
+    ensures { result.now ≡ after_minus text.now }
+{
+    if text.starts_with(b"-") {
+        text.get(1..).unwrap_or(&[])
+    } else {
+        text
+    }
+}
+
+/// How many bytes a type of numbers has, with its colon.
+fn type_length(text: &[u8]) -> usize
+    ensures { result ≡ type_length text.now }
+{
+    if text.starts_with(b"u8:") || text.starts_with(b"i8:") {
+        3
+    } else {
+        4
+    }
+}
+
+/// Which numbers the type has with which this text begins.
+fn bounds_text(text: &[u8]) -> &'static str
+    ensures { result.now ≡ bounds_text text.now }
 {
     if text.starts_with(b"u8:") {
         "one of u8:0 to u8:255"
@@ -147,9 +219,7 @@ fn needed_value(text: &[u8]) -> &'static str
         "one of i16:-32768 to i16:32767"
     } else if text.starts_with(b"i32:") {
         "one of i32:-2147483648 to i32:2147483647"
-    } else if text.starts_with(b"i64:") {
-        "one of i64:-9223372036854775808 to i64:9223372036854775807"
     } else {
-        "a value, as u8:1 or text:\"a\""
+        "one of i64:-9223372036854775808 to i64:9223372036854775807"
     }
 }

@@ -9,8 +9,10 @@ use Rattle.value_text.specs.Whole.{bytes_in, signed_in, unsigned_in}
 use Rattle.command_text.specs.Grammar.{has_feed}
 use Rattle.command_text.specs.Reading.{appending_modes, kind_words, octet_in, origin_words, other_modes}
 use Rattle.per_words.specs.declared.flaws.Flaw.{Flaw}
+use Rattle.per_words.specs.Numbers.{is_typed_number, wrong_number}
 use Rattle.per_words.specs.declared.needs.Needed.{Needed}
 use Rattle.per_words.specs.declared.needs.Needed.TheVariants as needed
+use Rattle.per_words.specs.declared.numbers.ValuePlace.TheVariants as value_place
 use Rattle.per_words.specs.Words.{application_digit, is_among}
 
 -- ---- words
@@ -94,6 +96,7 @@ meets needed.Handle text = is_some (unsigned_in (2 ^ 32) text)
 meets needed.Number text = is_some (unsigned_in (2 ^ 64) text)
 meets needed.TypeText text = is_some (kind_in text)
 meets needed.ValueText text = is_some (value_in text)
+meets needed.TypedNumber text = is_typed_number text
 meets needed.Octets text = is_some (bytes_in text)
 meets needed.Octet text = is_some (octet_in text)
 meets needed.Manifest text = not (nat_eq (length text) 0) && not (has_feed text)
@@ -105,12 +108,21 @@ meets needed.End text = nat_eq (length text) 0
 
 -- A place of a text is what is needed there, and how many bytes the text has from there on.
 
+-- where the text of a value is none: the first number in it that is none of its type, else all of it
+abbrev pub unmet_value : Option ℕ → List ℕ → Needed × ℕ
+unmet_value None text = (needed.ValueText, length text)
+unmet_value (Some left) text = (needed.TypedNumber, left)
+
+abbrev pub unmet_place : Needed → List ℕ → Needed × ℕ
+unmet_place needed.ValueText text = unmet_value (wrong_number value_place.Front text) text
+unmet_place n text = (n, length text)
+
 -- what is needed last takes all that is left; where the first word of that would do, the text is to end after it
 abbrev pub unmet_last : Needed → List ℕ → Option (Needed × ℕ)
 unmet_last n text =
     if meets n text then None else (
     if has_space text && meets n (leading_word text)
-    then Some (needed.End, length text - leading_length text) else Some (n, length text))
+    then Some (needed.End, length text - leading_length text) else Some (unmet_place n text))
 
 -- the first place with something else, where these are needed, with one space between them
 abbrev pub unmet : List Needed → List ℕ → Option (Needed × ℕ)

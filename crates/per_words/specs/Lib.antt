@@ -1,6 +1,7 @@
 pub mod Apart
 pub mod FlawSamples
 pub mod Flaws
+pub mod Numbers
 pub mod Prompts
 pub mod Quoted
 pub mod Samples

@@ -11,7 +11,7 @@ use Rattle.command_text.specs.Replies.{answer_text, info_text, status_text}
 use Rattle.command_text.specs.declared.replies.Answer.TheVariants as answer
 use Rattle.command_text.specs.declared.replies.AppStatus.{AppStatus}
 use Rattle.per_words.specs.Apart.{asks_for, named_words, options_in, unknown_in}
-use Rattle.per_words.specs.Quoted.{quoted}
+use Rattle.per_words.specs.Quoted.{dir_option, quoted}
 use Rattle.per_words.specs.Screens.{broken}
 use Rattle.per_words.specs.declared.showing.Shown.TheVariants as shown
 use Rattle.per_words.specs.declared.words.WordRole.TheVariants as reading
@@ -87,6 +87,13 @@ no_quotes = refl
 
 quotes : quoted (codes "it's a b") ≡ codes "'it'\\''s a b'"
 quotes = refl
+
+-- a folder whose name begins with a dash, and another
+after_sign : dir_option (codes "--y z") ≡ codes "--dir='--y z'"
+after_sign = refl
+
+after_space : dir_option (codes "y--") ≡ codes "--dir y--"
+after_space = refl
 
 -- ---- a screen
 

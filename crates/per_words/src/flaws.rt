@@ -2,11 +2,12 @@
 
 ghost use Rattle.std.specs.Prelude.{◌≡◌, ◌≤◌, ◌-◌, ◌^◌, IfNone, IfOk, IfSome, false, length, option_map, true};
 ghost use Rattle.per_words.specs.Flaws.{after_space, flaw_at, flaw_in, has_space, leading_length, leading_word, unmet};
-ghost use Rattle.per_words.specs.Flaws.{unmet_after, unmet_in_call, unmet_in_line, unmet_last};
+ghost use Rattle.per_words.specs.Flaws.{unmet_after, unmet_in_call, unmet_in_line, unmet_last, unmet_place};
 
 use crate::kinds::is_word;
 use crate::meeting::meets;
 use crate::needs::{Needed, needed_after};
+use crate::numbers::wrong_number;
 use crate::places::application_digit;
 use command_text::LINE_BYTES;
 use std::alloc::{AllocError, Global};
@@ -129,7 +130,20 @@ fn unmet_last(
     if after_space(text).is_some() && meets(alloc, needed, leading_word(text))? {
         return Ok(Some((Needed::End, from_space(text))));
     }
-    Ok(Some((needed, text.len())))
+    Ok(Some(unmet_place(alloc, needed, text)?))
+}
+
+/// Where a text that is not what is needed is something else: of a value the first number that is none of its type.
+fn unmet_place(alloc: Global, needed: Needed, text: &[u8]) -> Result<(Needed, usize), AllocError>
+    ensures { IfOk result (λ place. place ≡ unmet_place needed text.now) }
+{
+    match needed {
+        Needed::ValueText => match wrong_number(alloc, text)? {
+            Some(left) => Ok((Needed::TypedNumber, left)),
+            None => Ok((needed, text.len())),
+        },
+        _ => Ok((needed, text.len())),
+    }
 }
 
 /// How many bytes stand before the first space.

@@ -7,7 +7,8 @@
 //! what is written of it: a value stands without the word before it, and bytes as they are.
 //!
 //! The words of a shell are told apart by [`options_in`] and [`named_words`]; [`unknown_in`] finds one that is refused,
-//! and [`asks_for`] one that goes before all others. [`quoted`] is a word as a shell reads it back.
+//! and [`asks_for`] one that goes before all others. [`quoted`] is a word as a shell reads it back, and [`dir_option`]
+//! the option that names a folder. [`flaw_in`] says where a text stops being a line, also within a value.
 //! For a screen [`broken`] breaks a text between its words. At a terminal [`call_shown`] is what a prompt shows, and
 //! [`rows_of`] the rows of a help of which a line asks ([`help_asked`]).
 #![tactic(auto)]
@@ -18,6 +19,7 @@ mod kinds;
 mod lines;
 mod meeting;
 mod needs;
+mod numbers;
 mod places;
 mod prompting;
 mod pushing;
@@ -32,9 +34,10 @@ pub use flaws::{Flaw, flaw_in};
 pub use kinds::{CallKind, call_word, is_call, takes_manifest};
 pub use lines::{call_lines, manifest_lines};
 pub use needs::Needed;
+pub use numbers::{ValuePlace, leading_number};
 pub use prompting::{call_shown, column_after, help_asked, is_line_word, row_word, rows_of};
 pub use putting::{PIECE_BYTES, content_lines};
-pub use quoting::quoted;
+pub use quoting::{dir_option, quoted};
 pub use screens::broken;
 pub use showing::{Shown, shown_bytes, shown_in};
 pub use words::{WordRole, asks_for, named_words, options_in, unknown_in};

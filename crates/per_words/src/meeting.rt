@@ -6,10 +6,12 @@ ghost use Rattle.value_text.specs.Parsing.{kind_in, value_in};
 ghost use Rattle.value_text.specs.Whole.{bytes_in};
 ghost use Rattle.command_text.specs.Reading.{appending_modes, kind_words, octet_in, origin_words, other_modes};
 ghost use Rattle.per_words.specs.Flaws.{meets, words_of};
+ghost use Rattle.per_words.specs.Numbers.{is_typed_number};
 ghost use Rattle.per_words.specs.Words.{is_among};
 
 use crate::kinds::is_word;
 use crate::needs::{Needed, needed_after};
+use crate::numbers::has_number_type;
 use crate::places::application_digit;
 use per_base::{Name, PerError};
 use std::alloc::{AllocError, Global};
@@ -28,6 +30,7 @@ pub(crate) fn meets(alloc: Global, needed: Needed, text: &[u8]) -> Result<bool, 
         Needed::Number => Ok(parse_unsigned(u64::MAX, text).is_ok()),
         Needed::TypeText => is_type(alloc, text),
         Needed::ValueText => is_value(alloc, text),
+        Needed::TypedNumber => is_typed_number(alloc, text),
         Needed::Octets => are_octets(alloc, text),
         Needed::Octet => is_octet(alloc, text),
         Needed::Manifest => Ok(!text.is_empty() && !text.contains(&b'\n')),
@@ -62,7 +65,17 @@ fn is_type(alloc: Global, text: &[u8]) -> Result<bool, AllocError>
     }
 }
 
-fn is_value(alloc: Global, text: &[u8]) -> Result<bool, AllocError>
+fn is_typed_number(alloc: Global, text: &[u8]) -> Result<bool, AllocError>
+    ensures { IfOk result (λ yes. yes ≡ is_typed_number text.now) }
+{
+    if has_number_type(text) {
+        is_value(alloc, text)
+    } else {
+        Ok(false)
+    }
+}
+
+pub(crate) fn is_value(alloc: Global, text: &[u8]) -> Result<bool, AllocError>
     ensures { IfOk result (λ yes. yes ≡ is_some (value_in text.now)) }
 {
     match parse_value(alloc, text) {

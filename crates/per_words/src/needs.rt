@@ -23,6 +23,8 @@ pub enum Needed {
     TypeText,
     /// The text of a value.
     ValueText,
+    /// A number with its type, alone or within a value.
+    TypedNumber,
     /// Bytes in two digits each.
     Octets,
     /// One byte in two digits.

@@ -6,7 +6,8 @@ ghost use Rattle.std.specs.List.{AllByRecursion};
 ghost use Rattle.value_text.specs.Texts.{hex_text};
 ghost use Rattle.command_text.specs.declared.errors.LineError.{LineError};
 ghost use Rattle.per_words.specs.Words.{Adds, AreFed, IsOneLine, FitsLine, closed_line, content_lines, durable_lines};
-ghost use Rattle.per_words.specs.Words.{file_lines, opened_line, opening_lines, piece_line, put_line, writing_lines};
+ghost use Rattle.per_words.specs.Words.{file_lines, line_with, opened_line, opening_lines, piece_line, put_line};
+ghost use Rattle.per_words.specs.Words.{writing_lines};
 ghost use Rattle.per_words.specs.declared.kinds.CallKind.{CallKind};
 
 use crate::call_text::CallText;
@@ -257,14 +258,7 @@ fn push_put(
 ) -> Result<(), LineError>
     ensures { Adds result text.old.items text.new.items (put_line digit storage.now file.now piece.now ∷ []) }
 {
-    let digits = digits_of(alloc, piece)?;
-    push_call(
-        alloc,
-        text,
-        digit,
-        &[b"put", storage, file, digits.as_slice()],
-        &[],
-    )
+    push_digits(alloc, text, digit, &[b"put", storage, file], piece)
 }
 
 /// Adds the lines that write the pieces by a handle and close it.
@@ -315,14 +309,22 @@ fn push_piece(
 ) -> Result<(), LineError>
     ensures { Adds result text.old.items text.new.items (piece_line digit storage.now piece.now ∷ []) }
 {
-    let digits = digits_of(alloc, piece)?;
-    push_call(
-        alloc,
-        text,
-        digit,
-        &[b"write", storage, b"1", digits.as_slice()],
-        &[],
-    )
+    push_digits(alloc, text, digit, &[b"write", storage, b"1"], piece)
+}
+
+/// Adds the line that has these words, and bytes in two digits each.
+fn push_digits(
+    alloc: Global,
+    text: &mut Vec<u8>,
+    digit: u8,
+    words: &[&[u8]],
+    bytes: &[u8],
+) -> Result<(), LineError>
+    ensures { Adds result text.old.items text.new.items
+        (line_with digit (map (λ word. word.now) words.now ++ hex_text bytes.now ∷ []) ∷ []) }
+{
+    let digits = digits_of(alloc, bytes)?;
+    push_call(alloc, text, digit, words, &[digits.as_slice()])
 }
 
 /// The bytes in two digits each. The room of all is taken at once.
