@@ -1,9 +1,8 @@
 -- What a call needs, and where lines stop being lines, computed.
 use Rattle.std.specs.Prelude.{◌≡◌, map, codes, Some, None}
 use Rattle.std.proofs.Common.{refl}
-use Rattle.value_text.specs.Parsing.{fields_tree_at, scalar_at, scalar_tree_at, tree_at, tree_here, tree_in}
-use Rattle.value_text.specs.Parsing.{value_content_at, value_in}
-use Rattle.value_text.specs.Readers.{number_at, number_of, separated, unsigned_at}
+use Rattle.value_text.specs.Parsing.{scalar_at, scalar_tree_at, tree_at, tree_here, tree_in, value_in}
+use Rattle.value_text.specs.Readers.{number_at, number_of, unsigned_at}
 use Rattle.value_text.specs.Whole.{unsigned_in}
 use Rattle.command_text.specs.Grammar.{Argument, form}
 use Rattle.command_text.specs.Grammar as grammar
@@ -98,13 +97,6 @@ no_name = refl
 no_value : flaw_in (codes "0 set k a 35") ≡ Some (record { needed = needed.ValueText; column = 11 })
 unfolding value_in tree_in tree_at tree_here scalar_tree_at scalar_at
 no_value = refl
-
--- a number within a value, which is none of its type
-wrong_member : flaw_in (codes "0 set k a {u8:256,u8:1}")
-    ≡ Some (record { needed = needed.TypedNumber; column = 12 })
-unfolding value_in tree_in tree_at tree_here fields_tree_at separated scalar_tree_at scalar_at value_content_at
-    unsigned_at number_at number_of
-wrong_member = refl
 
 too_many : flaw_in (codes "0 get k a b") ≡ Some (record { needed = needed.End; column = 10 })
 too_many = refl
