@@ -24,7 +24,7 @@ begins_with_digit (byte ∷ rest) = is_ascii_digit byte
 -- a zero (48) stands first, before another digit
 abbrev pub leads_with_zero : List ℕ → Bool
 leads_with_zero [] = false
-leads_with_zero (zero ∷ rest) = nat_eq zero 48 && begins_with_digit rest
+leads_with_zero (digit ∷ rest) = nat_eq digit 48 && begins_with_digit rest
 
 abbrev pub has_leading_zero : List ℕ → Bool
 has_leading_zero text = leads_with_zero (magnitude_in text)
