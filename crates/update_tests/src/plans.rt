@@ -25,10 +25,35 @@ pub(crate) fn update(
 ) -> Result<String, RowError> {
     let (old, rest) = row.split_once('|').ok_or(RowError::NotARow)?;
     let (damage, new) = rest.split_once('|').ok_or(RowError::NotARow)?;
+    update_from(alloc, migrations, old, damage_of(damage)?, new)
+}
+
+/// What comes of an update of the manifest `old`, installed and damaged.
+fn update_from(
+    alloc: Global,
+    migrations: &Migrations,
+    old: &str,
+    damage: Damage<'_>,
+    new: &str,
+) -> Result<String, RowError> {
     let old = deployment(alloc, old)?;
+    let contents = installed(alloc, &old, damage)?;
+    update_to(alloc, migrations, &old, &contents, new)
+}
+
+/// What comes of an update to the manifest `new`, over these contents.
+fn update_to(
+    alloc: Global,
+    migrations: &Migrations,
+    old: &Deployment,
+    contents: &Contents,
+    new: &str,
+) -> Result<String, RowError>
+    requires old { IsDeployment (deployment_data old.now) }
+    requires contents { AllByRecursion (IsStoredOf (deployment_data old.now)) contents.now }
+{
     let new = deployment(alloc, new)?;
-    let contents = installed(alloc, &old, damage_of(damage)?)?;
-    plan_over(alloc, migrations, &old, &contents, &new)
+    plan_over(alloc, migrations, old, contents, &new)
 }
 
 /// What comes of an update over these contents.
