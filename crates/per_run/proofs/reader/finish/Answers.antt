@@ -26,3 +26,6 @@ returns-in-Err-clause-ends g c = λ laws start before given small reached.
     ends_at_last _ _ _ _ before (ending_of c.in-Err.ending) given _ _ _ _ _ _ _ small reached
     (some_is _ _ _ c.as_slice.ensures.value c.is_empty.ensures c.if-is_empty.false)
     (λ lines more text. c.in-Err.ensures.ends laws start before lines more text)
+
+pub returns-in-Err-clause-needs : goal.returns-in-Err-clause-needs
+returns-in-Err-clause-needs g c = λ told starved. c.in-Err.ensures.needs told starved
