@@ -1,6 +1,7 @@
 -- No line is left, or the last one is handled.
-use Rattle.std.proofs.Common.{ℕ, List, [], length, Bool, false, ◌==◌, ◌≡◌, ◌∙◌, ap, arith}
+use Rattle.std.proofs.Common.{ℕ, List, [], length, Bool, Err, false, ◌==◌, ◌≡◌, ◌∙◌, ap, arith}
 use Rattle.std.proofs.lemmas.Bool.Decides.{nat_tests}
+use Rattle.per_run.specs.declared.endings.Ending.{Ending}
 use Rattle.per_run.specs.Steps.{ending_of}
 use Rattle.per_run.proofs.Fronts.{is_empty}
 use Rattle.per_run.proofs.Reaches.{ends_read, ends_last, ends_at_last}
@@ -28,4 +29,5 @@ returns-in-Err-clause-ends g c = λ laws start before given small reached.
     (λ lines more text. c.in-Err.ensures.ends laws start before lines more text)
 
 pub returns-in-Err-clause-needs : goal.returns-in-Err-clause-needs
-returns-in-Err-clause-needs g c = λ told starved. c.in-Err.ensures.needs told starved
+returns-in-Err-clause-needs g c = λ told starved.
+    c.in-Err.ensures.needs told (ap (λ (e : Ending). Err e) starved)
