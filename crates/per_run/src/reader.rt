@@ -342,8 +342,8 @@ fn handle_text<D: Disk, K: Sink>(
         → Course D.told (rules_of migrations.now) (answers_of migrations.now) (ending_of ending) (D.medium start) before
         (lines ++ whole ∷ others) (K.written sink.new) (D.medium disk.new)) }
     ensures memory { OnOk result (IsRuntime D.told (D.medium disk.new) runtime.new) }
-    // Memory runs out only for a line that may need it, for the reply's text once the command is done, or for the answer
-    // to a line outside the grammar.
+    // Memory runs out only for a line that may need it, for the reply's text once the command is done, or for the
+    // answer to a line outside the grammar.
     ensures needs { IsTrue D.told → IsErrOf result Ending.OutOfMemory
         → HandlingMayStarve D.told (rules_of migrations.now) (answers_of migrations.now) text.now
         (memory_of runtime.old) (memory_of runtime.new) (D.medium disk.old) (D.medium disk.new) }

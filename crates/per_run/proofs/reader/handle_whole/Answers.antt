@@ -18,7 +18,8 @@ returns-in-Err-clause-ends g c = λ laws start before lines others text front nu
     (omega (arith, c.saturating_add-number.ensures, number, few)) handled
 
 pub returns-in-Err-clause-needs : goal.returns-in-Err-clause-needs
-returns-in-Err-clause-needs g c = λ told starved. subst (λ (t : List ℕ). HandlingMayStarve g.D.Disk.told (rules_of c.args.migrations.now)
+returns-in-Err-clause-needs g c = λ told starved.
+    subst (λ (t : List ℕ). HandlingMayStarve g.D.Disk.told (rules_of c.args.migrations.now)
     (answers_of c.args.migrations.now) t (memory_of c.args.reader.now.runtime) (memory_of c.handle_text.new.runtime)
     (g.D.Disk.medium c.args.disk.now) (g.D.Disk.medium c.handle_text.new.disk))
     (keeps_front 262145 [] [] c.args.line.now _ refl (omega arith)) (c.in-Err.ensures.needs told starved)
