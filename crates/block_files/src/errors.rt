@@ -4,13 +4,16 @@ ghost use Rattle.std.specs.Prelude.{◌≡◌};
 
 use disk_model::DiskFailed;
 use std::alloc::{AllocError, AllocFailed};
+use thiserror::Error;
 
 /// Why a call on contents did not end well.
-#[derive(Clone, Copy, Debug, PartialEq, Eq)]
+#[derive(Clone, Copy, Debug, PartialEq, Eq, Error)]
 pub enum BlobError {
     /// A call of the disk failed, and its count of faults rose.
+    #[error("the disk failed")]
     Device,
-    /// Out of memory.
+    /// Memory ran out.
+    #[error("memory ran out")]
     OutOfMemory,
 }
 

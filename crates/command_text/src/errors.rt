@@ -9,7 +9,7 @@ use value_model::DecodeError;
 pub enum LineError {
     #[error("the text is outside the grammar of lines")]
     NotALine,
-    #[error("out of memory")]
+    #[error("memory ran out")]
     OutOfMemory,
 }
 

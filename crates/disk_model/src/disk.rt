@@ -6,8 +6,11 @@ ghost use Rattle.disk_model.specs.Image.{put_image, TornImage};
 ghost use Rattle.disk_model.specs.Case.{WriteCase, WriteOrNot, Follows};
 ghost use Rattle.disk_model.specs.Medium.{Medium, Quiet, IsLawful, Elapses, OnlyReads, WritesNothing};
 
+use thiserror::Error;
+
 /// A call of a disk failed, and its count of faults rose. No other call changes that count.
-#[derive(Clone, Copy, Debug, PartialEq, Eq)]
+#[derive(Clone, Copy, Debug, PartialEq, Eq, Error)]
+#[error("the disk failed")]
 pub struct DiskFailed;
 
 /// A disk of files that are named by numbers. A file that was never written is empty. Places and sizes are in bytes.

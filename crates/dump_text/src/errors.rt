@@ -5,13 +5,16 @@ ghost use Rattle.dump_text.specs.Views.{is_memory};
 ghost use Rattle.dump_text.specs.declared.errors.DumpError.TheVariants.{OutOfMemory};
 
 use std::alloc::{AllocError, AllocFailed, Global};
+use thiserror::Error;
 
 /// Why a text is not read as a dump, or none is written.
-#[derive(Debug, Drop)]
+#[derive(Debug, Drop, Error)]
 pub enum DumpError {
     /// It is no dump: where, and why.
+    #[error("not a dump: {0}")]
     NotADump(String),
     /// Memory ran out.
+    #[error("memory ran out")]
     OutOfMemory,
 }
 

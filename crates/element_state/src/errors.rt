@@ -5,15 +5,19 @@ ghost use Rattle.std.specs.Prelude.{◌≡◌};
 use block_files::BlobError;
 use guarded_cell::CellError;
 use std::alloc::{AllocError, AllocFailed};
+use thiserror::Error;
 
 /// Why a call on a storage did not end well.
-#[derive(Clone, Copy, Debug, PartialEq, Eq)]
+#[derive(Clone, Copy, Debug, PartialEq, Eq, Error)]
 pub enum StoreError {
     /// The disk failed, and its count of faults rose.
+    #[error("the disk failed")]
     Device,
     /// No text qualifies: too few copies support each that fits.
+    #[error("too few copies agree")]
     Corrupt,
     /// Memory ran out.
+    #[error("memory ran out")]
     OutOfMemory,
 }
 

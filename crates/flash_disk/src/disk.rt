@@ -6,17 +6,22 @@ ghost use Rattle.flash_disk.specs.Apart.{IsApart};
 use crate::layer::Layer;
 use flash_model::Flash;
 use std::marker::Model;
+use thiserror::Error;
 
 /// Why a flash cannot be opened as a disk.
-#[derive(Clone, Copy, Debug, PartialEq, Eq)]
+#[derive(Clone, Copy, Debug, PartialEq, Eq, Error)]
 pub enum FlashOpenError {
     /// It has fewer than 4 blocks, or more than 4096.
+    #[error("the flash has fewer than 4 blocks, or more than 4096")]
     WrongSize,
     /// It holds more pages of files than all blocks but two have room for, or none of its blocks is spare.
+    #[error("the flash holds too many pages of files, or has no spare block")]
     Unusable,
     /// A call of the flash failed.
+    #[error("the flash failed")]
     Device,
-    /// There is too little memory.
+    /// Memory ran out.
+    #[error("memory ran out")]
     OutOfMemory,
 }
 

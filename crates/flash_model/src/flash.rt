@@ -7,6 +7,8 @@ ghost use Rattle.flash_model.specs.State.{IsStill, ProgramCase, EraseCase, Fails
 ghost use Rattle.flash_model.specs.State.{announce_write, settle_pages, programmed, erased};
 ghost use Rattle.flash_model.specs.FlashMedium.{FlashMedium, IsLawfulFlash, FlashElapses, EachFlashCase};
 
+use thiserror::Error;
+
 /// How many bytes a page has.
 pub const PAGE_BYTES: usize = 512;
 
@@ -17,7 +19,8 @@ pub const BLOCK_PAGES: u32 = 64;
 pub const BLANK_PAGE: [u8; PAGE_BYTES] = [0xff; PAGE_BYTES];
 
 /// A call of a flash failed, and its count of faults rose. No other call changes that count.
-#[derive(Clone, Copy, Debug, PartialEq, Eq)]
+#[derive(Clone, Copy, Debug, PartialEq, Eq, Error)]
+#[error("the flash failed")]
 pub struct FlashFailed;
 
 /// A flash: blocks of 64 pages of 512 bytes, each programmed while it is blank and erased with its block.

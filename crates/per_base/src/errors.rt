@@ -5,6 +5,7 @@ ghost use Rattle.std.specs.Prelude.{◌≡◌, IfOk};
 use crate::lists::ValueText;
 use crate::names::Name;
 use std::alloc::AllocError;
+use thiserror::Error;
 
 /// What is damaged.
 #[derive(Debug, Drop)]
@@ -46,61 +47,88 @@ pub enum Limit {
 }
 
 /// An error of a call, with what it carries. The number of each is in `error_number` of the definitions.
-#[derive(Debug, Drop)]
+#[derive(Debug, Drop, Error)]
 pub enum PerError {
     /// 1: no such storage of the kind in the active deployment.
+    #[error("no such storage of this kind is deployed")]
     StorageNotFound,
     /// 2: the key is not visible.
+    #[error("no such key")]
     KeyNotFound,
     /// 3: a write to a read-only storage, or through a handle that reads.
+    #[error("the storage or the handle is read-only")]
     IllegalWriteAccess,
     /// 4: the device failed.
+    #[error("the device failed")]
     PhysicalStorageFailure,
     /// 5: too few copies agree and verify.
+    #[error("too few copies agree")]
     IntegrityCorrupted { unit: Unit },
     /// 7: the stored type and the type that was asked for differ.
+    #[error("the stored value has another type")]
     DataTypeMismatch { stored: ValueText, asked: ValueText },
     /// 8: the deployment has no initial value for the name.
+    #[error("the deployment has no initial value")]
     InitValueNotAvailable,
     /// 9: something holds up the call.
+    #[error("something open or in progress is in the way")]
     ResourceBusy { holder: Holder },
     /// 10: the storage would need more bytes than it is allowed.
+    #[error("the storage would pass its greatest size")]
     OutOfStorageSpace { needed: u64, allowed: u64 },
     /// 11: no such file.
+    #[error("no such file")]
     FileNotFound,
     /// 12: the position is outside the file.
+    #[error("the position is outside the file")]
     InvalidPosition,
     /// 13: the position is the end of the file.
+    #[error("the position is the end of the file")]
     IsEof,
     /// 14: the flags of the opening contradict one another.
+    #[error("the flags of the opening contradict one another")]
     InvalidOpenMode,
     /// 15: the new size of a file is above its size.
+    #[error("the new size is above that of the file")]
     InvalidSize,
     /// 20: no deployment is installed.
+    #[error("no deployment is installed")]
     NotInstalled,
     /// 21: a deployment is installed.
+    #[error("a deployment is installed")]
     AlreadyInstalled,
     /// 22: the manifest breaks a rule; the first violated rule is carried.
+    #[error("the manifest breaks rule {rule}")]
     ManifestRejected { rule: u32 },
     /// 23: there is no previous version.
+    #[error("there is no previous version")]
     NoPreviousVersion,
     /// 24: the storage or the handle is not open.
+    #[error("the storage or the handle is not open")]
     NotOpen,
     /// 25: a limit would be passed.
+    #[error("a limit would be passed")]
     LimitReached { which: Limit },
     /// 26: a read through a handle that writes.
+    #[error("the handle only writes")]
     IllegalReadAccess,
     /// 27: the previous version is still there.
+    #[error("the update from version {previous} is not finished")]
     UpdateNotFinished { previous: u32 },
     /// 28: the offered version is not above the active one.
+    #[error("version {offered} is not above version {active}")]
     VersionNotNewer { active: u32, offered: u32 },
     /// 29: the text is no name.
+    #[error("not a name")]
     BadName,
     /// 30: no update is in progress.
+    #[error("no update is in progress")]
     NoUpdateInProgress,
     /// 31: the bytes are no export of the kind.
+    #[error("not an export of this kind")]
     ExportRejected,
     /// Memory ran out; it has no number and no reply.
+    #[error("memory ran out")]
     OutOfMemory,
 }
 

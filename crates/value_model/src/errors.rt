@@ -15,7 +15,7 @@ pub enum ValueError {
     /// The node's encoding has more than 65,536 bytes.
     #[error("the encoding has more than 65,536 bytes")]
     TooLong,
-    #[error("out of memory")]
+    #[error("memory ran out")]
     OutOfMemory,
 }
 
@@ -25,7 +25,7 @@ pub enum DecodeError {
     /// No value, or no type, has these bytes or this text.
     #[error("not a value")]
     NotAValue,
-    #[error("out of memory")]
+    #[error("memory ran out")]
     OutOfMemory,
 }
 
