@@ -18,7 +18,6 @@ mod concluding;
 mod installing;
 mod laws;
 mod running;
-mod storing;
 mod updating;
 
 pub(crate) use laws::{running_is_application, running_stays};

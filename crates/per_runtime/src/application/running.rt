@@ -30,8 +30,11 @@ use crate::storages::OpenSlots;
 use command_text::Reply;
 use deploy::{Root, Staged, Stop, open_root, roots_in_use};
 use deploy_laws::untouched_stands;
+use deploy_rows::rows_lead_on;
 use disk_model::Disk;
 use migrate_fns::Migrations;
+use per_base::{PerError, Unit};
+use run_model::storages_lead_on;
 use std::alloc::{AllocError, Global};
 
 /// What is going on in an application.
@@ -153,12 +156,23 @@ impl Running {
             (disk.new ≡ disk.old) (D.medium disk.old) (D.medium disk.new) result }
     {
         untouched_stands();
+        rows_lead_on();
+        storages_lead_on();
         if let Some(busy) = self.busy_with(asked) {
             return Ok(refusal(self.alloc, busy));
         }
         match asked {
             Asked::OfDeployment(deploying) => self.deploy(disk, migrations, now, deploying),
-            Asked::OnStorage(storing) => self.call_on_storage(disk, migrations, now, storing),
+            Asked::OnStorage(storing) => {
+                let Stage::AtRest(root) = &self.stage else {
+                    return Ok(refusal(
+                        self.alloc,
+                        PerError::IntegrityCorrupted { unit: Unit::Root },
+                    ));
+                };
+                self.slots
+                    .call(self.alloc, disk, self.app, root, now, storing)
+            }
         }
     }
 

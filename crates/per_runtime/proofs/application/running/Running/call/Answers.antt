@@ -3,12 +3,16 @@ use Rattle.migrate_fns.specs.Stored.{answers_of, rules_of}
 use Rattle.run_model.specs.Calls.{beside_update}
 use Rattle.run_model.specs.Worlds.{update_in}
 use Rattle.per_runtime.specs.Sorting.{asked_call, storing_call}
+use Rattle.per_runtime.specs.declared.application.running.Stage.{Stage}
 use Rattle.per_runtime.specs.declared.sorting.Asked.{Asked}
 use Rattle.per_runtime.specs.application.Promises.{Promises}
-use Rattle.per_runtime.specs.application.Running.{stage_in}
-use Rattle.per_runtime.proofs.Sorted.{storing_alone}
+use Rattle.per_runtime.specs.application.Running.{IsStageAt, stage_in}
+use Rattle.per_runtime.specs.application.Stages.{stage_root}
+use Rattle.per_runtime.proofs.Sorted.{storing_alone, storing_on}
 use Rattle.per_runtime.proofs.application_lemmas.Arms.{at_rest_for, busy_promises}
-use Rattle.per_runtime.proofs.application_lemmas.Ended.{not_some}
+use Rattle.per_runtime.proofs.application_lemmas.Ended.{not_some, rests}
+use Rattle.per_runtime.proofs.application_lemmas.LeadOn.{leads_on}
+use Rattle.per_runtime.proofs.application_lemmas.StorageCalls.{stored_promises}
 use Rattle.per_runtime.proofs.application.running.Running.call.Goals as goal
 
 pub returns-in-Some : goal.returns-in-Some
@@ -32,19 +36,36 @@ returns-in-OfDeployment g c = subst (λ (x : Asked). Promises g.D.Disk.told (rul
     (c.deploy.new.disk ≡ c.args.disk.now) (g.D.Disk.medium c.args.disk.now) (g.D.Disk.medium c.deploy.new.disk)
     c.deploy.result) (sym c.in-OfDeployment.is) c.deploy.ensures
 
-pub call_on_storage-requires : goal.call_on_storage-requires
-call_on_storage-requires g c =
-    let s = c.in-OnStorage.storing in
-    record {
-      memory = c.requires.memory;
-      rests = at_rest_for c.args.self.now.stage (asked_call c.args.asked.now) (storing_call s)
-          (ap asked_call c.in-OnStorage.is) c.requires.opened (storing_alone s)
-          (sym c.busy_with.ensures ∙ not_some c.busy_with.result c.in_default.not-Some);
-    }
+pub returns-in_default-stage : goal.returns-in_default-stage
+returns-in_default-stage g c = absurd (c.in_default-stage.not-AtRest (stage_root c.args.self.now.stage)
+    (sym (rests c.args.self.now.stage (at_rest_for c.args.self.now.stage (asked_call c.args.asked.now)
+    (storing_call c.in-OnStorage.storing) (ap asked_call c.in-OnStorage.is) c.requires.opened
+    (storing_alone c.in-OnStorage.storing)
+    (sym c.busy_with.ensures ∙ not_some c.busy_with.result c.in_default.not-Some)))))
 
-pub returns-in-OnStorage : goal.returns-in-OnStorage
-returns-in-OnStorage g c = subst (λ (x : Asked). Promises g.D.Disk.told (rules_of c.args.migrations.now)
-    (answers_of c.args.migrations.now) c.args.now (asked_call x) c.args.self.now c.call_on_storage.new.self
-    (c.call_on_storage.new.disk ≡ c.args.disk.now) (g.D.Disk.medium c.args.disk.now)
-    (g.D.Disk.medium c.call_on_storage.new.disk) c.call_on_storage.result) (sym c.in-OnStorage.is)
-    c.call_on_storage.ensures
+pub call-requires : goal.call-requires
+call-requires g c = record {
+  memory = subst (λ (x : Stage). IsStageAt g.D.Disk.told (g.D.Disk.medium c.args.disk.now).image c.args.self.now.app
+      c.args.self.now.slots x) c.in-AtRest.is c.requires.memory.stage_at;
+}
+
+pub returns-in-AtRest : goal.returns-in-AtRest
+returns-in-AtRest g c =
+    let told = g.D.Disk.told in
+    let rules = rules_of c.args.migrations.now in
+    let answers = answers_of c.args.migrations.now in
+    let s = c.args.self.now in
+    let call = storing_call c.in-OnStorage.storing in
+    let old = g.D.Disk.medium c.args.disk.now in
+    let new = g.D.Disk.medium c.call.new.disk in
+    let Untouched = c.call.new.disk ≡ c.args.disk.now in
+    subst (λ (x : Asked). Promises told rules answers c.args.now (asked_call x) s
+    (record s { slots = c.call.new.self }) Untouched old new c.call.result) (sym c.in-OnStorage.is)
+    (subst (λ (x : Stage). Promises told rules answers c.args.now call (record s { stage = x })
+    (record s { stage = x; slots = c.call.new.self }) Untouched old new c.call.result) (sym c.in-AtRest.is)
+    (stored_promises told rules answers c.args.now call s c.in-AtRest.root c.call.new.self Untouched old new
+    c.call.result (λ same. (ap (λ d. (g.D.Disk.medium d).image) same, ap (λ d. (g.D.Disk.medium d).written) same))
+    (storing_on c.in-OnStorage.storing)
+    (leads_on c.storages_lead_on.ensures c.rows_lead_on.ensures.install c.rows_lead_on.ensures.finish
+    c.rows_lead_on.ensures.rollback c.rows_lead_on.ensures.wipe c.rows_lead_on.ensures.update rules answers)
+    c.call.ensures))
