@@ -2,13 +2,12 @@
 -- not come to it.
 use Rattle.std.proofs.Common.{ℕ, List, [], ◌∷◌, ◌≡◌, ◌≢◌, ◌⊎◌, ◌<◌, inl, inr, refl, sym, ap, subst, arith, length}
 use Rattle.std.proofs.Common.{◌∙◌, Option, Some, None, Bool, true, false, Result, Ok, Err, IfErr, IfSome, codes}
-use Rattle.std.proofs.KnownBytes.{Consumes-nil, Keeps-refl}
-use Rattle.std.specs.Prelude.{IsErr, IsFalse, IsOk, IsSome, IsTrue}
-use Rattle.per_base.specs.Causes.{Rose}
+use Rattle.std.proofs.KnownBytes.{Keeps-refl}
+use Rattle.std.specs.Prelude.{IsErr, IsSome, IsTrue}
 use Rattle.per_base.specs.Errors.{error_number}
 use Rattle.per_base.specs.declared.errors.PerError.{PerError}
-use Rattle.disk_model.specs.Medium.{IsLawful, Medium, Quiet}
-use Rattle.deploy_laws.specs.Apps.{App, app_at}
+use Rattle.disk_model.specs.Medium.{IsLawful, Medium}
+use Rattle.deploy_laws.specs.Apps.{app_at}
 use Rattle.deploy_rows.specs.Rows.{AnswersRow}
 use Rattle.per_audit.specs.Audits.{elements_at, findings_at, is_sound}
 use Rattle.per_audit.specs.declared.findings.Finding.{Finding}
@@ -17,14 +16,14 @@ use Rattle.per_list.specs.declared.forms.Form.{Form}
 use Rattle.root_recovery.specs.Clauses.{RecoveryKeeps}
 use Rattle.root_recovery.specs.Recoveries.{none_left}
 use Rattle.per_backup.specs.Backups.{exporting, importing_into}
-use Rattle.per_backup.specs.Clauses.{ImportKeeps, Imported, IsAppSeen}
+use Rattle.per_backup.specs.Clauses.{ImportKeeps}
 use Rattle.per_run.specs.declared.endings.Ending.{Ending}
 use Rattle.per_run.specs.declared.endings.Ending.TheVariants.{AllRead, EndLine, BadLine, OutOfMemory, Source, Sink}
 use Rattle.per_run.specs.declared.endings.Ending.TheVariants.{TooLong}
 use Rattle.per_run.specs.Jobs.{AnswersOr, Audits, CameToOutput, Exports, FailsAtThree, Imports, IsInputTaken}
-use Rattle.per_run.specs.Jobs.{IsUncalled, Lists, Makes, Recovers, WritesOutput, answered_text, error_line}
+use Rattle.per_run.specs.Jobs.{IsUncalled, Lists, Makes, Recovers, WritesOutput, error_line}
 use Rattle.per_run.specs.Steps.{Breaks, IsCut, ending_of}
-use Rattle.per_run.proofs.Outputs.{not_cut, not_done, not_read, writes_as, writes_none}
+use Rattle.per_run.proofs.Outputs.{not_done, not_read, writes_as, writes_none}
 use Rattle.run_model.specs.Endings.{ending_status}
 use Rattle.run_model.specs.Lives.{LooksOnly, looks_none}
 

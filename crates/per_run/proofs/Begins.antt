@@ -3,21 +3,13 @@ use Rattle.std.proofs.Common.{ℕ, List, [], ◌≡◌, refl, sym, subst, inl, O
 use Rattle.std.proofs.KnownBytes.{Appends-nil, Consumes-nil}
 use Rattle.disk_model.specs.Laws.{reads_none}
 use Rattle.disk_model.specs.Medium.{Medium, IsLawful, Elapses}
-use Rattle.disk_model.specs.lemmas.Frames.{settled_on}
 use Rattle.migrate_fns.specs.Rules.{Rule, Answers}
 use Rattle.per_base.specs.Causes.{Rose}
-use Rattle.deploy_laws.specs.Apps.{app_at}
-use Rattle.deploy_laws.specs.Places.{IsFileOf}
-use Rattle.deploy_laws.specs.Stands.{StandsCase, same_root}
-use Rattle.deploy_rows.specs.Rows.{reopened}
-use Rattle.run_model.specs.AppLaws.{AppLaws}
 use Rattle.run_model.specs.Endings as endings
 use Rattle.run_model.specs.Endings.{HasCauseOf, ending_status}
 use Rattle.run_model.specs.RunLaws.{start_disk}
 use Rattle.run_model.specs.Runs.{Run}
 use Rattle.run_model.specs.Runtimes.{Memory, Starts, StartKeeps}
-use Rattle.run_model.specs.Starting.{at_entry, at_start}
-use Rattle.run_model.specs.Worlds.{disks, disk_at, world_at, after_start}
 use Rattle.per_run.specs.declared.endings.Ending.{Ending as Way}
 use Rattle.per_run.specs.declared.endings.Ending.TheVariants as ways
 use Rattle.per_run.specs.Steps.{Blamed, Handled, RanOverInput, Reached, ending_of}

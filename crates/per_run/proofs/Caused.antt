@@ -1,7 +1,7 @@
 -- Why a job ended by its status.
 use Rattle.std.proofs.Common.{ℕ, zero, suc, ◌<◌, ◌≤◌, ◌-◌, List, [], ◌∷◌, ◌++◌, length, ◌≡◌, ◌⊎◌, inl, inr, refl, sym}
-use Rattle.std.proofs.Common.{◌∙◌, ap, subst, arith, Option, Some, None, option_map, Err, Bool, true, false, ◌&&◌}
-use Rattle.std.proofs.Common.{nat_eq, nat_le, IfSome, slice_index_or, codes, if◌then◌else◌}
+use Rattle.std.proofs.Common.{◌∙◌, ap, subst, arith, Option, Some, None, option_map, Bool, true, false, ◌&&◌, nat_eq}
+use Rattle.std.proofs.Common.{nat_le, IfSome, slice_index_or, codes, if◌then◌else◌}
 use Rattle.std.proofs.KnownBytes.{Consumes-nil}
 use Rattle.std.proofs.lemmas.Bool.{leb-true}
 use Rattle.std.specs.Bool.{⊤}

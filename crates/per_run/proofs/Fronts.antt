@@ -33,11 +33,13 @@ take_over : (xs ys : List ℕ) (n : ℕ) → take (length xs + n) (xs ++ ys) ≡
 take_over [] ys n = let e : 0 + n ≡ n = omega arith in ap (λ (k : ℕ). take k ys) e
 take_over (x ∷ xs) ys n =
     let e : length (x ∷ xs) + n ≡ (length xs + n) + 1 = omega arith in
-    ap (λ (k : ℕ). take k (x ∷ (xs ++ ys))) (e ∙ add-one (length xs + n)) ∙ ap (λ (l : List ℕ). x ∷ l) (take_over xs ys n)
+    ap (λ (k : ℕ). take k (x ∷ (xs ++ ys))) (e ∙ add-one (length xs + n))
+    ∙ ap (λ (l : List ℕ). x ∷ l) (take_over xs ys n)
 
 take_few : (bytes : List ℕ) (room count : ℕ) → count ≡ min (length bytes) room → take count bytes ≡ take room bytes
 take_few bytes room count is = ⊎_elim (λ many. ap (λ (n : ℕ). take n bytes) (omega (arith, is, many)))
-    (λ few. take_all count bytes (omega (arith, is, few)) ∙ sym (take_all room bytes few)) (cases_lt room (length bytes))
+    (λ few. take_all count bytes (omega (arith, is, few)) ∙ sym (take_all room bytes few))
+    (cases_lt room (length bytes))
 
 -- nothing is kept only of a line of which nothing is there
 pub no_rest : (rest : List ℕ) → take 262145 rest ≡ [] → rest ≡ []

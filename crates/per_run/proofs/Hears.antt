@@ -1,14 +1,13 @@
 -- Lines that a run which stays handled: one more, and how it ends after them.
-use Rattle.std.proofs.Common.{ℕ, List, [], ◌∷◌, ◌++◌, length, map, take, ◌≡◌, ◌<◌, ◌+◌, ◌-◌, ◌^◌, min, inl, inr, refl}
-use Rattle.std.proofs.Common.{sym}
-use Rattle.std.proofs.Common.{◌∙◌, ap, subst, arith, Option, None, Bool, IsTrue, Result, Ok, Err, codes, append_assoc}
-use Rattle.std.proofs.Common.{append-nil, length-append, ◌⊎◌, le_trans}
+use Rattle.std.proofs.Common.{ℕ, List, [], ◌∷◌, ◌++◌, length, take, ◌≡◌, ◌<◌, ◌+◌, inl, inr, refl, sym, ◌∙◌, ap, subst}
+use Rattle.std.proofs.Common.{arith, Option, None, Bool, IsTrue, Err, codes, append_assoc, append-nil, length-append}
+use Rattle.std.proofs.Common.{◌⊎◌}
 use Rattle.std.proofs.KnownBytes.{Appends-nil, Appends-trans}
 use Rattle.std.proofs.lemmas.List.{map-append}
 use Rattle.std.proofs.lemmas.List.Concat.{flat_map-append}
 use Rattle.std.specs.Fmt.{decimal}
 use Rattle.std.specs.Io.KnownBytes.{Appends}
-use Rattle.std.specs.List.{AllByRecursion, flat_map}
+use Rattle.std.specs.List.{AllByRecursion}
 use Rattle.disk_model.specs.Image.{Image}
 use Rattle.disk_model.specs.Medium.{Medium, IsLawful, Elapses}
 use Rattle.migrate_fns.specs.Rules.{Rule, Answers}
@@ -22,7 +21,7 @@ use Rattle.run_model.specs.Endings.{HasStarted, bad_line_text}
 use Rattle.run_model.specs.Lines.{IsBad}
 use Rattle.run_model.specs.Moments.{last_of}
 use Rattle.run_model.specs.RunLaws.{ends_settled, stops_disk}
-use Rattle.run_model.specs.Runs.{DiskSide, IsSettled}
+use Rattle.run_model.specs.Runs.{IsSettled}
 use Rattle.run_model.specs.Runtimes.{Memory}
 use Rattle.run_model.specs.Turns.{Turn, turn, worlds_of}
 use Rattle.run_model.specs.Worlds.{World, after_start, world_at}

@@ -1,5 +1,5 @@
 -- What is written of a job's output, and what holds where a job did not come to it.
-use Rattle.std.proofs.Common.{ℕ, List, [], ◌≡◌, ◌⊎◌, ◌∙◌, inl, inr, refl, sym, subst, arith, Option, Bool}
+use Rattle.std.proofs.Common.{ℕ, List, ◌≡◌, ◌⊎◌, ◌∙◌, inl, inr, refl, sym, subst, arith, Option}
 use Rattle.std.proofs.KnownBytes.{Keeps-refl}
 use Rattle.std.specs.Io.KnownBytes.{Appends}
 use Rattle.per_run.specs.Jobs.{CameToOutput, IsOutputWritten, WritesOutput, WroteProperPrefix}

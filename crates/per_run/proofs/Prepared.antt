@@ -1,29 +1,27 @@
 -- The disk that a run which stays starts on, and the run as a whole.
-use Rattle.std.proofs.Common.{ℕ, List, [], ◌∷◌, length, ◌≡◌, ◌≤◌, ◌<◌, ◌+◌, ◌⊎◌, inl, inr, ⊎_elim, refl, sym, ◌∙◌, ap}
-use Rattle.std.proofs.Common.{subst, arith, Option, None, Bool, true, false, IsTrue, eq-or-lt_of_le, le_refl}
-use Rattle.std.proofs.Common.{Result, Ok, Err, IfOk, OnErr, OnOk}
+use Rattle.std.proofs.Common.{ℕ, List, [], ◌∷◌, length, ◌≡◌, ◌≤◌, ◌<◌, ◌+◌, inl, inr, ⊎_elim, refl, sym, ◌∙◌, ap, subst}
+use Rattle.std.proofs.Common.{arith, Option, None, Bool, true, false, IsTrue, eq-or-lt_of_le, le_refl, Result, Ok, Err}
+use Rattle.std.proofs.Common.{IfOk, OnErr, OnOk}
 use Rattle.std.proofs.KnownBytes.{Appends-nil, Consumes-nil, Keeps-refl}
 use Rattle.per_base.specs.Causes.{Rose}
-use Rattle.disk_model.specs.Case.{Case}
 use Rattle.disk_model.specs.Image.{Image}
-use Rattle.disk_model.specs.Laws.{cases_on, elapses_none, elapses_on, reads_on}
+use Rattle.disk_model.specs.Laws.{cases_on, elapses_on, reads_on}
 use Rattle.disk_model.specs.Medium.{Medium, IsLawful, Elapses, OnlyReads}
 use Rattle.migrate_fns.specs.Rules.{Rule, Answers}
 use Rattle.deploy.specs.declared.errors.Stop.{Stop}
 use Rattle.deploy_laws.specs.Apps.{IsCleanApp}
 use Rattle.run_model.specs.Endings as endings
-use Rattle.run_model.specs.Endings.{FailureCounts, HasCauseOf, HasStarted, ending_status}
-use Rattle.run_model.specs.Moments.{Between, OrBefore}
+use Rattle.run_model.specs.Endings.{HasCauseOf, HasStarted, ending_status}
+use Rattle.run_model.specs.Moments.{Between}
 use Rattle.run_model.specs.RunLaws.{start_disk}
 use Rattle.run_model.specs.Runtimes.{Memory, StartKeeps, Starts}
-use Rattle.run_model.specs.Worlds.{Disks, after_start, disks, world_at}
+use Rattle.run_model.specs.Worlds.{after_start, disks, world_at}
 use Rattle.per_runtime.specs.Memories.{memory_of}
 use Rattle.per_runtime.specs.declared.runtime.Runtime.{Runtime}
 use Rattle.per_run.specs.declared.endings.Ending.{Ending as Way}
 use Rattle.per_run.specs.declared.endings.Ending.TheVariants as ways
-use Rattle.per_run.specs.Serves.{HadNothing, HasNoBytes, IsFreshlyFormatted, IsPreparedDisk, Serve, Serves, as_it_was}
-use Rattle.per_run.specs.Serves.{formatted_first}
-use Rattle.per_run.specs.Serves.{served, unprepared}
+use Rattle.per_run.specs.Serves.{HasNoBytes, IsPreparedDisk, Serve, Serves, as_it_was, formatted_first, served}
+use Rattle.per_run.specs.Serves.{unprepared}
 use Rattle.per_run.specs.Serving.{Hearing, IsExactly, IsReadied, IsUnready, Served}
 use Rattle.per_run.specs.Steps.{Blamed, IsServeBegun, ending_of}
 use Rattle.per_run.proofs.Goes.{goes_none}

@@ -1,5 +1,5 @@
 -- What a stop leaves of a flash since it was handed in, from what its opening says and how time went on for its disk.
-use Rattle.std.proofs.Common.{◌≡◌, ◌≤◌, ◌⊎◌, ℕ, refl, sym, ap, subst, ◌∙◌, ⊎_elim, inl, inr, arith}
+use Rattle.std.proofs.Common.{◌≡◌, ◌≤◌, ℕ, refl, sym, ap, subst, ◌∙◌, ⊎_elim, inl, inr, arith}
 use Rattle.std.specs.Prelude.{Bool, IsTrue}
 use Rattle.disk_model.specs.Case.{Case}
 use Rattle.disk_model.specs.Medium.{Elapses}

@@ -1,6 +1,6 @@
 -- An input that is read whole: one more piece, its end, and where it was cut.
 use Rattle.std.proofs.Common.{ℕ, List, [], ◌++◌, length, take, ◌≡◌, ◌≤◌, ◌<◌, ◌+◌, refl, sym, ap, ◌∙◌, subst, arith}
-use Rattle.std.proofs.Common.{Option, true, false, append-nil, length-append}
+use Rattle.std.proofs.Common.{Option, true, append-nil, length-append}
 use Rattle.std.proofs.KnownBytes.{Consumes-kept, Consumes-trans}
 use Rattle.std.proofs.lemmas.List.{length-take-le}
 use Rattle.std.specs.Io.KnownBytes.{Consumes, IsAtEnd, Keeps}

@@ -19,7 +19,6 @@ use Rattle.flash_disk.specs.Throughout.{AgreedSince, UsableSince}
 use Rattle.flash_laws.specs.Outvotes.{OutlastsSince}
 use Rattle.loss_laws.specs.Since.{ReadOnSince}
 use Rattle.migrate_fns.specs.Rules.{Answers, Rule}
-use Rattle.run_model.specs.Endings.{FailureCounts}
 use Rattle.per_run.specs.declared.flash.FlashRun.{FlashRun}
 use Rattle.per_run.specs.declared.flash.FlashRun.TheVariants.{Ran, Unopened}
 use Rattle.per_run.specs.declared.words.Job.{Job}

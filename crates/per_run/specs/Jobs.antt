@@ -1,9 +1,9 @@
 -- What each job promises, and by which statuses it ends. Of bytes `before` and `now` are what the sink took before and
 -- has taken now, `left_before` and `left_now` what the source has left, each None where nothing is said of it; `old`
 -- and `new` are the disk. `rules` are the converters of values between types, and `answers` what each may answer.
-use Rattle.std.specs.Prelude.{◌≡◌, ◌≢◌, ◌⊎◌, ◌<◌, ◌≤◌, ◌+◌, ◌*◌, ℕ, List, [], ◌∷◌, ◌++◌, length, take, Option, Some, None}
-use Rattle.std.specs.Prelude.{Bool, true, false, codes, count_by, not, ◌&&◌, IsTrue, IsFalse, Result, Ok, Err, IsOk}
-use Rattle.std.specs.Prelude.{IsErr}
+use Rattle.std.specs.Prelude.{◌≡◌, ◌≢◌, ◌⊎◌, ◌<◌, ◌≤◌, ◌+◌, ◌*◌, ℕ, List, [], ◌∷◌, ◌++◌, length, take, Option, Some}
+use Rattle.std.specs.Prelude.{None, Bool, true, false, codes, count_by, not, ◌&&◌, IsTrue, IsFalse, Result, Ok, Err}
+use Rattle.std.specs.Prelude.{IsOk, IsErr}
 use Rattle.std.specs.List.{Contains}
 use Rattle.std.specs.Option.{option_or}
 use Rattle.std.specs.Fmt.{decimal}
@@ -126,8 +126,8 @@ abbrev pub summary : (lines : ℕ) → List Reply → List ℕ
 summary lines rs = summary_text lines (count_by is_done rs) (count_by is_other rs) (count_by is_error rs)
     (size_given rs)
 
--- What these commands wrote: each from the bytes on that were there before it, the first from those that the start left,
--- which formatted eight roots and opened them; and after the last nothing, where the job came to its output.
+-- What these commands wrote: each from the bytes on that were there before it, the first from those that the start
+-- left, which formatted eight roots and opened them; and after the last nothing, where the job came to its output.
 pub record IsGeneratedWithin (rules : List Rule) (answers : Answers) (turns : List Turn) (Whole : Type 0)
     (old new : Medium) : Type 0 where
   pub begun : DiskBytes

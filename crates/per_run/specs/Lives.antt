@@ -1,7 +1,7 @@
 -- The jobs of the program as steps of a life: an audit, a listing and an export look, and so does an import whose input
 -- is not read whole; any other import is one of a storage of the application, or of another one. Of a run it is
 -- `ran_of`; a run that stays is one on the disk that it started on.
-use Rattle.std.specs.Prelude.{◌≡◌, ◌≢◌, ℕ, List, Bool, true, false, IsTrue, None, Option}
+use Rattle.std.specs.Prelude.{◌≡◌, ℕ, List, Bool, true, false, IsTrue, None, Option}
 use Rattle.std.proofs.Common.{refl, subst, ⊎_elim}
 use Rattle.disk_model.specs.Medium.{EachCase, Medium}
 use Rattle.migrate_fns.specs.Rules.{Answers, Rule}

@@ -1,8 +1,8 @@
 -- What the parts of a run keep, from line to line and from byte to byte. Of bytes `before` and `now` are what the sink
 -- took before and has taken now, `left_before` and `left_now` what the source has left, each None where nothing is said
 -- of it. `rules` are the converters of values between types, and `answers` what each may answer.
-use Rattle.std.specs.Prelude.{◌≡◌, ◌⊎◌, ◌≤◌, ◌<◌, ◌+◌, ◌*◌, ℕ, List, [], ◌∷◌, ◌++◌, length, take, Option, Bool, false, IsTrue}
-use Rattle.std.specs.Prelude.{Result, Ok, Err, IsErrOf, IfErr, count_by, ⊤}
+use Rattle.std.specs.Prelude.{◌≡◌, ◌⊎◌, ◌≤◌, ◌<◌, ◌+◌, ◌*◌, ℕ, List, [], ◌∷◌, ◌++◌, length, take, Option, Bool, false}
+use Rattle.std.specs.Prelude.{IsTrue, Result, Ok, Err, IsErrOf, IfErr, count_by, ⊤}
 use Rattle.std.specs.List.{AllByRecursion, flat_map}
 use Rattle.std.specs.Io.KnownBytes.{Appends, Consumes, IsAtEnd}
 use Rattle.per_base.specs.Causes.{Rose}

@@ -1,7 +1,7 @@
 //! From bytes to lines, and from lines to replies.
 
-ghost use Rattle.std.specs.Prelude.{◌≡◌, ◌⊎◌, ◌<◌, ◌+◌, ◌-◌, ◌^◌, ◌++◌, ℕ, List, [], ◌∷◌, true, false, Option, IfOk};
-ghost use Rattle.std.specs.Prelude.{IfErr, IfNone, IfSome, OnOk, length, min, take};
+ghost use Rattle.std.specs.Prelude.{◌≡◌, ◌≢◌, ◌⊎◌, ◌<◌, ◌+◌, ◌-◌, ◌^◌, ◌++◌, ℕ, List, [], ◌∷◌, true, false, Option};
+ghost use Rattle.std.specs.Prelude.{IfOk, IfErr, IfNone, IfSome, IsErrOf, IsTrue, None, OnOk, length, min, take};
 ghost use Rattle.disk_model.specs.Medium.{Elapses};
 ghost use Rattle.migrate_fns.specs.Stored.{answers_of, rules_of};
 ghost use Rattle.command_text.specs.Grammar.{IsEvent, IsLine};
@@ -10,7 +10,10 @@ ghost use Rattle.command_text.specs.declared.lines.Line.{Line};
 ghost use Rattle.run_model.specs.AppLaws.{AppLaws};
 ghost use Rattle.run_model.specs.Endings.{bad_line_text};
 ghost use Rattle.run_model.specs.Lines.{lines_of};
+ghost use Rattle.run_model.specs.Runtimes.{world_of};
 ghost use Rattle.per_runtime.specs.Memories.{IsRuntime, memory_of};
+ghost use Rattle.per_runtime.specs.Needs.{CommandMayStarve};
+ghost use Rattle.per_run.specs.Needs.{HandlingMayStarve, ReplyMayStarve};
 ghost use Rattle.per_run.specs.Steps.{Blamed, Blames, Course, Handled, HasNoFeed, IsBadLineAnswer, IsBroken};
 ghost use Rattle.per_run.specs.Steps.{PutsOutput, Reached};
 ghost use Rattle.per_run.specs.Steps.{ending_of};
@@ -135,6 +138,10 @@ pub fn finish<D: Disk, K: Sink>(
         (lines_of true given) (K.written sink.new) (D.medium disk.new) }
     ensures inner { (result ≡ Ending.AllRead) ⊎ IsBroken result }
     ensures blamed { Blamed result (K.faults sink.old) (K.faults sink.new) }
+    // Memory runs out only in the handling of the line that is kept.
+    ensures needs { IsTrue D.told → result ≡ Ending.OutOfMemory
+        → HandlingMayStarve D.told (rules_of migrations.now) (answers_of migrations.now) reader.old.kept.items
+        (memory_of reader.old.runtime) (memory_of reader.new.runtime) (D.medium disk.old) (D.medium disk.new) }
     ensures time { Elapses (D.medium disk.old) (D.medium disk.new) }
 {
     if reader.kept.as_slice().is_empty() {
@@ -172,6 +179,10 @@ fn feed_line<D: Disk, K: Sink>(
         → Course D.told (rules_of migrations.now) (answers_of migrations.now) (ending_of ending) (D.medium start) before
         (lines_of false (given ++ (line.now ++ 10 ∷ others))) (K.written sink.new) (D.medium disk.new)) }
     ensures memory { OnOk result (IsRuntime D.told (D.medium disk.new) reader.new.runtime) }
+    // Memory runs out only where the bytes are put after those that are kept, or in the handling of the line.
+    ensures needs { IsTrue D.told → IsErrOf result Ending.OutOfMemory → (reader.old.kept.items ≢ [])
+        ⊎ HandlingMayStarve D.told (rules_of migrations.now) (answers_of migrations.now) (take 262145 line.now)
+        (memory_of reader.old.runtime) (memory_of reader.new.runtime) (D.medium disk.old) (D.medium disk.new) }
     ensures blames { Blames (K.faults sink.old) (K.faults sink.new) result }
     ensures time { Elapses (D.medium disk.old) (D.medium disk.new) }
 {
@@ -229,6 +240,9 @@ fn handle_whole<D: Disk, K: Sink>(
         → Course D.told (rules_of migrations.now) (answers_of migrations.now) (ending_of ending) (D.medium start) before
         (lines ++ text ∷ others) (K.written sink.new) (D.medium disk.new)) }
     ensures memory { OnOk result (IsRuntime D.told (D.medium disk.new) reader.new.runtime) }
+    ensures needs { IsTrue D.told → IsErrOf result Ending.OutOfMemory
+        → HandlingMayStarve D.told (rules_of migrations.now) (answers_of migrations.now) (take 262145 line.now)
+        (memory_of reader.old.runtime) (memory_of reader.new.runtime) (D.medium disk.old) (D.medium disk.new) }
     ensures blames { Blames (K.faults sink.old) (K.faults sink.new) result }
     ensures time { Elapses (D.medium disk.old) (D.medium disk.new) }
 {
@@ -276,6 +290,9 @@ fn handle_line<D: Disk, K: Sink>(
         → Course D.told (rules_of migrations.now) (answers_of migrations.now) (ending_of ending) (D.medium start) before
         (lines ++ text ∷ others) (K.written sink.new) (D.medium disk.new)) }
     ensures memory { OnOk result (IsRuntime D.told (D.medium disk.new) reader.new.runtime) }
+    ensures needs { IsTrue D.told → IsErrOf result Ending.OutOfMemory
+        → HandlingMayStarve D.told (rules_of migrations.now) (answers_of migrations.now) reader.old.kept.items
+        (memory_of reader.old.runtime) (memory_of reader.new.runtime) (D.medium disk.old) (D.medium disk.new) }
     ensures blames { Blames (K.faults sink.old) (K.faults sink.new) result }
     ensures time { Elapses (D.medium disk.old) (D.medium disk.new) }
 {
@@ -325,6 +342,11 @@ fn handle_text<D: Disk, K: Sink>(
         → Course D.told (rules_of migrations.now) (answers_of migrations.now) (ending_of ending) (D.medium start) before
         (lines ++ whole ∷ others) (K.written sink.new) (D.medium disk.new)) }
     ensures memory { OnOk result (IsRuntime D.told (D.medium disk.new) runtime.new) }
+    // Memory runs out only for a line that may need it, for the reply's text once the command is done, or for the
+    // answer to a line outside the grammar.
+    ensures needs { IsTrue D.told → IsErrOf result Ending.OutOfMemory
+        → HandlingMayStarve D.told (rules_of migrations.now) (answers_of migrations.now) text.now
+        (memory_of runtime.old) (memory_of runtime.new) (D.medium disk.old) (D.medium disk.new) }
     ensures blames { Blames (K.faults sink.old) (K.faults sink.new) result }
     ensures time { Elapses (D.medium disk.old) (D.medium disk.new) }
 {
@@ -366,6 +388,12 @@ fn handle_event<D: Disk, K: Sink>(
         → Course D.told (rules_of migrations.now) (answers_of migrations.now) (ending_of ending) (D.medium start) before
         (lines ++ text ∷ others) (K.written sink.new) (D.medium disk.new)) }
     ensures memory { OnOk result (IsRuntime D.told (D.medium disk.new) runtime.new) }
+    // Memory runs out only for a command that may need it, or for the reply's text once the command is done.
+    ensures needs { IsTrue D.told → IsErrOf result Ending.OutOfMemory → (text : List ℕ)
+        → IsLine text (Line.Event event.now)
+        → CommandMayStarve (world_of (D.medium disk.old).image (memory_of runtime.old) None) event.now
+        ⊎ ReplyMayStarve D.told (rules_of migrations.now) (answers_of migrations.now) text
+        (memory_of runtime.old) (memory_of runtime.new) (D.medium disk.old) (D.medium disk.new) }
     ensures blames { Blames (K.faults sink.old) (K.faults sink.new) result }
     ensures time { Elapses (D.medium disk.old) (D.medium disk.new) }
 {

@@ -1,5 +1,5 @@
 -- The disk is audited, and the text is that of what was listed and found; or the disk failed, or memory ran out.
-use Rattle.std.proofs.Common.{Err, ap, inl, inr, refl, arith, ◌∙◌}
+use Rattle.std.proofs.Common.{Err, ap, inl, inr, refl, ◌∙◌}
 use Rattle.per_run.specs.declared.words.JobKind.TheVariants.{Audit}
 use Rattle.per_run.specs.Jobs.{by_disk}
 use Rattle.per_run.proofs.Answered.{audits_none}

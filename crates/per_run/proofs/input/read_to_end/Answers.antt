@@ -1,5 +1,5 @@
 -- One more piece; or the end, and why there was none.
-use Rattle.std.proofs.Common.{◌≤◌, ◌<◌, length, take, arith}
+use Rattle.std.proofs.Common.{◌≤◌, length, take, arith}
 use Rattle.per_run.proofs.Wholes.{cut_at_limit, cut_by_memory, cut_by_source, more_taken, more_within, taken_whole}
 use Rattle.per_run.proofs.input.read_to_end.Goals as goal
 

@@ -1,5 +1,5 @@
 -- The bytes that were taken are the whole so far, and no count of faults fell.
-use Rattle.std.proofs.Common.{ℕ, List, ◌≤◌, ◌<◌, ◌-◌, length, Option}
+use Rattle.std.proofs.Common.{ℕ, ◌≤◌, ◌<◌, ◌-◌, length}
 use Rattle.std.specs.Io.KnownBytes.{Consumes}
 use Rattle.per_run.proofs.input.read_to_end.Given as goal
 

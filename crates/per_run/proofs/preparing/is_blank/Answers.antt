@@ -1,5 +1,5 @@
 -- A file has a byte; or none has.
-use Rattle.std.proofs.Common.{◌≤◌, ◌<◌, ℕ, ap, arith, length, refl, subst, ◌∙◌}
+use Rattle.std.proofs.Common.{ℕ, ap, arith, length, refl, subst, ◌∙◌}
 use Rattle.disk_model.specs.Image.{Image}
 use Rattle.disk_model.specs.Laws.{elapses_none, elapses_on, reads_none, reads_on}
 use Rattle.per_base.specs.Causes.{Rose}

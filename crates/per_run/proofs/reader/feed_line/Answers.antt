@@ -1,5 +1,5 @@
 -- The line is kept and handled, or the handling ends at it.
-use Rattle.std.proofs.Common.{◌∷◌, ◌++◌, ◌∙◌, take, Result, Ok, Err, OnOk}
+use Rattle.std.proofs.Common.{◌∷◌, ◌++◌, ◌∙◌, inr, take, Result, Ok, Err, OnOk}
 use Rattle.std.proofs.lemmas.Result.{IfErr-weaker}
 use Rattle.per_run.specs.Steps.{ending_of}
 use Rattle.per_run.proofs.Fronts.{front_alone, is_empty}
@@ -44,3 +44,6 @@ returns-in-Err-handle_line-clause-ends g c = λ laws start before given others s
     ends_line _ _ _ _ before (ending_of c.in-Err-handle_line.ending) given c.args.line.now others _ _ _ _ _ _ _ _ small
     reached c.requires.clean c.in-Ok.ensures.kept
     (λ lines more text. c.in-Err-handle_line.ensures.ends laws start before lines more text)
+
+pub returns-then-is_empty-clause-needs : goal.returns-then-is_empty-clause-needs
+returns-then-is_empty-clause-needs g c = λ told starved. inr (c.handle_whole.ensures.needs told starved)

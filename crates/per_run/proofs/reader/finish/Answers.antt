@@ -1,6 +1,7 @@
 -- No line is left, or the last one is handled.
-use Rattle.std.proofs.Common.{ℕ, List, [], length, Bool, false, ◌==◌, ◌≡◌, ◌∙◌, ap, arith}
+use Rattle.std.proofs.Common.{ℕ, List, [], length, Bool, Err, false, ◌==◌, ◌≡◌, ◌∙◌, ap, arith}
 use Rattle.std.proofs.lemmas.Bool.Decides.{nat_tests}
+use Rattle.per_run.specs.declared.endings.Ending.{Ending}
 use Rattle.per_run.specs.Steps.{ending_of}
 use Rattle.per_run.proofs.Fronts.{is_empty}
 use Rattle.per_run.proofs.Reaches.{ends_read, ends_last, ends_at_last}
@@ -26,3 +27,7 @@ returns-in-Err-clause-ends g c = λ laws start before given small reached.
     ends_at_last _ _ _ _ before (ending_of c.in-Err.ending) given _ _ _ _ _ _ _ small reached
     (some_is _ _ _ c.as_slice.ensures.value c.is_empty.ensures c.if-is_empty.false)
     (λ lines more text. c.in-Err.ensures.ends laws start before lines more text)
+
+pub returns-in-Err-clause-needs : goal.returns-in-Err-clause-needs
+returns-in-Err-clause-needs g c = λ told starved.
+    c.in-Err.ensures.needs told (ap (λ (e : Ending). Err e) starved)

@@ -1,5 +1,8 @@
 -- The line is the one that is kept, and its number the next.
-use Rattle.std.proofs.Common.{◌∙◌, arith}
+use Rattle.std.proofs.Common.{ℕ, List, ◌∙◌, subst, arith}
+use Rattle.migrate_fns.specs.Stored.{answers_of, rules_of}
+use Rattle.per_runtime.specs.Memories.{memory_of}
+use Rattle.per_run.specs.Needs.{HandlingMayStarve}
 use Rattle.per_run.proofs.reader.handle_line.Goals as goal
 
 pub returns-in-Ok-clause-goes_on : goal.returns-in-Ok-clause-goes_on
@@ -10,3 +13,10 @@ pub returns-in-Err-clause-ends : goal.returns-in-Err-clause-ends
 returns-in-Err-clause-ends g c = λ laws start before lines others text front number few handled.
     c.in-Err.ensures.ends laws start before lines others text (c.as_slice.ensures.value ∙ front)
     (omega (arith, c.saturating_add-number.ensures, number, few)) handled
+
+pub returns-in-Err-clause-needs : goal.returns-in-Err-clause-needs
+returns-in-Err-clause-needs g c = λ told starved.
+    subst (λ (t : List ℕ). HandlingMayStarve g.D.Disk.told (rules_of c.args.migrations.now)
+    (answers_of c.args.migrations.now) t (memory_of c.args.reader.now.runtime) (memory_of c.handle_text.new.runtime)
+    (g.D.Disk.medium c.args.disk.now) (g.D.Disk.medium c.handle_text.new.disk))
+    c.as_slice.ensures.value (c.in-Err.ensures.needs told starved)

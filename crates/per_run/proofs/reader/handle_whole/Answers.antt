@@ -1,5 +1,8 @@
 -- The line is the first bytes of the one that is given, and its number the next.
-use Rattle.std.proofs.Common.{◌∙◌, [], refl, arith}
+use Rattle.std.proofs.Common.{ℕ, List, ◌∙◌, [], refl, subst, arith}
+use Rattle.migrate_fns.specs.Stored.{answers_of, rules_of}
+use Rattle.per_runtime.specs.Memories.{memory_of}
+use Rattle.per_run.specs.Needs.{HandlingMayStarve}
 use Rattle.per_run.proofs.Fronts.{keeps_front}
 use Rattle.per_run.proofs.reader.handle_whole.Goals as goal
 
@@ -13,3 +16,10 @@ returns-in-Err-clause-ends g c = λ laws start before lines others text front nu
     c.in-Err.ensures.ends laws start before lines others text
     (keeps_front 262145 [] [] c.args.line.now _ refl (omega arith) ∙ front)
     (omega (arith, c.saturating_add-number.ensures, number, few)) handled
+
+pub returns-in-Err-clause-needs : goal.returns-in-Err-clause-needs
+returns-in-Err-clause-needs g c = λ told starved.
+    subst (λ (t : List ℕ). HandlingMayStarve g.D.Disk.told (rules_of c.args.migrations.now)
+    (answers_of c.args.migrations.now) t (memory_of c.args.reader.now.runtime) (memory_of c.handle_text.new.runtime)
+    (g.D.Disk.medium c.args.disk.now) (g.D.Disk.medium c.handle_text.new.disk))
+    (keeps_front 262145 [] [] c.args.line.now _ refl (omega arith)) (c.in-Err.ensures.needs told starved)

@@ -1,4 +1,5 @@
--- The root is recovered, and what is written is which was taken, or why none was; or the disk failed, or memory ran out.
+-- The root is recovered, and what is written is which was taken, or why none was; or the disk failed, or memory ran
+-- out.
 use Rattle.std.proofs.Common.{Err, ap, arith, inl, inr, refl, ◌∙◌}
 use Rattle.root_recovery.specs.Recoveries.{IsRefused, row_answered}
 use Rattle.root_recovery.specs.Texts.{recovery_text}

@@ -1,11 +1,10 @@
 -- The text of the reply is the line of the error.
-use Rattle.std.proofs.Common.{List, [], ◌≡◌, ◌++◌, ◌∙◌, ap, codes, refl}
+use Rattle.std.proofs.Common.{List, [], ◌≡◌, ◌∙◌, ap}
 use Rattle.std.proofs.lemmas.Result.{IfOk-weaker}
 use Rattle.per_base.specs.declared.errors.PerError.{PerError}
 use Rattle.per_base.specs.declared.reports.Report.{Report}
 use Rattle.command_text.specs.Replies.{reply_text}
 use Rattle.command_text.specs.declared.replies.Answer.TheVariants as answer
-use Rattle.command_text.specs.declared.replies.Reply.{Reply}
 use Rattle.per_run.specs.Jobs.{error_line}
 use Rattle.per_run.proofs.refusing.write_refusal.Goals as goal
 

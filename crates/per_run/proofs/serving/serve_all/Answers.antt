@@ -1,7 +1,7 @@
 -- A piece is taken and handled; or the input ends, fails, or is too long.
 use Rattle.std.proofs.Common.{arith}
 use Rattle.disk_model.specs.Laws.{elapses_on}
-use Rattle.per_run.proofs.Listens.{served_long, served_piece, served_read, served_source, taken_more, taken_none}
+use Rattle.per_run.proofs.Listens.{served_long, served_piece, served_read, served_source, taken_more}
 use Rattle.per_run.proofs.serving.serve_all.Goals as goal
 
 pub returns-in-Ok-eq0-clause-served : goal.returns-in-Ok-eq0-clause-served
