@@ -1,6 +1,6 @@
 -- What an audit, a listing, a recovery, an export and an import promise: that the call was made, or that the job did
 -- not come to it.
-use Rattle.std.proofs.Common.{ℕ, List, [], ◌∷◌, ◌≡◌, ◌≢◌, ◌⊎◌, ◌<◌, inl, inr, refl, sym, ap, subst, arith, length}
+use Rattle.std.proofs.Common.{ℕ, List, [], ◌∷◌, ◌≡◌, ◌≢◌, ◌⊎◌, ◌<◌, ◌≤◌, ◌+◌, inl, inr, refl, sym, ap, subst, arith, length}
 use Rattle.std.proofs.Common.{◌∙◌, Option, Some, None, Bool, true, false, Result, Ok, Err, IfErr, IfSome, codes}
 use Rattle.std.proofs.KnownBytes.{Keeps-refl}
 use Rattle.std.specs.Prelude.{IsErr, IsSome, IsTrue}
@@ -14,7 +14,7 @@ use Rattle.per_audit.specs.declared.findings.Finding.{Finding}
 use Rattle.per_list.specs.Listings.{listing_text}
 use Rattle.per_list.specs.declared.forms.Form.{Form}
 use Rattle.root_recovery.specs.Clauses.{RecoveryKeeps}
-use Rattle.root_recovery.specs.Recoveries.{none_left}
+use Rattle.root_recovery.specs.Recoveries.{most_written, none_left}
 use Rattle.per_backup.specs.Backups.{exporting, importing_into}
 use Rattle.per_backup.specs.Clauses.{ImportKeeps}
 use Rattle.per_run.specs.declared.endings.Ending.{Ending}
@@ -71,8 +71,8 @@ lists_none told form status now old new is stays failed = record {
 
 pub recovers_none : (told : Bool) (app status : ℕ) (now : Option (List ℕ)) (old new : Medium)
     → (status ≡ 3) ⊎ (status ≡ 4) → (IsTrue told → RecoveryKeeps app old new)
-    → FailsAtThree status old.faults new.faults → Recovers told app status now now old new
-recovers_none told app status now old new is keeps failed = record {
+    → new.written ≤ old.written + most_written → FailsAtThree status old.faults new.faults → Recovers told app status now now old new
+recovers_none told app status now old new is keeps cost failed = record {
   row = none_left;
   ended = λ tells came. absurd (not_done status is came);
   output = writes_none status now _ is;
@@ -80,6 +80,7 @@ recovers_none told app status now old new is keeps failed = record {
   refused = λ nine. absurd (not_done status is (inl (inr (inr nine))));
   stays = λ came refused. absurd (not_done status is came);
   keeps = keeps;
+  written = cost;
   quiet = λ came. absurd (not_done status is came);
   failed = failed;
 }

@@ -315,7 +315,7 @@ done_none laws told medium (Import app name) rules answers left before source si
     })
 done_none laws told medium (RecoverRoot app) rules answers left before source sink disk lawful =
     recovers_none told app 4 before (medium disk) (medium disk) (inr refl)
-    (λ tells. recovery_keeps_none app (medium disk) lawful) (λ unfailed. refl)
+    (λ tells. recovery_keeps_none app (medium disk) lawful) (omega arith) (λ unfailed. refl)
 
 pub unread_none : {S : Type 0} (o : Option Job) (s : S) → IfSome o (λ job. reads_input job.kind ≡ false → s ≡ s)
 unread_none o s = each_is o (λ job. reads_input job.kind ≡ false → s ≡ s) (λ job reads. refl)

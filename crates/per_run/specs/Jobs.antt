@@ -35,7 +35,7 @@ use Rattle.per_audit.specs.declared.findings.Listed.{Listed}
 use Rattle.per_list.specs.Listings.{listing_text}
 use Rattle.per_list.specs.declared.forms.Form.{Form}
 use Rattle.root_recovery.specs.Clauses.{IsRecovered, RecoveryKeeps}
-use Rattle.root_recovery.specs.Recoveries.{IsRefused, RootRow}
+use Rattle.root_recovery.specs.Recoveries.{IsRefused, RootRow, most_written}
 use Rattle.root_recovery.specs.Texts.{recovery_text}
 use Rattle.per_backup.specs.Backups.{exporting, importing_into}
 use Rattle.per_backup.specs.Clauses.{ImportKeeps, Imported, IsAppSeen}
@@ -261,8 +261,9 @@ pub record Recovers (told : Bool) (app status : ℕ) (before now : Option (List 
   pub done : status ≡ 0 → ¬ (IsRefused row)
   pub refused : status ≡ 9 → IsRefused row
   pub stays : CameToOutput status → IsRefused row → LooksOnly old new
-  -- at every moment, however it ends
+  -- at every moment, and no more is written than the longest root costs, however it ends
   pub keeps : IsTrue told → RecoveryKeeps app old new
+  pub written : new.written ≤ old.written + most_written
   pub quiet : CameToOutput status → Quiet new
   pub failed : FailsAtThree status old.faults new.faults
 

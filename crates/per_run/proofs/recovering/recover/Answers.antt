@@ -21,6 +21,7 @@ returns-in-Ok-clause-job g c = record {
   stays = λ came refused. let leaves = c.in-Ok.ensures.refused refused in
       record { image = leaves.image; written = leaves.written; during = leaves.during };
   keeps = λ tells. c.recover_root.ensures.keeps tells;
+  written = c.recover_root.ensures.written;
   quiet = λ came. c.in-Ok.ensures.quiet;
   failed = λ unfailed. c.in-Ok.ensures.passes;
 }
@@ -32,7 +33,7 @@ returns-in-Ok-clause-caused g c = λ source. recover_caused _ _ _ _
 
 pub returns-in-Err-Device-clause-job : goal.returns-in-Err-Device-clause-job
 returns-in-Err-Device-clause-job g c = recovers_none _ _ _ _ _ _ (inl refl) c.recover_root.ensures.keeps
-    (λ unfailed. absurd (unfailed refl))
+    c.recover_root.ensures.written (λ unfailed. absurd (unfailed refl))
 
 pub returns-in-Err-Device-clause-caused : goal.returns-in-Err-Device-clause-caused
 returns-in-Err-Device-clause-caused g c = λ source. by_disk refl
@@ -40,6 +41,7 @@ returns-in-Err-Device-clause-caused g c = λ source. by_disk refl
 
 pub returns-in-Err-OutOfMemory-clause-job : goal.returns-in-Err-OutOfMemory-clause-job
 returns-in-Err-OutOfMemory-clause-job g c = recovers_none _ _ _ _ _ _ (inr refl) c.recover_root.ensures.keeps
+    c.recover_root.ensures.written
     (λ unfailed. c.recover_root.ensures.fed (c.in-Err-OutOfMemory.is ∙ ap Err c.in-Err-OutOfMemory.field-0-is))
 
 pub returns-in-Err-OutOfMemory-clause-caused : goal.returns-in-Err-OutOfMemory-clause-caused
