@@ -308,8 +308,8 @@ module _ (rules : List Rule) (answers : Answers) (entry start : World) (calm : s
             (going.stayed app lt clean (sound_front app (worlds_of turns) w' sound')));
         begun = going.begun;
         starts = going.starts;
-        bounded = bounded_on rules answers start going.begun turns t going.bounded (bounded_here turns e reply memory memory' doubt
-            old now new time going s);
+        bounded = bounded_on rules answers start going.begun turns t going.bounded
+            (bounded_here turns e reply memory memory' doubt old now new time going s);
         held = sym (after_on going.begun turns t);
         time = elapses_on going.time time;
       }

@@ -48,8 +48,8 @@ at_start image b lt = start_disk (app_at image) 0 8 b lt ∙ ap (λ (k : ℕ). r
 
 -- ---- a start that is under way
 
--- the roots below this number are opened, the others are as they were, and each application stood so at every moment; no
--- more is written than these roots cost
+-- the roots below this number are opened, the others are as they were, and each application stood so at every moment;
+-- no more is written than these roots cost
 pub record OpenedUpTo (count : ℕ) (old now : Medium) : Type 0 where
   pub moments : (b : ℕ) → b < 8 → IsCleanApp b old.image
       → EachCase (OrBefore old (StandsCase b (app_at old.image b) (reopened (app_at old.image b)))) old now

@@ -94,6 +94,13 @@ impl Value {
         has_type(&self.node, value_type)
     }
 
+    /// The length of the value's encoding in bytes, at most 65,536. It does not allocate.
+    pub fn encoded_len(&self) -> usize
+        ensures { result ≡ length (encoding self.now) }
+    {
+        encoded_length(&self.node)
+    }
+
     /// The node itself, borrowed. Its tree is the value, of which the rules hold.
     pub fn node(&self) -> &Node
         ensures tree { tree_of result.now ≡ self.now }
