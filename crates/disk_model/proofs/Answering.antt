@@ -1,6 +1,6 @@
 -- How the parts of a call of a disk in memory make a call.
-use Rattle.std.proofs.Common.{◌≡◌, ℕ, suc, ◌+◌, ◌≤◌, Bool, true, false, ◌||◌, List, [], ◌∷◌, ◌++◌, refl, sym, ap, ◌∙◌}
-use Rattle.std.proofs.Common.{subst, inr, le_refl, le_trans, le_of_eq, true≢false, arith, if◌then◌else◌}
+use Rattle.std.proofs.Common.{◌≡◌, ℕ, ◌+◌, ◌≤◌, Bool, true, false, List, [], ◌∷◌, ◌++◌, refl, sym, ap, ◌∙◌}
+use Rattle.std.proofs.Common.{subst, le_refl, le_trans, le_of_eq, arith, if◌then◌else◌}
 use Rattle.disk_model.specs.declared.history.Call.{Call}
 use Rattle.disk_model.specs.declared.history.Call.TheVariants.{Write, Sync, Read}
 use Rattle.disk_model.specs.declared.memory.MemDisk.{MemDisk}
@@ -9,12 +9,12 @@ use Rattle.disk_model.specs.Case.{WriteCase, WriteOrNot, Follows, Reaches}
 use Rattle.disk_model.specs.Medium.{Medium, Quiet, Elapses, OnlyReads, WritesNothing}
 use Rattle.disk_model.specs.History.{image_of, start_image, image_after, recorded, IsNoWrite}
 use Rattle.per_base.specs.Causes.{raised}
-use Rattle.disk_model.specs.Memory.{mem_medium, starved_count, is_planned, is_stopped, HasNoOrders, IsUnchanged}
+use Rattle.disk_model.specs.Memory.{mem_medium, IsUnchanged}
 use Rattle.disk_model.specs.Memory.{KeepsCounts, AnswersAsPlanned, FailsByMemoryAlone, Fails, Shows, SameRecord, Begins}
 use Rattle.disk_model.specs.Memory.{RunsOut}
 use Rattle.std.specs.Prelude.{Vec, Result, Ok, Err, OnErr, length}
 use Rattle.std.specs.declared.alloc.Global.{Global}
-use Rattle.disk_model.specs.Orders.{names, stops}
+use Rattle.disk_model.specs.lemmas.Answering.{fails_as_planned, planned_by_orders, fails_by_memory, memory_alone}
 use Rattle.disk_model.specs.HistoryLaws.{record_is_lawful}
 use Rattle.disk_model.proofs.Records.{image_after-append}
 use Rattle.disk_model.proofs.Pushed.{counted, pushed, read_more, sync_quiet, sync_writes_nothing, write_follows}
@@ -23,14 +23,14 @@ use Rattle.disk_model.proofs.Pushed.{write_reaches, write_during}
 -- what a disk shows is all that it is as a disk
 pub shown : (disk : MemDisk) (image start : Image) (calls : List Call) (written : ℕ)
     → Shows disk image start calls written
-    → (P : Medium → Type 0) → P (recorded image start calls disk.faults written) → P (mem_medium disk)
+    → (P : Medium → Type 0) → P (recorded image start calls disk.orders.faults written) → P (mem_medium disk)
 shown disk image start calls written shows P p =
-    let p1 = subst (λ i. P (recorded i start calls disk.faults written)) (sym shows.image_is) p in
-    let p2 = subst (λ s. P (recorded (image_of disk.files) s calls disk.faults written)) (sym shows.start_is) p1 in
-    let p3 = subst (λ cs. P (recorded (image_of disk.files) (start_image disk.files disk.start) cs disk.faults written))
-    (sym shows.calls_are) p2 in
-    subst (λ w. P (recorded (image_of disk.files) (start_image disk.files disk.start) disk.calls.items disk.faults w))
-    (sym shows.written_is) p3
+    let p1 = subst (λ i. P (recorded i start calls disk.orders.faults written)) (sym shows.image_is) p in
+    let p2 = subst (λ s. P (recorded (image_of disk.files) s calls disk.orders.faults written)) (sym shows.start_is) p1 in
+    let p3 = subst (λ cs. P (recorded (image_of disk.files) (start_image disk.files disk.start) cs disk.orders.faults
+    written)) (sym shows.calls_are) p2 in
+    subst (λ w. P (recorded (image_of disk.files) (start_image disk.files disk.start) disk.calls.items
+    disk.orders.faults w)) (sym shows.written_is) p3
 
 -- a call that writes nothing leaves what reads give
 pub note_tied : (calls calls' : List Call) (call : Call) (ok : Bool) (image start : Image) → IsNoWrite call
@@ -62,7 +62,7 @@ failed old new same later rose answers by_memory =
     let image = image_of old.files in
     let start = start_image old.files old.start in
     let calls = old.calls.items in
-    let law = record_is_lawful image start calls old.faults old.written old.tied in
+    let law = record_is_lawful image start calls old.orders.faults old.written old.tied in
     record {
       unchanged = shown new image start calls old.written same (λ m. IsUnchanged (mem_medium old) m)
           (record {
@@ -77,43 +77,21 @@ failed old new same later rose answers by_memory =
       reads = shown new image start calls old.written same (λ m. OnlyReads (mem_medium old) m)
           (record { image = refl; now = λ c now. now; during = λ c past. law.only_now c past; written = refl });
       time = shown new image start calls old.written same (λ m. Elapses (mem_medium old) m)
-          (counted image start calls old.faults new.faults old.written later);
+          (counted image start calls old.orders.faults new.orders.faults old.written later);
       cause = le_of_eq (sym rose);
       answers = answers;
       by_memory = by_memory;
     }
 
--- one and then the other: no plan and no stop, and what that means
-pub on_orders : (old mid : MemDisk) → Begins old mid false → HasNoOrders old → HasNoOrders mid
-on_orders old mid begins none = record {
-  planned = λ k. begins.planned k ∙ none.planned (suc k);
-  stopped = λ k. begins.stopped k ∙ none.stopped (suc k);
-}
-
 -- the plan or the stop makes a call fail
 pub begin_failed : (old new : MemDisk) → Begins old new true → SameRecord old new → Fails old new
 begin_failed old new begins same = failed old new same begins.later (begins.fails refl)
-    (record {
-      due = λ due. (refl, begins.starved);
-      starves = λ free fails. absurd (true≢false (begins.due ∙ free));
-      fails = begins.fails;
-      passes = λ passes. absurd (true≢false passes);
-      planned = begins.planned;
-      stopped = begins.stopped;
-    })
-    (λ none. absurd (true≢false (begins.due ∙ ap (λ b. b || is_stopped old 0) (none.planned 0) ∙ none.stopped 0)))
+    (fails_as_planned old.orders new.orders begins) (planned_by_orders old.orders new.orders begins)
 
 -- OutOfMemory makes a call fail
 pub want_failed : (old mid new : MemDisk) → Begins old mid false → SameRecord old mid → RunsOut mid new
     → SameRecord mid new → Fails old new
 want_failed old mid new begins first wants next =
-    let faults : (mem_medium new).faults ≡ raised (mem_medium old).faults =
-    wants.faults ∙ ap raised (begins.passes refl) in
-    let starved : starved_count new ≡ raised (starved_count old) = wants.starved ∙ ap raised begins.starved in
-    let planned : (k : ℕ) → is_planned new k ≡ is_planned old (suc k) =
-    λ k. ap (λ orders. names orders k) wants.orders ∙ begins.planned k in
-    let stopped : (k : ℕ) → is_stopped new k ≡ is_stopped old (suc k) =
-    λ k. ap (λ orders. stops orders k) wants.orders ∙ begins.stopped k in
     failed old new
     (record {
       image_is = next.image_is ∙ first.image_is;
@@ -121,23 +99,9 @@ want_failed old mid new begins first wants next =
       calls_are = next.calls_are ∙ first.calls_are;
       written_is = next.written_is ∙ first.written_is;
     })
-    (le_trans begins.later wants.later) faults
-    (record {
-      due = λ due. absurd (true≢false (sym due ∙ sym begins.due));
-      starves = λ free fails. starved;
-      fails = λ fails. faults;
-      passes = λ passes. absurd (true≢false passes);
-      planned = planned;
-      stopped = stopped;
-    })
-    (λ none. (
-      record {
-        planned = λ k. planned k ∙ none.planned (suc k);
-        stopped =
-            λ k. stopped k ∙ none.stopped (suc k);
-      },
-      inr (faults, starved),
-    ))
+    (le_trans begins.later wants.later) (wants.faults ∙ ap raised (begins.passes refl))
+    (fails_by_memory old.orders mid.orders new.orders begins wants)
+    (memory_alone old.orders mid.orders new.orders begins wants)
 
 pub on_err : {T E : Type 0} (r : Result T E) (P : Type 0) → P → OnErr r P
 on_err (Ok x) P p = tt
@@ -152,9 +116,9 @@ read_done old new counts shows =
     let start = start_image old.files old.start in
     let calls = old.calls.items in (
       shown new image start (calls ++ Read ∷ []) old.written shows (λ m. OnlyReads (mem_medium old) m)
-          (read_more image start calls old.faults new.faults old.written),
+          (read_more image start calls old.orders.faults new.orders.faults old.written),
       shown new image start (calls ++ Read ∷ []) old.written shows (λ m. Elapses (mem_medium old) m)
-          (pushed image start calls Read image old.faults new.faults old.written old.written
+          (pushed image start calls Read image old.orders.faults new.orders.faults old.written old.written
           (le_of_eq (sym counts.faults)) (le_refl _)),
     )
 
@@ -173,12 +137,12 @@ sync_done old new counts shows =
     let calls = old.calls.items in
     record {
       quiet = shown new image start (calls ++ Sync ∷ []) old.written shows (λ m. Quiet m)
-          (sync_quiet image start calls old.tied new.faults old.written);
+          (sync_quiet image start calls old.tied new.orders.faults old.written);
       writes_nothing = shown new image start (calls ++ Sync ∷ []) old.written shows
           (λ m. WritesNothing (mem_medium old) m)
-          (sync_writes_nothing image start calls old.faults new.faults old.written);
+          (sync_writes_nothing image start calls old.orders.faults new.orders.faults old.written);
       time = shown new image start (calls ++ Sync ∷ []) old.written shows (λ m. Elapses (mem_medium old) m)
-          (pushed image start calls Sync image old.faults new.faults old.written old.written
+          (pushed image start calls Sync image old.orders.faults new.orders.faults old.written old.written
           (le_of_eq (sym counts.faults)) (le_refl _));
     }
 
@@ -208,8 +172,8 @@ write_done old mid new file at bytes copy first copied next more =
       calls_are = next.calls_are ∙ ap (λ cs. cs ++ Write file at copy ∷ []) first.calls_are;
       written_is = next.written_is ∙ ap (λ w. w + length bytes) first.written_is;
     } in
-    let at_new : (P : Medium → Type 0) → P (recorded image' start (calls ++ Write file at copy ∷ []) new.faults count)
-    → P (mem_medium new) =
+    let at_new : (P : Medium → Type 0)
+    → P (recorded image' start (calls ++ Write file at copy ∷ []) new.orders.faults count) → P (mem_medium new) =
     shown new image' start (calls ++ Write file at copy ∷ []) count shows in
     record {
       image = shows.image_is;
@@ -219,7 +183,7 @@ write_done old mid new file at bytes copy first copied next more =
           (write_during image start calls file at copy bytes copied);
       written = shows.written_is;
       time = at_new (λ m. Elapses (mem_medium old) m)
-          (pushed image start calls (Write file at copy) image' old.faults new.faults old.written count more
+          (pushed image start calls (Write file at copy) image' old.orders.faults new.orders.faults old.written count more
           (omega arith));
       tears = at_new (λ m. Reaches (WriteCase file at bytes) (mem_medium old).now m.now)
           (write_reaches image start calls file at copy bytes copied);

@@ -197,8 +197,8 @@ some_stand pattern (Read ∷ calls) cases base image pending start =
 -- what reads give is an outcome
 pub kept : (disk : MemDisk) (image : Image) → image ≡ (mem_medium disk).image → IsOutcome (mem_medium disk) image
 kept disk image is =
-    let law = record_is_lawful (image_of disk.files) (start_image disk.files disk.start) disk.calls.items disk.faults
-    disk.written disk.tied in
+    let law = record_is_lawful (image_of disk.files) (start_image disk.files disk.start) disk.calls.items
+    disk.orders.faults disk.written disk.tied in
     subst (IsOutcome (mem_medium disk)) (sym is) (law.reads_one refl)
 
 -- what reads gave after the last sync is an outcome

@@ -1,22 +1,22 @@
 -- A disk in memory: what it is as a disk, which calls fail, and how it answers.
-use Rattle.std.specs.Prelude.{◌≡◌, ◌⊎◌, ◌↔◌, ℕ, suc, ◌≤◌, Bool, false, ◌||◌, List, [], true, IsTrue, IsFalse}
+use Rattle.std.specs.Prelude.{◌≡◌, ◌↔◌, ℕ, Bool, List, [], true, false}
 use Rattle.disk_model.specs.declared.memory.MemDisk.{MemDisk}
-use Rattle.per_base.specs.Causes.{Rose, raised}
+use Rattle.per_base.specs.Causes.{Rose}
 use Rattle.disk_model.specs.declared.history.Call.{Call}
 use Rattle.disk_model.specs.Image.{Image}
 use Rattle.disk_model.specs.Case.{Case}
 use Rattle.disk_model.specs.Medium.{Medium, Quiet, Elapses, OnlyReads}
 use Rattle.disk_model.specs.History.{image_of, start_image, recorded, base_after, pending_after, torn_after}
-use Rattle.disk_model.specs.Orders.{names, stops}
+use Rattle.disk_model.specs.Orders as of_orders
 
 -- what is said of a disk in memory as a disk
 abbrev pub mem_medium : MemDisk → Medium
-mem_medium disk = recorded (image_of disk.files) (start_image disk.files disk.start) disk.calls.items disk.faults
-    disk.written
+mem_medium disk = recorded (image_of disk.files) (start_image disk.files disk.start) disk.calls.items
+    (of_orders.fault_count disk.orders) disk.written
 
 -- how many calls failed because memory ran out
 abbrev pub starved_count : MemDisk → ℕ
-starved_count disk = disk.starved
+starved_count disk = of_orders.starved_count disk.orders
 
 -- what reads gave after the last sync
 abbrev pub synced_image : MemDisk → Image
@@ -29,20 +29,15 @@ torn_image disk pattern = torn_after pattern 0 (pending_after disk.calls.items [
 
 -- whether the plan names call k, the next one being 0
 abbrev pub is_planned : MemDisk → ℕ → Bool
-is_planned disk k = names disk.orders k
+is_planned disk k = of_orders.names disk.orders k
 
 -- whether call k comes after the stop
 abbrev pub is_stopped : MemDisk → ℕ → Bool
-is_stopped disk k = stops disk.orders k
-
--- whether the next call is to fail
-abbrev pub is_due : MemDisk → Bool
-is_due disk = is_planned disk 0 || is_stopped disk 0
+is_stopped disk k = of_orders.stops disk.orders k
 
 -- no call of the disk is planned to fail, and no stop is
-pub record HasNoOrders (disk : MemDisk) : Type 0 where
-  pub planned : (k : ℕ) → is_planned disk k ≡ false
-  pub stopped : (k : ℕ) → is_stopped disk k ≡ false
+abbrev pub HasNoOrders : MemDisk → Type 0
+HasNoOrders disk = of_orders.HasNoOrders disk.orders
 
 -- a disk that was just made: quiet, nothing counted, no plan and no stop
 pub record IsFresh (disk : MemDisk) : Type 0 where
@@ -62,30 +57,18 @@ pub record IsUnchanged (old new : Medium) : Type 0 where
   pub written : new.written ≡ old.written
 
 -- the counts of faults and of failed allocations stay
-pub record KeepsCounts (old new : MemDisk) : Type 0 where
-  pub faults : (mem_medium new).faults ≡ (mem_medium old).faults
-  pub starved : starved_count new ≡ starved_count old
+abbrev pub KeepsCounts : MemDisk → MemDisk → Type 0
+KeepsCounts old new = of_orders.KeepsCounts old.orders new.orders
 
 -- How a call answers, by the disk before and after it and whether it failed: it fails where the plan names it and where
 -- it comes after the stop, and else because memory ran out alone, which is counted beside the fault.
-pub record AnswersAsPlanned (old new : MemDisk) (failed : Bool) : Type 0 where
-  -- a call that is to fail fails, and not because memory ran out
-  pub due : IsTrue (is_due old) → IsTrue failed × (starved_count new ≡ starved_count old)
-  -- any other fails only because memory ran out
-  pub starves : IsFalse (is_due old) → IsTrue failed → starved_count new ≡ raised (starved_count old)
-  -- a failure counts as one fault, and a success as none
-  pub fails : IsTrue failed → (mem_medium new).faults ≡ raised (mem_medium old).faults
-  pub passes : IsFalse failed → KeepsCounts old new
-  -- the next call is now number 0
-  pub planned : (k : ℕ) → is_planned new k ≡ is_planned old (suc k)
-  pub stopped : (k : ℕ) → is_stopped new k ≡ is_stopped old (suc k)
+abbrev pub AnswersAsPlanned : MemDisk → MemDisk → Bool → Type 0
+AnswersAsPlanned old new failed = of_orders.AnswersAsPlanned old.orders new.orders failed
 
 -- a disk with no plan and no stop has none after the call either, and its faults rise only together with the count of
 -- failed allocations
 abbrev pub FailsByMemoryAlone : MemDisk → MemDisk → Type 0
-FailsByMemoryAlone old new = HasNoOrders old → HasNoOrders new
-    × (KeepsCounts old new ⊎ (((mem_medium new).faults ≡ raised (mem_medium old).faults)
-    × (starved_count new ≡ raised (starved_count old))))
+FailsByMemoryAlone old new = of_orders.FailsByMemoryAlone old.orders new.orders
 
 -- a call that fails changes nothing but the counts and the orders
 pub record Fails (old new : MemDisk) : Type 0 where
@@ -110,14 +93,8 @@ abbrev pub SameRecord : MemDisk → MemDisk → Type 0
 SameRecord old new = Shows new (image_of old.files) (start_image old.files old.start) old.calls.items old.written
 
 -- a call is counted among the orders, and fails where they say so
-pub record Begins (old new : MemDisk) (failed : Bool) : Type 0 where
-  pub due : failed ≡ is_due old
-  pub later : (mem_medium old).faults ≤ (mem_medium new).faults
-  pub starved : starved_count new ≡ starved_count old
-  pub fails : IsTrue failed → (mem_medium new).faults ≡ raised (mem_medium old).faults
-  pub passes : IsFalse failed → (mem_medium new).faults ≡ (mem_medium old).faults
-  pub planned : (k : ℕ) → is_planned new k ≡ is_planned old (suc k)
-  pub stopped : (k : ℕ) → is_stopped new k ≡ is_stopped old (suc k)
+abbrev pub Begins : MemDisk → MemDisk → Bool → Type 0
+Begins old new failed = of_orders.Begins old.orders new.orders failed
 
 -- the rest of a call succeeds
 pub record Succeeds (old new : MemDisk) : Type 0 where
@@ -125,11 +102,8 @@ pub record Succeeds (old new : MemDisk) : Type 0 where
   pub orders : new.orders ≡ old.orders
 
 -- the rest of a call fails because memory ran out
-pub record RunsOut (old new : MemDisk) : Type 0 where
-  pub later : (mem_medium old).faults ≤ (mem_medium new).faults
-  pub faults : (mem_medium new).faults ≡ raised (mem_medium old).faults
-  pub starved : starved_count new ≡ raised (starved_count old)
-  pub orders : new.orders ≡ old.orders
+abbrev pub RunsOut : MemDisk → MemDisk → Type 0
+RunsOut old new = of_orders.RunsOut old.orders new.orders
 
 -- a call that succeeds: it was not to fail, and the counts stay
 pub record Passes (old new : MemDisk) : Type 0 where

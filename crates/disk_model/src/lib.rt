@@ -6,8 +6,8 @@
 //! were written and past the old ends.
 //!
 //! [`MemDisk`] meets it in memory and answers for every moment: it fails where it is asked to, stops after a number of
-//! calls, takes damage, and crashes with the writes since the last sync kept, lost or torn. [`Place`] names the files
-//! of a storage's copies.
+//! calls, takes damage, and crashes with the writes since the last sync kept, lost or torn. [`Orders`] says which calls
+//! of a device in memory are to fail, and counts those that did. [`Place`] names the files of a storage's copies.
 //!
 //! The definitions that the crates above share are in `specs/`: images, cases, frames of writes, soundness and
 //! damage. Limits: a disk is used by one caller at a time, and a disk whose bytes are not modelled promises only

@@ -31,8 +31,6 @@ pub struct MemDisk {
     calls: Vec<Call>,
     files: WrittenFiles,
     orders: Orders,
-    faults: u64,
-    starved: u64,
     written: u64,
     ghost tied: { image_of files ≡ image_after calls.items (start_image files start) },
 }
@@ -152,7 +150,7 @@ impl MemDisk {
     pub fn starved(&self) -> u64
         ensures { result ≡ starved_count self.now }
     {
-        self.starved
+        self.orders.starved()
     }
 
     /// How many bytes the completed writes had.
@@ -173,8 +171,6 @@ impl MemDisk {
             calls: Vec::new(alloc),
             files,
             orders: Orders::none(alloc),
-            faults: 0,
-            starved: 0,
             written: 0,
         }
     }
@@ -198,8 +194,7 @@ impl MemDisk {
         ensures record { SameRecord self.old self.new }
         ensures begun { Begins self.old self.new (is_err result) }
     {
-        if self.orders.take() {
-            self.faults = self.faults.saturating_add(1);
+        if self.orders.begin() {
             return Err(DiskFailed);
         }
         Ok(())
@@ -210,8 +205,7 @@ impl MemDisk {
         ensures record { SameRecord self.old self.new }
         ensures wants { RunsOut self.old self.new }
     {
-        self.faults = self.faults.saturating_add(1);
-        self.starved = self.starved.saturating_add(1);
+        self.orders.starve();
         DiskFailed
     }
 
@@ -279,7 +273,7 @@ impl Disk for MemDisk {
     ghost medium = { mem_medium };
 
     ghost lawful = { λ disk. record_is_lawful (image_of disk.files) (start_image disk.files disk.start) disk.calls.items
-        disk.faults disk.written disk.tied };
+        disk.orders.faults disk.written disk.tied };
 
     fn read(&mut self, file: u32, at: u64, out: &mut [u8]) -> Result<usize, DiskFailed>
         // What every disk says (`Disk::read`).

@@ -4,7 +4,8 @@ use Rattle.std.proofs.Common.{subst, inl, le_refl, le_trans, le_of_eq, true≢fa
 use Rattle.std.specs.Prelude.{Result, Ok, Err, OnErr}
 use Rattle.flash_model.specs.declared.memory.MemFlash.{MemFlash}
 use Rattle.flash_model.specs.declared.record.FlashCall.{FlashCall}
-use Rattle.disk_model.specs.Orders.{names, stops}
+use Rattle.disk_model.specs.Orders.{names, stops, fault_count}
+use Rattle.disk_model.specs.lemmas.Answering.{fails_as_planned, fails_by_memory}
 use Rattle.per_base.specs.Causes.{raised}
 use Rattle.flash_model.specs.Pages.{Pages}
 use Rattle.flash_model.specs.State.{FlashState, FlashCase, IsStill, IsLeftBy}
@@ -13,17 +14,17 @@ use Rattle.flash_model.specs.History.{blank_state, state_after, state_after_call
 use Rattle.flash_model.specs.History.{IsNoChange}
 use Rattle.flash_model.specs.declared.record.FlashCall.TheVariants.{Announce, Settle, Read, Program, Erase}
 use Rattle.flash_model.specs.HistoryLaws.{counts_now, only_now}
-use Rattle.flash_model.specs.Memory.{mem_flash, starved_count, IsUnchanged, AnswersAsPlanned, Fails, Shows, SameRecord}
+use Rattle.flash_model.specs.Memory.{mem_flash, IsUnchanged, AnswersAsPlanned, Fails, Shows, SameRecord}
 use Rattle.flash_model.specs.Memory.{Begins}
 use Rattle.flash_model.specs.Memory.{RunsOut, Succeeds}
 use Rattle.flash_model.proofs.Pushed.{state_after-append, during, within, pushed}
 
 -- what a flash shows is all that it is as a flash
 pub shown : (flash : MemFlash) (blocks : ℕ) (calls : List FlashCall) → Shows flash blocks calls
-    → (P : FlashMedium → Type 0) → P (recorded blocks calls flash.faults) → P (mem_flash flash)
+    → (P : FlashMedium → Type 0) → P (recorded blocks calls (fault_count flash.orders)) → P (mem_flash flash)
 shown flash blocks calls shows P p =
-    let p1 = subst (λ b. P (recorded b calls flash.faults)) (sym shows.blocks_are) p in
-    subst (λ cs. P (recorded flash.blocks cs flash.faults)) (sym shows.calls_are) p1
+    let p1 = subst (λ b. P (recorded b calls (fault_count flash.orders))) (sym shows.blocks_are) p in
+    subst (λ cs. P (recorded flash.blocks cs (fault_count flash.orders))) (sym shows.calls_are) p1
 
 pub on_err : {T E : Type 0} (r : Result T E) (P : Type 0) → P → OnErr r P
 on_err (Ok x) P p = tt
@@ -58,33 +59,16 @@ failed old new same later rose answers =
 -- the plan or the stop makes a call fail
 pub begin_failed : (old new : MemFlash) → Begins old new true → SameRecord old new → Fails old new
 begin_failed old new begins same = failed old new same begins.later (begins.fails refl)
-    (record {
-      due = λ due. (refl, begins.starved);
-      starves = λ free fails. absurd (true≢false (begins.due ∙ free));
-      fails = begins.fails;
-      passes = λ passes. absurd (true≢false passes);
-      planned = begins.planned;
-      stopped = begins.stopped;
-    })
+    (fails_as_planned old.orders new.orders begins)
 
 -- OutOfMemory makes a call fail
 pub want_failed : (old mid new : MemFlash) → Begins old mid false → SameRecord old mid → RunsOut mid new
     → SameRecord mid new → Fails old new
 want_failed old mid new begins first wants next =
-    let faults : (mem_flash new).faults ≡ raised (mem_flash old).faults =
-    wants.faults ∙ ap raised (begins.passes refl) in
-    let starved : starved_count new ≡ raised (starved_count old) = wants.starved ∙ ap raised begins.starved in
     failed old new
     (record { blocks_are = next.blocks_are ∙ first.blocks_are; calls_are = next.calls_are ∙ first.calls_are })
-    (le_trans begins.later wants.later) faults
-    (record {
-      due = λ due. absurd (true≢false (sym due ∙ sym begins.due));
-      starves = λ free fails. starved;
-      fails = λ fails. faults;
-      passes = λ passes. absurd (true≢false passes);
-      planned = λ k. ap (λ orders. names orders k) wants.orders ∙ begins.planned k;
-      stopped = λ k. ap (λ orders. stops orders k) wants.orders ∙ begins.stopped k;
-    })
+    (le_trans begins.later wants.later) (wants.faults ∙ ap raised (begins.passes refl))
+    (fails_by_memory old.orders mid.orders new.orders begins wants)
 
 -- a call that succeeds
 pub record Done (call : FlashCall) (old new : MemFlash) : Type 0 where
@@ -99,7 +83,7 @@ pub call_done : (old new : MemFlash) (call : FlashCall) → (mem_flash old).faul
     → Shows new old.blocks (old.calls.items ++ call ∷ []) → Done call old new
 call_done old new call more shows =
     let calls = old.calls.items in
-    let at_new : (P : FlashMedium → Type 0) → P (recorded old.blocks (calls ++ call ∷ []) new.faults)
+    let at_new : (P : FlashMedium → Type 0) → P (recorded old.blocks (calls ++ call ∷ []) (fault_count new.orders))
     → P (mem_flash new) =
     shown new old.blocks (calls ++ call ∷ []) shows in
     record {
@@ -111,7 +95,8 @@ call_done old new call more shows =
           (λ c past. during calls call blank_state c past);
       within = at_new (λ m. (c : FlashCase) → call_case call (mem_flash old).state c → m.since (mem_flash old).moment c)
           (λ c case. within calls call blank_state c case);
-      time = at_new (λ m. FlashElapses (mem_flash old) m) (pushed old.blocks calls call old.faults new.faults more);
+      time = at_new (λ m. FlashElapses (mem_flash old) m)
+          (pushed old.blocks calls call (fault_count old.orders) (fault_count new.orders) more);
     }
 
 -- a record after some steps is what it was at first with one call more
@@ -138,7 +123,8 @@ want_after old mid next new begins first second succeeds third wants = want_fail
       later = le_trans (le_of_eq (sym succeeds.counts.faults)) wants.later;
       faults = wants.faults ∙ ap raised succeeds.counts.faults;
       starved = wants.starved ∙ ap raised succeeds.counts.starved;
-      orders = wants.orders ∙ succeeds.orders;
+      planned = λ k. wants.planned k ∙ ap (λ orders. names orders k) succeeds.orders;
+      stopped = λ k. wants.stopped k ∙ ap (λ orders. stops orders k) succeeds.orders;
     })
     (record { blocks_are = third.blocks_are ∙ second.blocks_are; calls_are = third.calls_are ∙ second.calls_are })
 

@@ -1,7 +1,7 @@
 -- A flash in memory: what it is as a flash, which calls fail, and how it answers.
-use Rattle.std.specs.Prelude.{◌≡◌, ◌↔◌, ℕ, suc, ◌≤◌, Bool, true, false, ◌||◌, List, IsTrue, IsFalse}
-use Rattle.per_base.specs.Causes.{Rose, raised}
-use Rattle.disk_model.specs.Orders.{names, stops}
+use Rattle.std.specs.Prelude.{◌≡◌, ◌↔◌, ℕ, Bool, true, false, List}
+use Rattle.per_base.specs.Causes.{Rose}
+use Rattle.disk_model.specs.Orders as of_orders
 use Rattle.flash_model.specs.declared.memory.MemFlash.{MemFlash}
 use Rattle.flash_model.specs.declared.record.FlashCall.{FlashCall}
 use Rattle.flash_model.specs.State.{FlashCase, IsStill}
@@ -10,28 +10,23 @@ use Rattle.flash_model.specs.History.{blank_state, recorded}
 
 -- what is said of it as a flash
 abbrev pub mem_flash : MemFlash → FlashMedium
-mem_flash flash = recorded flash.blocks flash.calls.items flash.faults
+mem_flash flash = recorded flash.blocks flash.calls.items (of_orders.fault_count flash.orders)
 
 -- how many calls failed because memory ran out
 abbrev pub starved_count : MemFlash → ℕ
-starved_count flash = flash.starved
+starved_count flash = of_orders.starved_count flash.orders
 
 -- whether the plan names call k, the next one being 0
 abbrev pub is_planned : MemFlash → ℕ → Bool
-is_planned flash k = names flash.orders k
+is_planned flash k = of_orders.names flash.orders k
 
 -- whether call k comes after the stop
 abbrev pub is_stopped : MemFlash → ℕ → Bool
-is_stopped flash k = stops flash.orders k
-
--- whether the next call is to fail
-abbrev pub is_due : MemFlash → Bool
-is_due flash = is_planned flash 0 || is_stopped flash 0
+is_stopped flash k = of_orders.stops flash.orders k
 
 -- no call of the flash is planned to fail, and no stop is
-pub record HasNoOrders (flash : MemFlash) : Type 0 where
-  pub planned : (k : ℕ) → is_planned flash k ≡ false
-  pub stopped : (k : ℕ) → is_stopped flash k ≡ false
+abbrev pub HasNoOrders : MemFlash → Type 0
+HasNoOrders flash = of_orders.HasNoOrders flash.orders
 
 -- a flash that was just made: every page is blank, nothing is announced or counted, and there is no plan and no stop
 pub record IsFresh (flash : MemFlash) : Type 0 where
@@ -48,20 +43,13 @@ pub record IsUnchanged (old new : FlashMedium) : Type 0 where
   pub since : (t : ℕ) (c : FlashCase) → new.since t c ↔ old.since t c
 
 -- the counts of faults and of failed allocations stay
-pub record KeepsCounts (old new : MemFlash) : Type 0 where
-  pub faults : (mem_flash new).faults ≡ (mem_flash old).faults
-  pub starved : starved_count new ≡ starved_count old
+abbrev pub KeepsCounts : MemFlash → MemFlash → Type 0
+KeepsCounts old new = of_orders.KeepsCounts old.orders new.orders
 
 -- How a call answers: it fails where the plan names it and where it comes after the stop, and else because memory ran
 -- out alone, which is counted beside the fault.
-pub record AnswersAsPlanned (old new : MemFlash) (failed : Bool) : Type 0 where
-  pub due : IsTrue (is_due old) → IsTrue failed × (starved_count new ≡ starved_count old)
-  pub starves : IsFalse (is_due old) → IsTrue failed → starved_count new ≡ raised (starved_count old)
-  pub fails : IsTrue failed → (mem_flash new).faults ≡ raised (mem_flash old).faults
-  pub passes : IsFalse failed → KeepsCounts old new
-  -- the next call is now number 0
-  pub planned : (k : ℕ) → is_planned new k ≡ is_planned old (suc k)
-  pub stopped : (k : ℕ) → is_stopped new k ≡ is_stopped old (suc k)
+abbrev pub AnswersAsPlanned : MemFlash → MemFlash → Bool → Type 0
+AnswersAsPlanned old new failed = of_orders.AnswersAsPlanned old.orders new.orders failed
 
 -- a call that fails changes nothing but the counts and the orders
 pub record Fails (old new : MemFlash) : Type 0 where
@@ -83,14 +71,8 @@ abbrev pub SameRecord : MemFlash → MemFlash → Type 0
 SameRecord old new = Shows new old.blocks old.calls.items
 
 -- a call is counted among the orders, and fails where they say so
-pub record Begins (old new : MemFlash) (failed : Bool) : Type 0 where
-  pub due : failed ≡ is_due old
-  pub later : (mem_flash old).faults ≤ (mem_flash new).faults
-  pub starved : starved_count new ≡ starved_count old
-  pub fails : IsTrue failed → (mem_flash new).faults ≡ raised (mem_flash old).faults
-  pub passes : IsFalse failed → (mem_flash new).faults ≡ (mem_flash old).faults
-  pub planned : (k : ℕ) → is_planned new k ≡ is_planned old (suc k)
-  pub stopped : (k : ℕ) → is_stopped new k ≡ is_stopped old (suc k)
+abbrev pub Begins : MemFlash → MemFlash → Bool → Type 0
+Begins old new failed = of_orders.Begins old.orders new.orders failed
 
 -- the rest of a call succeeds
 pub record Succeeds (old new : MemFlash) : Type 0 where
@@ -98,11 +80,8 @@ pub record Succeeds (old new : MemFlash) : Type 0 where
   pub orders : new.orders ≡ old.orders
 
 -- the rest of a call fails because memory ran out
-pub record RunsOut (old new : MemFlash) : Type 0 where
-  pub later : (mem_flash old).faults ≤ (mem_flash new).faults
-  pub faults : (mem_flash new).faults ≡ raised (mem_flash old).faults
-  pub starved : starved_count new ≡ raised (starved_count old)
-  pub orders : new.orders ≡ old.orders
+abbrev pub RunsOut : MemFlash → MemFlash → Type 0
+RunsOut old new = of_orders.RunsOut old.orders new.orders
 
 -- a call that succeeds: it was not to fail, and the counts stay
 pub record Passes (old new : MemFlash) : Type 0 where

@@ -3,7 +3,7 @@
 ghost use Rattle.std.specs.Prelude.{◌≡◌, ◌⊎◌, ◌↔◌, ◌<◌, ◌*◌, ◌++◌, ◌∷◌, [], ℕ, Vec, true, false, IfOk, OnOk, OnErr};
 ghost use Rattle.std.specs.Prelude.{is_err, nat_le, vec_len};
 ghost use Rattle.per_base.specs.Causes.{Rose};
-ghost use Rattle.disk_model.specs.Orders.{named_in};
+ghost use Rattle.disk_model.specs.Orders.{named_in, fault_count};
 ghost use Rattle.flash_model.specs.Pages.{blank_page};
 ghost use Rattle.flash_model.specs.State.{FlashCase, IsStill, ProgramCase, EraseCase, FailsToProgram, FailsToErase};
 ghost use Rattle.flash_model.specs.State.{announce_write, settle_pages, programmed, erased};
@@ -25,8 +25,6 @@ pub struct MemFlash {
     /// The calls that succeeded.
     calls: Vec<FlashCall>,
     orders: Orders,
-    faults: u64,
-    starved: u64,
     ghost long: { vec_len pages ≡ 64 * blocks },
     ghost tied: { pages_of pages.items ≡ (state_after calls.items blank_state).pages },
 }
@@ -51,8 +49,6 @@ impl MemFlash {
             pages: blank_pages(alloc, BLOCK_PAGES as usize * blocks as usize)?,
             calls: Vec::new(alloc),
             orders: Orders::none(alloc),
-            faults: 0,
-            starved: 0,
         })
     }
 
@@ -84,21 +80,21 @@ impl MemFlash {
         ensures unchanged { IsUnchanged (mem_flash self.old) (mem_flash self.new) }
         ensures counts { KeepsCounts self.old self.new }
     {
-        self.orders = Orders::none(self.alloc);
+        self.orders.withdraw();
     }
 
     /// How many calls failed because memory ran out, up to the greatest u64.
     pub fn starved(&self) -> u64
         ensures { result ≡ starved_count self.now }
     {
-        self.starved
+        self.orders.starved()
     }
 
     /// How many calls failed, up to the greatest u64.
     pub fn faults(&self) -> u64
         ensures { result ≡ (mem_flash self.now).faults }
     {
-        self.faults
+        self.orders.faults()
     }
 
     // Enters a call that changes no page: it is counted among the orders, and added to the record.
@@ -120,8 +116,7 @@ impl MemFlash {
         ensures record { SameRecord self.old self.new }
         ensures begun { Begins self.old self.new (is_err result) }
     {
-        if self.orders.take() {
-            self.faults = self.faults.saturating_add(1);
+        if self.orders.begin() {
             return Err(FlashFailed);
         }
         Ok(())
@@ -132,8 +127,7 @@ impl MemFlash {
         ensures record { SameRecord self.old self.new }
         ensures wants { RunsOut self.old self.new }
     {
-        self.faults = self.faults.saturating_add(1);
-        self.starved = self.starved.saturating_add(1);
+        self.orders.starve();
         FlashFailed
     }
 
@@ -196,7 +190,7 @@ impl Flash for MemFlash {
 
     ghost medium = { mem_flash };
 
-    ghost lawful = { λ flash. record_is_lawful flash.blocks flash.calls.items flash.faults };
+    ghost lawful = { λ flash. record_is_lawful flash.blocks flash.calls.items (fault_count flash.orders) };
 
     fn blocks(&self) -> u32 {
         self.blocks

@@ -6,8 +6,8 @@ use Rattle.disk_model.proofs.memory.MemDisk.holding.Goals as goal
 pub returns-clause-fresh : goal.returns-clause-fresh
 returns-clause-fresh c = record {
   quiet = none_pending c.new.result.items c.new.ensures.items (image_of c.args.files);
-  faults = refl;
+  faults = c.none.ensures.faults;
   written = refl;
-  starved = refl;
-  orders = record { planned = c.none.ensures.planned; stopped = c.none.ensures.stopped };
+  starved = c.none.ensures.starved;
+  orders = c.none.ensures.orders;
 }
