@@ -6,9 +6,13 @@ ghost use Rattle.per_base.specs.Contents.{is_readable, readable_bytes};
 ghost use Rattle.file_core.specs.Files.{NoSalvage};
 ghost use Rattle.file_core.specs.Places.{overwritten};
 
+use crate::file::FILE_BYTES;
 use per_base::{Bytes, Content};
 use std::alloc::AllocError;
 use std::mem;
+
+// For how many times its bytes a content that grows is given room.
+const AHEAD: usize = 8;
 
 /// Puts the piece into a readable content from the position `from` on, which is in it or at its end, and gives the new
 /// length in bytes.
@@ -80,7 +84,21 @@ fn overwrite(bytes: &mut Vec<u8>, from: usize, piece: &[u8]) -> Result<(), Alloc
     ensures memory { OnErr result (length bytes.old.items < from + length piece.now) }
 {
     let inside = usize::min(piece.len(), bytes.len() - from);
+    make_room(bytes, piece.len() - inside);
     bytes.extend_from_slice(&piece[inside..])?;
     bytes[from..from + inside].copy_from_slice(&piece[..inside]);
     Ok(())
+}
+
+// Where there is no room for so many bytes more, makes room for several times what is then there, at most for the
+// longest file: a content that is written in pieces moves seldom. Where memory runs out it makes none.
+fn make_room(bytes: &mut Vec<u8>, more: usize)
+    ensures { bytes.new.items ≡ bytes.old.items }
+{
+    let needed = bytes.len().saturating_add(more);
+    if needed <= bytes.capacity() {
+        return;
+    }
+    let ahead = usize::min(needed.saturating_mul(AHEAD), FILE_BYTES as usize);
+    let _ = bytes.reserve_exact(ahead.saturating_sub(bytes.len()));
 }

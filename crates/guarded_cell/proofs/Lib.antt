@@ -15,3 +15,4 @@ pub mod AloneLaws
 pub mod Midway
 pub mod Putfronts
 pub mod Behind
+pub mod Reaching

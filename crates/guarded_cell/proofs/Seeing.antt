@@ -7,19 +7,18 @@ use Rattle.std.proofs.lemmas.Bool.Decides.{nat_tests}
 use Rattle.std.proofs.lemmas.Slice.Eq.{bytes_eq-Decides}
 use Rattle.std.specs.Str.{bytes_eq}
 use Rattle.hash_guard.specs.SealedText.{VerifiesAs, verified}
-use Rattle.hash_guard.specs.Laws.{verifies-verified, verified-verifies, verified-none}
+use Rattle.hash_guard.specs.Laws.{verifies-verified, verified-verifies}
 use Rattle.disk_model.specs.Image.{Image}
 use Rattle.disk_model.specs.Place.{slot}
 use Rattle.disk_model.specs.declared.place.Place.{Place}
 use Rattle.guarded_cell.specs.declared.looking.Seen.{Seen}
 use Rattle.guarded_cell.specs.declared.slots.Pick.TheVariants.{Lacking}
 use Rattle.guarded_cell.specs.Register.{own}
-use Rattle.guarded_cell.specs.Slots.{front, Tells, Picks}
+use Rattle.guarded_cell.specs.Slots.{Tells, Picks}
 use Rattle.guarded_cell.specs.Held.{Text, of_parity, text_held, is_seen, is_slot_text, holds, copies_that, lacking}
 use Rattle.guarded_cell.specs.Held.{with_copy}
 use Rattle.guarded_cell.specs.Held.{with_slot, held_in_first, held, standing}
 use Rattle.guarded_cell.specs.Seens.{IsBefore}
-use Rattle.guarded_cell.proofs.Choosing.{front_is, is_front}
 
 -- ---- one copy of a text
 
@@ -138,16 +137,6 @@ noted_same copy parity g bytes body seens v same = sym
     (ap (λ (w : Option Text). with_slot copy (of_parity parity w) seens) (verifies-verified bytes g body v)
     ∙ ap (λ (w : Option Text). with_slot copy w seens) (cond-true (eqb (g % 2) parity) (Some (g, body)) None
     (eq-eqb (g % 2) parity same)))
-
-pub verified_front : (bytes : List ℕ) → verified (take front bytes) ≡ verified bytes
-verified_front bytes = go (verified bytes) refl
-  where
-    go : (answer : Option Text) → verified bytes ≡ answer → verified (take front bytes) ≡ answer
-    go None e = verified-none (take front bytes) (λ g body v.
-        let some = verifies-verified bytes g body (front_is bytes g body v) in
-        let differ : None ≡ Some (g, body) = sym e ∙ some in cc)
-    go (Some t) e = verifies-verified (take front bytes) t.0 t.1
-        (is_front bytes t.0 t.1 (verified-verifies bytes t.0 t.1 e))
 
 pub held_none : (image : Image) (place : Place) → held_in_first image place 0 ≡ []
 unfolding held_in_first

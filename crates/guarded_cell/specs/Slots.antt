@@ -1,6 +1,7 @@
 -- What is found in one slot, and which slots a pass over the copies picks.
-use Rattle.std.specs.Prelude.{◌≡◌, ℕ, ◌<◌, ◌%◌, ◌==◌, List, Bool, true, false, get_or, is_some, if◌then◌else◌}
-use Rattle.hash_guard.specs.SealedText.{VerifiesAs, verified}
+use Rattle.std.specs.Prelude.{◌≡◌, ℕ, ◌<◌, ◌≤◌, ◌+◌, ◌%◌, ◌==◌, List, length, take, Bool, true, false, get_or, is_some}
+use Rattle.std.specs.Prelude.{if◌then◌else◌}
+use Rattle.hash_guard.specs.SealedText.{VerifiesAs, verified, header}
 use Rattle.disk_model.specs.Image.{Image}
 use Rattle.disk_model.specs.Place.{slot}
 use Rattle.disk_model.specs.declared.place.Place.{Place}
@@ -14,6 +15,11 @@ use Rattle.guarded_cell.specs.Register.{IsBlank}
 -- how many bytes of a slot are read at most: a header and the longest body
 abbrev pub front : ℕ
 front = 524288
+
+-- a text has at most so many bytes in every slot that begins with `start`, which has a header
+abbrev pub ReachesTo : (reach : ℕ) → (start : List ℕ) → Type 0
+ReachesTo reach start = header ≤ length start → (slot : List ℕ) → take (length start) slot ≡ start
+    → (generation : ℕ) (text : List ℕ) → VerifiesAs slot generation text → header + length text ≤ reach
 
 -- what is found in a slot with these bytes, where this text under this generation is wanted
 abbrev pub IsFoundInSlot : Found → List ℕ → ℕ → List ℕ → Type 0

@@ -25,6 +25,7 @@ mod keeping;
 mod laws;
 mod looking;
 mod opening;
+mod reach;
 mod replacing;
 mod slots;
 mod starts;

@@ -3,14 +3,15 @@
 ghost use Rattle.std.specs.Prelude.{◌≡◌, ◌≤◌, ◌<◌, ◌+◌, ◌-◌, ◌++◌, ◌∷◌, [], IsTrue, IfOk, OnOk, IsErrOf, All, length};
 ghost use Rattle.disk_model.specs.Medium.{Quiet, IsIdle, OnlyReads, Elapses};
 ghost use Rattle.disk_model.specs.Place.{slot};
-ghost use Rattle.guarded_cell.specs.Slots.{front, IsFlag, IsSlotsOf};
+ghost use Rattle.guarded_cell.specs.Slots.{IsFlag, IsSlotsOf};
 ghost use Rattle.guarded_cell.specs.Held.{held, of_parity, text_held, is_seen, with_copy, with_slot};
-ghost use Rattle.hash_guard.specs.SealedText.{verified, max_body};
+ghost use Rattle.hash_guard.specs.SealedText.{header, verified, max_body};
 ghost use Rattle.guarded_cell.specs.Seens.{IsSealable, IsPlaceOf};
 ghost use Rattle.guarded_cell.specs.Faults.{CellFaults};
 
 use crate::errors::CellError;
-use crate::slots::{MAX_COPIES, Slots, front_room, read_front, settle};
+use crate::reach::{read_text, text_room};
+use crate::slots::{MAX_COPIES, Slots, settle};
 use disk_model::{Disk, Place};
 use hash_guard::verify;
 use per_base::{Bytes, Numbers};
@@ -62,7 +63,7 @@ pub fn look<D: Disk>(alloc: Global, disk: &mut D, place: Place) -> Result<Looked
     ensures time { Elapses (D.medium disk.old) (D.medium disk.new) }
 {
     settle(disk)?;
-    let mut room = front_room(alloc)?;
+    let mut room = text_room(alloc)?;
     let looked = see_all(alloc, disk, place, &mut room)?;
     Ok(looked)
 }
@@ -72,9 +73,9 @@ fn see_all<D: Disk>(
     alloc: Global,
     disk: &mut D,
     place: Place,
-    room: &mut [u8],
+    room: &mut Vec<u8>,
 ) -> Result<Looked, CellError>
-    requires { length room.old ≡ front }
+    requires { header ≤ length room.old.items }
     ensures held { IsTrue D.told → IfOk result (λ looked. looked.seens.items
         ≡ held (D.medium disk.old).image place) }
     ensures slots { IsTrue D.told → IfOk result (λ looked.
@@ -105,10 +106,10 @@ fn see_slot<D: Disk>(
     place: Place,
     copy: u32,
     parity: u32,
-    room: &mut [u8],
+    room: &mut Vec<u8>,
     seens: &mut Vec<Seen>,
 ) -> Result<bool, CellError>
-    requires room { length room.old ≡ front }
+    requires room { header ≤ length room.old.items }
     requires copy { copy < place.copies }
     requires parity { parity < 2 }
     requires sealable { All IsSealable seens.old.items }
@@ -118,11 +119,12 @@ fn see_slot<D: Disk>(
     ensures flag { IsTrue D.told → IfOk result (IsFlag ((D.medium disk.old).image (slot place copy parity))) }
     ensures sealable { OnOk result (All IsSealable seens.new.items) }
     ensures reads { OnlyReads (D.medium disk.old) (D.medium disk.new) }
+    ensures room { header ≤ length room.new.items }
     ensures never_corrupt { ¬ (IsErrOf result CellError.Corrupt) }
     ensures faults { CellFaults result (D.medium disk.old) (D.medium disk.new) }
     ensures time { Elapses (D.medium disk.old) (D.medium disk.new) }
 {
-    let count = read_front(disk, place.slot(copy, parity), room)?;
+    let count = read_text(disk, place.slot(copy, parity), room)?;
     let verifies = note_front(alloc, &room[..count], copy, parity, seens)?;
     Ok(verifies)
 }

@@ -16,6 +16,7 @@ loop-copy-init g c = record {
   odd = λ tells copy lt. absurd (omega (arith, lt));
   evens = refl;
   odds = refl;
+  room = c.requires;
   sealable = λ k d lt. absurd (omega (arith, lt, c.new-seens.ensures.len));
   reads = reads_none (g.met.D.Disk.lawful c.args.disk.now);
   time = elapses_none (g.met.D.Disk.lawful c.args.disk.now);
@@ -44,6 +45,7 @@ loop-copy-preserved g c =
           first_reads.image (c.in_ok-odd.ensures.flag tells));
       evens = length-set c.loop-copy.even c.loop-copy.copy c.in_ok-even.field-0 ∙ c.loop-copy.invariant.evens;
       odds = length-set c.loop-copy.odd c.loop-copy.copy c.in_ok-odd.field-0 ∙ c.loop-copy.invariant.odds;
+      room = c.see_slot-in-loop-copy.ensures.room;
       sealable = c.in_ok-odd.ensures.sealable;
       reads = reads_on first_time first_reads c.see_slot-in-loop-copy.ensures.time
           c.see_slot-in-loop-copy.ensures.reads;

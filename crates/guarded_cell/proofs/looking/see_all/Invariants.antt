@@ -1,4 +1,5 @@
-use Rattle.std.proofs.Common.{◌≡◌, IsTrue, All, length}
+use Rattle.std.proofs.Common.{◌≡◌, ◌≤◌, IsTrue, All, length}
+use Rattle.hash_guard.specs.SealedText.{header}
 use Rattle.disk_model.specs.Medium.{OnlyReads, Elapses}
 use Rattle.guarded_cell.specs.Held.{held_in_first}
 use Rattle.guarded_cell.specs.Seens.{IsSealable}
@@ -12,6 +13,7 @@ invariant-loop-copy g l = record {
   odd : IsTrue g.D.Disk.told → AreFlags (g.D.Disk.medium l.initial.disk).image l.place l.copy 1 l.odd;
   evens : length l.even ≡ 8;
   odds : length l.odd ≡ 8;
+  room : header ≤ length l.room.items;
   sealable : All IsSealable l.seens.items;
   reads : OnlyReads (g.D.Disk.medium l.initial.disk) (g.D.Disk.medium l.disk);
   time : Elapses (g.D.Disk.medium l.initial.disk) (g.D.Disk.medium l.disk);
