@@ -2,17 +2,18 @@
 use Rattle.std.proofs.Common.{◌≡◌, ◌≢◌, ℕ, zero, suc, ◌+◌, ◌-◌, ◌*◌, ◌<◌, ◌≤◌, List, [], ◌∷◌, length, get_or, take}
 use Rattle.std.proofs.Common.{Bool, IsTrue, Option, Some, inl, refl, sym, ap, ◌∙◌, subst, arith, ⊎_elim, length-append}
 use Rattle.std.proofs.Common.{eq-eqb}
-use Rattle.std.specs.Prelude.{nat_eq, map}
+use Rattle.std.specs.Prelude.{nat_eq, map, sum_by}
 use Rattle.std.specs.List.{AllZip, AllByRecursion, Contains, IsDistinct}
 use Rattle.std.proofs.lemmas.Map.Keys.{apart_from_distinct}
 use Rattle.std.proofs.lemmas.Bool.{cases_eq, cases_lt}
-use Rattle.std.proofs.lemmas.List.{get_or_default, get_or-map}
+use Rattle.std.proofs.lemmas.List.{get_or_default, get_or-map, take_all}
 use Rattle.std.proofs.lemmas.List.Concat.{get_or-flat_map}
 use Rattle.std.proofs.lemmas.List.Folds.{length-flat_map-take}
+use Rattle.std.proofs.lemmas.List.Sums.{sum_by_more, sum_by_more_le}
 use Rattle.per_base.specs.declared.elements.Entry.{Entry}
 use Rattle.per_base.specs.declared.elements.Content.{Content}
 use Rattle.per_base.specs.declared.elements.Content.TheVariants.{Good}
-use Rattle.per_base.specs.Contents.{HasLength}
+use Rattle.per_base.specs.Contents.{HasLength, blocks_for, readable_bytes}
 use Rattle.disk_model.specs.Image.{Image}
 use Rattle.disk_model.specs.Case.{Case, Follows}
 use Rattle.disk_model.specs.Medium.{Medium, Quiet, IsLawful, Elapses, EachCase, OnlyReads, WritesNothing}
@@ -33,9 +34,10 @@ use Rattle.element_state.specs.declared.shapes.Shape.{Shape}
 use Rattle.element_state.specs.Views.{entry_view, given, content_of}
 use Rattle.element_state.specs.Chosen.{IsReadBy}
 use Rattle.element_state.specs.Conditions.{IsMended}
+use Rattle.element_state.specs.Written.{whole_cost}
 use Rattle.element_laws.specs.Phases.{MendStartLaw, MendStepLaw, MendSyncLaw, IsMending, IsSparing, TakesMend}
 use Rattle.element_laws.specs.Phases.{KeepsBlockBytes, KeepsBlocksWhole, lacked}
-use Rattle.element_store.specs.Mends.{IsAsBefore, IsWholeIn, AreShown, MendsCase, SparesOthers}
+use Rattle.element_store.specs.Mends.{IsAsBefore, IsWholeIn, AreShown, MendsCase, SparesOthers, lacking_cost}
 use Rattle.element_store.proofs.PlanSteps.{both_ways}
 use Rattle.element_store.proofs.Shown.{content_good}
 use Rattle.element_store.proofs.Working.{full_kept}
@@ -180,6 +182,7 @@ pub record AreMended (told : Bool) (shape : Shape) (index : Index) (views : List
   pub here : (c : Case) → now.now c → MendsCase shape index views old.image c
   pub during : EachCase (MendsCase shape index views old.image) old now
   pub idle : IsTrue told → AllByRecursion (λ (f : Entry). IsMended f.content f.lacking) views → IsAsBefore old now
+  pub written : now.written ≤ old.written + sum_by lacking_cost (take i views)
   pub time : Elapses old now
   pub passes : now.faults ≡ old.faults
 
@@ -226,6 +229,7 @@ module _ (told : Bool) (shape : Shape) (index : Index) (views : List Entry) (rul
         here = settled;
         during = λ c past. settled c (law.only_now c past);
         idle = λ tells mended. record { image = refl; written = refl };
+        written = omega arith;
         time = elapses_none law;
         passes = refl;
       }
@@ -255,6 +259,11 @@ module _ (told : Bool) (shape : Shape) (index : Index) (views : List Entry) (rul
     here = was.here;
     during = was.during;
     idle = was.idle;
+    written = (
+        let long = zip_long (IsReadBy shape.place.copies) index.entries views read in
+        let more = sum_by_more lacking_cost views i f (omega (arith, lt, long)) in
+        let before = was.written in
+        omega (arith, before, more));
     time = was.time;
     passes = was.passes;
   }
@@ -264,6 +273,13 @@ module _ (told : Bool) (shape : Shape) (index : Index) (views : List Entry) (rul
   mended_all i old now past was tells = zip_from (IsWholeIn now.image shape.place) index.entries views
       (zip_long (IsReadBy shape.place.copies) index.entries views read)
       (λ x e f lt. was.full tells x e f (omega (arith, past, lt)) lt)
+
+  pub mended_written : (i : ℕ) (old now : Medium) → length index.entries ≤ i
+      → AreMended told shape index views i old now → now.written ≤ old.written + sum_by lacking_cost views
+  mended_written i old now past was =
+      let long = zip_long (IsReadBy shape.place.copies) index.entries views read in
+      subst (λ (fs : List Entry). now.written ≤ old.written + sum_by lacking_cost fs)
+      (take_all i views (omega (arith, past, long))) was.written
 
   pub read_at : (i : ℕ) (e : IndexEntry) (f : Entry) → i < length index.entries → e ≡ get_or index.entries i e
       → f ≡ get_or views i f → IsReadBy shape.place.copies e f
@@ -281,6 +297,17 @@ module _ (told : Bool) (shape : Shape) (index : Index) (views : List Entry) (rul
       (rec_at (IsEntry index.format index.kind) index.entries i e rules.each lt) in
       let count = rule.blocks in
       omega (arith, is, count)
+
+  pub cost_at : (i : ℕ) (e : IndexEntry) (f : Entry) (v : List ℕ) → i < length index.entries
+      → e ≡ get_or index.entries i e → f ≡ get_or views i f → f.content ≡ Good v
+      → length f.lacking * (256 * length e.blocks) ≡ lacking_cost f
+  cost_at i e f v lt is_e is_f good =
+      let is : HasLength (Good v) e.len =
+      subst (λ (c : Content). HasLength c e.len) good (read_at i e f lt is_e is_f).value in
+      let rule : IsEntry index.format index.kind e = subst (IsEntry index.format index.kind) (sym is_e)
+      (rec_at (IsEntry index.format index.kind) index.entries i e rules.each lt) in
+      ap (λ (n : ℕ). length f.lacking * (256 * n)) (rule.blocks ∙ ap blocks_for (sym is))
+      ∙ ap (λ (bytes : List ℕ). length f.lacking * whole_cost bytes) (sym (ap readable_bytes good))
 
   pub distinct_at : (i : ℕ) (e : IndexEntry) → i < length index.entries → e ≡ get_or index.entries i e
       → AreDistinct e.blocks
@@ -345,11 +372,20 @@ module _ (told : Bool) (shape : Shape) (index : Index) (views : List Entry) (rul
           (few (nothing_lacks mended)) (was.idle tells mended)
           (tore.tears tells).files tore.written tore.time
 
-      pub mended_more : (f.lacking ≡ [] → n ≡ 0) → Wrote told (IsNoneOf shape.place f.lacking) (IsNotAmong e.blocks)
-          n mid new
+      pub torn_written : n ≡ lacking_cost f → AreMended told shape index views i old mid
+          → new.written ≤ mid.written + n → new.written ≤ old.written + sum_by lacking_cost views
+      torn_written cost was tore =
+          let long = zip_long (IsReadBy shape.place.copies) index.entries views read in
+          let more = sum_by_more_le lacking_cost views i f (omega (arith, lt, long)) in
+          let this = ap lacking_cost is_f in
+          let before = was.written in
+          omega (arith, before, tore, cost, this, more)
+
+      pub mended_more : n ≡ lacking_cost f → (f.lacking ≡ [] → n ≡ 0)
+          → Wrote told (IsNoneOf shape.place f.lacking) (IsNotAmong e.blocks) n mid new
           → (IsTrue told → NamedFull shape.place f.lacking e.blocks v new.image)
           → AreMended told shape index views i old mid → AreMended told shape index views (i + 1) old new
-      mended_more few wrote whole was = record {
+      mended_more cost few wrote whole was = record {
         areas = λ tells file none. (wrote.keeps tells).files file (no_area f.lacking reads.lacking file none)
             ∙ was.areas tells file none;
         full = λ tells x d g less inside. ⊎_elim
@@ -391,6 +427,13 @@ module _ (told : Bool) (shape : Shape) (index : Index) (views : List Entry) (rul
         idle = λ tells mended. in_none shape.place n f.lacking old mid new (nothing_lacks mended)
             (few (nothing_lacks mended)) (was.idle tells mended)
             (wrote.keeps tells).files wrote.written wrote.time;
+        written = (
+            let long = zip_long (IsReadBy shape.place.copies) index.entries views read in
+            let more = sum_by_more lacking_cost views i f (omega (arith, lt, long)) in
+            let this = ap lacking_cost is_f in
+            let before = was.written in
+            let next = wrote.written in
+            omega (arith, before, next, cost, this, more));
         time = elapses_on was.time wrote.time;
         passes = wrote.passes ∙ was.passes;
       }

@@ -12,6 +12,7 @@ pub mod Taken
 mod Released
 mod Traced
 pub mod InPlace
+mod Costs
 pub mod Opened
 pub mod Finds
 pub mod StoreViews

@@ -1,6 +1,7 @@
 -- What a storage is made ready for before its contents are written again.
-use Rattle.std.specs.Prelude.{◌≡◌, ◌<◌, ℕ, List, Bool, true, false, Option, Some, None, ⊤}
+use Rattle.std.specs.Prelude.{◌≡◌, ◌<◌, ℕ, ◌+◌, ◌*◌, List, Bool, true, false, Option, Some, None, ⊤}
 use Rattle.std.specs.List.{AllZip}
+use Rattle.per_base.specs.declared.elements.Fresh.{Fresh}
 use Rattle.disk_model.specs.Image.{Image}
 use Rattle.disk_model.specs.Case.{Case, IsSettledAt}
 use Rattle.disk_model.specs.Frame.{Keeps, KeepsCase}
@@ -17,6 +18,7 @@ use Rattle.element_state.specs.Fit.{fit_index}
 use Rattle.element_state.specs.States.{State, Opens, store_at, greatest_generation}
 use Rattle.element_state.specs.Kept.{IsKeptCase}
 use Rattle.element_laws.specs.Phases.{IsContentWritten}
+use Rattle.element_store.specs.Plans.{blocks_of_all}
 
 -- From here contents may be written outside the blocks of the set, and then an index under this generation: at every
 -- moment of it the storage is kept from its state at the start.
@@ -57,3 +59,9 @@ pub record IsRebuilt (shape : Shape) (image : Image) (v : View) : Type 0 where
 abbrev pub HasNext : Option View → Type 0
 HasNext None = ⊤
 HasNext (Some v) = v.generation < greatest_generation
+
+-- What a rebuild with these contents writes at most: in each copy they in whole blocks of 256 bytes, and two texts, the
+-- new one and before it, in the copies that lack it, the one that stands. Each is at most the longest index, of 524,244
+-- bytes, with its head of 44 bytes, and 44 bytes that blank another text.
+abbrev pub rebuilding_cost : (copies : ℕ) → List Fresh → ℕ
+rebuilding_cost copies contents = copies * (256 * blocks_of_all contents + 1048664)

@@ -1,6 +1,6 @@
 //! Elements that are written again in the copies that lack them.
 
-ghost use Rattle.std.specs.Prelude.{◌≡◌, ◌≤◌, IsTrue, IfOk, OnOk, IfErr, map, length};
+ghost use Rattle.std.specs.Prelude.{◌≡◌, ◌≤◌, ◌+◌, IsTrue, IfOk, OnOk, IfErr, map, length, sum_by};
 ghost use Rattle.std.specs.List.{AllZip, AllByRecursion};
 ghost use Rattle.per_base.specs.Causes.{Rose};
 ghost use Rattle.disk_model.specs.Frame.{Spares};
@@ -10,7 +10,7 @@ ghost use Rattle.index_text.specs.Rules.{IsIndex};
 ghost use Rattle.element_state.specs.States.{mended_entry};
 ghost use Rattle.element_state.specs.Chosen.{IsReadBy};
 ghost use Rattle.element_state.specs.Conditions.{IsMended};
-ghost use Rattle.element_store.specs.Mends.{IsAsBefore, IsWholeIn, MendsCase, SparesOthers};
+ghost use Rattle.element_store.specs.Mends.{IsAsBefore, IsWholeIn, MendsCase, SparesOthers, lacking_cost};
 
 use block_files::{BlobError, mend};
 use disk_model::Disk;
@@ -40,6 +40,8 @@ pub(crate) fn mend_durably<D: Disk>(
     // Where no copy lacks a good element, nothing is written.
     ensures idle { IsTrue D.told → AllByRecursion (λ e. IsMended e.content e.lacking) views.now
         → IsAsBefore (D.medium disk.old) (D.medium disk.new) }
+    // However it ends, no more than the good elements in the copies that lack them.
+    ensures written { (D.medium disk.new).written ≤ (D.medium disk.old).written + sum_by lacking_cost views.now }
 
     // Only areas change, and at any moment only in the blocks of what is mended.
     ensures elsewhere { IsTrue D.told
@@ -75,6 +77,7 @@ fn mend_each<D: Disk>(
         (D.medium disk.new).image) }
     ensures idle { IsTrue D.told → AllByRecursion (λ e. IsMended e.content e.lacking) views.now
         → IsAsBefore (D.medium disk.old) (D.medium disk.new) }
+    ensures written { (D.medium disk.new).written ≤ (D.medium disk.old).written + sum_by lacking_cost views.now }
     ensures elsewhere { IsTrue D.told
         → Spares (IsNoArea shape.now.place) (D.medium disk.old).image
         (D.medium disk.new).image }

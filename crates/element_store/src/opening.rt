@@ -1,6 +1,6 @@
 //! The opening of a storage.
 
-ghost use Rattle.std.specs.Prelude.{◌≡◌, IsTrue, IfOk, OnOk, IsErrOf, Some, None, true, find};
+ghost use Rattle.std.specs.Prelude.{◌≡◌, ◌≤◌, ◌+◌, IsTrue, IfOk, OnOk, IsErrOf, Some, None, true, find};
 ghost use Rattle.per_base.specs.Causes.{Rose};
 ghost use Rattle.disk_model.specs.Frame.{Spares, IsSettledOn};
 ghost use Rattle.disk_model.specs.Medium.{Quiet, IsIdle, EachCase, Elapses};
@@ -14,7 +14,7 @@ ghost use Rattle.element_state.specs.Reports.{reports};
 ghost use Rattle.element_state.specs.States.{State, store_at, mended_view};
 ghost use Rattle.element_store.specs.Opened.{IsOpeningPlan, IsFoundOn, LacksNothing, OpensBy};
 ghost use Rattle.element_store.specs.Committing.{index_in};
-ghost use Rattle.element_store.specs.Mends.{IsAsBefore};
+ghost use Rattle.element_store.specs.Mends.{IsAsBefore, mending_cost};
 ghost use Rattle.element_store.specs.Stores.{IsUsed, store_shape, view_in};
 
 use crate::hashing::{KeptStates, kept_of};
@@ -98,6 +98,10 @@ pub fn open_store<D: Disk>(
     // Where every copy holds the index, no other text and each readable element, nothing is written.
     ensures idle { IsTrue D.told → LacksNothing shape (D.medium disk.old).image
         → IsAsBefore (D.medium disk.old) (D.medium disk.new) }
+    // However it ends, no more than what copies lack of the view at which it opens, and the index; nothing where it
+    // opens at none.
+    ensures written { IsTrue D.told → (D.medium disk.new).written ≤ (D.medium disk.old).written
+        + mending_cost shape.place.copies (opened_of (store_at (D.medium disk.old).image shape)) }
 
     // No file outside the place changes, at the end and at any moment.
     ensures elsewhere { IsTrue D.told

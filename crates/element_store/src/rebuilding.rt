@@ -1,10 +1,11 @@
 //! A storage rebuilt beside what its place holds.
 
-ghost use Rattle.std.specs.Prelude.{◌≡◌, ◌≤◌, ◌<◌, ◌+◌, ◌/◌, IsTrue, IfOk, OnOk, IsErrOf, length};
+ghost use Rattle.std.specs.Prelude.{◌≡◌, ◌≤◌, ◌<◌, ◌+◌, ◌*◌, ◌/◌, IsTrue, IfOk, OnOk, IsErrOf, length};
 ghost use Rattle.per_base.specs.Causes.{Rose};
 ghost use Rattle.disk_model.specs.Frame.{Spares, IsSettledOn};
 ghost use Rattle.disk_model.specs.Medium.{Quiet, EachCase, Elapses};
 ghost use Rattle.disk_model.specs.Place.{IsNoSlot, IsOutside};
+ghost use Rattle.hash_guard.specs.SealedText.{header, max_body};
 ghost use Rattle.guarded_cell.specs.Seens.{IsSealable};
 ghost use Rattle.block_files.specs.BlockSets.{free_of};
 ghost use Rattle.index_text.specs.Sizes.{area_blocks};
@@ -15,6 +16,7 @@ ghost use Rattle.index_text.specs.Contents.{AreContents};
 ghost use Rattle.element_state.specs.Conditions.{IsShape};
 ghost use Rattle.element_state.specs.Kept.{KeptThroughout};
 ghost use Rattle.element_store.specs.Rebuilds.{IsGround, IsRebuilt, IsLeftWith, OneTextStops, HasNext};
+ghost use Rattle.element_store.specs.Rebuilds.{rebuilding_cost};
 
 use crate::taking::blocks_taken_by;
 use crate::writing::{blocks_in_area, put_contents};
@@ -73,6 +75,10 @@ pub fn rebuild<D: Disk>(
     ensures outside { IsTrue D.told → Quiet (D.medium disk.old)
         → EachCase (IsSettledOn (IsOutside shape.now.place) (D.medium disk.old).image)
         (D.medium disk.old) (D.medium disk.new) }
+
+    // However it ends, in each copy no more than the contents in whole blocks of 256 bytes and two indexes.
+    ensures written { (D.medium disk.new).written
+        ≤ (D.medium disk.old).written + rebuilding_cost shape.now.place.copies contents.items }
     // The clock and the counts of the disk only go on.
     ensures time { Elapses (D.medium disk.old) (D.medium disk.new) }
 {
@@ -125,6 +131,8 @@ fn prepare<D: Disk>(alloc: Global, disk: &mut D, shape: &Shape) -> Result<Ground
     ensures any_moment { IsTrue D.told → Quiet (D.medium disk.old)
         → EachCase (IsSettledOn (IsNoSlot shape.now.place) (D.medium disk.old).image)
         (D.medium disk.old) (D.medium disk.new) }
+    ensures written { (D.medium disk.new).written
+        ≤ (D.medium disk.old).written + shape.now.place.copies * (header + max_body + header) }
     ensures time { Elapses (D.medium disk.old) (D.medium disk.new) }
 {
     let blocks = blocks_in_area(shape);
@@ -167,6 +175,8 @@ fn leave_one_text<D: Disk>(
         → EachCase (OneTextStops found.now.opens place found.now.seen.generation found.now.seen.text
         (D.medium disk.old).image)
         (D.medium disk.old) (D.medium disk.new) }
+    ensures written { (D.medium disk.new).written
+        ≤ (D.medium disk.old).written + place.copies * (header + max_body + header) }
     ensures time { Elapses (D.medium disk.old) (D.medium disk.new) }
 {
     let generation = found.seen.generation;

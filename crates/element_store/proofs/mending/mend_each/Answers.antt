@@ -1,4 +1,4 @@
-use Rattle.std.proofs.Common.{◌≡◌, ℕ, ◌*◌, List, length, get_or, sym, ap, ◌∙◌, subst, arith}
+use Rattle.std.proofs.Common.{◌≡◌, ℕ, ◌+◌, ◌*◌, ◌≤◌, List, length, get_or, sym, ap, ◌∙◌, subst, arith}
 use Rattle.block_files.specs.Areas.{NamedFull}
 use Rattle.block_files.specs.BlockSets.{IsNotAmong, AreDistinct}
 use Rattle.block_files.specs.Contents.{AreCopies}
@@ -6,7 +6,8 @@ use Rattle.block_files.specs.Writes.{Wrote, Tore, IsNoneOf}
 use Rattle.index_text.specs.declared.entries.IndexEntry.{IndexEntry}
 use Rattle.element_state.specs.Chosen.{IsReadBy}
 use Rattle.element_store.proofs.InPlace.{zip_long, mended_none, mended_skip, mended_all, mended_more, read_at, room_at}
-use Rattle.element_store.proofs.InPlace.{distinct_at, still_during, torn_areas, torn_idle, few_none}
+use Rattle.element_store.proofs.InPlace.{distinct_at, still_during, torn_areas, torn_idle, few_none, cost_at}
+use Rattle.element_store.proofs.InPlace.{mended_written, torn_written}
 use Rattle.element_store.proofs.mending.mend_each.Goals as goal
 
 pub loop-i-init : goal.loop-i-init
@@ -86,6 +87,28 @@ returns-in_err-mend-clause-elsewhere g c =
     (length c.index-views-i.result.lacking * (256 * length c.index-entries-i.result.blocks))
     (g.D.Disk.medium c.mend.new.disk) c.loop-i.invariant tore
 
+pub returns-in_err-mend-clause-written : goal.returns-in_err-mend-clause-written
+returns-in_err-mend-clause-written g c =
+    let same = ap (λ (es : List IndexEntry). length es) c.as_slice-entries.ensures in
+    let blocks_is = c.as_slice.ensures ∙ ap (λ (x : IndexEntry). x.blocks) (sym c.index-entries-i.is) in
+    let is_e = subst (λ (es : List IndexEntry). c.index-entries-i.result
+    ≡ get_or es c.loop-i.i c.index-entries-i.result) c.as_slice-entries.ensures c.index-entries-i.is in
+    let P : List ℕ → Type 0 = λ bs. (g.D.Disk.medium c.mend.new.disk).written ≤ (g.D.Disk.medium c.loop-i.disk).written
+    + length c.as_slice-in-loop-i-2.result.now * (256 * length bs) in
+    let Q : List ℕ → Type 0 = λ cs. (g.D.Disk.medium c.mend.new.disk).written ≤ (g.D.Disk.medium c.loop-i.disk).written
+    + length cs * (256 * length c.index-entries-i.result.blocks) in
+    let tore = subst Q c.as_slice-in-loop-i-2.ensures (subst P blocks_is c.in_err-mend.ensures.failed.written) in
+    torn_written g.D.Disk.told c.args.shape.now c.args.index.now c.args.views.now c.requires.rules c.requires.read
+    c.mending_keeps.ensures.step c.loop-i.i c.index-entries-i.result c.index-views-i.result c.in-Good.value
+    (g.D.Disk.medium c.args.disk.now) (g.D.Disk.medium c.loop-i.disk) (omega (arith, same)) is_e c.index-views-i.is
+    c.in-Good.is
+    (length c.index-views-i.result.lacking * (256 * length c.index-entries-i.result.blocks))
+    (g.D.Disk.medium c.mend.new.disk)
+    (cost_at g.D.Disk.told c.args.shape.now c.args.index.now c.args.views.now c.requires.rules c.requires.read
+    c.loop-i.i c.index-entries-i.result c.index-views-i.result c.in-Good.value (omega (arith, same)) is_e
+    c.index-views-i.is c.in-Good.is)
+    c.loop-i.invariant tore
+
 pub returns-in_err-mend-clause-idle : goal.returns-in_err-mend-clause-idle
 returns-in_err-mend-clause-idle g c =
     let same = ap (λ (es : List IndexEntry). length es) c.as_slice-entries.ensures in
@@ -159,6 +182,9 @@ loop-i-preserved g c =
     c.in-Good.is
     (length c.index-views-i.result.lacking * (256 * length c.index-entries-i.result.blocks))
     (g.D.Disk.medium c.mend.new.disk)
+    (cost_at g.D.Disk.told c.args.shape.now c.args.index.now c.args.views.now c.requires.rules c.requires.read
+    c.loop-i.i c.index-entries-i.result c.index-views-i.result c.in-Good.value (omega (arith, same)) is_e
+    c.index-views-i.is c.in-Good.is)
     (λ none. few_none (length c.index-views-i.result.lacking) (256 * length c.index-entries-i.result.blocks)
     (ap (λ (xs : List ℕ). length xs) none)) wrote
     (λ tells. subst C c.as_slice-in-loop-i.ensures (subst B c.as_slice-in-loop-i-2.ensures
@@ -168,5 +194,12 @@ pub returns-clause-whole : goal.returns-clause-whole
 returns-clause-whole g c =
     let same = ap (λ (es : List IndexEntry). length es) c.as_slice-entries.ensures in
     mended_all g.D.Disk.told c.args.shape.now c.args.index.now c.args.views.now c.requires.rules c.requires.read
+    c.loop-i.i
+    (g.D.Disk.medium c.args.disk.now) (g.D.Disk.medium c.loop-i.disk) (omega (arith, same)) c.loop-i.invariant
+
+pub returns-clause-written : goal.returns-clause-written
+returns-clause-written g c =
+    let same = ap (λ (es : List IndexEntry). length es) c.as_slice-entries.ensures in
+    mended_written g.D.Disk.told c.args.shape.now c.args.index.now c.args.views.now c.requires.rules c.requires.read
     c.loop-i.i
     (g.D.Disk.medium c.args.disk.now) (g.D.Disk.medium c.loop-i.disk) (omega (arith, same)) c.loop-i.invariant

@@ -1,10 +1,16 @@
-use Rattle.std.proofs.Common.{refl, sym, ap, subst, ◌∙◌}
+use Rattle.std.proofs.Common.{ℕ, List, length, ◌+◌, ◌*◌, ◌≤◌, refl, sym, ap, subst, ◌∙◌, arith}
+use Rattle.std.specs.Prelude.{sum_by}
+use Rattle.per_base.specs.declared.elements.Entry.{Entry}
 use Rattle.disk_model.specs.Image.{Image}
 use Rattle.disk_model.specs.Laws.{elapses_on}
 use Rattle.guarded_cell.specs.Seens.{IsSeenOn}
 use Rattle.guarded_cell.specs.Slots.{IsSlotsOf}
+use Rattle.element_state.specs.Chosen.{opened_of}
+use Rattle.element_state.specs.States.{store_at}
 use Rattle.element_store.specs.declared.store.Store.{Store}
 use Rattle.element_store.specs.Committing.{index_in}
+use Rattle.element_store.specs.Mends.{lacking_cost}
+use Rattle.element_store.proofs.Costs.{adopted_cost, opened_cost}
 use Rattle.element_store.proofs.Opened.{opening_used, opening_view, opening_clean, opening_shown, opening_alone}
 use Rattle.element_store.proofs.Opened.{opening_opens, opening_spared, opening_whole, opening_by, idle_adopted}
 use Rattle.element_store.proofs.Opened.{idle_views, idle_on}
@@ -236,3 +242,42 @@ returns-in_err-mend_durably-clause-time g c = elapses_on
 pub returns-clause-time : goal.returns-clause-time
 returns-clause-time g c = elapses_on (elapses_on c.in_ok-seen.ensures.time c.in_ok-cell.ensures.brings.puts.time)
     c.in_ok-mend_durably.ensures.time
+
+pub returns-in_err-cell-clause-written : goal.returns-in_err-cell-clause-written
+returns-in_err-cell-clause-written g c = λ tells.
+    adopted_cost c.args.shape.place.copies (length c.in_ok-seen.field-0.seen.text)
+    (g.D.Disk.medium c.args.disk.now).written (g.D.Disk.medium c.adopt_seen.new.disk).written
+    c.in_ok-seen.ensures.ready.text.sealable.short
+    (subst (λ (n : ℕ). (g.D.Disk.medium c.adopt_seen.new.disk).written
+    ≤ n + c.args.shape.place.copies * (44 + length c.in_ok-seen.field-0.seen.text + 44)) c.in_ok-seen.ensures.written
+    c.in_err-cell.ensures.brings.puts.written)
+    c.in_ok-seen.field-0.before (opened_of (store_at (g.D.Disk.medium c.args.disk.now).image c.args.shape))
+    (c.in_ok-seen.ensures.found tells).opens
+
+pub returns-in_err-mend_durably-clause-written : goal.returns-in_err-mend_durably-clause-written
+returns-in_err-mend_durably-clause-written g c = λ tells.
+    opened_cost c.args.shape.place.copies (length c.in_ok-seen.field-0.seen.text)
+    (g.D.Disk.medium c.args.disk.now).written (g.D.Disk.medium c.adopt_seen.new.disk).written
+    c.in_ok-seen.ensures.ready.text.sealable.short
+    (subst (λ (n : ℕ). (g.D.Disk.medium c.adopt_seen.new.disk).written
+    ≤ n + c.args.shape.place.copies * (44 + length c.in_ok-seen.field-0.seen.text + 44)) c.in_ok-seen.ensures.written
+    c.in_ok-cell.ensures.brings.puts.written)
+    c.in_ok-seen.field-0.before (opened_of (store_at (g.D.Disk.medium c.args.disk.now).image c.args.shape))
+    (g.D.Disk.medium c.mend_durably.new.disk).written (c.in_ok-seen.ensures.found tells).opens
+    (subst (λ (fs : List Entry). (g.D.Disk.medium c.mend_durably.new.disk).written
+    ≤ (g.D.Disk.medium c.adopt_seen.new.disk).written + sum_by lacking_cost fs) c.as_slice.ensures
+    c.in_err-mend_durably.ensures.written)
+
+pub returns-clause-written : goal.returns-clause-written
+returns-clause-written g c = λ tells.
+    opened_cost c.args.shape.place.copies (length c.in_ok-seen.field-0.seen.text)
+    (g.D.Disk.medium c.args.disk.now).written (g.D.Disk.medium c.adopt_seen.new.disk).written
+    c.in_ok-seen.ensures.ready.text.sealable.short
+    (subst (λ (n : ℕ). (g.D.Disk.medium c.adopt_seen.new.disk).written
+    ≤ n + c.args.shape.place.copies * (44 + length c.in_ok-seen.field-0.seen.text + 44)) c.in_ok-seen.ensures.written
+    c.in_ok-cell.ensures.brings.puts.written)
+    c.in_ok-seen.field-0.before (opened_of (store_at (g.D.Disk.medium c.args.disk.now).image c.args.shape))
+    (g.D.Disk.medium c.mend_durably.new.disk).written (c.in_ok-seen.ensures.found tells).opens
+    (subst (λ (fs : List Entry). (g.D.Disk.medium c.mend_durably.new.disk).written
+    ≤ (g.D.Disk.medium c.adopt_seen.new.disk).written + sum_by lacking_cost fs) c.as_slice.ensures
+    c.in_ok-mend_durably.ensures.written)

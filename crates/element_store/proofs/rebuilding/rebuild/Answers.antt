@@ -1,4 +1,4 @@
-use Rattle.std.proofs.Common.{◌≡◌, ℕ, List, length, false, true, sym, ap, subst, arith}
+use Rattle.std.proofs.Common.{◌≡◌, ℕ, ◌+◌, ◌*◌, ◌≤◌, List, length, false, true, sym, ap, subst, arith}
 use Rattle.per_base.specs.declared.elements.Fresh.{Fresh}
 use Rattle.disk_model.specs.lemmas.Frames.{settled_less}
 use Rattle.disk_model.specs.lemmas.Places.{outside_no_slot}
@@ -7,6 +7,7 @@ use Rattle.element_state.specs.States.{store_at, salvage_of, next_generation, fr
 use Rattle.element_laws.specs.lemmas.Lists.{not_false}
 use Rattle.element_store.specs.Plans.{blocks_of_all}
 use Rattle.element_store.specs.Spelled.{ShowsFresh, IsTextOf}
+use Rattle.element_store.proofs.Costs.{settled_cost, put_cost, rebuilt_cost}
 use Rattle.element_store.proofs.Created.{created_clean}
 use Rattle.element_store.proofs.Ruled.{blocks_enough}
 use Rattle.element_store.proofs.RebuiltKept.{contents_rebuilt, index_rebuilt, contents_elsewhere, index_elsewhere}
@@ -176,3 +177,53 @@ returns-clause-clean g c = λ tells. created_clean g.D.Disk.told (g.D.Disk.mediu
     (subst (λ (t : List ℕ). IsTextOf c.args.shape.now t c.in_ok-spelled.spelled.index) (sym c.as_slice.ensures)
     c.in_ok-spelled.ensures.fit)
     c.in_ok-adopt.ensures.held c.in_ok-adopt.ensures.brings.puts.elsewhere c.in_ok-spelled.ensures.shown tells
+
+pub returns-in_err-used-clause-written : goal.returns-in_err-used-clause-written
+returns-in_err-used-clause-written g c =
+    settled_cost c.args.shape.now.place.copies (g.D.Disk.medium c.args.disk.now).written
+    (blocks_of_all c.args.contents.items) (g.D.Disk.medium c.prepare.new.disk).written
+    c.in_err-used.ensures.written
+
+pub returns-in_err-spelled-clause-written : goal.returns-in_err-spelled-clause-written
+returns-in_err-spelled-clause-written g c =
+    put_cost c.args.shape.now.place.copies (g.D.Disk.medium c.args.disk.now).written
+    (blocks_of_all c.args.contents.items) (g.D.Disk.medium c.prepare.new.disk).written
+    c.in_ok-used.ensures.written
+    (g.D.Disk.medium c.put_contents.new.disk).written
+    (subst (λ (fs : List Fresh). (g.D.Disk.medium c.put_contents.new.disk).written
+    ≤ (g.D.Disk.medium c.prepare.new.disk).written + c.args.shape.now.place.copies * (256 * blocks_of_all fs))
+    c.deref.ensures.value c.in_err-spelled.ensures.written)
+
+pub returns-in_err-adopt-clause-written : goal.returns-in_err-adopt-clause-written
+returns-in_err-adopt-clause-written g c =
+    let fit = c.in_ok-spelled.ensures.fit in
+    let short = text_is_short c.args.shape.now.kind c.args.shape.now.allowed c.in_ok-spelled.spelled.index fit.rules
+    fit.fits c.requires.shape.small in
+    let a = ap length c.as_slice.ensures in
+    let b = ap length fit.spelled in
+    rebuilt_cost c.args.shape.now.place.copies (g.D.Disk.medium c.args.disk.now).written
+    (blocks_of_all c.args.contents.items) (g.D.Disk.medium c.prepare.new.disk).written
+    c.in_ok-used.ensures.written
+    (g.D.Disk.medium c.put_contents.new.disk).written
+    (subst (λ (fs : List Fresh). (g.D.Disk.medium c.put_contents.new.disk).written
+    ≤ (g.D.Disk.medium c.prepare.new.disk).written + c.args.shape.now.place.copies * (256 * blocks_of_all fs))
+    c.deref.ensures.value c.in_ok-spelled.ensures.written)
+    (length c.as_slice.result.now) (g.D.Disk.medium c.adopt.new.disk).written (omega (arith, short, a, b))
+    c.in_err-adopt.ensures.brings.puts.written
+
+pub returns-clause-written : goal.returns-clause-written
+returns-clause-written g c =
+    let fit = c.in_ok-spelled.ensures.fit in
+    let short = text_is_short c.args.shape.now.kind c.args.shape.now.allowed c.in_ok-spelled.spelled.index fit.rules
+    fit.fits c.requires.shape.small in
+    let a = ap length c.as_slice.ensures in
+    let b = ap length fit.spelled in
+    rebuilt_cost c.args.shape.now.place.copies (g.D.Disk.medium c.args.disk.now).written
+    (blocks_of_all c.args.contents.items) (g.D.Disk.medium c.prepare.new.disk).written
+    c.in_ok-used.ensures.written
+    (g.D.Disk.medium c.put_contents.new.disk).written
+    (subst (λ (fs : List Fresh). (g.D.Disk.medium c.put_contents.new.disk).written
+    ≤ (g.D.Disk.medium c.prepare.new.disk).written + c.args.shape.now.place.copies * (256 * blocks_of_all fs))
+    c.deref.ensures.value c.in_ok-spelled.ensures.written)
+    (length c.as_slice.result.now) (g.D.Disk.medium c.adopt.new.disk).written (omega (arith, short, a, b))
+    c.in_ok-adopt.ensures.brings.puts.written
