@@ -1,6 +1,6 @@
 //! The opening of a key-value storage.
 
-ghost use Rattle.std.specs.Prelude.{◌≡◌, IsTrue, IfOk, OnOk, IsErrOf, None};
+ghost use Rattle.std.specs.Prelude.{◌≡◌, ◌≤◌, ◌+◌, IsTrue, IfOk, OnOk, IsErrOf, None};
 ghost use Rattle.per_base.specs.declared.elements.StoreKind.TheVariants.{Keys};
 ghost use Rattle.per_base.specs.Causes.{Rose};
 ghost use Rattle.disk_model.specs.Medium.{Quiet};
@@ -10,7 +10,7 @@ ghost use Rattle.element_state.specs.Chosen.{opened_of};
 ghost use Rattle.element_state.specs.Clean.{IsClean};
 ghost use Rattle.element_state.specs.States.{State, store_at};
 ghost use Rattle.element_store.specs.Committing.{index_in};
-ghost use Rattle.element_store.specs.Mends.{IsAsBefore};
+ghost use Rattle.element_store.specs.Mends.{IsAsBefore, mending_cost};
 ghost use Rattle.element_store.specs.Opened.{LacksNothing, OpensBy};
 ghost use Rattle.element_store.specs.Stores.{IsUsed};
 ghost use Rattle.element_maps.specs.Storages.{IsConfigured, IsOpened, IsStoring};
@@ -83,6 +83,10 @@ pub fn open_kvs<D: Disk>(
     // Where every copy holds the index, no other text and each key on which enough agree, nothing is written.
     ensures idle { IsTrue D.told → LacksNothing shape (D.medium disk.old).image
         → IsAsBefore (D.medium disk.old) (D.medium disk.new) }
+    // However it ends, no more than what copies lack of the view at which it opens, and the index; nothing where it
+    // opens at none.
+    ensures written { IsTrue D.told → (D.medium disk.new).written ≤ (D.medium disk.old).written
+        + mending_cost shape.place.copies (opened_of (store_at (D.medium disk.old).image shape)) }
 
     // No file outside the place changes, and a stop at any moment leaves the storage as it was, and so on its way to
     // whatever state comes next.
