@@ -1,5 +1,5 @@
 -- What a recovery and a reset come to, and every moment of a call that first looks.
-use Rattle.std.proofs.Common.{◌≡◌, ℕ, ◌<◌, ◌≤◌, Bool, true, false, cond, List, [], ◌∷◌, refl, sym, ap, subst, ◌∙◌}
+use Rattle.std.proofs.Common.{◌≡◌, ℕ, ◌+◌, ◌<◌, ◌≤◌, Bool, true, false, cond, List, [], ◌∷◌, refl, sym, ap, subst, ◌∙◌}
 use Rattle.std.proofs.Common.{arith}
 use Rattle.std.specs.Prelude.{IsErr, IsTrue, Option, None, Some, Result, Ok, Err, length, nat_le, nat_lt, sum_by}
 use Rattle.std.specs.List.{AllByRecursion}
@@ -29,7 +29,7 @@ use Rattle.element_state.specs.Conditions.{IsShape}
 use Rattle.element_state.specs.Kept.{IsKeptCase, KeptThroughout}
 use Rattle.element_state.specs.States.{State, Corrupt, fresh_map, fresh_state, greatest_generation, next_generation}
 use Rattle.element_state.specs.States.{salvage_of, store_at}
-use Rattle.element_store.specs.Rebuilds.{HasNext}
+use Rattle.element_store.specs.Rebuilds.{HasNext, rebuilding_cost}
 use Rattle.update_plan.specs.Rows.{initial_contents}
 use Rattle.deploy_rows.specs.Recovering.{after_state, if_contents_fit, is_worn_out, rebuilding, recovered_contents}
 use Rattle.deploy_rows.specs.Recovering.{recovering}
@@ -276,3 +276,16 @@ module _ (old mid : Medium) (same : mid.image ≡ old.image) (idle : Quiet old �
           (subst (λ (im : Image). EachCase (IsSettledOn Apart im) mid new) same
           (leaves.throughout tells (idle quiet).quiet));
     }
+
+-- ---- the count of bytes, of a call that first looks
+
+pub looked_within : (cost was mid : ℕ) → mid ≡ was → mid ≤ was + cost
+looked_within cost was mid looked = omega (arith, looked)
+
+pub rebuilt_within : {of : StoreKind} (shape : Shape) (s : StorageData) (cs fs : List Fresh) (was mid end : ℕ)
+    → IsConfigured of s shape → cs ≡ fs → mid ≡ was → end ≤ mid + rebuilding_cost shape.place.copies cs
+    → end ≤ was + rebuilding_cost s.n fs
+rebuilt_within shape s cs fs was mid end of same looked written =
+    subst (λ (n : ℕ). end ≤ n + rebuilding_cost s.n fs) looked
+    (subst (λ (n : ℕ). end ≤ mid + rebuilding_cost n fs) of.copies
+    (subst (λ (es : List Fresh). end ≤ mid + rebuilding_cost shape.place.copies es) same written))

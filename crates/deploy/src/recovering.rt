@@ -1,9 +1,10 @@
 //! Rebuilding a closed storage: recovered, reset, or with contents that are given.
 
 ghost use Rattle.std.specs.Prelude.{◌≡◌, ◌≤◌, ◌⊎◌, IfOk, IfSome, IsErr, IsErrOf, IsSome, IsTrue, None, OnOk, Some, []};
-ghost use Rattle.std.specs.Prelude.{filter_map, length, option_map, sum_by, true, ◌≢◌};
+ghost use Rattle.std.specs.Prelude.{filter_map, length, option_map, sum_by, true, ◌+◌, ◌≢◌};
 ghost use Rattle.std.specs.List.{AllByRecursion};
 ghost use Rattle.per_base.specs.Causes.{Rose};
+ghost use Rattle.per_base.specs.declared.elements.Cause.TheVariants as cause;
 ghost use Rattle.value_code.specs.Reading.{is_content};
 ghost use Rattle.file_core.specs.Infos as infos;
 ghost use Rattle.index_text.specs.Contents.{AreContents, fresh_size};
@@ -17,6 +18,8 @@ ghost use Rattle.element_state.specs.Conditions.{IsShape};
 ghost use Rattle.element_state.specs.Kept.{KeptThroughout};
 ghost use Rattle.element_state.specs.Read.{IsView};
 ghost use Rattle.element_state.specs.States.{Corrupt, State, salvage_of, store_at};
+ghost use Rattle.element_store.specs.Rebuilds.{rebuilding_cost};
+ghost use Rattle.update_plan.specs.Rows.{initial_contents};
 ghost use Rattle.deploy_rows.specs.Recovering.{after_state, if_contents_fit, is_worn_out, rebuilding};
 ghost use Rattle.deploy_rows.specs.Recovering.{recovered_contents, recovering, rescued, resetting};
 ghost use Rattle.deploy_rows.specs.Rows.{AnswersRow};
@@ -86,6 +89,10 @@ pub fn recover_storage<D: Disk>(
         (after_state (store_at (D.medium disk.old).image shape.now)
         (recovering (storage_data config.now) now (store_at (D.medium disk.old).image shape.now)))
         (D.medium disk.old) (D.medium disk.new) }
+    // However it ends, no more than a rebuild with these contents costs, in each copy.
+    ensures written { IsTrue D.told → (D.medium disk.new).written ≤ (D.medium disk.old).written
+        + rebuilding_cost (storage_data config.now).n (recovered_contents (storage_data config.now) now
+        (salvage_of (store_at (D.medium disk.old).image shape.now))) }
     ensures time { Elapses (D.medium disk.old) (D.medium disk.new) }
 {
     untouched_is_kept();
@@ -147,6 +154,9 @@ pub fn reset_storage<D: Disk>(
         (after_state (store_at (D.medium disk.old).image shape.now)
         (resetting (storage_data config.now) now (store_at (D.medium disk.old).image shape.now)))
         (D.medium disk.old) (D.medium disk.new) }
+    // However it ends, no more than a rebuild with these contents costs, in each copy.
+    ensures written { (D.medium disk.new).written ≤ (D.medium disk.old).written
+        + rebuilding_cost (storage_data config.now).n (initial_contents (storage_data config.now) cause.Reset now) }
     ensures time { Elapses (D.medium disk.old) (D.medium disk.new) }
 {
     untouched_is_kept();
@@ -205,6 +215,9 @@ pub fn replace_contents<D: Disk>(
         (after_state (store_at (D.medium disk.old).image shape.now)
         (if_contents_fit (storage_data config.now) (store_at (D.medium disk.old).image shape.now) contents.items))
         (D.medium disk.old) (D.medium disk.new) }
+    // However it ends, no more than a rebuild with these contents costs, in each copy.
+    ensures written { (D.medium disk.new).written
+        ≤ (D.medium disk.old).written + rebuilding_cost (storage_data config.now).n contents.items }
     ensures time { Elapses (D.medium disk.old) (D.medium disk.new) }
 {
     untouched_is_kept();
@@ -251,6 +264,8 @@ fn rebuild_over<D: Disk>(
         (after_state (store_at (D.medium disk.old).image shape.now)
         (rebuilding (store_at (D.medium disk.old).image shape.now) contents.items))
         (D.medium disk.old) (D.medium disk.new) }
+    ensures written { (D.medium disk.new).written
+        ≤ (D.medium disk.old).written + rebuilding_cost shape.now.place.copies contents.items }
     ensures time { Elapses (D.medium disk.old) (D.medium disk.new) }
 {
     untouched_is_kept();

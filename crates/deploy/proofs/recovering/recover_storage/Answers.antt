@@ -14,9 +14,10 @@ use Rattle.deployment_model.specs.Data.{storage_data}
 use Rattle.element_state.specs.Clean.{IsClean}
 use Rattle.element_state.specs.Kept.{KeptThroughout}
 use Rattle.element_state.specs.States.{State, salvage_of, store_at}
-use Rattle.deploy_rows.specs.Recovering.{after_state, recovering}
+use Rattle.deploy_rows.specs.Recovering.{after_state, recovered_contents, recovering}
 use Rattle.deploy.proofs.Recoveries.{answers_large, answers_row, at_shape, elements_within, look_kept, look_leaves}
-use Rattle.deploy.proofs.Recoveries.{nothing_changes, rebuilt_as, recovery_row, then_kept, then_leaves, too_large}
+use Rattle.deploy.proofs.Recoveries.{looked_within, nothing_changes, rebuilt_as, rebuilt_within, recovery_row}
+use Rattle.deploy.proofs.Recoveries.{then_kept, then_leaves, too_large}
 use Rattle.deploy.proofs.recovering.recover_storage.Goals as goal
 
 pub returns-in_err-view-clause-outside : goal.returns-in_err-view-clause-outside
@@ -177,3 +178,20 @@ returns-clause-any_moment g c = λ tells. then_kept (g.D.Disk.medium c.args.disk
 
 pub returns-clause-time : goal.returns-clause-time
 returns-clause-time g c = elapses_on c.in_ok-view.ensures.time c.rebuild_over.ensures.time
+
+pub returns-in_err-view-clause-written : goal.returns-in_err-view-clause-written
+returns-in_err-view-clause-written g c = λ tells. looked_within _ _ _ c.in_err-view.ensures.written
+
+pub returns-in_err-contents-clause-written : goal.returns-in_err-contents-clause-written
+returns-in_err-contents-clause-written g c = λ tells. looked_within _ _ _ c.in_ok-view.ensures.written
+
+pub returns-then-needed-config-clause-written : goal.returns-then-needed-config-clause-written
+returns-then-needed-config-clause-written g c = λ tells. looked_within _ _ _ c.in_ok-view.ensures.written
+
+pub returns-clause-written : goal.returns-clause-written
+returns-clause-written g c = λ tells. rebuilt_within c.args.shape.now (storage_data c.args.config.now)
+    c.in_ok-contents.contents.items _ (g.D.Disk.medium c.args.disk.now).written
+    (g.D.Disk.medium c.salvage.new.disk).written (g.D.Disk.medium c.rebuild_over.new.disk).written
+    c.requires.configured 
+    (c.in_ok-contents.ensures.contents ∙ ap (recovered_contents (storage_data c.args.config.now) c.args.now)
+    (c.in_ok-view.ensures.view tells)) c.in_ok-view.ensures.written c.rebuild_over.ensures.written

@@ -1,4 +1,4 @@
-use Rattle.std.proofs.Common.{◌≤◌, ◌<◌, sym, ap, subst, ◌∙◌, inl, inr, ⊎_elim, true≢false}
+use Rattle.std.proofs.Common.{◌≤◌, ◌<◌, refl, sym, ap, subst, ◌∙◌, inl, inr, ⊎_elim, true≢false}
 use Rattle.std.specs.Prelude.{IsSome, List, Option, Result, sum_by}
 use Rattle.std.proofs.lemmas.Option.{none-some}
 use Rattle.std.proofs.lemmas.Result.{IfOk-weaker, on_ok_weaker}
@@ -17,7 +17,7 @@ use Rattle.element_state.specs.States.{State, salvage_of, store_at}
 use Rattle.deploy_rows.specs.Recovering.{after_state, if_contents_fit}
 use Rattle.deploy.proofs.Recoveries.{answers_large, answers_row, at_shape, elements_within, fits_row, fits_worn}
 use Rattle.deploy.proofs.Recoveries.{large_row, look_kept, look_leaves, nothing_changes, rebuilt_as, then_kept}
-use Rattle.deploy.proofs.Recoveries.{then_leaves}
+use Rattle.deploy.proofs.Recoveries.{looked_within, rebuilt_within, then_leaves}
 use Rattle.deploy.proofs.recovering.replace_contents.Goals as goal
 
 pub returns-in_err-view-clause-stays : goal.returns-in_err-view-clause-stays
@@ -204,3 +204,15 @@ returns-clause-any_moment g c = λ tells. then_kept (g.D.Disk.medium c.args.disk
 
 pub returns-clause-time : goal.returns-clause-time
 returns-clause-time g c = elapses_on c.in_ok-view.ensures.time c.rebuild_over.ensures.time
+
+pub returns-in_err-view-clause-written : goal.returns-in_err-view-clause-written
+returns-in_err-view-clause-written g c = looked_within _ _ _ c.in_err-view.ensures.written
+
+pub returns-then-needed-config-clause-written : goal.returns-then-needed-config-clause-written
+returns-then-needed-config-clause-written g c = looked_within _ _ _ c.in_ok-view.ensures.written
+
+pub returns-clause-written : goal.returns-clause-written
+returns-clause-written g c = rebuilt_within c.args.shape.now (storage_data c.args.config.now)
+    c.args.contents.items _ (g.D.Disk.medium c.args.disk.now).written
+    (g.D.Disk.medium c.salvage.new.disk).written (g.D.Disk.medium c.rebuild_over.new.disk).written
+    c.requires.configured refl c.in_ok-view.ensures.written c.rebuild_over.ensures.written

@@ -10,7 +10,7 @@ use Rattle.element_state.specs.Kept.{KeptThroughout}
 use Rattle.element_state.specs.States.{State, salvage_of, store_at}
 use Rattle.deploy_rows.specs.Recovering.{after_state, resetting}
 use Rattle.deploy.proofs.Recoveries.{answers_row, at_shape, look_kept, look_leaves, nothing_changes, rebuilt_as}
-use Rattle.deploy.proofs.Recoveries.{reset_row, then_kept, then_leaves}
+use Rattle.deploy.proofs.Recoveries.{looked_within, rebuilt_within, reset_row, then_kept, then_leaves}
 use Rattle.deploy.proofs.recovering.reset_storage.Goals as goal
 
 pub returns-in_err-view-clause-outside : goal.returns-in_err-view-clause-outside
@@ -118,3 +118,15 @@ returns-clause-any_moment g c = λ tells. then_kept (g.D.Disk.medium c.args.disk
 
 pub returns-clause-time : goal.returns-clause-time
 returns-clause-time g c = elapses_on c.in_ok-view.ensures.time c.rebuild_over.ensures.time
+
+pub returns-in_err-view-clause-written : goal.returns-in_err-view-clause-written
+returns-in_err-view-clause-written g c = looked_within _ _ _ c.in_err-view.ensures.written
+
+pub returns-in_err-contents-clause-written : goal.returns-in_err-contents-clause-written
+returns-in_err-contents-clause-written g c = looked_within _ _ _ c.in_ok-view.ensures.written
+
+pub returns-clause-written : goal.returns-clause-written
+returns-clause-written g c = rebuilt_within c.args.shape.now (storage_data c.args.config.now)
+    c.in_ok-contents.contents.items _ (g.D.Disk.medium c.args.disk.now).written
+    (g.D.Disk.medium c.salvage.new.disk).written (g.D.Disk.medium c.rebuild_over.new.disk).written
+    c.requires.configured c.in_ok-contents.ensures.contents c.in_ok-view.ensures.written c.rebuild_over.ensures.written
