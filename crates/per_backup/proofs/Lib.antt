@@ -8,6 +8,7 @@ pub mod Nothing
 pub mod Replaced
 pub mod ExportRows
 pub mod ImportRows
+mod ImportCosts
 pub mod Numbers
 pub mod Synced
 pub mod Filled

@@ -1,6 +1,7 @@
 -- What an export and an import promise.
 use Rattle.std.specs.declared.alloc.Global.{Global}
-use Rattle.std.specs.Prelude.{◌≡◌, ℕ, List, Vec, Bool, IsTrue, None, Result, Ok, Err, IsErr, IsOk}
+use Rattle.std.specs.Prelude.{◌≡◌, ◌≤◌, ℕ, ◌+◌, List, Vec, Bool, IsTrue, Option, None, Some, Result, Ok, Err, IsErr}
+use Rattle.std.specs.Prelude.{IsOk}
 use Rattle.per_base.specs.declared.elements.Fresh.{Fresh}
 use Rattle.per_base.specs.declared.elements.StoreKind.{StoreKind}
 use Rattle.per_base.specs.declared.errors.PerError.{PerError}
@@ -13,6 +14,7 @@ use Rattle.element_state.specs.declared.shapes.Shape.{Shape}
 use Rattle.element_state.specs.declared.shapes.View.{View}
 use Rattle.element_state.specs.Kept.{IsKeptCase, KeptThroughout}
 use Rattle.element_state.specs.Read.{IsView}
+use Rattle.element_store.specs.Rebuilds.{rebuilding_cost}
 use Rattle.deploy_laws.specs.Apps.{App, IsCleanApp, app_at}
 use Rattle.deploy_laws.specs.Places.{IsNoFileOf}
 use Rattle.deploy_laws.specs.Stands.{StandsCase, StandsThroughout}
@@ -22,6 +24,8 @@ use Rattle.deploy_laws.specs.Stands.{ChangesNothing}
 use Rattle.run_model.specs.Found.{FoundStorage, shape_in, storage_in}
 use Rattle.run_model.specs.Lives.{LooksOnly}
 use Rattle.run_model.specs.Moments.{OrBefore}
+use Rattle.export_text.specs.declared.exports.Export.{Export}
+use Rattle.export_text.specs.Exports.{export_of}
 use Rattle.per_backup.specs.declared.exporting.Exported.{Exported}
 use Rattle.per_backup.specs.declared.exporting.Exported.TheVariants.{Octets, Refused}
 use Rattle.per_backup.specs.Backups.{importing, importing_into}
@@ -45,6 +49,17 @@ abbrev pub IsViewFor : StoreKind → View → Type 0
 IsViewFor kind v = (shape : Shape) × (shape.kind ≡ kind) × IsView shape v
 
 -- ---- an import
+
+-- what an import costs of an export that a text spells, into a storage with that many copies: a rebuild with its
+-- contents; nothing where the text spells none
+abbrev pub importing_cost : (copies : ℕ) → Option Export → ℕ
+importing_cost copies None = 0
+importing_cost copies (Some x) = rebuilding_cost copies x.contents
+
+-- no more than that was written of this text into the storage of this name
+abbrev pub WritesImport : ℕ → (name text : List ℕ) → (old new : Medium) → Type 0
+WritesImport app name text old new = (f : FoundStorage) → storage_in (app_at old.image app) name None ≡ Ok f
+    → new.written ≤ old.written + importing_cost f.config.n (export_of text)
 
 -- Every moment of an import, however it ends: each crash meanwhile may also leave what one before the call might have
 -- left (`OrBefore`).

@@ -1,6 +1,6 @@
 //! A storage rebuilt from a text.
 
-ghost use Rattle.std.specs.Prelude.{◌≡◌, ◌<◌, Err, IfErr, IfOk, IsErrOf, IsSome, IsTrue, OnOk};
+ghost use Rattle.std.specs.Prelude.{◌≡◌, ◌<◌, Err, IfErr, IfOk, IsErrOf, IsSome, IsTrue, OnOk, Some, option_map};
 ghost use Rattle.per_base.specs.Causes.{Rose};
 ghost use Rattle.disk_model.specs.Medium.{Elapses, Quiet};
 ghost use Rattle.deployment_model.specs.Conditions.{IsStorage};
@@ -13,8 +13,9 @@ ghost use Rattle.deploy_rows.specs.Rows.{AnswersRow};
 ghost use Rattle.deploy_laws.specs.Stands.{ChangesNothing};
 ghost use Rattle.deploy.specs.Recovered.{AreElements};
 ghost use Rattle.run_model.specs.Lives.{LooksOnly};
+ghost use Rattle.export_text.specs.Exports.{export_of};
 ghost use Rattle.per_backup.specs.Backups.{importing, importing_into};
-ghost use Rattle.per_backup.specs.Clauses.{ImportKeeps, Imported, IsAppSeen, KeepsSettled};
+ghost use Rattle.per_backup.specs.Clauses.{ImportKeeps, Imported, IsAppSeen, KeepsSettled, WritesImport};
 
 use crate::finding::find;
 use crate::laws::storages_stand;
@@ -64,6 +65,8 @@ pub fn import<D: Disk>(
     ensures cause { IsErrOf result Stop.Device → Rose (D.medium disk.old).faults (D.medium disk.new).faults }
     ensures passes { OnOk result ((D.medium disk.new).faults ≡ (D.medium disk.old).faults) }
     ensures fed { IsErrOf result Stop.OutOfMemory → (D.medium disk.new).faults ≡ (D.medium disk.old).faults }
+    // However it ends, no more than a rebuild with the contents of the export costs.
+    ensures written { IsTrue D.told → WritesImport app name.now bytes.now (D.medium disk.old) (D.medium disk.new) }
     ensures time { Elapses (D.medium disk.old) (D.medium disk.new) }
 {
     if disk.sync().is_err() {
@@ -92,6 +95,7 @@ fn import_synced<D: Disk>(
     ensures cause { IsErrOf result Stop.Device → Rose (D.medium disk.old).faults (D.medium disk.new).faults }
     ensures passes { OnOk result ((D.medium disk.new).faults ≡ (D.medium disk.old).faults) }
     ensures fed { IsErrOf result Stop.OutOfMemory → (D.medium disk.new).faults ≡ (D.medium disk.old).faults }
+    ensures written { IsTrue D.told → WritesImport app name.now bytes.now (D.medium disk.old) (D.medium disk.new) }
     ensures time { Elapses (D.medium disk.old) (D.medium disk.new) }
 {
     storages_stand();
@@ -117,6 +121,8 @@ pub(crate) fn importable(
         → importing (storage_data config.now) state bytes.now
         ≡ if_contents_fit (storage_data config.now) state contents.items)) }
     ensures elements { IfOk result (λ found. IfOk found (λ contents. AreElements config.now.kind contents.items)) }
+    ensures spelled { IfOk result (λ found. IfOk found (λ contents. option_map (λ x. x.contents) (export_of bytes.now)
+        ≡ Some contents.items)) }
     ensures refused { IfOk result (λ found. IfErr found (λ e. (state : State)
         → importing (storage_data config.now) state bytes.now ≡ Err e)) }
 {

@@ -7,6 +7,7 @@ use Rattle.deploy_rows.specs.Rows.{AnswersRow}
 use Rattle.run_model.specs.Lives.{LooksOnly}
 use Rattle.per_backup.specs.Backups.{importing_into}
 use Rattle.per_backup.specs.Clauses.{IsAppSeen}
+use Rattle.per_backup.proofs.ImportCosts.{nothing_within, synced_within}
 use Rattle.per_backup.proofs.Synced.{each_ok, on_each, on_err, on_ok, passes_on, then_imported, then_keeps, then_looks}
 use Rattle.per_backup.proofs.Synced.{then_seen, unsynced_keeps}
 use Rattle.per_backup.proofs.importing.import.Goals as goal
@@ -81,3 +82,13 @@ returns-clause-fed g c = λ starved. c.import_synced.ensures.fed starved
 
 pub returns-clause-time : goal.returns-clause-time
 returns-clause-time g c = elapses_on c.sync.ensures.time c.import_synced.ensures.time
+
+pub returns-then-is_err-clause-written : goal.returns-then-is_err-clause-written
+returns-then-is_err-clause-written g c = λ tells. nothing_within c.args.app c.args.name.now c.args.bytes.now
+    (g.D.Disk.medium c.args.disk.now) (g.D.Disk.medium c.sync.new.self)
+    (on_err c.sync.result (sym c.if-is_err.ensures.value) c.sync.ensures.failed).written
+
+pub returns-clause-written : goal.returns-clause-written
+returns-clause-written g c = λ tells. synced_within c.args.app c.args.name.now c.args.bytes.now
+    (g.D.Disk.medium c.args.disk.now) (g.D.Disk.medium c.sync.new.self) (g.D.Disk.medium c.import_synced.new.disk)
+    c.sync.ensures.writes_nothing.image c.sync.ensures.writes_nothing.written (c.import_synced.ensures.written tells)

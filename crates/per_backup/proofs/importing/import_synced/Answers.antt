@@ -1,8 +1,12 @@
-use Rattle.std.proofs.Common.{◌≡◌}
+use Rattle.std.proofs.Common.{◌≡◌, Some}
+use Rattle.std.specs.Prelude.{option_map}
 use Rattle.element_state.specs.States.{State}
 use Rattle.deploy_rows.specs.Recovering.{if_contents_fit}
+use Rattle.export_text.specs.declared.exports.Export.{Export}
+use Rattle.export_text.specs.Exports.{export_of}
 use Rattle.per_backup.specs.Backups.{importing}
 use Rattle.per_backup.specs.Finding.{IsLocatedAs, IsMissingStorage, config_of}
+use Rattle.per_backup.proofs.ImportCosts.{import_within, nothing_within}
 use Rattle.per_backup.proofs.Lists.{err_so, ok_so}
 use Rattle.per_backup.proofs.Nothing.{IsRefusedRow, early_refuses, missing_refuses, nothing_imported, nothing_keeps}
 use Rattle.per_backup.proofs.Nothing.{refuses_answers, refuses_there}
@@ -216,3 +220,31 @@ returns-clause-keeps g c = λ tells. replaced_keeps c.storages_stand.ensures g.D
       any_moment =
           c.replace_contents.ensures.any_moment;
     }) tells
+
+-- what was written
+
+pub returns-in_err-located-clause-written : goal.returns-in_err-located-clause-written
+returns-in_err-located-clause-written g c = λ tells. nothing_within c.args.app c.args.name.now c.args.bytes.now
+    (g.D.Disk.medium c.args.disk.now) (g.D.Disk.medium c.find.new.disk) c.in_err-located.ensures.written
+
+pub returns-in-Err-clause-written : goal.returns-in-Err-clause-written
+returns-in-Err-clause-written g c = λ tells. nothing_within c.args.app c.args.name.now c.args.bytes.now
+    (g.D.Disk.medium c.args.disk.now) (g.D.Disk.medium c.find.new.disk) c.in_ok-located.ensures.written
+
+pub returns-in_err-contents-clause-written : goal.returns-in_err-contents-clause-written
+returns-in_err-contents-clause-written g c = λ tells. nothing_within c.args.app c.args.name.now c.args.bytes.now
+    (g.D.Disk.medium c.args.disk.now) (g.D.Disk.medium c.find.new.disk) c.in_ok-located.ensures.written
+
+pub returns-in-Err-2-clause-written : goal.returns-in-Err-2-clause-written
+returns-in-Err-2-clause-written g c = λ tells. nothing_within c.args.app c.args.name.now c.args.bytes.now
+    (g.D.Disk.medium c.args.disk.now) (g.D.Disk.medium c.find.new.disk) c.in_ok-located.ensures.written
+
+pub returns-clause-written : goal.returns-clause-written
+returns-clause-written g c = import_within g.D.Disk.told c.args.app c.args.name.now c.args.bytes.now
+    (g.D.Disk.medium c.args.disk.now) (g.D.Disk.medium c.find.new.disk) (g.D.Disk.medium c.replace_contents.new.disk)
+    c.in-Ok.located c.in-Ok-2.contents.items
+    (ok_so c.in_ok-located.field-0 c.in-Ok.located (IsLocatedAs g.D.Disk.told (g.D.Disk.medium c.args.disk.now).image
+    c.args.app c.args.name.now) c.in-Ok.is c.in_ok-located.ensures.located) c.in_ok-located.ensures.written
+    (ok_so c.in_ok-contents.field-0 c.in-Ok-2.contents (λ fs. option_map (λ (x : Export). x.contents)
+    (export_of c.args.bytes.now) ≡ Some fs.items) c.in-Ok-2.is c.in_ok-contents.ensures.spelled)
+    c.replace_contents.ensures.written

@@ -1,6 +1,9 @@
-use Rattle.std.proofs.Common.{sym, ap, subst, ◌∙◌}
+use Rattle.std.proofs.Common.{List, Some, sym, ap, subst, ◌∙◌}
+use Rattle.std.specs.Prelude.{option_map}
+use Rattle.per_base.specs.declared.elements.Fresh.{Fresh}
 use Rattle.deployment_model.specs.Data.{storage_data}
 use Rattle.export_text.specs.declared.errors.ExportError.{ExportError}
+use Rattle.export_text.specs.declared.exports.Export.{Export}
 use Rattle.export_text.specs.Exports.{export_of}
 use Rattle.export_text.specs.Views.{FailsToRead}
 use Rattle.per_backup.specs.Backups.{least_mismatch}
@@ -32,3 +35,7 @@ returns-in-None-clause-row c = row_fits (storage_data c.args.config.now) c.args.
 pub returns-in-None-clause-elements : goal.returns-in-None-clause-elements
 returns-in-None-clause-elements c = elements_taken c.args.config.now.kind c.in-Ok.export c.in-Ok.ensures.rules
     (sym c.is_of_kind.ensures ∙ c.if-not-is_of_kind.false) c.into_vec.result.items c.into_vec.ensures
+
+pub returns-in-None-clause-spelled : goal.returns-in-None-clause-spelled
+returns-in-None-clause-spelled c = ap (option_map (λ (x : Export). x.contents)) c.in-Ok.ensures.read
+    ∙ ap (λ (fs : List Fresh). Some fs) (sym c.into_vec.ensures)
