@@ -1,5 +1,6 @@
 -- Which manifests a root keeps on an image.
-use Rattle.std.proofs.Common.{◌≡◌, ℕ, ◌+◌, ◌≤◌, List, [], ◌∷◌, true, Option, None, Some, refl, sym, ap, ◌∙◌, subst, arith}
+use Rattle.std.proofs.Common.{◌≡◌, ℕ, ◌+◌, ◌≤◌, List, [], ◌∷◌, true, Option, None, Some, refl, sym, ap, ◌∙◌, subst}
+use Rattle.std.proofs.Common.{arith}
 use Rattle.std.specs.Prelude.{option_map}
 use Rattle.disk_model.specs.Image.{Image}
 use Rattle.guarded_cell.specs.declared.looking.Seen.{Seen}
@@ -62,7 +63,8 @@ module _ (again : AgainLaw) (law : HeldAloneLaw) (among : AmongLaw) (image : Ima
       ∙ ap (standing_in 2) (law image (root_place app) g t alone).0 in
       stands_so image app (Some it) stands
 
-  pub in_use_keeps : (root : Root) → IsRootOf app root → IsRootOn image app root → manifests_at image app ≡ root_texts root
+  pub in_use_keeps : (root : Root) → IsRootOf app root → IsRootOn image app root
+      → manifests_at image app ≡ root_texts root
   in_use_keeps Bad of on = bad_keeps image app on
   in_use_keeps (Absent cell) of on = alone_keeps (generation_of cell) (root_text text.absent)
       (cell_alone image app cell (root_text text.absent) of.place on)
@@ -90,6 +92,7 @@ found_keeps among image app s first = stands_so image app (Some s.seen) (found_s
 
 -- what was written of it
 pub once_written : (was mid now : ℕ) (image : Image) (app : ℕ) (manifests : List (List ℕ)) → mid ≡ was
-    → manifests_at image app ≡ manifests → now ≤ mid + root_cost manifests → now ≤ was + root_cost (manifests_at image app)
+    → manifests_at image app ≡ manifests → now ≤ mid + root_cost manifests
+    → now ≤ was + root_cost (manifests_at image app)
 once_written was mid now image app manifests same is le =
     subst (λ (kept : List (List ℕ)). now ≤ was + root_cost kept) (sym is) (omega (arith, same, le))

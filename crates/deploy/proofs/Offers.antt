@@ -63,7 +63,8 @@ module _ (busy : Option (List ℕ)) (text : List ℕ) (i : Installed) where
 
     module _ (free : busy ≡ None) where
       pub by_text : (r : Result DeploymentData PerError) → deployment_of text ≡ r
-          → offered busy text (root_app (root.Installed i) []) ≡ (r >>= newer_version active (generation_of i.cell) text)
+          → offered busy text (root_app (root.Installed i) [])
+          ≡ (r >>= newer_version active (generation_of i.cell) text)
       by_text r is = over busy text i None none
           ∙ ap (λ (b : Option (List ℕ)). offer_over b text (generation_of i.cell) active None) free
           ∙ ap (λ (s : Result DeploymentData PerError). s >>= newer_version active (generation_of i.cell) text) is
@@ -132,6 +133,15 @@ module _ (rules : List Rule) (answers : fns.Answers) (now : ℕ) (o : Offer) (st
   planned plan plans = subst (λ (xs : List Stored). PlansAll rules answers now (stored_for o.active.deployment xs)
       o.deployment.storages plan) is plans
 
+  -- what begins with these contents
+  abbrev progress_with : List (List Fresh) → InProgress
+  progress_with contents = record {
+    manifest = o.manifest;
+    deployment = o.deployment;
+    contents = contents;
+    built = 0;
+  }
+
   -- the plan is refused
   pub begins_refused : (e : PerError) → PlansAll rules answers now (stored_for o.active.deployment stored)
       o.deployment.storages (Err e)
@@ -146,18 +156,18 @@ module _ (rules : List Rule) (answers : fns.Answers) (now : ℕ) (o : Offer) (st
   begins_worn contents plans le = (
     Ok contents,
     planned (Ok contents) plans,
-    sym (worn o.generation (Ok (record { manifest = o.manifest; deployment = o.deployment; contents = contents; built = 0 })) le),
+    sym (worn o.generation (Ok (progress_with contents)) le),
   )
 
   -- or it begins
   pub begins_ready : (contents : List (List Fresh)) → PlansAll rules answers now (stored_for o.active.deployment stored)
       o.deployment.storages (Ok contents)
       → o.generation < greatest_generation → BeginsWith rules answers now states (Ok o)
-      (Ok (record { manifest = o.manifest; deployment = o.deployment; contents = contents; built = 0 }))
+      (Ok (progress_with contents))
   begins_ready contents plans lt = (
     Ok contents,
     planned (Ok contents) plans,
-    sym (left o.generation (Ok (record { manifest = o.manifest; deployment = o.deployment; contents = contents; built = 0 })) lt),
+    sym (left o.generation (Ok (progress_with contents)) lt),
   )
 
 -- what is no value is none

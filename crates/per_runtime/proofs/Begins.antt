@@ -52,7 +52,8 @@ unsynced_cost old new reads = let same = reads.written in omega (arith, same)
 
 pub once_at : (k a : ℕ) (now new : Medium) → k ≡ a → new.written ≤ now.written + root_cost (manifests_at now.image k)
     → new.written ≤ now.written + root_cost (manifests_at now.image a)
-once_at k a now new is once = subst (λ (n : ℕ). new.written ≤ now.written + root_cost (manifests_at now.image n)) is once
+once_at k a now new is once = subst (λ (n : ℕ). new.written ≤ now.written + root_cost (manifests_at now.image n)) is
+    once
 
 -- the sync failed
 pub unsynced_keeps : (old new : Medium) → OnlyReads old new → StartKeeps old new

@@ -11,9 +11,9 @@ use Rattle.run_model.specs.Writes.{IsCommandWithin}
 
 -- One command, from the world before it: no file of another application changes, and where it names a storage none
 -- beside those of that storage; where it is one that writes `none`, no byte is written and reads give what they gave; a
--- call that makes a session durable writes no more than what differs, and the next index; every call writes no more than
--- it costs (`call_cost`); and beside slots of the root no file changes but in the places of the storages that it makes or
--- names.
+-- call that makes a session durable writes no more than what differs, and the next index; every call writes no more
+-- than it costs (`call_cost`); and beside slots of the root no file changes but in the places of the storages that it
+-- makes or names.
 pub record IsBounded (rules : List Rule) (answers : Answers) (w : World) (e : Event) (none : Bool) (old new : DiskBytes)
     : Type 0 where
   pub elsewhere : Spares (IsElsewhere e) old.image new.image

@@ -62,8 +62,8 @@ finishing_cost kept (Some p) = making_costs (drop p.built p.deployment.storages)
 
 -- ---- storages
 
--- what making a session durable costs where both maps differ: in each copy the contents that are new or differ, the next
--- index with its head of 44 bytes, and 44 bytes that blank the old one
+-- what making a session durable costs where both maps differ: in each copy the contents that are new or differ, the
+-- next index with its head of 44 bytes, and 44 bytes that blank the old one
 abbrev pub differing_cost : (app : ℕ) → FoundStorage → Session → State → ℕ
 differing_cost app f s (Opens v others) = (shape_in app f).place.copies
     * (map_cost f.config.kind (synced_in_session s) (seen_of s)

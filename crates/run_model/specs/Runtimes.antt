@@ -220,8 +220,8 @@ pub record Stepped (rules : List Rule) (answers : Answers) (e : Event) (reply : 
   -- close writes no more than what differs may cost
   pub unwritten : writes_none (world_of old.image old_memory doubt) e reply ≡ true → IsUnwritten old new
   pub written : WrittenBy (world_of old.image old_memory doubt) e old new
-  -- it writes no more than it costs (`call_cost`), and beside slots of the root no file changes but in the places of the
-  -- storages that it makes or names
+  -- it writes no more than it costs (`call_cost`), and beside slots of the root no file changes but in the places of
+  -- the storages that it makes or names
   pub within : IsCommandWithin rules answers (world_of old.image old_memory doubt) e (bytes_now old) (bytes_now new)
   -- the reply that the device failed has its cause in this command
   pub blamed : IsBlamed old.faults new.faults reply

@@ -93,7 +93,8 @@ files_apart a b file differs of = by (below_or a b)
 one_more : (image : Image) (count : ℕ) → roots_cost image (count + 1)
     ≡ roots_cost image count + root_cost (manifests_at image count)
 one_more image count = let next : count + 1 ≡ suc count = omega arith in
-    subst (λ (n : ℕ). roots_cost image n ≡ roots_cost image count + root_cost (manifests_at image count)) (sym next) refl
+    subst (λ (n : ℕ). roots_cost image n ≡ roots_cost image count + root_cost (manifests_at image count)) (sym next)
+    refl
 
 pub one_more_cost : (old now : Image) (was mid after count : ℕ) → manifests_at now count ≡ manifests_at old count
     → mid ≤ was + roots_cost old count → after ≤ mid + root_cost (manifests_at now count)

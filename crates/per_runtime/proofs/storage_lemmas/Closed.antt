@@ -52,7 +52,8 @@ use Rattle.per_runtime.specs.declared.storages.finding.Located.{Located}
 use Rattle.per_runtime.specs.declared.storages.slots.OpenSlots.{OpenSlots}
 use Rattle.per_runtime.proofs.storage_lemmas.DurableRows.{close_keys_row, close_reaches, close_row, found_of_kind}
 use Rattle.per_runtime.proofs.storage_lemmas.Durables.{at, done_handled, kind_is, may_write, none_of, opens, row_err}
-use Rattle.per_runtime.proofs.storage_lemmas.Durables.{session_costs, session_is, shape_in_is, shape_there, stopped_handled}
+use Rattle.per_runtime.proofs.storage_lemmas.Durables.{session_costs, session_is, shape_in_is, shape_there}
+use Rattle.per_runtime.proofs.storage_lemmas.Durables.{stopped_handled}
 use Rattle.per_runtime.proofs.storage_lemmas.Ended.{TextLaw, early_handled}
 use Rattle.per_runtime.proofs.storage_lemmas.Handled.{found_costs, none_costs, none_written}
 use Rattle.per_runtime.proofs.storage_lemmas.SlotLaws.{put_back, sessions_set}

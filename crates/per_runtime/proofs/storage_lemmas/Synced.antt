@@ -171,7 +171,8 @@ module _ (laws : StorageLaws) (texts : TextLaw) (told : Bool) (app now : ℕ) (r
         → IsStorageCallHandled told app now root c was is old new Same (Err e)
     made_err is emptied e err = stopped_handled laws texts told app now root was old resting l located storage there_is
         c refused after refl refl row named reaches
-        new Same idle written costs storing is emptied e (err_not_due told storage refused old new Same result e makes err)
+        new Same idle written costs storing is emptied e
+        (err_not_due told storage refused old new Same result e makes err)
         (λ device. makes.cause (err ∙ ap (λ (x : Stop). Err x) device))
 
     -- it was answered

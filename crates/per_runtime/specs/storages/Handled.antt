@@ -30,8 +30,8 @@ abbrev pub MayWrite : (app : ℕ) → Call → (before : Application) → (old n
 MayWrite app c before old new = is_durable c ≡ true → (f : FoundStorage) (s : Session)
     → found_named before c ≡ Some (Ok f) → session_at before f.number ≡ Some s → WritesWithin app f s old new
 
--- no more is written than the call costs into the storage that it names, however it ends; where it names none that calls
--- the device, nothing
+-- no more is written than the call costs, into the storage that it names, however it ends; nothing where it names none
+-- that calls the device
 abbrev pub CostsNamed : (app now : ℕ) → Call → (before : Application) → (old new : Medium) → Type 0
 CostsNamed app now c before old new = new.written ≤ old.written + named_cost app now before c (found_named before c)
 
