@@ -10,7 +10,7 @@ ghost use Rattle.element_state.specs.Chosen.{opened_of};
 ghost use Rattle.element_state.specs.Clean.{IsClean};
 ghost use Rattle.element_state.specs.Reports.{failed_report};
 ghost use Rattle.element_state.specs.States.{State, store_at};
-ghost use Rattle.element_store.specs.Opened.{mending_cost};
+ghost use Rattle.element_store.specs.Mends.{mending_cost};
 ghost use Rattle.element_store.specs.Stores.{IsUsed};
 ghost use Rattle.element_maps.specs.Storages.{IsConfigured, IsStoring};
 ghost use Rattle.open_storages.specs.Openings.{IsOpeningOf, IsWhereConfigured, OnCorrupt, OnOpened};

@@ -9,7 +9,7 @@ use Rattle.element_state.specs.States.{State, Opens, Corrupt, salvage_of}
 use Rattle.element_state.specs.Written.{map_cost}
 use Rattle.element_maps.specs.Sessions.{same_map, view_once_synced}
 use Rattle.element_store.specs.Committing.{index_length}
-use Rattle.element_store.specs.Opened.{mending_cost}
+use Rattle.element_store.specs.Mends.{mending_cost}
 use Rattle.element_store.specs.Rebuilds.{rebuilding_cost}
 use Rattle.update_plan.specs.Rows.{initial_contents}
 use Rattle.command_text.specs.declared.calls.Call.{Call}

@@ -21,7 +21,7 @@ use Rattle.element_state.specs.declared.shapes.View.{View}
 use Rattle.element_state.specs.Reports.{failed_report, reports}
 use Rattle.element_state.specs.States.{State, Opens, Corrupt, mended_view, store_at}
 use Rattle.element_maps.specs.Storages.{IsStoring}
-use Rattle.element_store.specs.Opened.{mending_cost}
+use Rattle.element_store.specs.Mends.{mending_cost}
 use Rattle.element_store.specs.Stores.{IsUsed, view_in}
 use Rattle.command_text.specs.declared.replies.Answer.TheVariants as answer
 use Rattle.command_text.specs.declared.replies.Reply.{Reply}
