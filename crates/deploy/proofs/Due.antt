@@ -81,12 +81,13 @@ module _ (busy : Option (List ℕ)) (text : List ℕ) (i : Installed) (none : i.
   offer_takes free =
       let active : Named = named_in_bank i.bank (version_said i.active) in
       takes_by (offered busy text (root_app (root.Installed i) []))
-      (deployment_of text >>= newer_version active (generation_of i.cell))
+      (deployment_of text >>= newer_version active (generation_of i.cell) text)
       (by_text busy text i none free (deployment_of text) refl)
-      (takes_then (deployment_of text) (newer_version active (generation_of i.cell)) (manifest_takes text)
+      (takes_then (deployment_of text) (newer_version active (generation_of i.cell) text) (manifest_takes text)
       (λ d. takes_cond (nat_le d.version active.deployment.version)
       (error.VersionNotNewer active.deployment.version d.version)
-      (record { generation = generation_of i.cell; active = active; deployment = d }) (λ at_once. at_once)))
+      (record { generation = generation_of i.cell; active = active; manifest = text; deployment = d })
+      (λ at_once. at_once)))
 
 -- what is offered is not refused
 pub not_offered : {P : Type 0} (row : Result Offer PerError) (o : Offer) (e : PerError) → row ≡ Ok o → row ≡ Err e → P

@@ -14,6 +14,7 @@ pub mod Lone
 pub mod LoneRows
 pub mod MadePlaces
 pub mod MadeStorages
+pub mod Manifests
 pub mod NextRoots
 pub mod NextVersion
 pub mod Offers

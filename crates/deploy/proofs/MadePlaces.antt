@@ -14,15 +14,15 @@ use Rattle.element_state.specs.declared.shapes.Shape.{Shape}
 use Rattle.element_store.specs.Plans.{blocks_of_all}
 use Rattle.root_text.specs.declared.versions.VersionText.{VersionText}
 use Rattle.deploy_laws.specs.Places.{cut_copies, shapes_from, shapes_in, storage_shape}
+use Rattle.deploy_rows.specs.Costs.{cost_by, install_cost, making_cost, making_costs, root_cost, said_storages}
+use Rattle.deploy_rows.specs.Costs.{storages_said}
 use Rattle.deploy_rows.specs.Rows.{deployment_of, initial_all}
 use Rattle.deploy.specs.declared.roots.Root.{Root}
 use Rattle.deploy.specs.declared.updating.Staged.{Staged}
 use Rattle.deploy.specs.Building.{offered_in, staged_root, staged_text}
 use Rattle.deploy.specs.Clauses.{IsNoRootSlot, Leaves}
-use Rattle.deploy.specs.Making.{IsBesideMade, IsInNone, cost_by, install_cost, making_cost, making_costs, said_storages}
-use Rattle.deploy.specs.Making.{storages_said}
+use Rattle.deploy.specs.Making.{IsBesideMade, IsInNone}
 use Rattle.deploy.specs.Roots.{SaysDeployment, free_bank, previous_texts, root_texts}
-use Rattle.deploy.specs.Written.{root_cost}
 use Rattle.deploy.proofs.Leaves.{leaves_less, leaves_on}
 use Rattle.deploy.proofs.OneUpdate.{leaves_then}
 use Rattle.deploy.proofs.Told.{told_read}

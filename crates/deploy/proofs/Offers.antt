@@ -63,15 +63,20 @@ module _ (busy : Option (List ℕ)) (text : List ℕ) (i : Installed) where
 
     module _ (free : busy ≡ None) where
       pub by_text : (r : Result DeploymentData PerError) → deployment_of text ≡ r
-          → offered busy text (root_app (root.Installed i) []) ≡ (r >>= newer_version active (generation_of i.cell))
+          → offered busy text (root_app (root.Installed i) [])
+          ≡ (r >>= newer_version active (generation_of i.cell) text)
       by_text r is = over busy text i None none
           ∙ ap (λ (b : Option (List ℕ)). offer_over b text (generation_of i.cell) active None) free
-          ∙ ap (λ (s : Result DeploymentData PerError). s >>= newer_version active (generation_of i.cell)) is
+          ∙ ap (λ (s : Result DeploymentData PerError). s >>= newer_version active (generation_of i.cell) text) is
 
       -- the manifest is rejected
       pub is_rejected : (e : PerError) → deployment_of text ≡ Err e
           → offered busy text (root_app (root.Installed i) []) ≡ Err e
       is_rejected e is = by_text (Err e) is
+
+      -- the offer of a version whose manifest is this text
+      abbrev offer_text : List ℕ → VersionText → Offer
+      offer_text manifest v = record (offer_of i v) { manifest = manifest }
 
       -- the version is no newer one
       pub not_newer : (v : VersionText) → deployment_of text ≡ Ok (deployment_data v.deployment)
@@ -80,17 +85,18 @@ module _ (busy : Option (List ℕ)) (text : List ℕ) (i : Installed) where
           ≡ Err (error.VersionNotNewer i.active.deployment.version v.deployment.version)
       not_newer v is le = by_text (Ok (deployment_data v.deployment)) is
           ∙ ap (λ (b : Bool). cond b (Err (error.VersionNotNewer i.active.deployment.version v.deployment.version))
-          (Ok (offer_of i v)))
+          (Ok (offer_text text v)))
           (le-leb v.deployment.version i.active.deployment.version le)
 
       -- or it is
-      pub is_offered : (v : VersionText) → deployment_of text ≡ Ok (deployment_data v.deployment)
+      pub is_offered : (v : VersionText) → v.text ≡ text → deployment_of text ≡ Ok (deployment_data v.deployment)
           → i.active.deployment.version < v.deployment.version
           → offered busy text (root_app (root.Installed i) []) ≡ Ok (offer_of i v)
-      is_offered v is lt = by_text (Ok (deployment_data v.deployment)) is
+      is_offered v text_is is lt = by_text (Ok (deployment_data v.deployment)) is
           ∙ ap (λ (b : Bool). cond b (Err (error.VersionNotNewer i.active.deployment.version v.deployment.version))
-          (Ok (offer_of i v)))
+          (Ok (offer_text text v)))
           (lt-leb v.deployment.version i.active.deployment.version lt)
+          ∙ ap (λ (manifest : List ℕ). Ok (offer_text manifest v)) (sym text_is)
 
 -- ---- what begins from it
 
@@ -127,6 +133,15 @@ module _ (rules : List Rule) (answers : fns.Answers) (now : ℕ) (o : Offer) (st
   planned plan plans = subst (λ (xs : List Stored). PlansAll rules answers now (stored_for o.active.deployment xs)
       o.deployment.storages plan) is plans
 
+  -- what begins with these contents
+  abbrev progress_with : List (List Fresh) → InProgress
+  progress_with contents = record {
+    manifest = o.manifest;
+    deployment = o.deployment;
+    contents = contents;
+    built = 0;
+  }
+
   -- the plan is refused
   pub begins_refused : (e : PerError) → PlansAll rules answers now (stored_for o.active.deployment stored)
       o.deployment.storages (Err e)
@@ -141,18 +156,18 @@ module _ (rules : List Rule) (answers : fns.Answers) (now : ℕ) (o : Offer) (st
   begins_worn contents plans le = (
     Ok contents,
     planned (Ok contents) plans,
-    sym (worn o.generation (Ok (record { deployment = o.deployment; contents = contents; built = 0 })) le),
+    sym (worn o.generation (Ok (progress_with contents)) le),
   )
 
   -- or it begins
   pub begins_ready : (contents : List (List Fresh)) → PlansAll rules answers now (stored_for o.active.deployment stored)
       o.deployment.storages (Ok contents)
       → o.generation < greatest_generation → BeginsWith rules answers now states (Ok o)
-      (Ok (record { deployment = o.deployment; contents = contents; built = 0 }))
+      (Ok (progress_with contents))
   begins_ready contents plans lt = (
     Ok contents,
     planned (Ok contents) plans,
-    sym (left o.generation (Ok (record { deployment = o.deployment; contents = contents; built = 0 })) lt),
+    sym (left o.generation (Ok (progress_with contents)) lt),
   )
 
 -- what is no value is none

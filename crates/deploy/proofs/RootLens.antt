@@ -23,7 +23,7 @@ use Rattle.deploy.specs.declared.roots.Root.TheVariants.{Absent, Bad, Installed}
 use Rattle.deploy.specs.Leaving.{IfRegister, IsRegisterAt}
 use Rattle.deploy.specs.Laws.{RootLenLaw}
 use Rattle.deploy.specs.Roots.{previous_texts, root_texts}
-use Rattle.deploy.specs.Written.{format_cost, greatest_cost, root_cost, root_len}
+use Rattle.deploy_rows.specs.Costs.{format_cost, greatest_cost, root_cost, root_len}
 
 pub root_len_is : RootLenLaw
 unfolding root_text

@@ -52,6 +52,15 @@ committed p g active previous a is = by_says p g active previous a.lacking a.sta
 
 -- ---- a root with one version
 
+-- the update to a version, with these contents
+abbrev progress_of : VersionText → List (List Fresh) → ℕ → InProgress
+progress_of v contents built = record {
+  manifest = v.text;
+  deployment = deployment_data v.deployment;
+  contents = contents;
+  built = built;
+}
+
 pub other_bank : (bank : ℕ) → bank ≤ 1 → 1 - (1 - bank) ≡ bank
 other_bank bank le = omega (arith, le)
 
@@ -115,13 +124,12 @@ module _ (again : AgainLaw) (alone : AloneLaw) (image : Image) (app : ℕ) (i : 
   pub next_committed : (v : VersionText) (contents : List (List Fresh)) (built : ℕ)
       → next_app (generation_of i.cell + 1) (1 - i.bank) (version_said v) (Some (version_said i.active)) contents
       (app_at image app)
-      ≡ updated_app (record { deployment = deployment_data v.deployment; contents = contents; built = built })
-      (app_at image app)
+      ≡ updated_app (progress_of v contents built) (app_at image app)
   next_committed v contents built =
       ap (λ (bank : ℕ). with_one bank v (made_states contents ++ (app_at image app).states))
       (other_bank i.bank of.1.in_bank)
       ∙ ap (λ (states : List State). with_one i.bank v (made_states contents ++ states)) (sym all_states)
-      ∙ sym (committed (record { deployment = deployment_data v.deployment; contents = contents; built = built })
+      ∙ sym (committed (progress_of v contents built)
       (generation_of i.cell) active None
       (app_at image app) app_says_one)
 
@@ -130,6 +138,7 @@ pub says_committed : (i j : Installed) (v : VersionText) (contents : List (List 
     → i.previous ≡ None
     → generation_of j.cell ≡ generation_of i.cell + 1 → j.bank ≡ 1 - i.bank → j.active ≡ v → j.previous ≡ Some i.active
     → root_says (root.Installed j) ≡ (updated_app (record {
+      manifest = v.text;
       deployment = deployment_data v.deployment;
       contents =
           contents;
@@ -147,6 +156,7 @@ says_committed i j v contents built le none counts in_bank of_active of_previous
     ∙ ap (λ (bank : ℕ). installed (generation_of i.cell + 1) (named_in_bank (1 - i.bank) (version_said v))
     (Some (named_in_bank bank (version_said i.active)))) (other_bank i.bank le)
     ∙ sym (ap (λ (a : App). a.says) (committed (record {
+      manifest = v.text;
       deployment = deployment_data v.deployment;
       contents =
           contents;

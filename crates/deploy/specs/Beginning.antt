@@ -18,6 +18,7 @@ abbrev pub offer_of : Installed → VersionText → Offer
 offer_of root v = record {
   generation = generation_of root.cell;
   active = named_in_bank root.bank (version_said root.active);
+  manifest = v.text;
   deployment = deployment_data v.deployment;
 }
 

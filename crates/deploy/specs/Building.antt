@@ -21,6 +21,7 @@ use Rattle.deploy.specs.Made.{AreMade}
 -- the next version, the contents of its storages, and how many of them are made
 abbrev pub staged_progress : Staged → InProgress
 staged_progress s = record {
+  manifest = s.version.text;
   deployment = deployment_data s.version.deployment;
   contents = s.contents.items;
   built =

@@ -7,11 +7,11 @@ use Rattle.root_text.specs.RootText.{Version, root_text}
 use Rattle.root_text.specs.RootText as text
 use Rattle.deploy_laws.specs.Apps.{app_at, app_saying}
 use Rattle.deploy_laws.specs.Places.{IsFileOf, first_file}
+use Rattle.deploy_rows.specs.Costs.{kept_manifests, manifests_at, root_len}
 use Rattle.deploy.specs.declared.roots.Root.{Root}
 use Rattle.deploy.specs.declared.updating.Staged.{Staged}
 use Rattle.deploy.specs.Building.{StagedAt}
-use Rattle.deploy.specs.Roots.{IsRootOf, IsRootOn, RootAt, root_says}
-use Rattle.deploy.specs.Written.{root_len}
+use Rattle.deploy.specs.Roots.{IsRootOf, IsRootOn, RootAt, root_says, root_texts}
 
 -- the application is what its root says, with the states of the storages that it names, and no copy lacks the root
 abbrev pub RootInUseLaw : Type 0
@@ -33,11 +33,10 @@ abbrev pub StagedFrameLaw : Type 0
 StagedFrameLaw = (told : Bool) (app : ℕ) (old new : Image) (s : Staged) → (IsTrue told → Spares (IsFileOf app) old new)
     → StagedAt told old app s → StagedAt told new app s
 
--- the manifests that a root's text keeps, the active version's first
-abbrev pub kept_manifests : text.Root → List (List ℕ)
-kept_manifests text.absent = []
-kept_manifests (text.installed bank active None) = active.text ∷ []
-kept_manifests (text.installed bank active (Some previous)) = active.text ∷ previous.text ∷ []
+-- of a root in use the image says the manifests of its versions
+abbrev pub ManifestsLaw : Type 0
+ManifestsLaw = (image : Image) (app : ℕ) (root : Root) → IsRootOf app root → IsRootOn image app root
+    → manifests_at image app ≡ root_texts root
 
 -- the text of a root is as long as `root_len` has it of the manifests that it keeps
 abbrev pub RootLenLaw : Type 0

@@ -12,7 +12,7 @@ ghost use Rattle.deploy_laws.specs.Apps.{IsCleanApp, app_at, root_sole};
 ghost use Rattle.deploy_laws.specs.Places.{root_place};
 ghost use Rattle.deploy_rows.specs.Rows.{empty_app};
 ghost use Rattle.deploy.specs.Clauses.{IsNoRootSlot, Leaves};
-ghost use Rattle.deploy.specs.Written.{format_cost};
+ghost use Rattle.deploy_rows.specs.Costs.{format_cost};
 
 use crate::errors::Stop;
 use deploy_laws::{files_lie_apart, root_place, roots_say};

@@ -19,13 +19,14 @@ ghost use Rattle.deploy_rows.specs.Rows.{AnswersRow, after, initial_all, install
 ghost use Rattle.deploy.specs.Clauses.{IsBesideNext, Leaves};
 ghost use Rattle.deploy.specs.Filled.{filled_app};
 ghost use Rattle.deploy.specs.Made.{AreMade};
-ghost use Rattle.deploy.specs.Making.{IsBesideMade, install_cost, making_costs, storages_said};
+ghost use Rattle.deploy_rows.specs.Costs.{install_cost, making_costs, storages_said};
+ghost use Rattle.deploy.specs.Making.{IsBesideMade};
 ghost use Rattle.deploy.specs.Next.{next_app, root_before};
 ghost use Rattle.deploy.specs.Refusals.{AllocatesNothing};
 ghost use Rattle.deploy.specs.Remaining.{IsBesideCommit};
 ghost use Rattle.deploy.specs.Roots.{IsRootCell, RootAt, SaysDeployment, previous_texts, root_app, root_says};
 ghost use Rattle.deploy.specs.Roots.{root_texts};
-ghost use Rattle.deploy.specs.Written.{root_cost};
+ghost use Rattle.deploy_rows.specs.Costs.{root_cost};
 
 use crate::errors::Stop;
 use crate::making::{create_rest, initial_contents};

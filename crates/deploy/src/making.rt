@@ -15,7 +15,8 @@ ghost use Rattle.deploy_laws.specs.Places.{IsBeside, shapes_from, storage_shape}
 ghost use Rattle.deploy_rows.specs.Rows.{initial_all};
 ghost use Rattle.deploy.specs.Clauses.{Leaves};
 ghost use Rattle.deploy.specs.Made.{AreMade};
-ghost use Rattle.deploy.specs.Making.{IsInNone, making_cost, making_costs};
+ghost use Rattle.deploy_rows.specs.Costs.{making_cost, making_costs};
+ghost use Rattle.deploy.specs.Making.{IsInNone};
 ghost use Rattle.deploy.specs.Remaining.{IsBesideRest};
 
 use crate::errors::Stop;

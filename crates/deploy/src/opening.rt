@@ -16,11 +16,12 @@ ghost use Rattle.root_text.specs.RootText.{IsRoot, root_text};
 ghost use Rattle.root_text.specs.Views.{root_said};
 ghost use Rattle.deploy_laws.specs.Apps.{IsCleanApp, app_at, says_at, says_by};
 ghost use Rattle.deploy_laws.specs.Places.{root_place};
+ghost use Rattle.deploy_rows.specs.Costs.{greatest_cost, kept_manifests, manifests_at, root_len};
 ghost use Rattle.deploy_rows.specs.Rows.{reopened};
 ghost use Rattle.deploy.specs.Clauses.{IsNoRootSlot, Leaves, StandsOnTheWay};
 ghost use Rattle.deploy.specs.Roots.{RootAt, root_says, root_texts};
 ghost use Rattle.deploy.specs.Standing.{IsSpelled};
-ghost use Rattle.deploy.specs.Written.{WritesRoot, greatest_cost, root_len};
+ghost use Rattle.deploy.specs.Written.{WritesRoot};
 
 use crate::errors::Stop;
 use crate::roots::{Installed, Root};
@@ -73,7 +74,12 @@ pub fn open_root<D: Disk>(alloc: Global, disk: &mut D, app: u32) -> Result<Root,
     // come to next.
     ensures outside { Leaves D.told (IsNoRootSlot app) (D.medium disk.old) (D.medium disk.new) }
     ensures any_moment { IsTrue D.told → StandsOnTheWay app (D.medium disk.old) (D.medium disk.new) }
-    // At most the root that comes is written, once; where the call fails, no more than the longest root costs.
+    // It keeps the manifests that it kept. At most the root that stands is written, once, however the call ends, and no
+    // more than the longest root costs.
+    ensures manifests { IsTrue D.told
+        → IfOk result (λ root. root_texts root ≡ manifests_at (D.medium disk.old).image app) }
+    ensures once { IsTrue D.told
+        → WritesRoot (manifests_at (D.medium disk.old).image app) (D.medium disk.old) (D.medium disk.new) }
     ensures written { IfOk result (λ root. WritesRoot (root_texts root) (D.medium disk.old) (D.medium disk.new)) }
     ensures at_most { (D.medium disk.new).written ≤ (D.medium disk.old).written + greatest_cost }
     ensures time { Elapses (D.medium disk.old) (D.medium disk.new) }
@@ -128,6 +134,8 @@ fn bring_to<D: Disk>(
         → EachCase (PutStops (root_place app) standing.seen.generation standing.seen.text
         (D.medium disk.old).image)
         (D.medium disk.old) (D.medium disk.new) }
+    ensures texts { IfOk result (λ root. root_texts root ≡ kept_manifests (root_said standing.says)) }
+    ensures once { WritesRoot (kept_manifests (root_said standing.says)) (D.medium disk.old) (D.medium disk.new) }
     ensures written { IfOk result (λ root. WritesRoot (root_texts root) (D.medium disk.old) (D.medium disk.new)) }
     ensures at_most { (D.medium disk.new).written ≤ (D.medium disk.old).written + greatest_cost }
     ensures time { Elapses (D.medium disk.old) (D.medium disk.new) }
@@ -152,6 +160,7 @@ impl Root {
         ensures memory { (app : ℕ) → IsRootCell app cell → IsRoot (root_said says) → IsRootOf app result }
         ensures disk { (image : Image) (app : ℕ) → CellAt image cell (root_text (root_said says))
             → IsRootOn image app result }
+        ensures texts { root_texts result ≡ kept_manifests (root_said says) }
         ensures long { length (root_text (root_said says)) ≡ root_len (root_texts result) }
     {
         said_is_kept();

@@ -19,11 +19,12 @@ ghost use Rattle.deploy.specs.Beginning.{AreReadContents, IsOffered, offer_of};
 ghost use Rattle.deploy.specs.Building.{IsStaged, IsUpdateBegun, StagedAt, begun_as, offered_in, staged_progress};
 ghost use Rattle.deploy.specs.Building.{staged_root, staged_text};
 ghost use Rattle.deploy.specs.Clauses.{IsNoRootSlot, Leaves};
-ghost use Rattle.deploy.specs.Making.{IsBesideMade, IsInNone, making_costs};
+ghost use Rattle.deploy_rows.specs.Costs.{making_costs};
+ghost use Rattle.deploy.specs.Making.{IsBesideMade, IsInNone};
 ghost use Rattle.deploy.specs.Refusals.{AllocatesNothing};
 ghost use Rattle.deploy.specs.Remaining.{IsBesideCommit};
 ghost use Rattle.deploy.specs.Roots.{RootAt, SaysDeployment, free_bank, root_app, root_says, root_texts};
-ghost use Rattle.deploy.specs.Written.{root_cost};
+ghost use Rattle.deploy_rows.specs.Costs.{root_cost};
 
 use crate::errors::Stop;
 use crate::installing::{make_version, worn_out};

@@ -17,7 +17,8 @@ ghost use Rattle.deploy_rows.specs.Rows.{AnswersRow, after, wiping};
 ghost use Rattle.deploy.specs.Clauses.{IsNoRootSlot, Leaves};
 ghost use Rattle.deploy.specs.Leaving.{IsEmptied, IsRegisterAt, IsRootRefused, empty_says, register_of};
 ghost use Rattle.deploy.specs.Roots.{RootAt, root_app, root_says};
-ghost use Rattle.deploy.specs.Written.{WritesRoot, format_cost, root_len};
+ghost use Rattle.deploy_rows.specs.Costs.{format_cost, root_len};
+ghost use Rattle.deploy.specs.Written.{WritesRoot};
 
 use crate::errors::Stop;
 use crate::formatting::format_root;

@@ -16,7 +16,7 @@ ghost use Rattle.root_text.specs.Views.{version_said};
 ghost use Rattle.deploy_rows.specs.Rows.{deployment_of};
 ghost use Rattle.deploy.specs.Roots.{SaysDeployment, previous_texts};
 ghost use Rattle.deploy.specs.Versions.{TellsRow};
-ghost use Rattle.deploy.specs.Written.{root_len};
+ghost use Rattle.deploy_rows.specs.Costs.{root_len};
 
 use crate::errors::Stop;
 use disk_model::Disk;

@@ -1,3 +1,4 @@
 pub mod Later
 pub mod Rejected
 pub mod Alike
+pub mod Manifests

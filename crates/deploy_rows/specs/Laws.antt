@@ -1,10 +1,14 @@
 -- What the rows of all calls have in common: the statements of the laws.
-use Rattle.std.specs.Prelude.{◌≡◌, ℕ, List, Option, Some, Result, Ok, Err}
+use Rattle.std.specs.Prelude.{◌≡◌, ◌<◌, ℕ, List, [], Option, Some, Result, Ok, Err}
 use Rattle.per_base.specs.declared.errors.PerError.{PerError}
 use Rattle.per_base.specs.declared.errors.PerError.TheVariants as error
+use Rattle.disk_model.specs.Frame.{Spares}
+use Rattle.disk_model.specs.Image.{Image}
 use Rattle.manifest.specs.Reading.{broken_rule}
-use Rattle.deploy_laws.specs.Apps.{App}
+use Rattle.deploy_laws.specs.Apps.{App, absent, says_at}
+use Rattle.deploy_laws.specs.Places.{IsFileOf}
 use Rattle.deploy_laws.specs.Stands.{IsLater}
+use Rattle.deploy_rows.specs.Costs.{manifests_at}
 use Rattle.deploy_rows.specs.Rows.{InProgress, deployment_of, installing, finishing, rolling_back, wiping, updated_app}
 use Rattle.deploy_rows.specs.Rows.{reopened, after}
 
@@ -45,6 +49,16 @@ ReopenedLaterLaw = (a : App) → IsLater a (reopened a)
 abbrev pub RejectedLaw : Type 0
 RejectedLaw = (text : List ℕ) (e : PerError) → deployment_of text ≡ Err e
     → (rule : ℕ) × (broken_rule text ≡ Some rule) × (e ≡ error.ManifestRejected rule)
+
+-- the manifests that a root keeps stay where no file of its application changes
+abbrev pub ManifestsFrameLaw : Type 0
+ManifestsFrameLaw = (app : ℕ) (old new : Image) → app < 8 → Spares (IsFileOf app) old new
+    → manifests_at new app ≡ manifests_at old app
+
+-- a root that says that nothing is installed keeps none
+abbrev pub NoManifestsLaw : Type 0
+NoManifestsLaw = (image : Image) (app generation : ℕ) → says_at image app ≡ absent generation
+    → manifests_at image app ≡ []
 
 -- ---- a row refuses by what the root says alone: what is in memory of a root decides it
 

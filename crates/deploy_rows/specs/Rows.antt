@@ -144,22 +144,24 @@ contents_stored (s ∷ ss) [] = []
 contents_stored (s ∷ ss) (state ∷ states) = record { name = s.name; contents = contents_of state } ∷ contents_stored ss
     states
 
--- what an update starts from: the root's generation, the active version, and the deployment of the next one
+-- what an update starts from: the root's generation, the active version, and the manifest of the next one with the
+-- deployment that it says
 pub record Offer : Type 0 where
   pub generation : ℕ
   pub active : Named
+  pub manifest : List ℕ
   pub deployment : DeploymentData
 
--- an update to this deployment, or the refusal of one whose version is not greater
-abbrev pub newer_version : Named → ℕ → DeploymentData → Result Offer PerError
-newer_version active g d = cond (nat_le d.version active.deployment.version)
+-- an update to the deployment that this manifest says, or the refusal of one whose version is not greater
+abbrev pub newer_version : Named → ℕ → List ℕ → DeploymentData → Result Offer PerError
+newer_version active g text d = cond (nat_le d.version active.deployment.version)
     (Err (error.VersionNotNewer active.deployment.version d.version))
-    (Ok (record { generation = g; active = active; deployment = d }))
+    (Ok (record { generation = g; active = active; manifest = text; deployment = d }))
 
 -- an update over an installed version, or its refusal beside a previous version or while a storage is open
 abbrev pub offer_over : (busy : Option (List ℕ)) → List ℕ → ℕ → Named → Option Named → Result Offer PerError
 offer_over busy text g active (Some previous) = Err (error.UpdateNotFinished previous.deployment.version)
-offer_over busy text g active None = not_busy busy (deployment_of text >>= newer_version active g)
+offer_over busy text g active None = not_busy busy (deployment_of text >>= newer_version active g text)
 
 -- what an update to this manifest starts from, or its refusal for a reason that comes before what storages hold
 unfoldable pub offered : (busy : Option (List ℕ)) → List ℕ → App → Result Offer PerError
@@ -169,8 +171,10 @@ offered busy text a = elim a.says [
   | installed g active previous ↦ offer_over busy text g active previous
 ]
 
--- an update in progress: the new deployment, the contents of its storages, and how many of them are built
+-- an update in progress: the new manifest with the deployment that it says, the contents of its storages, and how many
+-- of them are built
 pub record InProgress : Type 0 where
+  pub manifest : List ℕ
   pub deployment : DeploymentData
   pub contents : List (List Fresh)
   pub built : ℕ
@@ -182,7 +186,7 @@ one_more p = record p { built = cond (nat_lt p.built (length p.contents)) (suc p
 -- how an update begins with a plan, which is what each storage of the next version is to start with, or a refusal
 abbrev pub begun : Offer → Result (List (List Fresh)) PerError → Result InProgress PerError
 begun o plan = plan >>= (λ contents. not_worn o.generation
-    (Ok (record { deployment = o.deployment; contents = contents; built = 0 })))
+    (Ok (record { manifest = o.manifest; deployment = o.deployment; contents = contents; built = 0 })))
 
 -- an update from this offer over storages in these states begins so: the offer's refusal, or one plan's contents
 abbrev pub BeginsWith : List Rule → fns.Answers → (now : ℕ) → List State → Result Offer PerError

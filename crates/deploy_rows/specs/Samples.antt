@@ -90,6 +90,7 @@ none_to_finish = refl
 
 -- the new version in the other bank, beside the old one as it was
 committed : (contents : List Fresh) → updated_app (record {
+  manifest = [];
   deployment = version_of 2;
   contents = contents ∷ [];
   built =

@@ -8,4 +8,4 @@
 
 mod laws;
 
-pub use laws::{manifests_are_judged, rows_lead_on, rows_read_the_root};
+pub use laws::{manifests_are_judged, manifests_stay, rows_lead_on, rows_read_the_root};

@@ -1,14 +1,16 @@
 //! The opening of a storage.
 
-ghost use Rattle.std.specs.Prelude.{◌≡◌, IfOk, IsErrOf, IsTrue, OnOk};
+ghost use Rattle.std.specs.Prelude.{◌≡◌, ◌≤◌, ◌+◌, IfOk, IsErrOf, IsTrue, OnOk};
 ghost use Rattle.per_base.specs.Causes.{Rose};
 ghost use Rattle.per_base.specs.declared.elements.StoreKind.TheVariants as kinds;
 ghost use Rattle.disk_model.specs.Medium.{Quiet};
 ghost use Rattle.deployment_model.specs.Conditions.{IsStorage};
 ghost use Rattle.deployment_model.specs.Data.{storage_data};
+ghost use Rattle.element_state.specs.Chosen.{opened_of};
 ghost use Rattle.element_state.specs.Clean.{IsClean};
 ghost use Rattle.element_state.specs.Reports.{failed_report};
 ghost use Rattle.element_state.specs.States.{State, store_at};
+ghost use Rattle.element_store.specs.Mends.{mending_cost};
 ghost use Rattle.element_store.specs.Stores.{IsUsed};
 ghost use Rattle.element_maps.specs.Storages.{IsConfigured, IsStoring};
 ghost use Rattle.open_storages.specs.Openings.{IsOpeningOf, IsWhereConfigured, OnCorrupt, OnOpened};
@@ -74,6 +76,10 @@ pub fn open_storage<D: Disk>(
     ensures passes { OnOk result ((D.medium disk.new).faults ≡ (D.medium disk.old).faults) }
     ensures fed { IsErrOf result Stop.OutOfMemory → (D.medium disk.new).faults ≡ (D.medium disk.old).faults }
 
+    // However it ends, no more is written than what it finds costs to mend.
+    ensures written { IsTrue D.told → (D.medium disk.new).written ≤ (D.medium disk.old).written
+        + mending_cost shape.place.copies (opened_of (store_at (D.medium disk.old).image shape)) }
+
     // No file outside the place changes, and a stop at any moment keeps the storage as before: `after` is any state.
     ensures storing { (after : State) → IsStoring D.told shape after (D.medium disk.old) (D.medium disk.new) }
 {
@@ -113,6 +119,8 @@ fn open_keys<D: Disk>(
     ensures cause { IsErrOf result Stop.Device → Rose (D.medium disk.old).faults (D.medium disk.new).faults }
     ensures passes { OnOk result ((D.medium disk.new).faults ≡ (D.medium disk.old).faults) }
     ensures fed { IsErrOf result Stop.OutOfMemory → (D.medium disk.new).faults ≡ (D.medium disk.old).faults }
+    ensures written { IsTrue D.told → (D.medium disk.new).written ≤ (D.medium disk.old).written
+        + mending_cost shape.place.copies (opened_of (store_at (D.medium disk.old).image shape)) }
     ensures storing { (after : State) → IsStoring D.told shape after (D.medium disk.old) (D.medium disk.new) }
 {
     match open_kvs(alloc, disk, shape, config) {
@@ -149,6 +157,8 @@ fn open_file_storage<D: Disk>(
     ensures cause { IsErrOf result Stop.Device → Rose (D.medium disk.old).faults (D.medium disk.new).faults }
     ensures passes { OnOk result ((D.medium disk.new).faults ≡ (D.medium disk.old).faults) }
     ensures fed { IsErrOf result Stop.OutOfMemory → (D.medium disk.new).faults ≡ (D.medium disk.old).faults }
+    ensures written { IsTrue D.told → (D.medium disk.new).written ≤ (D.medium disk.old).written
+        + mending_cost shape.place.copies (opened_of (store_at (D.medium disk.old).image shape)) }
     ensures storing { (after : State) → IsStoring D.told shape after (D.medium disk.old) (D.medium disk.new) }
 {
     views_are_maps();

@@ -5,10 +5,12 @@ use Rattle.disk_model.specs.Image.{Image}
 use Rattle.disk_model.specs.Medium.{Medium}
 use Rattle.migrate_fns.specs.Rules.{Rule, Answers}
 use Rattle.command_text.specs.Generated.{generated}
-use Rattle.deploy_laws.specs.Apps.{App, app_at}
+use Rattle.deploy_laws.specs.Apps.{App, absent, app_at, says_at}
+use Rattle.deploy_rows.specs.Costs.{format_cost, manifests_at, root_cost}
+use Rattle.deploy_rows.specs.Laws.{NoManifestsLaw}
 use Rattle.deploy_rows.specs.Rows.{empty_app}
 use Rattle.run_model.specs.Bounds.{AreBounded}
-use Rattle.run_model.specs.Costs.{format_cost, greatest_cost}
+use Rattle.run_model.specs.Costs.{roots_cost}
 use Rattle.run_model.specs.Moments.{last_of}
 use Rattle.run_model.specs.RunLaws.{ends_settled}
 use Rattle.run_model.specs.Runs.{IsSettled}
@@ -36,6 +38,28 @@ pub is_formatted : (image : Image) → ((app : ℕ) → app < 8 → app_at image
 unfolding world_at
 is_formatted image each = ap (λ (apps : List Application). record formatted { apps = apps })
     (resting_all (app_at image) (empty_app 1) 0 8 (λ i least most. each i most))
+
+says_none : (image : Image) (app : ℕ) → app_at image app ≡ empty_app 1 → says_at image app ≡ absent 1
+unfolding app_at
+says_none image app is = ap (λ (a : App). a.says) is
+
+-- its roots keep no manifest
+bare_root : NoManifestsLaw → (image : Image) (app : ℕ) → app_at image app ≡ empty_app 1
+    → root_cost (manifests_at image app) ≡ root_cost []
+bare_root law image app is = ap root_cost (law image app 1 (says_none image app is))
+
+pub bare_roots : NoManifestsLaw → (image : Image) → ((app : ℕ) → app < 8 → app_at image app ≡ empty_app 1)
+    → roots_cost image 8 ≡ 8 * root_cost []
+bare_roots law image each =
+    let a0 = bare_root law image 0 (each 0 (omega arith)) in
+    let a1 = bare_root law image 1 (each 1 (omega arith)) in
+    let a2 = bare_root law image 2 (each 2 (omega arith)) in
+    let a3 = bare_root law image 3 (each 3 (omega arith)) in
+    let a4 = bare_root law image 4 (each 4 (omega arith)) in
+    let a5 = bare_root law image 5 (each 5 (omega arith)) in
+    let a6 = bare_root law image 6 (each 6 (omega arith)) in
+    let a7 = bare_root law image 7 (each 7 (omega arith)) in
+    omega (arith, a0, a1, a2, a3, a4, a5, a6, a7)
 
 -- ---- jobs that did not come to their output
 
@@ -96,9 +120,9 @@ counted_none told rules answers memory tally old middle new begun none = record 
 }
 
 -- what the formatting and the start cost
-within : (was mid now : ℕ) → mid ≤ was + 8 * format_cost → now ≤ mid + 8 * greatest_cost
-    → now ≤ was + (8 * format_cost + 8 * greatest_cost)
-within was mid now formats starts = omega (arith, formats, starts)
+within : (image : Image) (was mid now : ℕ) → roots_cost image 8 ≡ 8 * root_cost [] → mid ≤ was + 8 * format_cost
+    → now ≤ mid + roots_cost image 8 → now ≤ was + (8 * format_cost + 8 * root_cost [])
+within image was mid now bare formats starts = omega (arith, bare, formats, starts)
 
 follow_from : (rules : List Rule) (answers : Answers) (w v : World) (ts : List Turn) → w ≡ v → Follow rules answers w ts
     → Follow rules answers v ts
@@ -126,7 +150,8 @@ generates_all told rules answers n status before now memory after tally old midd
   bounded = λ tells.
       let g : IsGoing rules answers middle counted.turns after new = counted.goes.disk tells in record {
         begun = g.2.begun;
-        starts = within old.written middle.written g.2.begun.written b.written g.2.starts.written;
+        starts = within middle.image old.written middle.written g.2.begun.written (b.bare tells) b.written
+            g.2.starts.written;
         bounded = subst (λ (w : World). AreBounded rules answers w g.2.begun counted.turns) (here tells) g.2.bounded;
         held = λ done. g.2.held;
       };

@@ -10,6 +10,7 @@ use Rattle.disk_model.specs.Medium.{Medium, IsLawful, Elapses, OnlyReads}
 use Rattle.migrate_fns.specs.Rules.{Rule, Answers}
 use Rattle.deploy.specs.declared.errors.Stop.{Stop}
 use Rattle.deploy_laws.specs.Apps.{IsCleanApp}
+use Rattle.run_model.specs.Costs.{roots_cost}
 use Rattle.run_model.specs.Endings as endings
 use Rattle.run_model.specs.Endings.{HasCauseOf, HasStarted, ending_status}
 use Rattle.run_model.specs.Moments.{Between}
@@ -78,7 +79,11 @@ keeps_on {a} {b} {c} first reads later keeps = record {
       (each app lt (subst (IsCleanApp app) (sym reads.image) clean) x now)))
       keeps.at_exit;
   roots = λ f spared. keeps.roots f spared ∙ ap (λ (i : Image). i f) reads.image;
-  written = let same = reads.written in let cost = keeps.written in omega (arith, same, cost);
+  written =
+      let same = reads.written in
+      let cost : c.written ≤ b.written + roots_cost a.image 8 =
+      subst (λ (i : Image). c.written ≤ b.written + roots_cost i 8) reads.image keeps.written in
+      omega (arith, same, cost);
 }
 
 pub starts_on : {a b c : Medium} (memory : Memory) → Elapses a b → OnlyReads a b → Elapses b c → Starts memory b c

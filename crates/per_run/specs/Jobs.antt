@@ -18,8 +18,8 @@ use Rattle.command_text.specs.declared.replies.Reply.{Reply}
 use Rattle.command_text.specs.Generated.{generated}
 use Rattle.command_text.specs.Replies.{answer_text, number_or_dash}
 use Rattle.deploy_laws.specs.Apps.{App, IsCleanApp}
+use Rattle.deploy_rows.specs.Costs.{format_cost, root_cost}
 use Rattle.run_model.specs.Bounds.{AreBounded, bytes_after}
-use Rattle.run_model.specs.Costs.{format_cost, greatest_cost}
 use Rattle.run_model.specs.Endings.{FailureCounts}
 use Rattle.run_model.specs.Lines.{Give}
 use Rattle.run_model.specs.Lives.{LooksOnly}
@@ -131,7 +131,7 @@ summary lines rs = summary_text lines (count_by is_done rs) (count_by is_other r
 pub record IsGeneratedWithin (rules : List Rule) (answers : Answers) (turns : List Turn) (Whole : Type 0)
     (old new : Medium) : Type 0 where
   pub begun : DiskBytes
-  pub starts : begun.written ≤ old.written + (8 * format_cost + 8 * greatest_cost)
+  pub starts : begun.written ≤ old.written + (8 * format_cost + 8 * root_cost [])
   pub bounded : AreBounded rules answers formatted begun turns
   pub held : Whole → bytes_now new ≡ bytes_after begun turns
 

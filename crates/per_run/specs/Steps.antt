@@ -14,7 +14,8 @@ use Rattle.command_text.specs.declared.lines.Line.TheVariants as line
 use Rattle.command_text.specs.declared.replies.Reply.{Reply}
 use Rattle.command_text.specs.Grammar.{IsLine, has_feed}
 use Rattle.command_text.specs.Replies.{HasText}
-use Rattle.run_model.specs.Costs.{format_cost}
+use Rattle.deploy_rows.specs.Costs.{format_cost, root_cost}
+use Rattle.run_model.specs.Costs.{roots_cost}
 use Rattle.run_model.specs.Endings as endings
 use Rattle.run_model.specs.Endings.{EndsBy, IsInput}
 use Rattle.run_model.specs.Lines.{Give, IsBad, lines_of}
@@ -220,10 +221,11 @@ pub record Counted (told : Bool) (rules : List Rule) (answers : Answers) (start 
   pub tallies : Tallies (replies_of turns) tally
 
 -- A runtime that started on a disk which was formatted before; no more was written until then than the formatting of
--- eight roots costs.
+-- eight roots costs, and the start costs eight roots with no manifest.
 pub record IsServeBegun (told : Bool) (memory : Memory) (old middle new : Medium) : Type 0 where
   pub passes : middle.faults ≡ old.faults
   pub written : middle.written ≤ old.written + 8 * format_cost
+  pub bare : IsTrue told → roots_cost middle.image 8 ≡ 8 * root_cost []
   pub started : new.faults ≡ middle.faults
   pub world : IsTrue told → world_at middle.image ≡ formatted
   pub clean : IsTrue told → (app : ℕ) → app < 8 → IsCleanApp app middle.image

@@ -17,6 +17,7 @@ use crate::tally::Tally;
 use crate::writing::write_output;
 use command_text::{first_lines, generated_line, last_lines, next_number};
 use deploy::{Stop, format_all};
+use deploy_rows::manifests_stay;
 use disk_model::Disk;
 use migrate_fns::Migrations;
 use per_base::Sink;
@@ -60,6 +61,7 @@ pub fn start_formatted<D: Disk>(alloc: Global, disk: &mut D) -> Result<Runtime, 
     ensures cause { IsErrOf result Stop.Device → Rose (D.medium disk.old).faults (D.medium disk.new).faults }
     ensures time { Elapses (D.medium disk.old) (D.medium disk.new) }
 {
+    manifests_stay();
     match format_all(alloc, disk) {
         Ok(()) => start(alloc, disk),
         Err(stop) => Err(stop),

@@ -16,11 +16,13 @@ use Rattle.deploy_laws.specs.Apps.{App, app_at, IsCleanApp}
 use Rattle.deploy_laws.specs.Places.{IsFileOf, root_place}
 use Rattle.deploy_laws.specs.Stands.{IsLater, StandsCase, same_root}
 use Rattle.deploy_rows.specs.Rows.{reopened}
+use Rattle.deploy_rows.specs.Costs.{greatest_cost, manifests_at, root_cost}
 use Rattle.run_model.specs.AppLaws.{AppLaws, OpensRoot}
-use Rattle.run_model.specs.Costs.{greatest_cost}
+use Rattle.run_model.specs.Costs.{roots_cost}
 use Rattle.run_model.specs.Runtimes.{StartKeeps, Starts, with_disk}
 use Rattle.run_model.specs.Runtimes as memory
-use Rattle.run_model.specs.Starting.{OpenedUpTo, keeps_worlds, open_next, open_none, opened_keeps, which}
+use Rattle.run_model.specs.Starting.{OpenedUpTo, keeps_worlds, one_more_cost, open_next, open_none, opened_keeps}
+use Rattle.run_model.specs.Starting.{some_cost, which}
 use Rattle.run_model.specs.Worlds.{Application, all_resting, world_at}
 use Rattle.per_runtime.specs.storages.Answers.{CallsTo}
 use Rattle.per_runtime.specs.declared.application.running.Running.{Running}
@@ -44,10 +46,19 @@ pub some_written : (was mid now app : ℕ) → app < 8 → mid ≤ was + app * g
     → now ≤ was + 8 * greatest_cost
 some_written was mid now app lt before cost = omega (arith, lt, before, cost)
 
+-- the same by what each root costs
+unsynced_cost : (old new : Medium) → OnlyReads old new → new.written ≤ old.written + roots_cost old.image 8
+unsynced_cost old new reads = let same = reads.written in omega (arith, same)
+
+pub once_at : (k a : ℕ) (now new : Medium) → k ≡ a → new.written ≤ now.written + root_cost (manifests_at now.image k)
+    → new.written ≤ now.written + root_cost (manifests_at now.image a)
+once_at k a now new is once = subst (λ (n : ℕ). new.written ≤ now.written + root_cost (manifests_at now.image n)) is
+    once
+
 -- the sync failed
 pub unsynced_keeps : (old new : Medium) → OnlyReads old new → StartKeeps old new
 unsynced_keeps old new reads = keeps_worlds old new (λ b lt clean c s. inl (reads.during c s)) (inl reads)
-    (λ f is. ap (λ (i : Image). i f) reads.image) (unsynced_written old new reads)
+    (λ f is. ap (λ (i : Image). i f) reads.image) (unsynced_cost old new reads)
 
 -- what any opening promises, however it ends
 abbrev pub IsOnTheWay : ℕ → (old new : Medium) → Type 0
@@ -66,7 +77,7 @@ root_at k a old new is opens = subst (λ (n : ℕ). OpensRoot n old new) is open
 -- the opening of one root failed, or memory ran out in it
 pub stops_at : AppLaws → (told : Bool) (a : ℕ) (old now new : Medium) → a < 8 → IsLawful told new → OpenedUpTo a old now
     → Elapses now new → IsOnTheWay a now new → Spares (IsNoSlot (root_place a)) now.image new.image
-    → new.written ≤ now.written + greatest_cost → StartKeeps old new
+    → new.written ≤ now.written + root_cost (manifests_at now.image a) → StartKeeps old new
 stops_at laws told a old now new lta lawful o time way slots cost = keeps_worlds old new
     (λ b lt clean c s. ⊎_elim
     (λ was. o.moments b lt clean c was)
@@ -74,7 +85,8 @@ stops_at laws told a old now new lta lawful o time way slots cost = keeps_worlds
     (cases_on o.time time c s))
     (inr (λ b lt clean c at. here b lt clean c (lawful.counts_now now.moment c time.later at) (which a b)))
     (λ f is. slots f (is a lta) ∙ o.roots f is)
-    (some_written old.written now.written new.written a lta o.written cost)
+    (some_cost old.image old.written new.written (a + 1) (omega (arith, lta))
+    (one_more_cost old.image now.image old.written now.written new.written a (o.kept a (le_refl a) lta) o.written cost))
   where
     calls : CallsTo a (reopened (app_at now.image a)) now new
     calls = way (reopened (app_at now.image a)) (is_reopened (app_at now.image a))

@@ -19,9 +19,9 @@ use Rattle.deploy_laws.specs.Laws.{RootMendLaw}
 use Rattle.deploy_laws.specs.Places.{root_place}
 use Rattle.deploy_laws.specs.Stands.{IsLater, StandsCase, next_root, same_root}
 use Rattle.deploy_rows.specs.Rows.{reopened}
+use Rattle.deploy_rows.specs.Costs.{manifests_at, root_cost}
 use Rattle.run_model.specs.AppLaws.{OpensRoot}
 use Rattle.run_model.specs.Calls.{Outcome, StepBeside, beside_update, if_open, session_at}
-use Rattle.run_model.specs.Costs.{greatest_cost}
 use Rattle.run_model.specs.Found.{FoundStorage}
 use Rattle.run_model.specs.Lasting.{IsApplication, IsStageOn}
 use Rattle.run_model.specs.OneApp.{as_app, none_there}
@@ -217,7 +217,7 @@ whole_calls mend app next old mid new opens time later calls = record {
 -- the opening failed, and nothing more was written
 pub opened_alone : (told : Bool) (rules : List Rule) (answers : Answers) (now : ℕ) (c : Call) (a : Running)
     (old mid : Medium) → stage_in a.stage ≡ to_open → Spares (IsNoSlot (root_place a.app)) old.image mid.image
-    → mid.written ≤ old.written + greatest_cost
+    → mid.written ≤ old.written + root_cost (manifests_at old.image a.app)
     → IsCallWithin rules answers a.app now (application old.image a) c (bytes_now old) (bytes_now mid)
 opened_alone told rules answers now c a old mid marked slots cost = call_unbegun rules answers a.app now
     (application old.image a) c (bytes_now old) (bytes_now mid) marked slots cost
@@ -243,10 +243,10 @@ module _ (mend : RootMendLaw) (told : Bool) (rules : List Rule) (answers : Answe
 
   pub within_behind : running_in b ≡ record { stage = at_rest; sessions = none_open }
       → (IsTrue told → Spares (IsNoSlot (root_place a.app)) old.image mid.image)
-      → mid.written ≤ old.written + greatest_cost → (IsTrue told → OpensRoot a.app old mid) → (new : Medium)
+      → (IsTrue told → OpensRoot a.app old mid) → (new : Medium)
       → (IsTrue told → IsCallWithin rules answers b.app now (application mid.image b) c (bytes_now mid) (bytes_now new))
       → IsTrue told → IsCallWithin rules answers a.app now (application old.image a) c (bytes_now old) (bytes_now new)
-  within_behind opened slots cost opens new within tells =
+  within_behind opened slots opens new within tells =
       let was : Application = as_app (app_at old.image a.app) (record { stage = to_open; sessions = none_open }) in
       let is : Application = as_app (reopened (app_at old.image a.app)) (record {
         stage = at_rest;
@@ -258,7 +258,8 @@ module _ (mend : RootMendLaw) (told : Bool) (rules : List Rule) (answers : Answe
       (ap (app_at mid.image) same ∙ (opens tells).app) in
       subst (λ (r : memory.Running). IsCallWithin rules answers a.app now (as_app (app_at old.image a.app) r) c
       (bytes_now old) (bytes_now new)) (sym (closed tells))
-      (call_behind rules answers a.app now was c (bytes_now old) (bytes_now mid) (bytes_now new) refl (slots tells) cost
+      (call_behind rules answers a.app now was c (bytes_now old) (bytes_now mid) (bytes_now new) refl (slots tells)
+      (opens tells).written (opens tells).manifests
       (subst (λ (k : ℕ). IsCallWithin rules answers k now is c (bytes_now mid) (bytes_now new)) same
       (subst (λ (r : Application). IsCallWithin rules answers b.app now r c (bytes_now mid) (bytes_now new)) there
       (within tells))))

@@ -6,7 +6,7 @@ use Rattle.per_base.specs.Causes.{Rose}
 use Rattle.disk_model.specs.Medium.{Medium, Quiet, Elapses}
 use Rattle.deploy.specs.declared.errors.Stop.{Stop}
 use Rattle.deploy.specs.declared.errors.Stop.TheVariants.{Device, OutOfMemory}
-use Rattle.run_model.specs.Costs.{greatest_cost}
+use Rattle.deploy_rows.specs.Costs.{greatest_cost}
 use Rattle.run_model.specs.Runtimes.{StartKeeps}
 use Rattle.run_model.specs.Runtimes as memory
 use Rattle.run_model.specs.Starting.{OpenedUpTo}

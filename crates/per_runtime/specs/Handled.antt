@@ -94,8 +94,7 @@ pub record IsHandled (told : Bool) (rules : List Rule) (answers : Answers) (now 
   pub written : IsTrue told → is_durable c ≡ true → (f : FoundStorage) (s : Session)
       → found_named (application old.image a) c ≡ Some (Ok f)
       → session_at (application old.image a) f.number ≡ Some s → WritesWithin a.app f s old new
-  -- no more is written than the storages cost that the call makes, one root, and the opening of a root before it; and
-  -- no file changes elsewhere
+  -- no more is written than the call costs, and the opening of a root before it; and no file changes elsewhere
   pub within : IsTrue told → IsCallWithin rules answers a.app now (application old.image a) c (bytes_now old)
       (bytes_now new)
   -- no file changes beside those of a storage that the call names

@@ -3,7 +3,7 @@
 ghost use Rattle.std.specs.Prelude.{◌≡◌, ◌≤◌, ◌+◌, ◌*◌, IfOk, IsErrOf, IsTrue, OnOk};
 ghost use Rattle.per_base.specs.Causes.{Rose};
 ghost use Rattle.disk_model.specs.Medium.{Elapses};
-ghost use Rattle.run_model.specs.Costs.{greatest_cost};
+ghost use Rattle.deploy_rows.specs.Costs.{greatest_cost};
 ghost use Rattle.run_model.specs.Runtimes.{StartKeeps, Starts};
 ghost use Rattle.per_runtime.specs.Begun.{IsBegun, fresh};
 ghost use Rattle.per_runtime.specs.Memories.{IsRuntime, memory_of};

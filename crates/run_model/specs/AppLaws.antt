@@ -8,8 +8,9 @@ use Rattle.deploy_laws.specs.Apps.{App, app_at, IsCleanApp}
 use Rattle.deploy_laws.specs.Stands.{StandsCase, IsLater}
 use Rattle.deploy_laws.specs.Laws.{UntouchedAppLaw, StillAppLaw, OtherApplicationsLaw, OthersCaseLaw, StandsCleanLaw}
 use Rattle.deploy_laws.specs.Laws.{RootMendLaw}
+use Rattle.deploy_rows.specs.Costs.{manifests_at, root_cost}
+use Rattle.deploy_rows.specs.Laws.{ManifestsFrameLaw}
 use Rattle.deploy_rows.specs.Rows.{reopened}
-use Rattle.run_model.specs.Costs.{greatest_cost}
 use Rattle.run_model.specs.Worlds.{Disks, disk_at}
 
 -- the laws of applications that a run relies on
@@ -24,6 +25,8 @@ pub record AppLaws : Type 0 where
   pub clean : StandsCleanLaw
   -- copies that lack the root matter to nothing but whether two are left
   pub mend : RootMendLaw
+  -- which manifests a root keeps stays where no file of its application changes
+  pub manifests : ManifestsFrameLaw
 
 -- the image denotes what the world says of an application
 abbrev pub IsDiskOf : ℕ → Disks → Medium → Type 0
@@ -38,7 +41,7 @@ pub record Calls (a : ℕ) (after : Disks) (old new : Medium) : Type 0 where
   pub elsewhere : Spares (IsNoFileOf a) old.image new.image
 
 -- What the opening of a root promises: the application is the one with its root mended, and at every moment it stands
--- between what it was and any later state; no more is written than the longest root costs.
+-- between what it was and any later state; the root keeps its manifests, and is written once.
 pub record OpensRoot (a : ℕ) (old new : Medium) : Type 0 where
   pub app : app_at new.image a ≡ reopened (app_at old.image a)
   pub any_moment : Quiet old → IsCleanApp a old.image → (after : App) → IsLater (app_at old.image a) after
@@ -47,7 +50,8 @@ pub record OpensRoot (a : ℕ) (old new : Medium) : Type 0 where
   pub elsewhere : Spares (IsNoFileOf a) old.image new.image
   -- and of its own none but slots of the root
   pub slots : Spares (IsNoSlot (root_place a)) old.image new.image
-  pub written : new.written ≤ old.written + greatest_cost
+  pub manifests : manifests_at new.image a ≡ manifests_at old.image a
+  pub written : new.written ≤ old.written + root_cost (manifests_at old.image a)
   pub clean : IsCleanApp a old.image → IsCleanApp a new.image
   pub quiet : Quiet new
   pub time : Elapses old new

@@ -1,9 +1,9 @@
 -- What each command of a run wrote at most, and which files it may have changed.
-use Rattle.std.specs.Prelude.{◌≡◌, ◌≤◌, ◌+◌, ◌*◌, List, [], ◌∷◌, Bool, true, ⊤}
+use Rattle.std.specs.Prelude.{◌≡◌, ◌≤◌, ◌+◌, List, [], ◌∷◌, Bool, true, ⊤}
 use Rattle.disk_model.specs.Frame.{Spares}
 use Rattle.migrate_fns.specs.Rules.{Rule, Answers}
 use Rattle.command_text.specs.declared.calls.Event.{Event}
-use Rattle.run_model.specs.Costs.{greatest_cost}
+use Rattle.run_model.specs.Costs.{roots_cost}
 use Rattle.run_model.specs.Runtimes.{CostsBy, IsBesideNamed, IsElsewhere, IsNoRoot, only_looks, writes_none}
 use Rattle.run_model.specs.Turns.{DiskBytes, Turn}
 use Rattle.run_model.specs.Worlds.{World}
@@ -11,9 +11,9 @@ use Rattle.run_model.specs.Writes.{IsCommandWithin}
 
 -- One command, from the world before it: no file of another application changes, and where it names a storage none
 -- beside those of that storage; where it is one that writes `none`, no byte is written and reads give what they gave; a
--- call that makes a session durable writes no more than what differs, and the next index; one that names no storage
--- writes no more than the storages that it makes and one root cost; and beside slots of the root no file changes but in
--- the places of the storages that it makes or names.
+-- call that makes a session durable writes no more than what differs, and the next index; every call writes no more
+-- than it costs (`call_cost`); and beside slots of the root no file changes but in the places of the storages that it
+-- makes or names.
 pub record IsBounded (rules : List Rule) (answers : Answers) (w : World) (e : Event) (none : Bool) (old new : DiskBytes)
     : Type 0 where
   pub elsewhere : Spares (IsElsewhere e) old.image new.image
@@ -23,10 +23,10 @@ pub record IsBounded (rules : List Rule) (answers : Answers) (w : World) (e : Ev
   pub within : IsCommandWithin rules answers w e old new
   pub later : old.written ≤ new.written
 
--- the start: only slots of roots change, and no more is written than the eight longest roots cost
+-- the start: only slots of roots change, and no more is written than the eight roots cost, each once
 pub record StartsWithin (old new : DiskBytes) : Type 0 where
   pub roots : Spares IsNoRoot old.image new.image
-  pub written : new.written ≤ old.written + 8 * greatest_cost
+  pub written : new.written ≤ old.written + roots_cost old.image 8
   pub later : old.written ≤ new.written
 
 -- the commands that were answered, one after another

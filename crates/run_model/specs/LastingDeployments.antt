@@ -303,7 +303,7 @@ begun_plan rules answers now stored o (Ok contents) plans = by (nat_le greatest_
     same = plan_length rules answers now stored o.deployment.storages (Ok contents) plans
 
     by : (test : Bool) → IfOk {T = InProgress} (cond test (Err (error.LimitReached limit.Generations))
-        (Ok (record { deployment = o.deployment; contents = contents; built = 0 })))
+        (Ok (record { manifest = o.manifest; deployment = o.deployment; contents = contents; built = 0 })))
         (λ p. (length p.contents ≡ length p.deployment.storages) × (p.built ≡ 0))
     by true = tt
     by false = (same, refl)
@@ -334,7 +334,7 @@ offered_so : (rules : List Rule) (answers : Answers) (now : ℕ) (busy : Option 
     → IfOk (row >>= f) Lasts) → IfOk (row >>= f) Lasts
 offered_so rules answers now (Some name) text states g active row f begins go = refused_so f row _ begins
 offered_so rules answers now None text states g active row f begins go =
-    by (deployment_of text >>= newer_version active g) begins
+    by (deployment_of text >>= newer_version active g text) begins
   where
     by : (offer : Result Offer PerError) → BeginsWith rules answers now states offer row → IfOk (row >>= f) Lasts
     by (Err e) is = refused_so f row e is

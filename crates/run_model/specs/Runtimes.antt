@@ -25,7 +25,7 @@ use Rattle.command_text.specs.declared.replies.Reply.{Reply}
 use Rattle.deploy_laws.specs.Apps.{App, app_at, IsCleanApp}
 use Rattle.deploy_laws.specs.Places.{IsBeside, IsNoFileOf, root_place}
 use Rattle.run_model.specs.Calls.{session_at}
-use Rattle.run_model.specs.Costs.{greatest_cost}
+use Rattle.run_model.specs.Costs.{roots_cost}
 use Rattle.run_model.specs.Found.{FoundStorage, shape_in}
 use Rattle.run_model.specs.Lasting.{IsWorld}
 use Rattle.run_model.specs.Sessions.{Session, synced_in_session, seen_of}
@@ -82,9 +82,9 @@ pub record StartKeeps (old new : Medium) : Type 0 where
   -- one that ended before it had synchronised the disk did nothing; after any other nothing from before it is left
   pub at_exit : OnlyReads old new ⊎ ((app : ℕ) → app < 8 → IsCleanApp app old.image → (c : Case) → new.now c
       → Between app (disks (world_at old.image)) (disks (after_start (world_at old.image))) c)
-  -- only slots of roots change, and no more is written than the eight longest roots cost
+  -- only slots of roots change, and no more is written than the eight roots cost, each once
   pub roots : Spares IsNoRoot old.image new.image
-  pub written : new.written ≤ old.written + 8 * greatest_cost
+  pub written : new.written ≤ old.written + roots_cost old.image 8
 
 -- A start that ended well: eight applications in memory, no doubt, the world of the disk with each root mended, nothing
 -- pending, and clean places where they were clean.
@@ -220,8 +220,8 @@ pub record Stepped (rules : List Rule) (answers : Answers) (e : Event) (reply : 
   -- close writes no more than what differs may cost
   pub unwritten : writes_none (world_of old.image old_memory doubt) e reply ≡ true → IsUnwritten old new
   pub written : WrittenBy (world_of old.image old_memory doubt) e old new
-  -- one that names no storage writes no more than the storages that it makes and one root cost; and beside slots of the
-  -- root no file changes but in the places of the storages that it makes or names
+  -- it writes no more than it costs (`call_cost`), and beside slots of the root no file changes but in the places of
+  -- the storages that it makes or names
   pub within : IsCommandWithin rules answers (world_of old.image old_memory doubt) e (bytes_now old) (bytes_now new)
   -- the reply that the device failed has its cause in this command
   pub blamed : IsBlamed old.faults new.faults reply

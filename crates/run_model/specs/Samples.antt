@@ -90,7 +90,7 @@ course p w (e ∷ es) = (
 
 -- a plan that no command asks for
 abbrev pub no_plan : InProgress
-no_plan = record { deployment = record { version = 0; storages = [] }; contents = []; built = 0 }
+no_plan = record { manifest = []; deployment = record { version = 0; storages = [] }; contents = []; built = 0 }
 
 abbrev pub replies : World → List Event → List ℕ
 replies w es = (course no_plan w es).0
@@ -492,6 +492,7 @@ plain_key name bytes = record { name = name; info = None; bytes = bytes }
 -- what the plan of the second version gives where `keep` is u8:5, `over` is u8:6 and `conv` is u16:7
 abbrev pub the_plan : InProgress
 the_plan = record {
+  manifest = [];
   deployment = second_version;
   contents = (plain_key (codes "conv") (4 ∷ 7 ∷ 0 ∷ 0 ∷ 0 ∷ []) ∷ plain_key (codes "keep") (2 ∷ 5 ∷ [])
       ∷ plain_key (codes "new") (1 ∷ 1 ∷ []) ∷ plain_key (codes "over") (2 ∷ 12 ∷ []) ∷ []) ∷ [];

@@ -1,43 +1,143 @@
--- What calls of a deployment write at most, computed.
-use Rattle.std.specs.Prelude.{◌≡◌, ◌+◌, ◌*◌, Some, None, refl}
-use Rattle.run_model.specs.Costs.{format_cost, greatest_cost, install_cost, lone_cost, longest_manifest, next_cost}
-use Rattle.run_model.specs.Costs.{unmade_cost, update_cost}
-use Rattle.run_model.specs.Samples.{the_plan}
+-- What calls write at most, computed.
+use Rattle.std.specs.Prelude.{◌≡◌, ℕ, ◌+◌, ◌*◌, List, [], ◌∷◌, Some, None, refl}
+use Rattle.std.proofs.Common.{arith}
+use Rattle.per_base.specs.declared.elements.Content.TheVariants.{Good, Bad}
+use Rattle.element_state.specs.States.{Corrupt}
+use Rattle.element_state.specs.Written.{map_cost}
+use Rattle.migrate_fns.specs.Rules.{Rule, Answers}
+use Rattle.command_text.specs.declared.calls.Call.{Call}
+use Rattle.command_text.specs.declared.calls.Call.TheVariants as call
+use Rattle.deploy_rows.specs.Costs.{format_cost, greatest_cost, install_cost, root_cost}
+use Rattle.run_model.specs.Costs.{call_cost, finishing_cost, next_cost, opening_cost, update_cost, wipe_cost}
+use Rattle.run_model.specs.Samples.{at_first, at_nine, computed, fav, home, in_copies, on, the_plan, world_after}
+use Rattle.run_model.specs.SamplesDamage.{found_so, in_three}
 use Rattle.run_model.specs.SamplesManifests.{cut_text, favourites_text, manifests_read, second_text}
+use Rattle.run_model.specs.Worlds.{World, app_of, at_rest, to_open}
+use Rattle.run_model.specs.Writes.{CostsCall}
 
--- roots
+-- what a call of application 0 costs in this world, whose root keeps these manifests
+abbrev cost : List (List ℕ) → World → Call → ℕ
+cost kept w c = call_cost 0 0 kept (app_of w 0) c
+
+-- ---- roots
+
 the_longest_root : greatest_cost ≡ 393516
 the_longest_root = refl
 
-one_version_left : lone_cost longest_manifest ≡ 196896
-one_version_left = refl
-
 none_left : format_cost ≡ 402
 none_left = refl
+
+-- two manifests, of 339 and of 116 bytes
+abbrev both : List (List ℕ)
+both = second_text ∷ favourites_text ∷ []
+
+a_root : root_cost both ≡ 3 * (12 + 339 + 116 + 88)
+unfolding manifests_read
+a_root = refl
+
+-- a finish forgets the older one, and a rollback the newer one
+a_finish : (w : World) → cost both w call.Finish ≡ 3 * (8 + 339 + 88)
+unfolding manifests_read
+a_finish w = refl
+
+a_rollback : (w : World) → cost both w call.Rollback ≡ 3 * (8 + 116 + 88)
+unfolding manifests_read
+a_rollback w = refl
+
+-- written twice, it is out of the bound
+finished_once : (rules : List Rule) (answers : Answers) (w : World) (before : ℕ)
+    → ¬ (CostsCall rules answers 0 0 both (app_of w 0) call.Finish before (before + 2 * (3 * (8 + 339 + 88))))
+unfolding manifests_read
+finished_once rules answers w before within = absurd (omega (arith, within))
+
+-- a root that is to be opened is written before the call, and one that is open is not
+opened_first : opening_cost both to_open ≡ root_cost both
+opened_first = refl
+
+opened_before : opening_cost both at_rest ≡ 0
+opened_before = refl
+
+-- ---- versions
 
 -- one storage in one copy, whose key takes one block, and the root with this manifest of 116 bytes
 a_small_install : install_cost 0 favourites_text ≡ 256 + 524464 + 3 * (8 + 116 + 88)
 unfolding manifests_read
 a_small_install = refl
 
--- the same, updated in one call: four keys, and a root that keeps a manifest of 339 bytes and the longest one
-a_small_update : update_cost second_text the_plan ≡ 4 * 256 + 524464 + 3 * (12 + 339 + 65536 + 88)
-a_small_update = refl
-
 -- a refused manifest
 a_refused_install : install_cost 0 cut_text ≡ 0
 unfolding manifests_read
 a_refused_install = refl
 
--- an update in steps: one storage in one copy, with four keys of a block each, and none once it is made
+-- updated in one call: four keys, and a root that keeps a manifest of 339 bytes beside that of 116
+a_small_update : update_cost (favourites_text ∷ []) second_text the_plan ≡ 4 * 256 + 524464 + 3 * (12 + 339 + 116 + 88)
+unfolding manifests_read
+a_small_update = refl
+
+-- in steps: one storage in one copy, with four keys of a block each, and none once it is made
 one_storage : next_cost (Some the_plan) ≡ 4 * 256 + 524464
 one_storage = refl
-
-all_storages : unmade_cost (Some the_plan) ≡ next_cost (Some the_plan)
-all_storages = refl
 
 none_remains : next_cost (Some (record the_plan { built = 1 })) ≡ 0
 none_remains = refl
 
-no_update : unmade_cost None ≡ 0
+-- a commit makes what is not made yet, and then writes the root
+all_storages : finishing_cost [] (Some the_plan) ≡ next_cost (Some the_plan) + root_cost ([] ∷ [])
+all_storages = refl
+
+the_root_alone : finishing_cost (favourites_text ∷ []) (Some (record the_plan { manifest = second_text; built = 1 }))
+    ≡ root_cost both
+unfolding manifests_read
+the_root_alone = refl
+
+no_update : finishing_cost both None ≡ 0
 no_update = refl
+
+-- ---- storages
+
+-- one of three copies lacks the only key, which takes one block
+an_opening : cost [] (in_copies (Good (3 ∷ 9 ∷ 0 ∷ [])) (1 ∷ [])) (call.OpenKvs fav) ≡ 256 + 3 * 524332
+unfolding computed
+an_opening = refl
+
+-- a corrupt storage is left as it is
+no_opening : cost [] (found_so in_three (Corrupt None [])) (call.OpenKvs fav) ≡ 0
+unfolding computed
+no_opening = refl
+
+-- made anew with one key in three copies
+a_recovery : cost [] (in_copies (Good (3 ∷ 9 ∷ 0 ∷ [])) (1 ∷ [])) (call.RecoverStorage fav) ≡ 3 * (256 + 1048664)
+unfolding computed
+a_recovery = refl
+
+a_reset : cost [] (found_so in_three (Corrupt None [])) (call.ResetStorage fav) ≡ 3 * (256 + 1048664)
+unfolding computed
+a_reset = refl
+
+-- one key differs: its block, the next index with its head, and a blank
+a_sync : cost [] at_nine (call.Sync fav) ≡ 256 + 57 + 88
+unfolding computed map_cost
+a_sync = refl
+
+-- nothing differs
+an_empty_sync : cost [] (world_after at_first (on (call.OpenKvs fav) ∷ [])) (call.Sync fav) ≡ 0
+unfolding computed
+an_empty_sync = refl
+
+-- what is pending of keys is dropped
+a_close : cost [] at_nine (call.Close fav) ≡ 0
+unfolding computed
+a_close = refl
+
+-- a storage that is not open, and one that is not there
+a_closed_sync : cost [] at_first (call.Sync fav) ≡ 0
+unfolding computed
+a_closed_sync = refl
+
+no_storage : cost [] at_first (call.OpenKvs home) ≡ 0
+unfolding computed
+no_storage = refl
+
+-- a call on an open storage writes nothing
+a_get : cost [] at_nine (call.Get fav home) ≡ 0
+a_get = refl

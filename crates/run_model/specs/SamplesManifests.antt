@@ -126,6 +126,7 @@ newer_again : offered None second_text (app_of rolled_back_once 0).disk
     ≡ Ok (record {
       generation = 4;
       active = record { bank = 0; deployment = first_version };
+      manifest = second_text;
       deployment =
           second_version;
     })

@@ -1,6 +1,6 @@
 -- The start: the roots are opened one after another, and at every moment each application stands between what it was
 -- and itself with its root mended.
-use Rattle.std.specs.Prelude.{◌≡◌, ◌≢◌, ◌⊎◌, ◌<◌, ◌≤◌, ◌+◌, ◌*◌, ℕ, zero, suc, map, true, false, nat_lt}
+use Rattle.std.specs.Prelude.{◌≡◌, ◌≢◌, ◌⊎◌, ◌<◌, ◌≤◌, ◌+◌, ◌-◌, ◌*◌, ℕ, List, zero, suc, map, true, false, nat_lt}
 use Rattle.std.proofs.Common.{refl, sym, ap, ◌∙◌, subst, le_refl, inl, inr, ⊎_elim, arith, eq-or-lt_of_le}
 use Rattle.std.proofs.lemmas.Bool.{cases_Bool}
 use Rattle.std.proofs.lemmas.Bool.Decides.{nat_tests}
@@ -10,12 +10,13 @@ use Rattle.disk_model.specs.Frame.{IsSettledOn, Spares}
 use Rattle.disk_model.specs.Laws.{cases_on, elapses_on}
 use Rattle.disk_model.specs.Medium.{Medium, Quiet, EachCase, Elapses, OnlyReads, WritesNothing}
 use Rattle.disk_model.specs.lemmas.Frames.{settled_on}
-use Rattle.deploy_laws.specs.Places.{IsFileOf}
+use Rattle.deploy_laws.specs.Places.{IsFileOf, IsNoFileOf}
 use Rattle.deploy_laws.specs.Apps.{App, app_at, IsCleanApp}
 use Rattle.deploy_laws.specs.Stands.{StandsCase, IsLater, same_root}
+use Rattle.deploy_rows.specs.Costs.{manifests_at, root_cost}
 use Rattle.deploy_rows.specs.Rows.{reopened}
 use Rattle.run_model.specs.AppLaws.{AppLaws, OpensRoot}
-use Rattle.run_model.specs.Costs.{greatest_cost}
+use Rattle.run_model.specs.Costs.{roots_cost}
 use Rattle.run_model.specs.Moments.{Between, OrBefore}
 use Rattle.run_model.specs.Runtimes.{IsNoRoot, StartKeeps}
 use Rattle.run_model.specs.Worlds.{Application, disks, disk_at, all_resting, world_at, after_start}
@@ -57,7 +58,8 @@ pub record OpenedUpTo (count : ℕ) (old now : Medium) : Type 0 where
   pub closed : (b : ℕ) → count ≤ b → b < 8 → app_at now.image b ≡ app_at old.image b
   pub clean : (b : ℕ) → b < 8 → IsCleanApp b old.image → IsCleanApp b now.image
   pub roots : Spares IsNoRoot old.image now.image
-  pub written : now.written ≤ old.written + count * greatest_cost
+  pub kept : (b : ℕ) → count ≤ b → b < 8 → manifests_at now.image b ≡ manifests_at old.image b
+  pub written : now.written ≤ old.written + roots_cost old.image count
   pub quiet : Quiet now
   pub time : Elapses old now
 
@@ -79,10 +81,29 @@ which a b = ⊎_elim (λ less. inr (λ e. omega (arith, less, e)))
     (λ le. ⊎_elim (λ (e : b ≡ a). inl (sym e)) (λ less. inr (λ e. omega (arith, less, e))) (eq-or-lt_of_le le))
     (below_or a b)
 
--- what it costs
-one_more_cost : (was mid now count : ℕ) → mid ≤ was + count * greatest_cost → now ≤ mid + greatest_cost
-    → now ≤ was + (count + 1) * greatest_cost
-one_more_cost was mid now count before cost = omega (arith, before, cost)
+-- the files of one application are none of another's
+files_apart : (a b file : ℕ) → a ≢ b → IsFileOf b file → IsNoFileOf a file
+files_apart a b file differs of = by (below_or a b)
+  where
+    by : (a < b) ⊎ (b ≤ a) → IsNoFileOf a file
+    by (inl less) = let low = of.0 in inr (omega (arith, less, low))
+    by (inr le) = let less = strictly a b le differs in let high = of.1 in inl (omega (arith, less, high))
+
+-- what it costs, once the roots before it are opened
+one_more : (image : Image) (count : ℕ) → roots_cost image (count + 1)
+    ≡ roots_cost image count + root_cost (manifests_at image count)
+one_more image count = let next : count + 1 ≡ suc count = omega arith in
+    subst (λ (n : ℕ). roots_cost image n ≡ roots_cost image count + root_cost (manifests_at image count)) (sym next)
+    refl
+
+pub one_more_cost : (old now : Image) (was mid after count : ℕ) → manifests_at now count ≡ manifests_at old count
+    → mid ≤ was + roots_cost old count → after ≤ mid + root_cost (manifests_at now count)
+    → after ≤ was + roots_cost old (count + 1)
+one_more_cost old now was mid after count same before cost =
+    let here : after ≤ mid + root_cost (manifests_at old count) =
+    subst (λ (kept : List (List ℕ)). after ≤ mid + root_cost kept) same cost in
+    let more = one_more old count in
+    omega (arith, before, here, more)
 
 -- one root more
 pub open_next : AppLaws → (a : ℕ) (old now new : Medium) → a < 8 → OpenedUpTo a old now → OpensRoot a now new
@@ -96,7 +117,10 @@ open_next laws a old now new lta o r = record {
   closed = λ b above lt. elsewhere b lt (λ e. omega (arith, e, above)) ∙ o.closed b (omega (arith, above)) lt;
   clean = λ b lt clean. clean_on b lt clean (which a b);
   roots = λ f is. r.slots f (is a lta) ∙ o.roots f is;
-  written = one_more_cost old.written now.written new.written a o.written r.written;
+  kept = λ b above lt. laws.manifests b now.image new.image lt (λ f of. r.elsewhere f
+      (files_apart a b f (λ e. omega (arith, e, above)) of)) ∙ o.kept b (omega (arith, above)) lt;
+  written = one_more_cost old.image now.image old.written now.written new.written a (o.kept a (le_refl a) lta) o.written
+      r.written;
   quiet = r.quiet;
   time = elapses_on o.time r.time;
 }
@@ -152,6 +176,7 @@ open_none laws old now time nothing quiet = record {
   closed = λ b above lt. ap (λ (i : Image). app_at i b) nothing.image;
   clean = λ b lt clean. subst (λ i. IsCleanApp b i) (sym nothing.image) clean;
   roots = λ f is. ap (λ (i : Image). i f) nothing.image;
+  kept = λ b above lt. ap (λ (i : Image). manifests_at i b) nothing.image;
   written = let same = nothing.written in omega (arith, same);
   quiet = quiet;
   time = time;
@@ -189,7 +214,7 @@ pub keeps_worlds : (old new : Medium) → ((b : ℕ) → b < 8 → IsCleanApp b 
     → EachCase (OrBefore old (StandsCase b (app_at old.image b) (reopened (app_at old.image b)))) old new)
     → OnlyReads old new ⊎ ((b : ℕ) → b < 8 → IsCleanApp b old.image → (c : Case) → new.now c
     → StandsCase b (app_at old.image b) (reopened (app_at old.image b)) c)
-    → Spares IsNoRoot old.image new.image → new.written ≤ old.written + 8 * greatest_cost
+    → Spares IsNoRoot old.image new.image → new.written ≤ old.written + roots_cost old.image 8
     → StartKeeps old new
 keeps_worlds old new moments exit roots cost = record {
   always = λ b lt clean c s. ⊎_elim (λ before. inl before) (λ stands. inr (between_worlds old.image b lt c stands))
@@ -201,9 +226,23 @@ keeps_worlds old new moments exit roots cost = record {
 }
 
 -- what so many roots cost, all eight cost too
-pub some_cost : (was now count : ℕ) → count ≤ 8 → now ≤ was + count * greatest_cost → now ≤ was + 8 * greatest_cost
-some_cost was now count few cost = omega (arith, few, cost)
+fewer_cost : (image : Image) (count more : ℕ) → roots_cost image count ≤ roots_cost image (count + more)
+fewer_cost image count zero = omega arith
+fewer_cost image count (suc more) =
+    let next : count + suc more ≡ (count + more) + 1 = omega arith in
+    let before = fewer_cost image count more in
+    let step = one_more image (count + more) in
+    let up : roots_cost image count ≤ roots_cost image ((count + more) + 1) = omega (arith, before, step) in
+    subst (λ (n : ℕ). roots_cost image count ≤ roots_cost image n) (sym next) up
+
+pub some_cost : (image : Image) (was now count : ℕ) → count ≤ 8 → now ≤ was + roots_cost image count
+    → now ≤ was + roots_cost image 8
+some_cost image was now count few cost =
+    let whole : count + (8 - count) ≡ 8 = omega (arith, few) in
+    let fewer : roots_cost image count ≤ roots_cost image 8 =
+    subst (λ (n : ℕ). roots_cost image count ≤ roots_cost image n) whole (fewer_cost image count (8 - count)) in
+    omega (arith, cost, fewer)
 
 pub opened_keeps : AppLaws → (count : ℕ) (old now : Medium) → count ≤ 8 → OpenedUpTo count old now → StartKeeps old now
 opened_keeps laws count old now few o = keeps_worlds old now o.moments (inr (opened_rests laws count old now o)) o.roots
-    (some_cost old.written now.written count few o.written)
+    (some_cost old.image old.written now.written count few o.written)

@@ -12,14 +12,14 @@ use Rattle.command_text.specs.declared.calls.Event.{Event}
 use Rattle.command_text.specs.declared.calls.Event.TheVariants as event
 use Rattle.deploy_laws.specs.Apps.{App}
 use Rattle.deploy_laws.specs.Places.{IsBeside, root_place}
+use Rattle.deploy_rows.specs.Costs.{manifests_at, root_cost}
 use Rattle.deploy_rows.specs.Rows.{offered, reopened}
-use Rattle.run_model.specs.Costs.{greatest_cost, update_cost}
+use Rattle.run_model.specs.Costs.{call_cost, named_cost, opening_cost, update_cost}
 use Rattle.run_model.specs.Found.{FoundStorage}
 use Rattle.run_model.specs.Steps.{device_storage, found_named}
 use Rattle.run_model.specs.Turns.{DiskBytes}
 use Rattle.run_model.specs.Worlds.{Application, Sessions, Stage, World, app_of, at_rest, to_open}
 use Rattle.run_model.specs.Writes.{CostsCall, IsBesidePlaces, IsCallWithin, IsCommandWithin}
-use Rattle.run_model.specs.Writes.{opening_cost}
 
 none_some : {A : Type 0} (x : Option A) (a : A) → x ≡ None → x ≡ Some a → ⊥
 none_some x a none some = cc
@@ -32,27 +32,23 @@ allowed before after cost le = omega (arith, le)
 
 module _ (rules : List Rule) (answers : Answers) (now : ℕ) (r : Application) where
   -- where nothing is written
-  pub costs_nothing : (c : Call) (before after : ℕ) → after ≤ before → CostsCall rules answers now r c before after
-  costs_nothing (call.Install text) before after le = allowed before after _ le
-  costs_nothing (call.Update text) before after le = inl le
-  costs_nothing call.UpdateNext before after le = allowed before after _ le
-  costs_nothing call.UpdateCommit before after le = allowed before after _ le
-  costs_nothing call.Finish before after le = allowed before after _ le
-  costs_nothing call.Rollback before after le = allowed before after _ le
-  costs_nothing call.Wipe before after le = allowed before after _ le
-  costs_nothing other before after le = λ none. le
+  pub costs_nothing : (app : ℕ) (kept : List (List ℕ)) (c : Call) (before after : ℕ) → after ≤ before
+      → CostsCall rules answers app now kept r c before after
+  costs_nothing app kept (call.Update text) before after le = inl le
+  costs_nothing app kept other before after le = allowed before after (call_cost app now kept r other) le
 
-  -- of a call that names a storage nothing is said
-  pub costs_unsaid : (c : Call) (name : List ℕ) → device_storage c ≡ Some name → (before after : ℕ)
-      → CostsCall rules answers now r c before after
-  costs_unsaid (call.Install text) name some before after = absurd cc
-  costs_unsaid (call.Update text) name some before after = absurd cc
-  costs_unsaid call.UpdateNext name some before after = absurd cc
-  costs_unsaid call.UpdateCommit name some before after = absurd cc
-  costs_unsaid call.Finish name some before after = absurd cc
-  costs_unsaid call.Rollback name some before after = absurd cc
-  costs_unsaid call.Wipe name some before after = absurd cc
-  costs_unsaid other name some before after = λ none. absurd (none_some (device_storage other) name none some)
+  -- of a call that names a storage it is the cost of that
+  pub costs_named : (app : ℕ) (kept : List (List ℕ)) (c : Call) (name : List ℕ) → device_storage c ≡ Some name
+      → (before after : ℕ) → after ≤ before + named_cost app now r c (found_named r c)
+      → CostsCall rules answers app now kept r c before after
+  costs_named app kept (call.Install text) name some before after le = absurd cc
+  costs_named app kept (call.Update text) name some before after le = absurd cc
+  costs_named app kept call.UpdateNext name some before after le = absurd cc
+  costs_named app kept call.UpdateCommit name some before after le = absurd cc
+  costs_named app kept call.Finish name some before after le = absurd cc
+  costs_named app kept call.Rollback name some before after le = absurd cc
+  costs_named app kept call.Wipe name some before after le = absurd cc
+  costs_named app kept other name some before after le = le
 
   -- and only the place of that storage is touched
   pub files_named : (app : ℕ) (c : Call) (name : List ℕ) → device_storage c ≡ Some name → (old new : Image)
@@ -71,19 +67,21 @@ pub call_unwritten : (rules : List Rule) (answers : Answers) (app now : ℕ) (r 
     (old new : DiskBytes) → new.image ≡ old.image → new.written ≡ old.written
     → IsCallWithin rules answers app now r c old new
 call_unwritten rules answers app now r c old new image written = record {
-  costs = costs_nothing rules answers now r c (old.written + opening_cost r.stage) new.written
-      (omega (arith, written));
+  costs = costs_nothing rules answers now r app (manifests_at old.image app) c
+      (old.written + opening_cost (manifests_at old.image app) r.stage) new.written (omega (arith, written));
   files = λ file beside. ap (λ (i : Image). i file) image;
 }
 
 -- of a call that names a storage
 pub call_named : (rules : List Rule) (answers : Answers) (app now : ℕ) (r : Application) (c : Call) (name : List ℕ)
     (old new : DiskBytes) → device_storage c ≡ Some name
+    → new.written ≤ old.written + named_cost app now r c (found_named r c)
     → ((f : FoundStorage) → found_named r c ≡ Some (Ok f)
     → Spares (IsBeside app f.bank f.number) old.image new.image)
     → IsCallWithin rules answers app now r c old new
-call_named rules answers app now r c name old new some place = record {
-  costs = costs_unsaid rules answers now r c name some (old.written + opening_cost r.stage) new.written;
+call_named rules answers app now r c name old new some cost place = record {
+  costs = costs_named rules answers now r app (manifests_at old.image app) c name some
+      (old.written + opening_cost (manifests_at old.image app) r.stage) new.written (omega (arith, cost));
   files = λ file beside. files_named rules answers now r app c name some old.image new.image place file beside.1;
 }
 
@@ -108,21 +106,15 @@ module _ (a : App) (sessions : Sessions) where
   abbrev opened : Application
   opened = record { disk = reopened a; stage = at_rest; sessions = sessions }
 
-  costs_marked : (rules : List Rule) (answers : Answers) (now : ℕ) (c : Call) (before before' after : ℕ)
-      → before ≤ before' → CostsCall rules answers now opened c before after
-      → CostsCall rules answers now marked c before' after
+  costs_marked : (rules : List Rule) (answers : Answers) (app now : ℕ) (kept : List (List ℕ)) (c : Call)
+      (before before' after : ℕ) → before ≤ before' → CostsCall rules answers app now kept opened c before after
+      → CostsCall rules answers app now kept marked c before' after
   unfolding offered
-  costs_marked rules answers now (call.Install text) before before' after more le = raised before before' after _ more
-      le
-  costs_marked rules answers now (call.Update text) before before' after more (inl le) = inl (le_trans le more)
-  costs_marked rules answers now (call.Update text) before before' after more (inr of) =
-      inr (of.0, of.1, raised before before' after (update_cost text of.0) more of.2)
-  costs_marked rules answers now call.UpdateNext before before' after more le = raised before before' after _ more le
-  costs_marked rules answers now call.UpdateCommit before before' after more le = raised before before' after _ more le
-  costs_marked rules answers now call.Finish before before' after more le = raised before before' after _ more le
-  costs_marked rules answers now call.Rollback before before' after more le = raised before before' after _ more le
-  costs_marked rules answers now call.Wipe before before' after more le = raised before before' after _ more le
-  costs_marked rules answers now other before before' after more le = λ none. le_trans (le none) more
+  costs_marked rules answers app now kept (call.Update text) before before' after more (inl le) = inl (le_trans le more)
+  costs_marked rules answers app now kept (call.Update text) before before' after more (inr of) =
+      inr (of.0, of.1, raised before before' after (update_cost kept text of.0) more of.2)
+  costs_marked rules answers app now kept other before before' after more le =
+      raised before before' after (call_cost app now kept marked other) more le
 
   beside_marked : (app : ℕ) (c : Call) (file : ℕ) → IsBesidePlaces app marked c file → IsBesidePlaces app opened c file
   beside_marked app (call.Install text) file beside = beside
@@ -132,28 +124,43 @@ module _ (a : App) (sessions : Sessions) where
   beside_marked app other file beside = beside
 
   call_marked : (rules : List Rule) (answers : Answers) (app now : ℕ) (c : Call) (old mid new : DiskBytes)
-      → Spares (IsNoSlot (root_place app)) old.image mid.image → mid.written ≤ old.written + greatest_cost
-      → IsCallWithin rules answers app now opened c mid new → IsCallWithin rules answers app now marked c old new
-  call_marked rules answers app now c old mid new slots cost within = record {
-    costs = costs_marked rules answers now c (mid.written + 0) (old.written + greatest_cost) new.written
-        (omega (arith, cost)) within.costs;
-    files = λ file beside. within.files file (beside.0, beside_marked app c file beside.1) ∙ slots file beside.0;
+      → Spares (IsNoSlot (root_place app)) old.image mid.image
+      → mid.written ≤ old.written + root_cost (manifests_at old.image app)
+      → CostsCall rules answers app now (manifests_at old.image app) opened c (mid.written + 0) new.written
+      → ((file : ℕ) → IsNoSlot (root_place app) file × IsBesidePlaces app opened c file
+      → new.image file ≡ mid.image file)
+      → IsCallWithin rules answers app now marked c old new
+  call_marked rules answers app now c old mid new slots cost costs files = record {
+    costs = costs_marked rules answers app now (manifests_at old.image app) c (mid.written + 0)
+        (old.written + root_cost (manifests_at old.image app)) new.written (omega (arith, cost)) costs;
+    files = λ file beside. files file (beside.0, beside_marked app c file beside.1) ∙ slots file beside.0;
   }
 
--- A call over an opened root, and before it the opening, which changed slots of the root alone.
-pub call_behind : (rules : List Rule) (answers : Answers) (app now : ℕ) (r : Application) (c : Call)
-    (old mid new : DiskBytes) → r.stage ≡ to_open → Spares (IsNoSlot (root_place app)) old.image mid.image
-    → mid.written ≤ old.written + greatest_cost
-    → IsCallWithin rules answers app now (record r { disk = reopened r.disk; stage = at_rest }) c mid new
-    → IsCallWithin rules answers app now r c old new
-call_behind rules answers app now r c old mid new marked_is slots cost within =
-    subst (λ (s : Stage). IsCallWithin rules answers app now (record r { stage = s }) c old new) (sym marked_is)
-    (call_marked r.disk r.sessions rules answers app now c old mid new slots cost within)
+-- what is allowed beside an opening that costs nothing
+module _ (rules : List Rule) (answers : Answers) (app now : ℕ) (r : Application) (c : Call) (old mid new : DiskBytes)
+    (marked_is : r.stage ≡ to_open) (slots : Spares (IsNoSlot (root_place app)) old.image mid.image)
+    (cost : mid.written ≤ old.written + root_cost (manifests_at old.image app)) where
+  abbrev r' : Application
+  r' = record r { disk = reopened r.disk; stage = at_rest }
+
+  behind : CostsCall rules answers app now (manifests_at old.image app) r' c (mid.written + 0) new.written
+      → ((file : ℕ) → IsNoSlot (root_place app) file × IsBesidePlaces app r' c file → new.image file ≡ mid.image file)
+      → IsCallWithin rules answers app now r c old new
+  behind costs files = subst (λ (s : Stage). IsCallWithin rules answers app now (record r { stage = s }) c old new)
+      (sym marked_is) (call_marked r.disk r.sessions rules answers app now c old mid new slots cost costs files)
+
+  -- A call over an opened root, and before it the opening, which changed slots of the root alone.
+  pub call_behind : manifests_at mid.image app ≡ manifests_at old.image app
+      → IsCallWithin rules answers app now r' c mid new → IsCallWithin rules answers app now r c old new
+  call_behind kept within = behind (subst (λ (manifests : List (List ℕ)).
+      CostsCall rules answers app now manifests r' c (mid.written + 0) new.written) kept within.costs) within.files
 
 -- and the opening alone, where the call did nothing
 pub call_unbegun : (rules : List Rule) (answers : Answers) (app now : ℕ) (r : Application) (c : Call)
     (old new : DiskBytes) → r.stage ≡ to_open → Spares (IsNoSlot (root_place app)) old.image new.image
-    → new.written ≤ old.written + greatest_cost → IsCallWithin rules answers app now r c old new
+    → new.written ≤ old.written + root_cost (manifests_at old.image app)
+    → IsCallWithin rules answers app now r c old new
 call_unbegun rules answers app now r c old new marked_is slots cost =
-    call_behind rules answers app now r c old new new marked_is slots cost
-    (call_unwritten rules answers app now (record r { disk = reopened r.disk; stage = at_rest }) c new new refl refl)
+    behind rules answers app now r c old new new marked_is slots cost
+    (costs_nothing rules answers now (record r { disk = reopened r.disk; stage = at_rest }) app
+    (manifests_at old.image app) c (new.written + 0) new.written (omega arith)) (λ file beside. refl)

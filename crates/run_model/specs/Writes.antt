@@ -1,5 +1,5 @@
--- What a command writes at most: how many bytes, where it names no storage, and into which files.
-use Rattle.std.specs.Prelude.{◌≡◌, ◌≤◌, ◌⊎◌, ℕ, ◌+◌, ◌-◌, List, [], drop, take, cond, Option, Some, None, Ok, ⊤}
+-- What a command writes at most: how many bytes, and into which files.
+use Rattle.std.specs.Prelude.{◌≡◌, ◌≤◌, ◌⊎◌, ℕ, ◌+◌, ◌-◌, List, [], drop, take, Option, Some, None, Ok, ⊤}
 use Rattle.std.specs.List.{AllByRecursion}
 use Rattle.disk_model.specs.Frame.{Spares}
 use Rattle.disk_model.specs.Place.{IsNoSlot, IsOutside}
@@ -11,40 +11,31 @@ use Rattle.command_text.specs.declared.calls.Event.{Event}
 use Rattle.command_text.specs.declared.calls.Event.TheVariants as event
 use Rattle.deploy_laws.specs.Apps.{Says, nothing, absent, installed}
 use Rattle.deploy_laws.specs.Places.{IsBeside, root_place, shapes_from}
+use Rattle.deploy_rows.specs.Costs.{manifests_at, storages_said}
 use Rattle.deploy_rows.specs.Rows.{BeginsUpdate, InProgress}
 use Rattle.run_model.specs.Calls.{least_open}
-use Rattle.run_model.specs.Costs.{format_cost, greatest_cost, install_cost, lone_cost, longest_manifest, next_cost}
-use Rattle.run_model.specs.Costs.{storages_said, unmade_cost, update_cost}
+use Rattle.run_model.specs.Costs.{call_cost, opening_cost, update_cost}
 use Rattle.run_model.specs.Found.{FoundStorage}
 use Rattle.run_model.specs.Steps.{device_storage, found_named}
 use Rattle.run_model.specs.Turns.{DiskBytes}
-use Rattle.run_model.specs.Worlds.{Application, Stage, World, app_of, is_to_open, update_in}
+use Rattle.run_model.specs.Worlds.{Application, World, app_of, update_in}
 
 -- ---- bytes
 
 -- an update writes nothing, or no more than it costs with the contents that it may begin with
-abbrev pub CostsUpdate : List Rule → Answers → (now : ℕ) → Application → List ℕ → (before after : ℕ) → Type 0
-CostsUpdate rules answers now r manifest before after = (after ≤ before)
+abbrev pub CostsUpdate : List Rule → Answers → (now : ℕ) → (kept : List (List ℕ)) → Application → List ℕ
+    → (before after : ℕ) → Type 0
+CostsUpdate rules answers now kept r manifest before after = (after ≤ before)
     ⊎ ((p : InProgress) × BeginsUpdate rules answers now (least_open r) manifest r.disk (Ok p)
-    × (after ≤ before + update_cost manifest p))
+    × (after ≤ before + update_cost kept manifest p))
 
--- The most that a call writes at the moment `now`, of an application whose root is open, where it names no storage: the
--- storages that it makes, and one root. A call that makes none and leaves the root as it is writes nothing.
-abbrev pub CostsCall : List Rule → Answers → (now : ℕ) → Application → Call → (before after : ℕ) → Type 0
-CostsCall rules answers now r (call.Install manifest) before after = after ≤ before + install_cost now manifest
-CostsCall rules answers now r (call.Update manifest) before after =
-    CostsUpdate rules answers now r manifest before after
-CostsCall rules answers now r call.UpdateNext before after = after ≤ before + next_cost (update_in r.stage)
-CostsCall rules answers now r call.UpdateCommit before after =
-    after ≤ before + (unmade_cost (update_in r.stage) + greatest_cost)
-CostsCall rules answers now r call.Finish before after = after ≤ before + lone_cost longest_manifest
-CostsCall rules answers now r call.Rollback before after = after ≤ before + lone_cost longest_manifest
-CostsCall rules answers now r call.Wipe before after = after ≤ before + format_cost
-CostsCall rules answers now r other before after = device_storage other ≡ None → after ≤ before
-
--- what the opening of the root before a call costs, where it is to be opened
-abbrev pub opening_cost : Stage → ℕ
-opening_cost stage = cond (is_to_open stage) greatest_cost 0
+-- No more is written than a call costs at the moment `now`, of an application whose root is open and keeps these
+-- manifests. What costs nothing writes nothing.
+abbrev pub CostsCall : List Rule → Answers → (app now : ℕ) → (kept : List (List ℕ)) → Application → Call
+    → (before after : ℕ) → Type 0
+CostsCall rules answers app now kept r (call.Update manifest) before after =
+    CostsUpdate rules answers now kept r manifest before after
+CostsCall rules answers app now kept r other before after = after ≤ before + call_cost app now kept r other
 
 -- ---- files
 
@@ -89,7 +80,8 @@ IsBesideCall app r c file = IsNoSlot (root_place app) file × IsBesidePlaces app
 -- root may then have been written once for that.
 pub record IsCallWithin (rules : List Rule) (answers : Answers) (app now : ℕ) (r : Application) (c : Call)
     (old new : DiskBytes) : Type 0 where
-  pub costs : CostsCall rules answers now r c (old.written + opening_cost r.stage) new.written
+  pub costs : CostsCall rules answers app now (manifests_at old.image app) r c
+      (old.written + opening_cost (manifests_at old.image app) r.stage) new.written
   pub files : Spares (IsBesideCall app r c) old.image new.image
 
 -- the same of a command

@@ -25,17 +25,20 @@ ghost use Rattle.run_model.specs.Laws.{SessionEndsLaw, StartStopsLaw, StorageFai
 ghost use Rattle.run_model.specs.Laws.{SyncedKeepsLaw};
 
 use deploy_laws::{damage_is_counted_by_pieces, others_stand, roots_stay, untouched_stands};
+use deploy_rows::manifests_stay;
 use disk_model::Disk;
 use migrate_fns::Migrations;
 
 /// What a run relies on of applications: one that no file of is touched, or only another's are, stands as it was; what
-/// stands with nothing damaged has clean places; and copies that lack a root do not matter beside two that hold it.
+/// stands with nothing damaged has clean places; copies that lack a root do not matter beside two that hold it; and
+/// which manifests a root keeps rests on its own application's files.
 pub fn applications_stand()
     ensures { AppLaws }
 {
     untouched_stands();
     others_stand();
     roots_stay();
+    manifests_stay();
 }
 
 /// Where two worlds agree on an application and on the moment, each answer that a command of it can have in the one,

@@ -141,14 +141,15 @@ wipe_plain_by busy (installed g active previous) lacking states = busy_plain bus
 pub wipe_plain : (busy : Option (List ℕ)) (a : App) → IfErr (wiping busy a) IsPlain
 wipe_plain busy a = wipe_plain_by busy a.says a.lacking a.states
 
-abbrev newer_by : Named → ℕ → DeploymentData → Bool → Result Offer PerError
-newer_by active g d test = cond test (Err (error.VersionNotNewer active.deployment.version d.version))
-    (Ok (record { generation = g; active = active; deployment = d }))
+abbrev newer_by : Named → ℕ → List ℕ → DeploymentData → Bool → Result Offer PerError
+newer_by active g text d test = cond test (Err (error.VersionNotNewer active.deployment.version d.version))
+    (Ok (record { generation = g; active = active; manifest = text; deployment = d }))
 
-newer_plain : (active : Named) (g : ℕ) (d : DeploymentData) → IfErr (newer_version active g d) IsPlain
-newer_plain active g d = by (nat_le d.version active.deployment.version)
+newer_plain : (active : Named) (g : ℕ) (text : List ℕ) (d : DeploymentData)
+    → IfErr (newer_version active g text d) IsPlain
+newer_plain active g text d = by (nat_le d.version active.deployment.version)
   where
-    by : (test : Bool) → IfErr (newer_by active g d test) IsPlain
+    by : (test : Bool) → IfErr (newer_by active g text d test) IsPlain
     by true = record { sound = λ e. cc; text = refl }
     by false = tt
 
@@ -156,7 +157,7 @@ offer_over_plain : (busy : Option (List ℕ)) (text : List ℕ) (g : ℕ) (activ
     → IfErr (offer_over busy text g active previous) IsPlain
 offer_over_plain busy text g active (Some previous) = record { sound = λ e. cc; text = refl }
 offer_over_plain busy text g active None = busy_plain busy _
-    (chain (deployment_of text) (newer_version active g) (manifest_plain text) (λ d. newer_plain active g d))
+    (chain (deployment_of text) (newer_version active g text) (manifest_plain text) (λ d. newer_plain active g text d))
 
 offer_plain_by : (busy : Option (List ℕ)) (text : List ℕ) (says : Says) (lacking : List ℕ) (states : List State)
     → IfErr (offered busy text (record { says = says; lacking = lacking; states = states })) IsPlain

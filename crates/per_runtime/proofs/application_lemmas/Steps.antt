@@ -28,11 +28,11 @@ use Rattle.deploy.specs.Clauses.{Leaves}
 use Rattle.deploy.specs.Laws.{RootInUseLaw}
 use Rattle.deploy.specs.Making as making
 use Rattle.deploy.specs.Roots.{RootAt, root_says, root_texts}
-use Rattle.deploy.specs.Written.{root_cost}
 use Rattle.deploy_laws.specs.Apps.{App, IsCleanApp, Says, absent, app_at, installed, named_in_bank, nothing}
 use Rattle.deploy_laws.specs.Laws.{UntouchedAppLaw}
 use Rattle.deploy_laws.specs.Places.{Named, shapes_in}
 use Rattle.deploy_laws.specs.Stands.{IsLater}
+use Rattle.deploy_rows.specs.Costs.{making_costs, manifests_at, root_cost}
 use Rattle.deploy_rows.specs.Laws.{UpdateLaterLaw}
 use Rattle.deploy_rows.specs.Rows.{◌>>=◌, InProgress, installing, updated_app, one_more}
 use Rattle.run_model.specs.Calls as calls
@@ -59,7 +59,7 @@ use Rattle.per_runtime.proofs.application_lemmas.InWorld.{fit_length}
 use Rattle.per_runtime.proofs.application_lemmas.Kept.{open_by_none}
 use Rattle.per_runtime.proofs.application_lemmas.LeadOn.{still}
 use Rattle.per_runtime.proofs.application_lemmas.Plain.{IsPlain}
-use Rattle.per_runtime.proofs.application_lemmas.Within.{IsShortLaw, commit_most, commit_within, next_within}
+use Rattle.per_runtime.proofs.application_lemmas.Within.{commit_within, next_within}
 
 -- ---- the root that is in memory
 
@@ -413,7 +413,7 @@ module _ (told : Bool) (rules : List Rule) (answers : Answers) (now : ℕ) (b : 
       (record { memory = is.memory.root; disk = is.root_on }) tells
 
   pub next_written : new.written ≤ old.written
-      + making.making_costs (take 1 (drop (staged_progress s).built (staged_progress s).deployment.storages))
+      + making_costs (take 1 (drop (staged_progress s).built (staged_progress s).deployment.storages))
       (drop (staged_progress s).built (staged_progress s).contents)
       → Leaves told (making.IsInNone (take 1 (drop (staged_progress s).built (shapes_in b.app (offered_in s))))) old new
       → IsTrue told → IsCallWithin rules answers b.app now r call.UpdateNext (bytes_now old) (bytes_now new)
@@ -464,14 +464,15 @@ module _ (told : Bool) (rules : List Rule) (answers : Answers) (now : ℕ) (b : 
 
   -- ---- the commit
 
-  pub commit_written : IsShortLaw → new.written ≤ old.written
-      + (making.making_costs (drop (staged_progress s).built (staged_progress s).deployment.storages)
+  pub commit_written : (IsTrue told → manifests_at old.image b.app ≡ root_texts (staged_root s))
+      → new.written ≤ old.written
+      + (making_costs (drop (staged_progress s).built (staged_progress s).deployment.storages)
       (drop (staged_progress s).built (staged_progress s).contents)
       + root_cost (staged_text s ∷ root_texts (staged_root s)))
       → Leaves told (making.IsBesideMade b.app (drop (staged_progress s).built (shapes_in b.app (offered_in s)))) old new
       → IsTrue told → IsCallWithin rules answers b.app now r call.UpdateCommit (bytes_now old) (bytes_now new)
-  commit_written short cost leaves tells = commit_within told rules answers b.app now r old new tells s refl
-      (says_here tells) (commit_most short b.app s is.memory) cost leaves
+  commit_written keeps cost leaves tells = commit_within told rules answers b.app now r old new tells s refl
+      (says_here tells) (keeps tells) cost leaves
 
   module _ (update_later : UpdateLaterLaw) where
     abbrev next : App

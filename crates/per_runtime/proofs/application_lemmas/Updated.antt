@@ -29,25 +29,25 @@ use Rattle.deploy.specs.Laws.{RootInUseLaw}
 use Rattle.deploy.specs.Clauses.{IsBesideNext, Leaves}
 use Rattle.deploy.specs.Making as making
 use Rattle.deploy.specs.Roots.{RootAt, free_bank, root_app, root_says, root_texts}
-use Rattle.deploy.specs.Written.{root_cost}
 use Rattle.deploy.specs.Updates.{IsUpdated, LeadsTo}
 use Rattle.deploy_laws.specs.Apps.{App, IsCleanApp, Says, absent, app_at, installed, nothing, shapes_named}
 use Rattle.deploy_laws.specs.Places.{Named, shapes_from}
 use Rattle.deploy_laws.specs.Stands.{IsLater, StandsThroughout}
 use Rattle.deploy_rows.specs.Laws.{RefusesAlike, UpdateLaterLaw}
 use Rattle.deploy_rows.specs.Rows as rows
+use Rattle.deploy_rows.specs.Costs.{manifests_at, storages_said}
 use Rattle.deploy_rows.specs.Rows.{◌>>=◌, BeginsUpdate, BeginsWith, InProgress, Offer, after, deployment_of}
 use Rattle.deploy_rows.specs.Rows.{newer_version}
 use Rattle.deploy_rows.specs.Rows.{offer_over, offered, updated_app}
 use Rattle.run_model.specs.Calls.{active_storages, answered, first_open, least_open, concluded}
 use Rattle.run_model.specs.Calls.{with_update}
-use Rattle.run_model.specs.Costs.{longest_manifest, pair_cost, said_storages, update_cost}
+use Rattle.run_model.specs.Costs.{opening_cost, update_cost}
 use Rattle.run_model.specs.Runtimes.{IsUnwritten, is_refusal}
 use Rattle.run_model.specs.Turns.{bytes_now}
 use Rattle.run_model.specs.WriteLaws.{call_unwritten}
 use Rattle.run_model.specs.Worlds.{Application}
 use Rattle.run_model.specs.Worlds as worlds
-use Rattle.run_model.specs.Writes.{CostsUpdate, IsCallWithin, IsInNone, next_bank, opening_cost}
+use Rattle.run_model.specs.Writes.{CostsUpdate, IsCallWithin, IsInNone, next_bank}
 use Rattle.per_runtime.specs.storages.Answers.{CallsTo}
 use Rattle.per_runtime.specs.storages.Slots.{AreOpenOn, IsResting, resting_with, sessions_in}
 use Rattle.per_runtime.specs.declared.application.running.Running.{Running}
@@ -63,7 +63,7 @@ use Rattle.per_runtime.proofs.application_lemmas.Kept.{free_kept, free_slots, no
 use Rattle.per_runtime.proofs.application_lemmas.LeadOn.{still}
 use Rattle.per_runtime.proofs.application_lemmas.Plain.{begins_plain}
 use Rattle.per_runtime.proofs.application_lemmas.Rowed.{ok_alike}
-use Rattle.per_runtime.proofs.application_lemmas.Within.{IsShortLaw, same_bank, same_making, same_said, update_most}
+use Rattle.per_runtime.proofs.application_lemmas.Within.{most, same_bank}
 
 -- ---- an offer that is taken
 
@@ -105,7 +105,7 @@ pub record Updates (told : Bool) (rules : List Rule) (answers : Answers) (now : 
   pub passes : OnOk made (new.faults ≡ old.faults)
   pub device_only : IsErrOf made stop.Device → IsOk (offered busy text (root_app root []))
   pub outside : Leaves told (IsBesideNext app (free_bank root)) old new
-  pub places : Leaves told (making.IsBesideMade app (shapes_from app (free_bank root) 0 (making.storages_said text))) old
+  pub places : Leaves told (making.IsBesideMade app (shapes_from app (free_bank root) 0 (storages_said text))) old
       new
   pub written : making.WritesUpdate told (BeginsUpdate rules answers now busy text) app root text old new
   pub any_moment : IsTrue told → LeadsTo app (rows.UpdateMayLead rules answers now busy text (app_at old.image app))
@@ -163,37 +163,33 @@ module _ (told : Bool) (rules : List Rule) (answers : Answers) (now : ℕ) (text
 
   -- ---- what is written
 
-  module _ (short : IsShortLaw) (lone : no_update_over (root_says root) ≡ None) (tells : IsTrue told) where
+  module _ (keeps : manifests_at old.image b.app ≡ root_texts root) (tells : IsTrue told) where
     costs_by : making.WritesUpdate told (BeginsUpdate rules answers now busy text) b.app root text old new
-        → CostsUpdate rules answers now r text (old.written + opening_cost r.stage) new.written
+        → CostsUpdate rules answers now (manifests_at old.image b.app) r text
+        (old.written + opening_cost (manifests_at old.image b.app) r.stage) new.written
     costs_by (inl none) = inl (omega (arith, none))
     costs_by (inr begun) =
         let p = begun.1 in
-        let most : root_cost (text ∷ root_texts root) ≤ pair_cost (length text) longest_manifest =
-        update_most short b.app root resting.root_at.memory lone text in
-        let same = same_making p.deployment.storages p.contents in
-        let cost = begun.4 in
         inr (
           p,
           begins_there tells begun.0 (Ok p) (begun.2 tells) begun.3,
-          (let le : new.written ≤ old.written + opening_cost r.stage + update_cost text p =
-              omega (arith, most, same, cost) in le),
+          most old.written new.written (opening_cost (manifests_at old.image b.app) r.stage)
+              (update_cost (manifests_at old.image b.app) text p)
+              (subst (λ (kept : List (List ℕ)). new.written ≤ old.written + update_cost kept text p) (sym keeps)
+              begun.4),
         )
 
     bank_is : next_bank r.disk.says ≡ free_bank root
     bank_is = ap next_bank (sym (says_same tells)) ∙ same_bank root
 
     within_by : making.WritesUpdate told (BeginsUpdate rules answers now busy text) b.app root text old new
-        → Leaves told (making.IsBesideMade b.app (shapes_from b.app (free_bank root) 0 (making.storages_said text))) old new
+        → Leaves told (making.IsBesideMade b.app (shapes_from b.app (free_bank root) 0 (storages_said text))) old new
         → IsCallWithin rules answers b.app now r (call.Update text) (bytes_now old) (bytes_now new)
     within_by cost leaves = record {
       costs = costs_by cost;
       files = λ file beside. leaves.at_the_end tells file (
         beside.0,
-        subst (λ (ss : List StorageData). IsInNone (shapes_from b.app (free_bank root) 0 ss) file)
-            (sym (same_said (deployment_of text)))
-            (subst (λ (bank : ℕ). IsInNone (shapes_from b.app bank 0 (said_storages (deployment_of text))) file)
-            bank_is beside.1),
+        subst (λ (bank : ℕ). IsInNone (shapes_from b.app bank 0 (storages_said text)) file) bank_is beside.1,
       );
     }
 
@@ -388,18 +384,19 @@ module _ (told : Bool) (rules : List Rule) (answers : Answers) (now : ℕ) (text
       stopped_promises lone stop.Device u = device_promises u
       stopped_promises lone stop.OutOfMemory u = memory_promises lone u
 
-    pub updated_promises : IsShortLaw → no_update_over (root_says root) ≡ None → (made : Result Outcome Stop)
+    pub updated_promises : (IsTrue told → manifests_at old.image b.app ≡ root_texts root)
+        → no_update_over (root_says root) ≡ None → (made : Result Outcome Stop)
         → Updates told rules answers now text b.app root busy old new made → (after' : Running) (result : Result Reply Stop)
         → ConcludesCall made (record b { stage = ToOpen }) after' result
         → Promises told rules answers now (call.Update text) before after' Untouched old new result
-    updated_promises short lone (Ok o) u after' result s = subst (λ (x : Running).
+    updated_promises keeps lone (Ok o) u after' result s = subst (λ (x : Running).
         Promises told rules answers now (call.Update text) before x Untouched old new result) (sym s.0)
         (subst (λ (x : Result Reply Stop). Promises told rules answers now (call.Update text) before
         (record b { stage = AtRest o.root }) Untouched old new x) (sym s.1) (done_promises o u
-        (λ tells. within_by short lone tells u.written u.places)))
-    updated_promises short lone (Err e) u after' result s = subst (λ (x : Result Reply Stop).
+        (λ tells. within_by (keeps tells) tells u.written u.places)))
+    updated_promises keeps lone (Err e) u after' result s = subst (λ (x : Result Reply Stop).
         Promises told rules answers now (call.Update text) before after' Untouched old new x) (sym s.3)
-        (stopped_promises after' s.0 s.1 s.2 (λ tells. within_by short lone tells u.written u.places) lone e u)
+        (stopped_promises after' s.0 s.1 s.2 (λ tells. within_by (keeps tells) tells u.written u.places) lone e u)
 
 -- what `begin_update` promises
 pub record Beginning (told : Bool) (rules : List Rule) (answers : Answers) (now : ℕ) (text : List ℕ) (app : ℕ)

@@ -1,5 +1,5 @@
 -- A close of an open storage, by what the storage promises of it.
-use Rattle.std.proofs.Common.{◌≡◌, ℕ, List, [], Bool, true, false, refl, sym, ap, ◌∙◌, subst, true≢false}
+use Rattle.std.proofs.Common.{◌≡◌, ◌≤◌, ◌+◌, ℕ, List, [], Bool, true, false, refl, sym, ap, ◌∙◌, subst, true≢false}
 use Rattle.std.specs.Prelude.{IsTrue, Option, Some, None, Result, Ok, Err, IfOk, IsErrOf, IsOk, OnOk, is_ok, slice_set}
 use Rattle.per_base.specs.Causes.{Rose}
 use Rattle.per_base.specs.declared.elements.StoreKind.TheVariants as kinds
@@ -38,22 +38,24 @@ use Rattle.open_storages.specs.Durables.{IsClosedOrRefused, OnClosed, WritesAtMo
 use Rattle.open_storages.specs.Opens.{config_in, keys_of, session_in, store_in}
 use Rattle.open_storages.specs.Refusals.{close_refused, durable_view, has_nothing_pending, sync_refused}
 use Rattle.run_model.specs.Calls.{Outcome, answered, app_step, lowest_handle, concluded, without_session}
+use Rattle.run_model.specs.Costs.{closing_cost}
 use Rattle.run_model.specs.Found.{FoundStorage, of_kind, storage_in, with_storage_state}
 use Rattle.run_model.specs.Sessions.{Session, keys, seen_of, synced_in_session}
 use Rattle.run_model.specs.Steps.{found_named, reaches_device, uses_device}
 use Rattle.run_model.specs.Worlds.{Application, at_rest}
 use Rattle.per_runtime.specs.storages.Durables.{LeavesSlot, IsSet, RepliesDone}
 use Rattle.per_runtime.specs.storages.Finding.{IsEarly, IsLocated, found_on, shape_at}
-use Rattle.per_runtime.specs.storages.Handled.{IsStorageCallHandled, MayWrite}
+use Rattle.per_runtime.specs.storages.Handled.{CostsNamed, IsStorageCallHandled, MayWrite}
 use Rattle.per_runtime.specs.storages.Slots.{IsResting, resting_with, slot_at}
 use Rattle.per_runtime.specs.storages.StorageLaws.{StorageLaws}
 use Rattle.per_runtime.specs.declared.storages.finding.Located.{Located}
 use Rattle.per_runtime.specs.declared.storages.slots.OpenSlots.{OpenSlots}
 use Rattle.per_runtime.proofs.storage_lemmas.DurableRows.{close_keys_row, close_reaches, close_row, found_of_kind}
 use Rattle.per_runtime.proofs.storage_lemmas.Durables.{at, done_handled, kind_is, may_write, none_of, opens, row_err}
-use Rattle.per_runtime.proofs.storage_lemmas.Durables.{session_is, shape_in_is, shape_there, stopped_handled}
+use Rattle.per_runtime.proofs.storage_lemmas.Durables.{session_costs, session_is, shape_in_is, shape_there}
+use Rattle.per_runtime.proofs.storage_lemmas.Durables.{stopped_handled}
 use Rattle.per_runtime.proofs.storage_lemmas.Ended.{TextLaw, early_handled}
-use Rattle.per_runtime.proofs.storage_lemmas.Handled.{none_written}
+use Rattle.per_runtime.proofs.storage_lemmas.Handled.{found_costs, none_costs, none_written}
 use Rattle.per_runtime.proofs.storage_lemmas.SlotLaws.{put_back, sessions_set}
 use Rattle.per_runtime.proofs.storage_lemmas.Storing.{idle_calls, resting_after}
 use Rattle.per_runtime.proofs.storage_lemmas.Synced.{early_some, first_early, sync_early}
@@ -136,6 +138,7 @@ module _ (laws : StorageLaws) (texts : TextLaw) (told : Bool) (app now : ℕ) (r
       };
       idle = λ tells idle. same;
       written = λ tells. none_written app c before old;
+      costs = λ tells. none_costs app now c before old;
       place = λ tells f is file beside. refl;
       time = elapses_none law;
     }
@@ -191,6 +194,13 @@ module _ (laws : StorageLaws) (texts : TextLaw) (told : Bool) (app now : ℕ) (r
       written = may_write laws texts told app now root was old resting l located storage there_is c new named_so
           (λ still. ap (λ (m : Medium). m.written) (by_disk (closes.unchanged still).1)) closes.at_most
 
+      costs : IsTrue told → CostsNamed app now c before old new
+      costs tells = found_costs app now c before f old new (named_so tells)
+          (subst (λ (s : Option Session). new.written ≤ old.written + closing_cost app f s)
+          (sym (session_is laws texts told app now root was old resting l located storage there_is))
+          (session_costs laws texts told app now root was old resting l located storage there_is c new named_so
+          (λ still. ap (λ (m : Medium). m.written) (by_disk (closes.unchanged still).1)) closes.at_most tells))
+
       shape : stores.store_shape (store_in storage) ≡ shape_at l
       shape = shape_there laws texts told app now root was old resting l located storage there_is
 
@@ -207,7 +217,7 @@ module _ (laws : StorageLaws) (texts : TextLaw) (told : Bool) (app now : ℕ) (r
           → IsStorageCallHandled told app now root c was is old new Same (Err e)
       closed_err is emptied e err = stopped_handled laws texts told app now root was old resting l located storage
           there_is c (close_refused storage) after refl refl closed_row named_so reaches
-          new Same idle written storing is emptied e (none_of (close_refused storage) (never_due e err))
+          new Same idle written costs storing is emptied e (none_of (close_refused storage) (never_due e err))
           (λ device. closes.cause (err ∙ ap (λ (x : Stop). Err x) device))
 
       pub closed_ok : (left : Closing) → result ≡ Ok left → (mid is : OpenSlots) → IsSet l.number None was mid
@@ -218,7 +228,7 @@ module _ (laws : StorageLaws) (texts : TextLaw) (told : Bool) (app now : ℕ) (r
           IfOk r (IsClosedOrRefused storage (close_refused storage))) ok closes.done in
           let set = ap (λ (s : OpenSlots). s.open.items) same ∙ emptied in
           done_handled laws texts told app now root was old resting l located storage there_is c (close_refused storage)
-          after refl refl closed_row named_so reaches new Same idle written storing is reply none says
+          after refl refl closed_row named_so reaches new Same idle written costs storing is reply none says
           (resting_after laws app root l located told old.image new.image storing.elsewhere was is None resting set
           (λ o some. absurd cc))
           (λ tells. ap (store_at new.image) (sym shape)

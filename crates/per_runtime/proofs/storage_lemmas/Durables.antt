@@ -1,9 +1,9 @@
 -- An open storage that is to be made durable or closed: what the storage promises is what its row says of the
 -- application.
-use Rattle.std.proofs.Common.{◌≡◌, ℕ, List, [], Bool, true, false, refl, sym, ap, ◌∙◌, subst, inl, inr, true≢false}
-use Rattle.std.specs.Prelude.{IsTrue, Option, Some, None, Result, Ok, Err, IfOk, IsErrOf, IsOk, OnOk, option_map}
+use Rattle.std.proofs.Common.{◌≡◌, ◌≤◌, ◌+◌, ℕ, List, [], Bool, true, false, refl, sym, ap, ◌∙◌, subst, inl, inr}
+use Rattle.std.specs.Prelude.{IsTrue, Option, Some, None, Result, Ok, Err, IfOk, IsErrOf, IsOk, OnOk, cond, option_map}
 use Rattle.std.specs.Prelude.{slice_set}
-use Rattle.std.proofs.Common.{arith}
+use Rattle.std.proofs.Common.{arith, true≢false}
 use Rattle.per_base.specs.Causes.{Rose}
 use Rattle.per_base.specs.declared.elements.StoreKind.{StoreKind}
 use Rattle.per_base.specs.declared.elements.StoreKind.TheVariants as kinds
@@ -18,7 +18,7 @@ use Rattle.element_state.specs.declared.shapes.View.{View}
 use Rattle.element_state.specs.Clean.{IsClean}
 use Rattle.element_state.specs.States.{State, Opens, store_at}
 use Rattle.element_state.specs.Written.{IsWithin, map_cost}
-use Rattle.element_maps.specs.Sessions.{view_once_synced}
+use Rattle.element_maps.specs.Sessions.{same_map, view_once_synced}
 use Rattle.element_maps.specs.Storages.{IsStoring}
 use Rattle.element_store.specs.Committing.{index_length}
 use Rattle.element_store.specs.Stores as stores
@@ -40,6 +40,7 @@ use Rattle.open_storages.specs.Durables.{IsDurableOrRefused, WritesAtMost}
 use Rattle.open_storages.specs.Opens.{config_in, session_in, store_in}
 use Rattle.open_storages.specs.Refusals.{durable_view, has_nothing_pending}
 use Rattle.run_model.specs.Calls.{Outcome, answered, app_step, session_at, concluded}
+use Rattle.run_model.specs.Costs.{differing_cost, session_cost}
 use Rattle.run_model.specs.Found.{FoundStorage, of_kind, shape_in, with_storage_state}
 use Rattle.run_model.specs.Runtimes.{WritesWithin, is_refusal}
 use Rattle.run_model.specs.Sessions.{Session, seen_of, synced_in_session}
@@ -48,7 +49,7 @@ use Rattle.run_model.specs.Worlds.{Application, at_rest}
 use Rattle.per_runtime.specs.storages.Answers.{StorageCallMayLead}
 use Rattle.per_runtime.specs.storages.Durables.{IsSet, RepliesDone}
 use Rattle.per_runtime.specs.storages.Finding.{IsLocated, config_of, found_on, shape_at}
-use Rattle.per_runtime.specs.storages.Handled.{IsStorageCallHandled, MayWrite, StaysInPlace}
+use Rattle.per_runtime.specs.storages.Handled.{CostsNamed, IsStorageCallHandled, MayWrite, StaysInPlace}
 use Rattle.per_runtime.specs.storages.Slots.{IsOpenAt, IsResting, resting_with, sessions_in, slot_at}
 use Rattle.per_runtime.specs.storages.StorageLaws.{StorageLaws}
 use Rattle.per_runtime.specs.declared.storages.finding.Located.{Located}
@@ -186,6 +187,16 @@ module _ (laws : StorageLaws) (texts : TextLaw) (told : Bool) (app now : ℕ) (r
     same_session : (t : Session) → Some s ≡ Some t → t ≡ s
     same_session t is = cc
 
+    -- the cost of the session
+    pub session_costs : IsTrue told → new.written ≤ old.written + session_cost app f (Some s)
+    session_costs tells = by (same_map (synced_in_session s) (seen_of s)) refl
+      where
+        by : (same : Bool) → same_map (synced_in_session s) (seen_of s) ≡ same
+            → new.written ≤ old.written + cond same 0 (differing_cost app f s f.state)
+        by true is = let nothing = still is in omega (arith, nothing)
+        by false is = subst (λ (state : State). new.written ≤ old.written + differing_cost app f s state)
+            (sym (opens tells)) (bound v refl)
+
     pub may_write : IsTrue told → MayWrite app c before old new
     may_write tells durable g t found there =
         let of_found : g ≡ f = same_found (found_named before c) g (named tells) found in
@@ -222,6 +233,7 @@ module _ (laws : StorageLaws) (texts : TextLaw) (told : Bool) (app now : ℕ) (r
 
     module _ (new : Medium) (Same : Type 0) (idle : IsTrue told → uses_device (app_at old.image app) c ≡ false → Same)
         (written : IsTrue told → MayWrite app c before old new)
+        (costs : IsTrue told → CostsNamed app now c before old new)
         (storing : IsStoring told (shape_at l) next old new) where
       in_place : IsTrue told → StaysInPlace app c before old.image new.image
       in_place tells = placed laws told app now root c was was old new l located resting next storing tells named
@@ -236,6 +248,7 @@ module _ (laws : StorageLaws) (texts : TextLaw) (told : Bool) (app now : ℕ) (r
             (cause refl);
         idle = idle;
         written = written;
+        costs = costs;
         place = in_place;
         time = storing.time;
       }
@@ -244,6 +257,7 @@ module _ (laws : StorageLaws) (texts : TextLaw) (told : Bool) (app now : ℕ) (r
             (λ tells. inl (reaches tells (answered answer.Done after) (row_ok none tells))) (leads none);
         idle = idle;
         written = written;
+        costs = costs;
         place = in_place;
         time = storing.time;
       }
@@ -267,6 +281,7 @@ module _ (laws : StorageLaws) (texts : TextLaw) (told : Bool) (app now : ℕ) (r
         };
         idle = idle;
         written = written;
+        costs = costs;
         place = in_place;
         time = storing.time;
       }

@@ -35,7 +35,7 @@ use Rattle.per_runtime.specs.storages.Slots.{IsResting, resting_with, sessions_i
 use Rattle.per_runtime.specs.storages.StorageLaws.{StorageLaws}
 use Rattle.per_runtime.specs.declared.storages.finding.Located.{Located}
 use Rattle.per_runtime.specs.declared.storages.slots.OpenSlots.{OpenSlots}
-use Rattle.per_runtime.proofs.storage_lemmas.Handled.{none_written, refused_row}
+use Rattle.per_runtime.proofs.storage_lemmas.Handled.{none_costs, none_written, refused_row}
 use Rattle.per_runtime.proofs.storage_lemmas.SlotLaws.{sessions_set}
 use Rattle.per_runtime.proofs.storage_lemmas.Storing.{clean_at, idle_calls, resting_after, stored_app, storing_calls}
 
@@ -89,6 +89,7 @@ module _ (laws : StorageLaws) (told : Bool) (app now : ℕ) (root : Root) (c : C
     };
     idle = λ tells idle. same;
     written = λ tells. none_written app c (resting_with m.image app was) m;
+    costs = λ tells. none_costs app now c (resting_with m.image app was) m;
     place = λ tells f is file beside. refl;
     time = elapses_none law;
   }
@@ -106,6 +107,7 @@ module _ (laws : StorageLaws) (told : Bool) (app now : ℕ) (root : Root) (c : C
     };
     idle = λ tells idle. same;
     written = λ tells. none_written app c (resting_with m.image app was) m;
+    costs = λ tells. none_costs app now c (resting_with m.image app was) m;
     place = λ tells f is file beside. refl;
     time = elapses_none law;
   }

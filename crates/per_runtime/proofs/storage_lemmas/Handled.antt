@@ -1,6 +1,6 @@
 -- A call on a storage: each promise by itself, and a call that touched no disk.
 use Rattle.std.proofs.Common.{◌≡◌, ℕ, ◌+◌, ◌≤◌, Bool, true, refl, sym, ap, subst, ◌∙◌, arith, true≢false}
-use Rattle.std.specs.Prelude.{◌≢◌, ◌<◌, [], IsTrue, Result, Ok, Err, IfOk, OnOk, IsErrOf}
+use Rattle.std.specs.Prelude.{◌≢◌, ◌<◌, [], IsTrue, Option, Some, Result, Ok, Err, IfOk, OnOk, IsErrOf}
 use Rattle.per_base.specs.Causes.{Rose}
 use Rattle.per_base.specs.declared.errors.PerError.{PerError}
 use Rattle.per_base.specs.declared.errors.PerError.TheVariants as error
@@ -20,11 +20,14 @@ use Rattle.deploy_laws.specs.Stands.{StandsCase}
 use Rattle.deploy.specs.declared.errors.Stop.{Stop}
 use Rattle.deploy.specs.declared.errors.Stop.TheVariants.{Device, OutOfMemory}
 use Rattle.deploy.specs.declared.roots.Root.{Root}
-use Rattle.run_model.specs.Calls.{app_step, concluded}
+use Rattle.run_model.specs.Calls.{app_step, concluded, session_at}
+use Rattle.run_model.specs.Costs.{named_cost, storage_cost}
+use Rattle.run_model.specs.Found.{FoundStorage}
 use Rattle.run_model.specs.Runtimes.{IsUnwritten, is_refusal}
+use Rattle.run_model.specs.Steps.{found_named}
 use Rattle.run_model.specs.Worlds.{Application}
 use Rattle.per_runtime.specs.storages.Answers.{CallsTo, HasStorageCallFailed, HasStorageCallStopped, IsStorageCallAnswered}
-use Rattle.per_runtime.specs.storages.Handled.{IsStorageCallHandled, MayWrite}
+use Rattle.per_runtime.specs.storages.Handled.{CostsNamed, IsStorageCallHandled, MayWrite}
 use Rattle.per_runtime.specs.storages.Slots.{IsResting, resting_with}
 use Rattle.per_runtime.specs.declared.storages.slots.OpenSlots.{OpenSlots}
 
@@ -123,6 +126,18 @@ none_written app c before m durable f s found there = record {
       λ v others opens. more m.written _;
 }
 
+-- nothing is within any cost
+pub none_costs : (app now : ℕ) (c : Call) (before : Application) (m : Medium) → CostsNamed app now c before m m
+none_costs app now c before m = more m.written (named_cost app now before c (found_named before c))
+
+-- the cost is that of the storage that is found
+pub found_costs : (app now : ℕ) (c : Call) (before : Application) (f : FoundStorage) (old new : Medium)
+    → found_named before c ≡ Some (Ok f)
+    → new.written ≤ old.written + storage_cost app now f (session_at before f.number) c
+    → CostsNamed app now c before old new
+found_costs app now c before f old new is le = subst (λ (found : Option (Result FoundStorage PerError)).
+    new.written ≤ old.written + named_cost app now before c found) (sym is) le
+
 -- a refusal that needs no device
 pub refused_row : (app now : ℕ) (c : Call) (before : Application) (e : PerError) (reply : Reply)
     → reply ≡ record { reports = []; answer = answer.Error e }
@@ -156,6 +171,7 @@ refused_handled untouched told app now root c slots m Same law resting same e re
   };
   idle = λ tells idle. same;
   written = λ tells. none_written app c (resting_with m.image app slots) m;
+  costs = λ tells. none_costs app now c (resting_with m.image app slots) m;
   place = λ tells f is file beside. refl;
   time = elapses_none law;
 }

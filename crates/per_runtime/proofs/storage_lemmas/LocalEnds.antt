@@ -41,7 +41,7 @@ use Rattle.per_runtime.specs.storages.StorageLaws.{StorageLaws}
 use Rattle.per_runtime.specs.declared.storages.finding.Located.{Located}
 use Rattle.per_runtime.specs.declared.storages.slots.OpenSlots.{OpenSlots}
 use Rattle.per_runtime.proofs.storage_lemmas.Ended.{TextLaw, starved_handled}
-use Rattle.per_runtime.proofs.storage_lemmas.Handled.{none_written, refused_row}
+use Rattle.per_runtime.proofs.storage_lemmas.Handled.{none_costs, none_written, refused_row}
 use Rattle.per_runtime.proofs.storage_lemmas.LocalRows.{answers_plainly, is_error, local_answered, local_refused}
 use Rattle.per_runtime.proofs.storage_lemmas.Needs.{session_needs}
 use Rattle.per_runtime.proofs.storage_lemmas.SlotLaws.{none_there, session_slot, sessions_set, set_same, there}
@@ -72,6 +72,7 @@ idle_handled laws told app now root c was is m Same same law was_resting is_rest
   };
   idle = λ tells idle. same;
   written = λ tells. none_written app c (resting_with m.image app was) m;
+  costs = λ tells. none_costs app now c (resting_with m.image app was) m;
   place = λ tells f is file beside. refl;
   time = elapses_none law;
 }

@@ -1,9 +1,11 @@
 -- How an opening ends.
-use Rattle.std.proofs.Common.{◌≡◌, ℕ, List, [], Bool, false, refl, sym, ap, ◌∙◌, subst, inl, arith, true≢false}
+use Rattle.std.proofs.Common.{◌≡◌, ◌≤◌, ◌+◌, ℕ, List, [], Bool, false, refl, sym, ap, ◌∙◌, subst, inl, arith}
+use Rattle.std.proofs.Common.{true≢false}
 use Rattle.std.specs.Prelude.{IsTrue, Option, Some, None, Result, Ok, Err, is_some, option_map, slice_set, Vec}
 use Rattle.std.specs.declared.alloc.Global.{Global}
 use Rattle.per_base.specs.Causes.{Rose}
 use Rattle.per_base.specs.declared.elements.StoreKind.{StoreKind}
+use Rattle.per_base.specs.declared.elements.StoreKind.TheVariants as kinds
 use Rattle.per_base.specs.declared.errors.PerError.{PerError}
 use Rattle.per_base.specs.declared.errors.PerError.TheVariants as error
 use Rattle.per_base.specs.declared.errors.Holder.TheVariants as holder
@@ -12,12 +14,14 @@ use Rattle.disk_model.specs.Image.{Image}
 use Rattle.disk_model.specs.Medium.{Medium, Quiet}
 use Rattle.value_code.specs.Reading.{is_content}
 use Rattle.deployment_model.specs.Data.{StorageData}
+use Rattle.element_state.specs.Chosen.{opened_of}
 use Rattle.element_state.specs.Clean.{IsClean}
 use Rattle.element_state.specs.declared.shapes.Shape.{Shape}
 use Rattle.element_state.specs.declared.shapes.View.{View}
 use Rattle.element_state.specs.Reports.{failed_report, reports}
 use Rattle.element_state.specs.States.{State, Opens, Corrupt, mended_view, store_at}
 use Rattle.element_maps.specs.Storages.{IsStoring}
+use Rattle.element_store.specs.Mends.{mending_cost}
 use Rattle.element_store.specs.Stores.{IsUsed, view_in}
 use Rattle.command_text.specs.declared.replies.Answer.TheVariants as answer
 use Rattle.command_text.specs.declared.replies.Reply.{Reply}
@@ -33,6 +37,7 @@ use Rattle.open_storages.specs.Openings.{IsOpeningOf, IsWhereConfigured, ShowsVi
 use Rattle.open_storages.specs.Opens.{session_in, store_in}
 use Rattle.command_text.specs.Replies.{HasText}
 use Rattle.run_model.specs.Calls.{app_step, storage_opened, session_at, concluded}
+use Rattle.run_model.specs.Costs.{storage_cost}
 use Rattle.run_model.specs.Runtimes.{is_refusal}
 use Rattle.run_model.specs.Steps.{found_named, uses_device}
 use Rattle.run_model.specs.Found.{FoundStorage, shape_in, storage_in, with_storage_state}
@@ -40,13 +45,14 @@ use Rattle.run_model.specs.Sessions.{Session, session_of}
 use Rattle.run_model.specs.Worlds.{Application, at_rest}
 use Rattle.per_runtime.specs.storages.Durables.{IsSet, IsShown}
 use Rattle.per_runtime.specs.storages.Finding.{IsEarly, IsLocated, config_of, found_on, shape_at}
-use Rattle.per_runtime.specs.storages.Handled.{IsStorageCallHandled, MayWrite, StaysInPlace}
+use Rattle.per_runtime.specs.storages.Handled.{CostsNamed, IsStorageCallHandled, MayWrite, StaysInPlace}
 use Rattle.per_runtime.specs.storages.Openings.{corrupt_reply, open_call}
 use Rattle.per_runtime.specs.storages.Slots.{IsOpenAt, IsResting, resting_with, slot_at}
 use Rattle.per_runtime.specs.storages.StorageLaws.{StorageLaws}
 use Rattle.per_runtime.specs.declared.storages.finding.Located.{Located}
 use Rattle.per_runtime.specs.declared.storages.slots.OpenSlots.{OpenSlots}
 use Rattle.per_runtime.proofs.storage_lemmas.Ended.{answered_so, lost, placed, stopped}
+use Rattle.per_runtime.proofs.storage_lemmas.Handled.{found_costs}
 use Rattle.per_runtime.proofs.storage_lemmas.OpenRows.{open_named, open_not_durable, open_reaches, open_row, open_uses}
 use Rattle.per_runtime.proofs.storage_lemmas.SlotLaws.{none_there, session_slot, sessions_set, set_same}
 use Rattle.per_runtime.proofs.storage_lemmas.Storing.{resting_after, shape_is, stays_so}
@@ -63,6 +69,20 @@ corrupt_by : (state : State) (shape : Shape) (config : StorageData) (report : Re
     → (salvage : Option View) × (others : List View) × (state ≡ Corrupt salvage others) × (report ≡ failed_report shape)
 corrupt_by (Opens v others) shape config report is = absurd is
 corrupt_by (Corrupt salvage others) shape config report is = (salvage, others, refl, is)
+
+-- what an opening costs, by its shape and by its configuration
+pub opened_costs : (old new : Medium) (l : Located) (sh : Shape) → sh ≡ shape_at l → sh.place.copies ≡ (config_of l).n
+    → new.written ≤ old.written + mending_cost sh.place.copies (opened_of (store_at old.image sh))
+    → new.written ≤ old.written + mending_cost (config_of l).n (opened_of (store_at old.image (shape_at l)))
+opened_costs old new l sh same copies le = subst (λ (n : ℕ).
+    new.written ≤ old.written + mending_cost n (opened_of (store_at old.image (shape_at l)))) copies
+    (subst (λ (s : Shape). new.written ≤ old.written + mending_cost sh.place.copies (opened_of (store_at old.image s)))
+    same le)
+
+open_costs : (app now : ℕ) (f : FoundStorage) (s : Option Session) (kind : StoreKind) (name : List ℕ)
+    → storage_cost app now f s (open_call kind name) ≡ mending_cost f.config.n (opened_of f.state)
+open_costs app now f s kinds.Keys name = refl
+open_costs app now f s kinds.Files name = refl
 
 is_some_map : {A B : Type 0} (f : A → B) (o : Option A) → is_some (option_map f o) ≡ is_some o
 is_some_map f None = refl
@@ -111,7 +131,9 @@ module _ (laws : StorageLaws) (told : Bool) (app now : ℕ) (root : Root) (kind 
       (let room = resting.open_on.room in let lt = located.within.in_slots in omega (arith, room, lt))
       (none_of (slot_at was l.number) closed)))
 
-  module _ (new : Medium) (Same : Type 0) (storing : (after : State) → IsStoring told (shape_at l) after old new) where
+  module _ (new : Medium) (Same : Type 0) (storing : (after : State) → IsStoring told (shape_at l) after old new)
+      (cost : IsTrue told
+      → new.written ≤ old.written + mending_cost (config_of l).n (opened_of (store_at old.image (shape_at l)))) where
     never_idle : IsTrue told → uses_device (app_at old.image app) (open_call kind name) ≡ false → Same
     never_idle tells idle = absurd (true≢false (sym (open_uses (app_at old.image app) kind name) ∙ idle))
 
@@ -125,6 +147,11 @@ module _ (laws : StorageLaws) (told : Bool) (app now : ℕ) (root : Root) (kind 
 
     none_due : MayWrite app (open_call kind name) before old new
     none_due durable g s is there = absurd (true≢false (sym durable ∙ open_not_durable kind name))
+
+    costs : IsTrue told → CostsNamed app now (open_call kind name) before old new
+    costs tells = found_costs app now (open_call kind name) before f old new (named_so tells)
+        (subst (λ (n : ℕ). new.written ≤ old.written + n)
+        (sym (open_costs app now f (session_at before f.number) kind name)) (cost tells))
 
     same_app : IsTrue told → with_storage_state (app_at old.image app) f (store_at old.image (shape_at l))
         ≡ app_at old.image app
@@ -141,6 +168,7 @@ module _ (laws : StorageLaws) (told : Bool) (app now : ℕ) (root : Root) (kind 
           named_so emptied (rose refl);
       idle = never_idle;
       written = λ tells. none_due;
+      costs = costs;
       place = in_place;
       time = (storing (store_at old.image (shape_at l))).time;
     }
@@ -151,6 +179,7 @@ module _ (laws : StorageLaws) (told : Bool) (app now : ℕ) (root : Root) (kind 
           (λ tells. inl (same_app tells));
       idle = never_idle;
       written = λ tells. none_due;
+      costs = costs;
       place = in_place;
       time = (storing (store_at old.image (shape_at l))).time;
     }
@@ -183,6 +212,7 @@ module _ (laws : StorageLaws) (told : Bool) (app now : ℕ) (root : Root) (kind 
       };
       idle = never_idle;
       written = λ tells. none_due;
+      costs = costs;
       place = in_place;
       time = (storing (store_at old.image (shape_at l))).time;
     }
@@ -241,6 +271,7 @@ module _ (laws : StorageLaws) (told : Bool) (app now : ℕ) (root : Root) (kind 
       };
       idle = never_idle;
       written = λ tells. none_due;
+      costs = costs;
       place = in_place;
       time = (storing (store_at old.image (shape_at l))).time;
     }

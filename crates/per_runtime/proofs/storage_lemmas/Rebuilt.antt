@@ -1,6 +1,6 @@
 -- A closed storage that is rebuilt, by what a deployment promises of it.
-use Rattle.std.proofs.Common.{◌≡◌, ◌⊎◌, ℕ, List, [], Bool, true, false, refl, sym, ap, ◌∙◌, subst, inl, inr, true≢false}
-use Rattle.std.proofs.Common.{arith}
+use Rattle.std.proofs.Common.{◌≡◌, ◌⊎◌, ◌≤◌, ◌+◌, ℕ, List, [], Bool, true, false, refl, sym, ap, ◌∙◌, subst, inl, inr}
+use Rattle.std.proofs.Common.{arith, true≢false}
 use Rattle.std.specs.Prelude.{IsTrue, Option, Some, None, Result, Ok, Err, IfOk, IsErrOf, OnOk, is_some, option_map}
 use Rattle.std.specs.Prelude.{cond, nat_lt, sum_by}
 use Rattle.per_base.specs.Causes.{Rose}
@@ -39,6 +39,7 @@ use Rattle.deploy.specs.declared.errors.Stop.TheVariants.{Device, OutOfMemory}
 use Rattle.deploy.specs.declared.roots.Root.{Root}
 use Rattle.deploy.specs.Roots.{root_says}
 use Rattle.run_model.specs.Calls.{Outcome, answered, app_step, rebuild_step, session_at, concluded, unless_open}
+use Rattle.run_model.specs.Costs.{storage_cost}
 use Rattle.run_model.specs.Found.{FoundStorage, storage_in, with_storage_state}
 use Rattle.run_model.specs.Runtimes.{IsUnwritten, is_durable, is_refusal}
 use Rattle.run_model.specs.Steps.{found_named, reaches_device, uses_device}
@@ -48,13 +49,14 @@ use Rattle.open_storages.specs.Opens.{session_in}
 use Rattle.per_runtime.specs.storages.Answers.{IsStorageCallAnswered, StorageCallMayLead}
 use Rattle.per_runtime.specs.storages.Durables.{IsSet, RepliesDone, done_or}
 use Rattle.per_runtime.specs.storages.Finding.{IsEarly, IsLocated, config_of, found_on, shape_at}
-use Rattle.per_runtime.specs.storages.Handled.{IsStorageCallHandled, MayWrite, StaysInPlace}
+use Rattle.per_runtime.specs.storages.Handled.{CostsNamed, IsStorageCallHandled, MayWrite, StaysInPlace}
 use Rattle.per_runtime.specs.storages.Slots.{IsResting, resting_with, slot_at}
 use Rattle.per_runtime.specs.storages.StorageLaws.{StorageLaws}
 use Rattle.per_runtime.specs.declared.storages.finding.Located.{Located}
 use Rattle.per_runtime.specs.declared.storages.slots.OpenSlots.{OpenSlots}
 use Rattle.per_runtime.proofs.storage_lemmas.DurableRows.{recover_reaches, recover_row, reset_reaches, reset_row}
 use Rattle.per_runtime.proofs.storage_lemmas.Ended.{TextLaw, answered_so, lost, placed, stopped}
+use Rattle.per_runtime.proofs.storage_lemmas.Handled.{found_costs}
 use Rattle.per_runtime.proofs.storage_lemmas.SlotLaws.{none_there, session_slot, set_same}
 use Rattle.per_runtime.proofs.storage_lemmas.Storing.{resting_after, stays_so}
 use Rattle.per_runtime.proofs.storage_lemmas.Synced.{early_same, worn_early}
@@ -145,7 +147,8 @@ module _ (laws : StorageLaws) (texts : TextLaw) (told : Bool) (app now : ℕ) (r
       (reaches : IsTrue told → IsTrue (reaches_device app before now c))
       (uses : uses_device (app_at old.image app) c ≡ true) (no_durable : is_durable c ≡ false) (early : AreEarly row)
       (new : Medium) (Same : Type 0) (result : Result (Option PerError) Stop)
-      (rebuilds : Rebuilds told (shape_at l) row old new result) where
+      (rebuilds : Rebuilds told (shape_at l) row old new result)
+      (cost : IsTrue told → new.written ≤ old.written + storage_cost app now f (session_at before f.number) c) where
     storing : IsStoring told (shape_at l) next old new
     storing = record {
       elsewhere = rebuilds.outside.at_the_end;
@@ -159,6 +162,9 @@ module _ (laws : StorageLaws) (texts : TextLaw) (told : Bool) (app now : ℕ) (r
 
     written : IsTrue told → MayWrite app c before old new
     written tells durable g s found there = absurd (true≢false (sym durable ∙ no_durable))
+
+    costs : IsTrue told → CostsNamed app now c before old new
+    costs tells = found_costs app now c before f old new (named tells) (cost tells)
 
     in_place : IsTrue told → StaysInPlace app c before old.image new.image
     in_place tells = placed laws told app now root c was was old new l located resting next storing tells named
@@ -194,6 +200,7 @@ module _ (laws : StorageLaws) (texts : TextLaw) (told : Bool) (app now : ℕ) (r
           (rebuilds.cause err);
       idle = idle;
       written = written;
+      costs = costs;
       place = in_place;
       time = rebuilds.time;
     }
@@ -202,6 +209,7 @@ module _ (laws : StorageLaws) (texts : TextLaw) (told : Bool) (app now : ℕ) (r
           (λ tells. inl (reaches tells)) leads;
       idle = idle;
       written = written;
+      costs = costs;
       place = in_place;
       time = rebuilds.time;
     }
@@ -234,6 +242,7 @@ module _ (laws : StorageLaws) (texts : TextLaw) (told : Bool) (app now : ℕ) (r
       };
       idle = idle;
       written = written;
+      costs = costs;
       place = in_place;
       time = rebuilds.time;
     }

@@ -1,5 +1,5 @@
 -- A sync and a flush of an open storage, by what the storage promises of them.
-use Rattle.std.proofs.Common.{◌≡◌, ℕ, List, [], Bool, true, false, not, refl, sym, ap, ◌∙◌, subst, true≢false}
+use Rattle.std.proofs.Common.{◌≡◌, ◌≤◌, ◌+◌, ℕ, List, [], Bool, true, false, not, refl, sym, ap, ◌∙◌, subst, true≢false}
 use Rattle.std.specs.Prelude.{IsTrue, Option, Some, None, Result, Ok, Err, IfOk, OnOk, slice_set, ⊤}
 use Rattle.per_base.specs.declared.elements.StoreKind.TheVariants as kinds
 use Rattle.per_base.specs.declared.errors.Limit.TheVariants as limit
@@ -37,22 +37,25 @@ use Rattle.open_storages.specs.declared.syncing.Durable.TheVariants as made
 use Rattle.open_storages.specs.Durables.{IsDurableOrRefused, IsMadeDurable}
 use Rattle.open_storages.specs.Opens.{session_in, store_in}
 use Rattle.open_storages.specs.Refusals.{durable_view, error_of, flush_refused, sync_refused}
-use Rattle.run_model.specs.Calls.{Outcome, answered, app_step, may_flush, with_session}
+use Rattle.run_model.specs.Calls.{Outcome, answered, app_step, may_flush, session_at, with_session}
+use Rattle.run_model.specs.Costs.{session_cost, storage_cost}
 use Rattle.run_model.specs.Found.{FoundStorage, shape_in, storage_in, with_storage_state}
 use Rattle.run_model.specs.Sessions.{Session, keys, files, made_durable, seen_of, synced_in_session}
 use Rattle.run_model.specs.Steps.{found_named, reaches_device, uses_device}
 use Rattle.run_model.specs.Worlds.{Application}
 use Rattle.per_runtime.specs.storages.Durables.{IsPutBack, IsSet}
 use Rattle.per_runtime.specs.storages.Finding.{IsEarly, IsLocated, found_on, shape_at}
-use Rattle.per_runtime.specs.storages.Handled.{IsStorageCallHandled, MayWrite}
+use Rattle.per_runtime.specs.storages.Handled.{CostsNamed, IsStorageCallHandled, MayWrite}
 use Rattle.per_runtime.specs.storages.Slots.{IsOpenAt, IsResting, resting_with, sessions_in, slot_at}
 use Rattle.per_runtime.specs.storages.StorageLaws.{StorageLaws}
 use Rattle.per_runtime.specs.declared.storages.finding.Located.{Located}
 use Rattle.per_runtime.specs.declared.storages.slots.OpenSlots.{OpenSlots}
 use Rattle.per_runtime.proofs.storage_lemmas.DurableRows.{flush_row, sync_row}
 use Rattle.per_runtime.proofs.storage_lemmas.Durables.{Makes, at, done_handled, err_not_due, may_write, opens, row_err}
-use Rattle.per_runtime.proofs.storage_lemmas.Durables.{session_is, set_over, shape_in_is, shape_there, stopped_handled}
+use Rattle.per_runtime.proofs.storage_lemmas.Durables.{session_costs, session_is, set_over, shape_in_is, shape_there}
+use Rattle.per_runtime.proofs.storage_lemmas.Durables.{stopped_handled}
 use Rattle.per_runtime.proofs.storage_lemmas.Ended.{TextLaw, early_handled}
+use Rattle.per_runtime.proofs.storage_lemmas.Handled.{found_costs}
 use Rattle.per_runtime.proofs.storage_lemmas.SlotLaws.{put_back, sessions_set}
 use Rattle.per_runtime.proofs.storage_lemmas.Storing.{resting_after}
 
@@ -139,7 +142,9 @@ module _ (laws : StorageLaws) (texts : TextLaw) (told : Bool) (app now : ℕ) (r
       (named : IsTrue told → found_named before c ≡ Some (Ok f))
       (reaches : IsTrue told → (x : Outcome) → app_step app before now c ≡ Ok x
       → IsTrue (reaches_device app before now c))
-      (uses : uses_device (app_at old.image app) c ≡ true) (early : (e : PerError) → refused ≡ Some e → IsEarly e)
+      (uses : uses_device (app_at old.image app) c ≡ true)
+      (cost_is : (x : Option Session) → storage_cost app now f x c ≡ session_cost app f x)
+      (early : (e : PerError) → refused ≡ Some e → IsEarly e)
       (new : Medium) (Same : Type 0) (by_disk : Same → new ≡ old) (result : Result Durable Stop)
       (makes : Makes told storage refused old new Same result) where
     idle : IsTrue told → uses_device (app_at old.image app) c ≡ false → Same
@@ -148,6 +153,14 @@ module _ (laws : StorageLaws) (texts : TextLaw) (told : Bool) (app now : ℕ) (r
     written : IsTrue told → MayWrite app c before old new
     written = may_write laws texts told app now root was old resting l located storage there_is c new named
         (λ still. ap (λ (m : Medium). m.written) (by_disk (makes.unchanged still).1)) makes.at_most
+
+    costs : IsTrue told → CostsNamed app now c before old new
+    costs tells = found_costs app now c before f old new (named tells)
+        (subst (λ (n : ℕ). new.written ≤ old.written + n) (sym (cost_is (session_at before f.number)))
+        (subst (λ (x : Option Session). new.written ≤ old.written + session_cost app f x)
+        (sym (session_is laws texts told app now root was old resting l located storage there_is))
+        (session_costs laws texts told app now root was old resting l located storage there_is c new named
+        (λ still. ap (λ (m : Medium). m.written) (by_disk (makes.unchanged still).1)) makes.at_most tells)))
 
     storing : IsStoring told (shape_at l) (Opens (durable_view storage) []) old new
     storing = subst (λ (shape : Shape). IsStoring told shape (Opens (durable_view storage) []) old new)
@@ -158,7 +171,8 @@ module _ (laws : StorageLaws) (texts : TextLaw) (told : Bool) (app now : ℕ) (r
         → IsStorageCallHandled told app now root c was is old new Same (Err e)
     made_err is emptied e err = stopped_handled laws texts told app now root was old resting l located storage there_is
         c refused after refl refl row named reaches
-        new Same idle written storing is emptied e (err_not_due told storage refused old new Same result e makes err)
+        new Same idle written costs storing is emptied e
+        (err_not_due told storage refused old new Same result e makes err)
         (λ device. makes.cause (err ∙ ap (λ (x : Stop). Err x) device))
 
     -- it was answered
@@ -180,7 +194,7 @@ module _ (laws : StorageLaws) (texts : TextLaw) (told : Bool) (app now : ℕ) (r
           shows = shown.shows;
         } in
         done_handled laws texts told app now root was old resting l located storage there_is c refused after refl refl
-        row named reaches new Same idle written storing is reply durable.0 says
+        row named reaches new Same idle written costs storing is reply durable.0 says
         (resting_after laws app root l located told old.image new.image storing.elsewhere was is (Some later) resting
         set_there
         (λ o is_later. subst (λ (x : Open). IsOpenAt told new.image app located.version l.number x)

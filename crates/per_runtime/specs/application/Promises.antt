@@ -42,7 +42,7 @@ pub record Promises (told : Bool) (rules : List Rule) (answers : Answers) (now :
   pub written : IsTrue told → is_durable c ≡ true → (f : FoundStorage) (s : Session)
       → found_named (application old.image before) c ≡ Some (Ok f)
       → session_at (application old.image before) f.number ≡ Some s → WritesWithin before.app f s old new
-  -- no more is written than the storages cost that the call makes, and one root, and no file changes elsewhere
+  -- no more is written than the call costs, and no file changes elsewhere
   pub within : IsTrue told → IsCallWithin rules answers before.app now (application old.image before) c (bytes_now old)
       (bytes_now new)
   -- no file changes beside those of a storage that the call names

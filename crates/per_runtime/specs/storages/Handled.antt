@@ -1,5 +1,5 @@
 -- All that a call on a storage promises, by how it ended.
-use Rattle.std.specs.Prelude.{◌≡◌, ◌≢◌, ℕ, Bool, true, false, IsTrue, Some, Result, Ok, Err}
+use Rattle.std.specs.Prelude.{◌≡◌, ◌≢◌, ◌≤◌, ◌+◌, ℕ, Bool, true, false, IsTrue, Some, Result, Ok, Err}
 use Rattle.per_base.specs.Causes.{Rose}
 use Rattle.per_base.specs.declared.errors.PerError.TheVariants as error
 use Rattle.disk_model.specs.Frame.{Spares}
@@ -15,6 +15,7 @@ use Rattle.deploy.specs.declared.errors.Stop.{Stop}
 use Rattle.deploy.specs.declared.errors.Stop.TheVariants.{Device, OutOfMemory}
 use Rattle.deploy.specs.declared.roots.Root.{Root}
 use Rattle.run_model.specs.Calls.{session_at}
+use Rattle.run_model.specs.Costs.{named_cost}
 use Rattle.run_model.specs.Found.{FoundStorage}
 use Rattle.run_model.specs.Runtimes.{IsUnwritten, WritesWithin, is_durable, is_refusal}
 use Rattle.run_model.specs.Sessions.{Session}
@@ -28,6 +29,11 @@ use Rattle.per_runtime.specs.declared.storages.slots.OpenSlots.{OpenSlots}
 abbrev pub MayWrite : (app : ℕ) → Call → (before : Application) → (old new : Medium) → Type 0
 MayWrite app c before old new = is_durable c ≡ true → (f : FoundStorage) (s : Session)
     → found_named before c ≡ Some (Ok f) → session_at before f.number ≡ Some s → WritesWithin app f s old new
+
+-- no more is written than the call costs, into the storage that it names, however it ends; nothing where it names none
+-- that calls the device
+abbrev pub CostsNamed : (app now : ℕ) → Call → (before : Application) → (old new : Medium) → Type 0
+CostsNamed app now c before old new = new.written ≤ old.written + named_cost app now before c (found_named before c)
 
 -- no file changes beside those of the storage that the call names
 abbrev pub StaysInPlace : (app : ℕ) → Call → (before : Application) → (old new : Image) → Type 0
@@ -70,5 +76,6 @@ pub record IsStorageCallHandled (told : Bool) (app now : ℕ) (root : Root) (c :
   pub ends : EndsSo told app now root c was is old new result
   pub idle : IsTrue told → uses_device (app_at old.image app) c ≡ false → Same
   pub written : IsTrue told → MayWrite app c (resting_with old.image app was) old new
+  pub costs : IsTrue told → CostsNamed app now c (resting_with old.image app was) old new
   pub place : IsTrue told → StaysInPlace app c (resting_with old.image app was) old.image new.image
   pub time : Elapses old new

@@ -15,7 +15,6 @@ use deploy_laws::{files_lie_apart, untouched_stands};
 use deploy_rows::{rows_lead_on, rows_read_the_root};
 use disk_model::Disk;
 use element_laws::places_stand_apart;
-use manifest::said_is_kept;
 use migrate_fns::Migrations;
 use per_base::PerError;
 
@@ -63,7 +62,6 @@ impl Running {
         roots_in_use();
         files_lie_apart();
         places_stand_apart();
-        said_is_kept();
         let root = self.take_root();
         let made = finish(self.alloc, disk, root);
         self.conclude(made)
@@ -85,7 +83,6 @@ impl Running {
         rows_read_the_root();
         roots_in_use();
         untouched_stands();
-        said_is_kept();
         if let Some(error) = self.no_way_back() {
             return Ok(refusal(self.alloc, error));
         }

@@ -12,9 +12,9 @@ ghost use Rattle.migrate_fns.specs.Stored.{answers_of, rules_of};
 ghost use Rattle.deploy_laws.specs.Apps.{App, app_at};
 ghost use Rattle.deploy_laws.specs.Places.{root_place};
 ghost use Rattle.deploy_laws.specs.Stands.{IsLater};
+ghost use Rattle.deploy_rows.specs.Costs.{greatest_cost, manifests_at, root_cost};
 ghost use Rattle.run_model.specs.AppLaws.{OpensRoot};
 ghost use Rattle.run_model.specs.Calls.{beside_update};
-ghost use Rattle.run_model.specs.Costs.{greatest_cost};
 ghost use Rattle.run_model.specs.Runtimes.{IsUnwritten};
 ghost use Rattle.run_model.specs.Steps.{calls_device};
 ghost use Rattle.run_model.specs.Worlds.{at_rest, is_to_open, none_open, to_open, update_in};
@@ -123,13 +123,16 @@ impl Running {
             → CallsTo self.old.app next (D.medium disk.old) (D.medium disk.new) }
         ensures slots { IsTrue D.told
             → Spares (IsNoSlot (root_place self.old.app)) (D.medium disk.old).image (D.medium disk.new).image }
-        // No more is written than the longest root costs.
+        // No more is written than the root costs, once, and never more than the longest root does.
+        ensures once { IsTrue D.told → (D.medium disk.new).written
+            ≤ (D.medium disk.old).written + root_cost (manifests_at (D.medium disk.old).image self.old.app) }
         ensures written { (D.medium disk.new).written ≤ (D.medium disk.old).written + greatest_cost }
         ensures quiet { OnOk result (Quiet (D.medium disk.new)) }
         ensures cause { IsErrOf result Stop.Device → Rose (D.medium disk.old).faults (D.medium disk.new).faults }
         ensures passes { OnOk result ((D.medium disk.new).faults ≡ (D.medium disk.old).faults) }
         ensures time { Elapses (D.medium disk.old) (D.medium disk.new) }
     {
+        roots_in_use();
         let root = open_root(self.alloc, disk, self.app)?;
         self.stage = Stage::AtRest(root);
         Ok(())

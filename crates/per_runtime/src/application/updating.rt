@@ -15,7 +15,6 @@ use deploy::{Begin, Stop, begin_update, roots_in_use, update};
 use deploy_laws::untouched_stands;
 use deploy_rows::{rows_lead_on, rows_read_the_root};
 use disk_model::Disk;
-use manifest::said_is_kept;
 use migrate_fns::Migrations;
 
 impl Running {
@@ -37,7 +36,6 @@ impl Running {
         rows_read_the_root();
         roots_in_use();
         untouched_stands();
-        said_is_kept();
         if let Some(error) = self.no_update_over() {
             return Ok(refusal(self.alloc, error));
         }
@@ -152,7 +150,6 @@ impl Running {
         rows_lead_on();
         roots_in_use();
         untouched_stands();
-        said_is_kept();
         let Some(staged) = self.take_update() else {
             return Ok(self.without_update());
         };

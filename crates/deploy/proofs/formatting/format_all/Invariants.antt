@@ -2,7 +2,7 @@ use Rattle.std.proofs.Common.{◌≡◌, ◌⊎◌, ℕ, ◌+◌, ◌*◌, ◌<�
 use Rattle.std.specs.Prelude.{IsTrue}
 use Rattle.disk_model.specs.Medium.{Elapses, Quiet}
 use Rattle.deploy.specs.Clauses.{Leaves}
-use Rattle.deploy.specs.Written.{format_cost}
+use Rattle.deploy_rows.specs.Costs.{format_cost}
 use Rattle.deploy.proofs.Formatted.{IsEmptyRoot, IsNoRoot}
 use Rattle.deploy.proofs.formatting.format_all.Given as goal
 

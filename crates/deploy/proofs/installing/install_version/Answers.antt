@@ -7,8 +7,7 @@ use Rattle.deployment_model.specs.Data.{deployment_data, storage_data}
 use Rattle.deploy_laws.specs.Apps.{App}
 use Rattle.deploy_laws.specs.Stands.{StandsThroughout}
 use Rattle.deploy.specs.Clauses.{IsBesideNext}
-use Rattle.deploy.specs.Making.{making_costs}
-use Rattle.deploy.specs.Written.{root_cost}
+use Rattle.deploy_rows.specs.Costs.{making_costs, root_cost}
 use Rattle.deploy.proofs.FirstVersion.{comes_later}
 use Rattle.deploy.proofs.InstallRow.{filled_installs}
 use Rattle.deploy.proofs.Leaves.{leaves_none}

@@ -5,7 +5,7 @@ use Rattle.deployment_model.specs.declared.configs.StorageConfig.{StorageConfig}
 use Rattle.index_text.specs.Contents.{AreContents}
 use Rattle.element_state.specs.States.{fresh_map, fresh_state, store_at}
 use Rattle.deploy_laws.specs.Places.{storage_shape}
-use Rattle.deploy.specs.Making.{making_cost}
+use Rattle.deploy_rows.specs.Costs.{making_cost}
 use Rattle.deploy.proofs.Leaves.{leaves_none}
 use Rattle.deploy.proofs.MadePlaces.{more_places, more_written, part_written}
 use Rattle.deploy.proofs.MadeStorages.{few_contents, made_all, making_more, making_none, more_outside, more_time}

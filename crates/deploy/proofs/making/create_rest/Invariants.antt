@@ -3,7 +3,8 @@ use Rattle.std.specs.Prelude.{map}
 use Rattle.deployment_model.specs.Data.{storage_data}
 use Rattle.deploy_laws.specs.Places.{shapes_from}
 use Rattle.deploy.specs.Clauses.{Leaves}
-use Rattle.deploy.specs.Making.{IsInNone, making_costs}
+use Rattle.deploy_rows.specs.Costs.{making_costs}
+use Rattle.deploy.specs.Making.{IsInNone}
 use Rattle.deploy.proofs.MadeStorages.{IsMaking}
 use Rattle.deploy.proofs.making.create_rest.Given as goal
 

@@ -4,7 +4,7 @@ use Rattle.guarded_cell.specs.Seens.{IsSeenOn}
 use Rattle.guarded_cell.specs.Slots.{IsSlotsOf}
 use Rattle.root_text.specs.Views.{root_said}
 use Rattle.deploy.proofs.Already.{already_at}
-use Rattle.deploy.proofs.RootLens.{most_cost, placed_cost, text_cost}
+use Rattle.deploy.proofs.RootLens.{most_cost, placed_cost, root_len_is, text_cost}
 use Rattle.deploy.proofs.Settled.{cell_at, puts_at, root_alone, root_in_use, root_says_so, spares_at}
 use Rattle.deploy.proofs.opening.bring_to.Goals as goal
 
@@ -104,3 +104,13 @@ pub returns-clause-written : goal.returns-clause-written
 returns-clause-written g c = text_cost _ _ 3 (length c.args.standing.seen.text) _
     (placed_cost _ c.args.app _ _ _ c.root_place.ensures c.in_ok-cell.ensures.brings.puts.written)
     (ap length c.requires.spelled.spelled ∙ c.of.ensures.long)
+
+pub returns-in_err-cell-clause-once : goal.returns-in_err-cell-clause-once
+returns-in_err-cell-clause-once g c = text_cost _ _ 3 (length c.args.standing.seen.text) _
+    (placed_cost _ c.args.app _ _ _ c.root_place.ensures c.in_err-cell.ensures.brings.puts.written)
+    (ap length c.requires.spelled.spelled ∙ root_len_is (root_said c.args.standing.says))
+
+pub returns-clause-once : goal.returns-clause-once
+returns-clause-once g c = text_cost _ _ 3 (length c.args.standing.seen.text) _
+    (placed_cost _ c.args.app _ _ _ c.root_place.ensures c.in_ok-cell.ensures.brings.puts.written)
+    (ap length c.requires.spelled.spelled ∙ root_len_is (root_said c.args.standing.says))

@@ -8,6 +8,7 @@ use Rattle.deploy.specs.Clauses.{IsNoRootSlot}
 use Rattle.deploy.proofs.Already.{already_then, found_alone}
 use Rattle.deploy.proofs.Found.{found_says, found_stands, is_first, is_marked, is_spelled, no_first, none_says}
 use Rattle.deploy.proofs.Found.{texts_at}
+use Rattle.deploy.proofs.Manifests.{bad_keeps, found_keeps, once_written}
 use Rattle.deploy.proofs.Opened.{bad_at, bad_reopened, brought_app, brought_clean, brought_leaves, brought_stands}
 use Rattle.deploy.proofs.Opened.{look_leaves, look_stands, not_bad, still_clean}
 use Rattle.deploy.proofs.RootLens.{same_most, then_most}
@@ -220,3 +221,42 @@ returns-clause-at_most g c = then_most _ _ _ _ c.find_standing.ensures.written c
 
 pub returns-clause-written : goal.returns-clause-written
 returns-clause-written g c = then_most _ _ _ _ c.find_standing.ensures.written c.in_ok-root.ensures.written
+
+pub returns-in_err-standing-clause-once : goal.returns-in_err-standing-clause-once
+returns-in_err-standing-clause-once g c = λ tells. same_most _ _ _ c.find_standing.ensures.written
+
+pub returns-in_default-clause-once : goal.returns-in_default-clause-once
+returns-in_default-clause-once g c = λ tells. same_most _ _ _ c.find_standing.ensures.written
+
+pub returns-in_err-root-clause-once : goal.returns-in_err-root-clause-once
+returns-in_err-root-clause-once g c = λ tells.
+    let old = g.D.Disk.medium c.args.disk.now in
+    let first = is_first (texts_at old.image c.args.app) c.in_ok-standing.field-0 c.in-Some.standing c.in-Some.is
+    (c.in_ok-standing.ensures.among tells) in
+    once_written _ _ _ old.image c.args.app _ c.find_standing.ensures.written
+    (found_keeps c.held_is_lawful.ensures.among old.image c.args.app c.in-Some.standing first)
+    c.bring_to.ensures.once
+
+pub returns-clause-once : goal.returns-clause-once
+returns-clause-once g c = λ tells.
+    let old = g.D.Disk.medium c.args.disk.now in
+    let first = is_first (texts_at old.image c.args.app) c.in_ok-standing.field-0 c.in-Some.standing c.in-Some.is
+    (c.in_ok-standing.ensures.among tells) in
+    once_written _ _ _ old.image c.args.app _ c.find_standing.ensures.written
+    (found_keeps c.held_is_lawful.ensures.among old.image c.args.app c.in-Some.standing first)
+    c.bring_to.ensures.once
+
+pub returns-in_default-clause-manifests : goal.returns-in_default-clause-manifests
+returns-in_default-clause-manifests g c = λ tells.
+    let old = (g.D.Disk.medium c.args.disk.now).image in
+    sym (bad_keeps old c.args.app (none_says c.held_is_lawful.ensures.among old c.args.app
+    (no_first (texts_at old c.args.app) c.in_ok-standing.field-0 c.in_default.is
+    (c.in_ok-standing.ensures.among tells))))
+
+pub returns-clause-manifests : goal.returns-clause-manifests
+returns-clause-manifests g c = λ tells.
+    let old = g.D.Disk.medium c.args.disk.now in
+    let first = is_first (texts_at old.image c.args.app) c.in_ok-standing.field-0 c.in-Some.standing c.in-Some.is
+    (c.in_ok-standing.ensures.among tells) in
+    c.in_ok-root.ensures.texts
+    ∙ sym (found_keeps c.held_is_lawful.ensures.among old.image c.args.app c.in-Some.standing first)

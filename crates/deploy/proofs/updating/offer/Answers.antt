@@ -1,6 +1,6 @@
 use denote.Ref.{Bor}
-use Rattle.std.proofs.Common.{Option, sym, ap, ◌∙◌, subst, arith}
-use Rattle.std.specs.Prelude.{Result, Err, option_map}
+use Rattle.std.proofs.Common.{◌≡◌, Option, sym, ap, ◌∙◌, subst, arith}
+use Rattle.std.specs.Prelude.{Result, Err, IfOk, option_map}
 use Rattle.per_base.specs.declared.errors.PerError.{PerError}
 use Rattle.per_base.specs.declared.names.Name.{Name}
 use Rattle.deploy_rows.specs.Rows.{deployment_of}
@@ -37,7 +37,9 @@ returns-in-Ok-2-clause-offered c =
     (none_of c.args.root.now.previous c.in_default.not-Some)
     (ap (λ (o : Option (Bor Name)). option_map (λ (n : Bor Name). n.now) o)
     (none_of c.args.busy c.in_default-busy.not-Some))
-    c.in-Ok.version (subst (λ (r : Result VersionText PerError). TellsRow (deployment_of c.args.manifest.now) r)
+    c.in-Ok.version (subst (λ (r : Result VersionText PerError). IfOk r (λ v. v.text ≡ c.args.manifest.now)) c.in-Ok.is
+    c.in_ok-version.ensures.text)
+    (subst (λ (r : Result VersionText PerError). TellsRow (deployment_of c.args.manifest.now) r)
     c.in-Ok.is
     c.in_ok-version.ensures.told) (omega arith)
 

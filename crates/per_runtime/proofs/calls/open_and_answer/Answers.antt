@@ -41,7 +41,7 @@ returns-in_err-open_root g c =
           (answers_of c.args.migrations.now) c.args.now (asked_call c.args.asked.now) a c.open_root.new.self old mid
           c.requires.marked said.app closed mid;
       within = λ tells. opened_alone g.D.Disk.told (rules_of c.args.migrations.now) (answers_of c.args.migrations.now)
-          c.args.now (asked_call c.args.asked.now) a old mid c.requires.marked (said.slots tells) said.written;
+          c.args.now (asked_call c.args.asked.now) a old mid c.requires.marked (said.slots tells) (said.once tells);
       time = said.time;
     })
 
@@ -81,6 +81,6 @@ returns g c =
           c.requires.marked said.app closed new;
       within = within_behind c.applications_stand.ensures.mend told rules answers c.args.now (asked_call c.args.asked.now)
           a b old mid
-          c.requires.marked said.app closed said.opened said.slots said.written said.root new then.within;
+          c.requires.marked said.app closed said.opened said.slots said.root new then.within;
       time = elapses_on said.time then.time;
     }

@@ -3,7 +3,7 @@ use Rattle.std.proofs.lemmas.Result.{err_from_is_err_and}
 use Rattle.disk_model.specs.Laws.{elapses_on, rose_before}
 use Rattle.deploy.specs.declared.errors.Stop.{Stop}
 use Rattle.run_model.specs.Starting.{opened_keeps}
-use Rattle.per_runtime.proofs.Begins.{all_begun, none_opened, one_opened, root_at, stopped_by, stops_at}
+use Rattle.per_runtime.proofs.Begins.{all_begun, none_opened, once_at, one_opened, root_at, stopped_by, stops_at}
 use Rattle.per_runtime.proofs.Begins.{slots_at, some_written, unsynced_keeps, unsynced_written, way_at}
 use Rattle.per_runtime.proofs.Places.{on_err, on_ok}
 use Rattle.per_runtime.proofs.starting.open_all.Goals as goal
@@ -56,7 +56,7 @@ returns-in_err-open_root g c =
           (way_at c.in_ok-running.running.app c.loop-app.app now new c.in_ok-running.ensures.app
           (said.on_the_way tells))
           (slots_at c.in_ok-running.running.app c.loop-app.app now new c.in_ok-running.ensures.app (said.slots tells))
-          said.written;
+          (once_at c.in_ok-running.running.app c.loop-app.app now new c.in_ok-running.ensures.app (said.once tells));
       written = some_written _ _ _ c.loop-app.app lt it.written said.written;
       time = elapses_on it.time said.time;
     })
@@ -77,7 +77,7 @@ returns-in_err-push g c =
           (way_at c.in_ok-running.running.app c.loop-app.app now new c.in_ok-running.ensures.app
           (said.on_the_way tells))
           (slots_at c.in_ok-running.running.app c.loop-app.app now new c.in_ok-running.ensures.app (said.slots tells))
-          said.written;
+          (once_at c.in_ok-running.running.app c.loop-app.app now new c.in_ok-running.ensures.app (said.once tells));
       written = some_written _ _ _ c.loop-app.app lt it.written said.written;
       time = elapses_on it.time said.time;
     })

@@ -8,4 +8,5 @@ returns c = record {
   others_case = c.others_stand.ensures.cases;
   clean = c.roots_stay.ensures.clean;
   mend = c.roots_stay.ensures.mended;
+  manifests = c.manifests_stay.ensures.frame;
 }

@@ -84,7 +84,8 @@ returns-in_err-root g c = λ now.
     e taken c.in-Some.ensures.left (λ is. c.commit_update.ensures.cause
     (c.in_err-root.was ∙ ap (λ (x : Stop). Err x) is)) calls c.commit_update.ensures.time
     (commit_written told rules answers now s t old new (c.commit_update.new.disk ≡ c.args.disk.now) at.0
-    c.requires.memory.below at.1 c.roots_in_use.ensures.app c.said_is_kept.ensures.short
+    c.requires.memory.below at.1 c.roots_in_use.ensures.app
+    (λ tells. c.roots_in_use.ensures.manifests old.image s.app (staged_root t) at.0.memory.root (at.0.root_on tells))
     c.commit_update.ensures.written
     (subst (λ n. Leaves told (IsBesideMade n (drop (staged_progress t).built (shapes_in n (offered_in t)))) old new)
     of_app c.commit_update.ensures.places))))
@@ -130,7 +131,8 @@ returns g c = λ now.
     (λ tells. subst (λ n. IsCleanApp n old.image → IsCleanApp n new.image) of_app (c.in_ok-root.ensures.clean tells))
     (λ quiet. c.in_ok-root.ensures.quiet) c.in_ok-root.ensures.passes c.commit_update.ensures.time
     (commit_written told rules answers now s t old new (c.commit_update.new.disk ≡ c.args.disk.now) at.0
-    c.requires.memory.below at.1 c.roots_in_use.ensures.app c.said_is_kept.ensures.short
+    c.requires.memory.below at.1 c.roots_in_use.ensures.app
+    (λ tells. c.roots_in_use.ensures.manifests old.image s.app (staged_root t) at.0.memory.root (at.0.root_on tells))
     c.commit_update.ensures.written
     (subst (λ n. Leaves told (IsBesideMade n (drop (staged_progress t).built (shapes_in n (offered_in t)))) old new)
     of_app c.commit_update.ensures.places)))))

@@ -1,7 +1,6 @@
-use Rattle.std.proofs.Common.{◌≡◌, ap, take}
+use Rattle.std.proofs.Common.{◌≡◌, ap}
 use Rattle.std.specs.Prelude.{⊤}
 use Rattle.deploy.specs.Clauses.{IsNoRootSlot}
-use Rattle.deploy.specs.Roots.{root_texts}
 use Rattle.deploy_laws.specs.Apps.{IsCleanApp}
 use Rattle.deploy_rows.specs.Rows.{after, finishing}
 use Rattle.deploy_laws.specs.Apps.{app_at}
@@ -11,7 +10,7 @@ use Rattle.per_runtime.specs.storages.Slots.{resting_with}
 use Rattle.per_runtime.proofs.application_lemmas.Ended.{on_clean, resting_in, word_promises}
 use Rattle.per_runtime.proofs.application_lemmas.Frames.{calls_to, no_root}
 use Rattle.per_runtime.proofs.application_lemmas.Kept.{finish_kept}
-use Rattle.per_runtime.proofs.application_lemmas.Within.{finish_most, finish_within}
+use Rattle.per_runtime.proofs.application_lemmas.Within.{finish_within}
 use Rattle.per_runtime.proofs.application_lemmas.Words.{finish_word}
 use Rattle.per_runtime.proofs.application.running.Running.finish.Goals as goal
 
@@ -39,8 +38,9 @@ returns g c = λ now.
     (finish_word told (rules_of c.args.migrations.now) (answers_of c.args.migrations.now) s.app now old.image s.slots
     c.rows_read_the_root.ensures.finish c.rows_lead_on.ensures.finish)
     (λ tells. finish_within told (rules_of c.args.migrations.now) (answers_of c.args.migrations.now) s.app now
-    (resting_with old.image s.app s.slots) old new tells (take 1 (root_texts root))
-    (finish_most c.said_is_kept.ensures.short s.app root resting.root_at.memory) c.finish-made.ensures.written outside)
+    (resting_with old.image s.app s.slots) old new tells root
+    (c.roots_in_use.ensures.manifests old.image s.app root resting.root_at.memory (resting.root_at.disk tells))
+    outside c.finish-made.ensures.written)
     made
     (record {
       root_at = c.finish-made.ensures.root s.app resting.below resting.root_at;

@@ -1,3 +1,4 @@
+use Rattle.std.proofs.Common.{◌∙◌}
 use Rattle.deploy.specs.Clauses.{IsNoRootSlot}
 use Rattle.per_runtime.proofs.application_lemmas.Frames.{aside_at_the_end, aside_throughout, calls_to, no_root}
 use Rattle.per_runtime.proofs.application.running.Running.open_root.Goals as goal
@@ -32,7 +33,10 @@ returns-clause-root g c = λ tells. record {
       (g.D.Disk.medium c.args.disk.now) (g.D.Disk.medium c.open_root.new.disk) tells
       (λ f is. no_root c.args.self.now.app f c.requires.memory.below is) c.open_root.ensures.outside;
   slots = c.open_root.ensures.outside.at_the_end tells;
-  written = c.open_root.ensures.at_most;
+  manifests = c.roots_in_use.ensures.manifests (g.D.Disk.medium c.open_root.new.disk).image c.args.self.now.app
+      c.in_ok-root.root c.in_ok-root.ensures.root.memory (c.in_ok-root.ensures.root.disk tells)
+      ∙ c.in_ok-root.ensures.manifests tells;
+  written = c.open_root.ensures.once tells;
   clean = λ clean. c.in_ok-root.ensures.clean tells clean;
   quiet = c.in_ok-root.ensures.quiet;
   time = c.open_root.ensures.time;
@@ -49,3 +53,9 @@ returns-in_err-root-clause-written g c = c.open_root.ensures.at_most
 
 pub returns-clause-written : goal.returns-clause-written
 returns-clause-written g c = c.open_root.ensures.at_most
+
+pub returns-in_err-root-clause-once : goal.returns-in_err-root-clause-once
+returns-in_err-root-clause-once g c = c.open_root.ensures.once
+
+pub returns-clause-once : goal.returns-clause-once
+returns-clause-once g c = c.open_root.ensures.once

@@ -1,9 +1,9 @@
-use Rattle.std.proofs.Common.{◌≡◌, ◌⊎◌, ◌∙◌, None, ap, drop, refl, sym}
+use Rattle.std.proofs.Common.{◌≡◌, ◌⊎◌, ◌∙◌, None, ap, refl, sym}
 use Rattle.std.specs.Prelude.{option_map}
 use Rattle.deploy.specs.Clauses.{IsNoRootSlot}
 use Rattle.deploy.specs.Refusals.{AllocatesNothing}
 use Rattle.per_base.specs.declared.errors.PerError.{PerError}
-use Rattle.deploy.specs.Roots.{root_says, root_texts}
+use Rattle.deploy.specs.Roots.{root_says}
 use Rattle.deploy_laws.specs.Apps.{IsCleanApp, app_at}
 use Rattle.deploy_rows.specs.Rows.{after, rolling_back}
 use Rattle.command_text.specs.declared.calls.Call.TheVariants as call
@@ -18,7 +18,7 @@ use Rattle.per_runtime.proofs.application_lemmas.Ended.{starved_promises}
 use Rattle.per_runtime.proofs.application_lemmas.Ended.{word_promises}
 use Rattle.per_runtime.proofs.application_lemmas.Frames.{calls_to, no_root}
 use Rattle.per_runtime.proofs.application_lemmas.Kept.{rollback_kept}
-use Rattle.per_runtime.proofs.application_lemmas.Within.{rollback_most, rollback_within}
+use Rattle.per_runtime.proofs.application_lemmas.Within.{rollback_within}
 use Rattle.per_runtime.proofs.application_lemmas.Words.{rollback_word}
 use Rattle.per_runtime.proofs.application.running.Running.rollback.Goals as goal
 
@@ -84,9 +84,9 @@ returns g c = λ now.
     busy (busy_least told old.image s.app root s.slots c.roots_in_use.ensures.app resting busy busy_is)
     (c.rows_read_the_root.ensures.rollback busy) c.rows_lead_on.ensures.rollback)
     (λ tells. rollback_within told (rules_of c.args.migrations.now) (answers_of c.args.migrations.now) s.app now
-    (resting_with old.image s.app s.slots) old new tells (drop 1 (root_texts root))
-    (rollback_most c.said_is_kept.ensures.short s.app root resting.root_at.memory) c.rollback-made.ensures.written
-    (c.rollback-made.ensures.outside s.app resting.below resting.root_at))
+    (resting_with old.image s.app s.slots) old new tells root
+    (c.roots_in_use.ensures.manifests old.image s.app root resting.root_at.memory (resting.root_at.disk tells))
+    (c.rollback-made.ensures.outside s.app resting.below resting.root_at) c.rollback-made.ensures.written)
     made
     (record {
       root_at = c.rollback-made.ensures.root s.app resting.below resting.root_at;

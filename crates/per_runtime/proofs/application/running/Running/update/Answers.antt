@@ -79,7 +79,9 @@ returns g c =
     (stage_back s root c.requires.rests c.take_root-root.ensures.root)
     (updated_promises told rules answers c.args.now text s root old new (c.update-made.new.disk ≡ c.args.disk.now)
     resting c.roots_in_use.ensures.app c.rows_read_the_root.ensures.offer busy busy_is
-    c.rows_lead_on.ensures.update c.said_is_kept.ensures.short
+    c.rows_lead_on.ensures.update
+    (λ tells. c.roots_in_use.ensures.manifests old.image s.app root resting.root_at.memory
+    (resting.root_at.disk tells))
     (goes_over s root c.no_update_over.result c.take_root-root.ensures.root c.no_update_over.ensures
     c.in_default.not-Some)
     made

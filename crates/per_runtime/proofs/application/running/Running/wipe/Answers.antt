@@ -17,6 +17,7 @@ use Rattle.per_runtime.proofs.application_lemmas.Ended.{starved_promises, word_p
 use Rattle.per_runtime.proofs.application_lemmas.Frames.{calls_to, no_root}
 use Rattle.per_runtime.proofs.application_lemmas.Kept.{wipe_kept}
 use Rattle.per_runtime.proofs.application_lemmas.Rowed.{Made}
+use Rattle.per_runtime.proofs.application_lemmas.Steps.{says_in_use}
 use Rattle.per_runtime.proofs.application_lemmas.Within.{wipe_within}
 use Rattle.per_runtime.proofs.application_lemmas.Words.{wipe_word}
 use Rattle.per_runtime.proofs.application.running.Running.wipe.Goals as goal
@@ -76,7 +77,9 @@ returns g c = λ now.
     (resting_with old.image s.app s.slots) call.Wipe (bytes_now old) (bytes_now new))
     (ap (λ (x : Running). x.app) c.take_root-root.ensures.left)
     (wipe_within told (rules_of c.args.migrations.now) (answers_of c.args.migrations.now) taken.app now
-    (resting_with old.image s.app s.slots) old new tells c.wipe-made.ensures.at_most c.wipe-made.ensures.outside))
+    (resting_with old.image s.app s.slots) old new tells root
+    (says_in_use c.roots_in_use.ensures.app told old.image s.app root resting.root_at tells)
+    c.wipe-made.ensures.written c.wipe-made.ensures.at_most c.wipe-made.ensures.outside))
     made
     (subst (λ n. Made told row Due n root (c.wipe-made.new.disk ≡ c.args.disk.now) old new made)
     (ap (λ (x : Running). x.app) c.take_root-root.ensures.left) (record {

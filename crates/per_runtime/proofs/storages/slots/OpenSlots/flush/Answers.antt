@@ -70,7 +70,7 @@ returns-in-Ok-flush g c = λ now.
     (λ tells. c.in-Ok.ensures.found m.image (c.requires.root_at.disk tells)) c.args.handle)
     (λ tells. ap (λ x. Some x) (c.in-Ok.ensures.named m.image (c.requires.root_at.disk tells)))
     (λ tells x row. flush_reaches app now (resting_with m.image app was) name c.args.handle x refl row) refl
-    (flush_early storage c.args.handle)
+    (λ x. refl) (flush_early storage c.args.handle)
     new (c.flush.new.disk ≡ c.args.disk.now) (λ same. ap g.D.Disk.medium same) c.flush.result
     (record {
       done = c.flush.ensures.done;
@@ -103,7 +103,7 @@ returns-in-Err-flush g c = λ now.
     (λ tells. c.in-Ok.ensures.found m.image (c.requires.root_at.disk tells)) c.args.handle)
     (λ tells. ap (λ x. Some x) (c.in-Ok.ensures.named m.image (c.requires.root_at.disk tells)))
     (λ tells x row. flush_reaches app now (resting_with m.image app was) name c.args.handle x refl row) refl
-    (flush_early storage c.args.handle)
+    (λ x. refl) (flush_early storage c.args.handle)
     new (c.flush.new.disk ≡ c.args.disk.now) (λ same. ap g.D.Disk.medium same) c.flush.result
     (record {
       done = c.flush.ensures.done;

@@ -20,7 +20,8 @@ use Rattle.per_runtime.specs.storages.Slots.{resting_with}
 use Rattle.per_runtime.proofs.storage_lemmas.Ended.{early_handled, starved_handled}
 use Rattle.per_runtime.proofs.storage_lemmas.Needs.{row_needs}
 use Rattle.per_runtime.proofs.storage_lemmas.OpenRows.{open_busy, open_not_found, open_reaches, open_row}
-use Rattle.per_runtime.proofs.storage_lemmas.OpenEnds.{is_early_busy, open_corrupt, open_failed, open_opened, session_there}
+use Rattle.per_runtime.proofs.storage_lemmas.OpenEnds.{is_early_busy, open_corrupt, open_failed, open_opened}
+use Rattle.per_runtime.proofs.storage_lemmas.OpenEnds.{opened_costs, session_there}
 use Rattle.per_runtime.proofs.storages.slots.OpenSlots.open.Goals as goal
 
 -- ---- the disk is not called
@@ -95,6 +96,8 @@ returns-in-Ok-Opened g c = λ now.
     let given = c.in-Ok-Opened.field-0-is in let o = c.in-Ok-Opened.storage in
     open_opened c.storages_stand.ensures told app now root kind name was m l c.in-Ok.ensures.located c.requires
     c.in-Ok.ensures.found c.in-Ok.ensures.named closed new (c.open_storage.new.disk ≡ c.args.disk.now) storing
+    (λ tells. opened_costs m new l c.in-Ok-shape.shape placed_so c.in-Ok-shape.ensures.configured.copies
+    (c.open_storage.ensures.written tells))
     o c.in-Ok-Opened.reports c.put.new.self
     (subst (λ (sh : Shape). IsWhereConfigured sh (config_of l) o) placed_so
     (subst (λ (x : Opening). OnOpened x (IsWhereConfigured c.in-Ok-shape.shape (config_of l))) given
@@ -124,6 +127,8 @@ returns-in-Ok-is_corrupt g c = λ now.
     let given = c.in-Ok-Corrupt.field-0-is in let report = c.in-Ok-Corrupt.report in
     open_corrupt c.storages_stand.ensures told app now root kind name was m l c.in-Ok.ensures.located c.requires
     c.in-Ok.ensures.found c.in-Ok.ensures.named closed new (c.open_storage.new.disk ≡ c.args.disk.now) storing
+    (λ tells. opened_costs m new l c.in-Ok-shape.shape placed_so c.in-Ok-shape.ensures.configured.copies
+    (c.open_storage.ensures.written tells))
     report (subst (λ (x : Opening). OnCorrupt x ((new.image ≡ m.image) × (new.written ≡ m.written))) given
     c.in-Ok-Corrupt.ensures.untouched)
     c.in-Ok-Corrupt.ensures.quiet c.in-Ok-Corrupt.ensures.passes
@@ -146,6 +151,8 @@ returns-in-Err-is_corrupt g c = λ now.
     let closed = sym c.is_open.ensures ∙ c.if-is_open.false in
     open_failed c.storages_stand.ensures told app now root kind name was m l c.in-Ok.ensures.located c.requires
     c.in-Ok.ensures.found c.in-Ok.ensures.named closed new (c.open_storage.new.disk ≡ c.args.disk.now) storing
+    (λ tells. opened_costs m new l c.in-Ok-shape.shape placed_so c.in-Ok-shape.ensures.configured.copies
+    (c.open_storage.ensures.written tells))
     _ (λ e. absurd cc)
 
 pub returns-in-Err-open_storage : goal.returns-in-Err-open_storage
@@ -161,5 +168,7 @@ returns-in-Err-open_storage g c = λ now.
     let closed = sym c.is_open.ensures ∙ c.if-is_open.false in
     open_failed c.storages_stand.ensures told app now root kind name was m l c.in-Ok.ensures.located c.requires
     c.in-Ok.ensures.found c.in-Ok.ensures.named closed new (c.open_storage.new.disk ≡ c.args.disk.now) storing
+    (λ tells. opened_costs m new l c.in-Ok-shape.shape placed_so c.in-Ok-shape.ensures.configured.copies
+    (c.open_storage.ensures.written tells))
     c.in-Err-open_storage.stop (λ e. c.open_storage.ensures.cause
     (c.in-Err-open_storage.is ∙ ap (λ (s : Stop). Err s) e))

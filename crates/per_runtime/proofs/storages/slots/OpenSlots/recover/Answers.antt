@@ -1,10 +1,12 @@
-use Rattle.std.proofs.Common.{◌≡◌, Result, Some, refl, ap, ◌∙◌, subst, inl, inr}
+use Rattle.std.proofs.Common.{◌≡◌, ◌≤◌, ◌+◌, Result, Some, refl, ap, ◌∙◌, subst, inl, inr}
 use Rattle.std.specs.Prelude.{IfErr, IfOk}
 use Rattle.per_base.specs.declared.errors.PerError.{PerError}
 use Rattle.element_state.specs.declared.shapes.Shape.{Shape}
+use Rattle.element_state.specs.States.{salvage_of, store_at}
+use Rattle.element_store.specs.Rebuilds.{rebuilding_cost}
 use Rattle.command_text.specs.declared.calls.Call.TheVariants as call
 use Rattle.run_model.specs.Calls.{app_step}
-use Rattle.deploy_rows.specs.Recovering.{recovering}
+use Rattle.deploy_rows.specs.Recovering.{recovered_contents, recovering}
 use Rattle.per_runtime.specs.storages.Finding.{config_of}
 use Rattle.per_runtime.specs.storages.Rebuilding.{IsClosed, IsNoneClosed}
 use Rattle.per_runtime.specs.storages.Slots.{resting_with}
@@ -122,6 +124,9 @@ returns-in-Ok-recover_storage g c =
     (recovered_reaches told app now root was m l name (λ tells. closed.named m.image (c.requires.root_at.disk tells))
     closed.free) refl refl (recovering_early (config_of l) now)
     new (c.recover_storage.new.disk ≡ c.args.disk.now) c.recover_storage.result rebuilds
+    (λ tells. subst (λ (sh : Shape). new.written ≤ m.written + rebuilding_cost (config_of l).n
+    (recovered_contents (config_of l) now (salvage_of (store_at m.image sh)))) c.in-Ok.ensures.shape
+    (made.written tells))
     c.in-Ok-recover_storage.refused c.in-Ok-recover_storage.is c.done_or.result c.done_or.ensures
 
 pub returns : goal.returns
@@ -157,4 +162,7 @@ returns g c =
     (recovered_reaches told app now root was m l name (λ tells. closed.named m.image (c.requires.root_at.disk tells))
     closed.free) refl refl (recovering_early (config_of l) now)
     new (c.recover_storage.new.disk ≡ c.args.disk.now) c.recover_storage.result rebuilds
+    (λ tells. subst (λ (sh : Shape). new.written ≤ m.written + rebuilding_cost (config_of l).n
+    (recovered_contents (config_of l) now (salvage_of (store_at m.image sh)))) c.in-Ok.ensures.shape
+    (made.written tells))
     c.in-Err-recover_storage.stop c.in-Err-recover_storage.is

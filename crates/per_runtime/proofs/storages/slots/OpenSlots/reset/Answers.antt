@@ -122,6 +122,7 @@ returns-in-Ok-reset_storage g c =
     (was_reset_reaches told app now root was m l name (λ tells. closed.named m.image (c.requires.root_at.disk tells))
     closed.free) refl refl (resetting_early (config_of l) now)
     new (c.reset_storage.new.disk ≡ c.args.disk.now) c.reset_storage.result rebuilds
+    (λ tells. made.written)
     c.in-Ok-reset_storage.refused c.in-Ok-reset_storage.is c.done_or.result c.done_or.ensures
 
 pub returns : goal.returns
@@ -157,4 +158,5 @@ returns g c =
     (was_reset_reaches told app now root was m l name (λ tells. closed.named m.image (c.requires.root_at.disk tells))
     closed.free) refl refl (resetting_early (config_of l) now)
     new (c.reset_storage.new.disk ≡ c.args.disk.now) c.reset_storage.result rebuilds
+    (λ tells. made.written)
     c.in-Err-reset_storage.stop c.in-Err-reset_storage.is

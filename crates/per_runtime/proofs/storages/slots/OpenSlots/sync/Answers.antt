@@ -75,7 +75,8 @@ returns-in-Ok-sync g c = λ now.
     (λ tells. c.in-Ok.ensures.named m.image (c.requires.root_at.disk tells))
     (λ tells. c.in-Ok.ensures.found m.image (c.requires.root_at.disk tells)))
     (λ tells. ap (λ x. Some x) (c.in-Ok.ensures.named m.image (c.requires.root_at.disk tells)))
-    (λ tells x row. sync_reaches app now (resting_with m.image app was) name x refl row) refl (sync_early storage)
+    (λ tells x row. sync_reaches app now (resting_with m.image app was) name x refl row) refl (λ x. refl)
+    (sync_early storage)
     new (c.sync.new.disk ≡ c.args.disk.now) (λ same. ap g.D.Disk.medium same) c.sync.result
     (record {
       done = c.sync.ensures.done;
@@ -107,7 +108,8 @@ returns-in-Err-sync g c = λ now.
     (λ tells. c.in-Ok.ensures.named m.image (c.requires.root_at.disk tells))
     (λ tells. c.in-Ok.ensures.found m.image (c.requires.root_at.disk tells)))
     (λ tells. ap (λ x. Some x) (c.in-Ok.ensures.named m.image (c.requires.root_at.disk tells)))
-    (λ tells x row. sync_reaches app now (resting_with m.image app was) name x refl row) refl (sync_early storage)
+    (λ tells x row. sync_reaches app now (resting_with m.image app was) name x refl row) refl (λ x. refl)
+    (sync_early storage)
     new (c.sync.new.disk ≡ c.args.disk.now) (λ same. ap g.D.Disk.medium same) c.sync.result
     (record {
       done = c.sync.ensures.done;
