@@ -1,7 +1,7 @@
 -- What is read of a content.
 use Rattle.std.proofs.Common.{◌≡◌, ◌<◌, ◌&&◌, ◌∙◌, ℕ, List, length, Bool, true, false, cond, not, refl, sym, subst}
 use Rattle.std.proofs.Common.{arith}
-use Rattle.std.specs.Prelude.{Some, None, Result, Ok, Err, nat_le}
+use Rattle.std.specs.Prelude.{Some, None, Result, Ok, Err, IfErr, IsErr, IsErrAnd, nat_le}
 use Rattle.std.proofs.lemmas.Bool.Decides.{nat_tests}
 use Rattle.per_base.specs.declared.elements.Content.{Content}
 use Rattle.per_base.specs.declared.elements.Content.TheVariants.{Good, Bad}
@@ -20,7 +20,7 @@ use Rattle.deployment_model.specs.Data.{StorageData}
 use Rattle.deployment_model.specs.Lookups.{initial_content}
 use Rattle.key_maps.specs.KeyElements.{key_of}
 use Rattle.key_maps.specs.Shown.{good_bytes}
-use Rattle.kvs_core.specs.Calls.{as_kind, get_any, get_as, read_key, reset_key, stored_kind, takes_any, with_placed}
+use Rattle.kvs_core.specs.Calls.{as_kind, get_any, get_as, read_key, reset_key, stored_kind, with_placed}
 use Rattle.kvs_core.specs.Calls.{unless_differ, unless_refused, unless_typed, with_place, with_room}
 
 pub read_stored : (c : StorageData) (name : List ℕ) (content : Content) (bytes : List ℕ) (value : Tree)
@@ -33,10 +33,24 @@ pub read_bad : (c : StorageData) (name : List ℕ) (content : Content) → None 
 read_bad c name (Good there) is = absurd (cc)
 read_bad c name (Bad salvage) is = refl
 
-pub kind_stored : (content : Content) (bytes : List ℕ) (value : Tree) → Some bytes ≡ good_bytes content
+kind_stored : (content : Content) (bytes : List ℕ) (value : Tree) → Some bytes ≡ good_bytes content
     → decoded bytes ≡ Some value → stored_kind content ≡ Some (type_of value)
 kind_stored (Good there) bytes value is reads = let same : there ≡ bytes = cc in rw (same, reads) refl
 kind_stored (Bad salvage) bytes value is reads = absurd (cc)
+
+module _ (content : Content) (bytes : List ℕ) (stored : Tree) (asked : Kind) (is : Some bytes ≡ good_bytes content)
+    (reads : decoded bytes ≡ Some stored) (rest : Result Map PerError) where
+  pub same_typed : (same : Bool) → same ≡ same_kind (type_of stored) asked → same ≡ true
+      → unless_typed (stored_kind content) asked rest ≡ rest
+  same_typed same tests holds =
+      let here : same_kind (type_of stored) asked ≡ true = sym tests ∙ holds in
+      rw (kind_stored content bytes stored is reads, here) refl
+
+  pub other_typed : (same : Bool) → same ≡ same_kind (type_of stored) asked → same ≡ false
+      → unless_typed (stored_kind content) asked rest ≡ Err (mismatch (type_of stored) asked)
+  other_typed same tests fails =
+      let here : same_kind (type_of stored) asked ≡ false = sym tests ∙ fails in
+      rw (kind_stored content bytes stored is reads, here) refl
 
 pub kind_bad : (content : Content) → None ≡ good_bytes content → stored_kind content ≡ None
 kind_bad (Good there) is = absurd (cc)
@@ -56,12 +70,6 @@ needs_same {A = A} stored asked answer = by (same_kind stored asked)
 pub needs_value : (c : StorageData) (m : Map) (name : List ℕ) (asked : Kind) (value : Tree)
     → get_any c m name ≡ Ok value → NeedsMemory (get_as c m name asked)
 needs_value c m name asked value is = rw is (needs_same (type_of value) asked value)
-
-pub needs_kind : (content : Content) (bytes : List ℕ) (value : Tree) (asked : Kind) (m : Map)
-    → Some bytes ≡ good_bytes content → decoded bytes ≡ Some value
-    → NeedsMemory (unless_typed (stored_kind content) asked (Ok m))
-needs_kind content bytes value asked m is reads = rw (kind_stored content bytes value is reads)
-    (needs_same (type_of value) asked m)
 
 -- what is refused whatever its type stays refused
 pub text_kept : (asked : Kind) (due : Result Tree PerError) → IsTextRefusal due → IsTextRefusal (as_kind asked due)
@@ -92,15 +100,6 @@ placed_there c m name bytes stored full is empty same =
     let here : (not (has m name) && nat_le 1024 (length m)) ≡ false = sym is ∙ empty in
     rw (← same, here) refl
 
-pub passes_place : (c : StorageData) (m : Map) (name : List ℕ) (asked : Kind) (full : Bool)
-    → full ≡ (not (has m name) && nat_le 1024 (length m)) → full ≡ false
-    → ((rest : Result Map PerError) → unless_refused c m name asked rest ≡ rest)
-    → (rest : Result Map PerError) → unless_refused c m name asked (with_place m name rest) ≡ rest
-passes_place c m name asked full is empty passes rest =
-    let here : (not (has m name) && nat_le 1024 (length m)) ≡ false = sym is ∙ empty in
-    let place : with_place m name rest ≡ rest = rw here refl in
-    passes (with_place m name rest) ∙ place
-
 pub lacks_place : (c : StorageData) (m : Map) (name : List ℕ) (asked : Kind) (full : Bool)
     → full ≡ (not (has m name) && nat_le 1024 (length m)) → full ≡ true
     → ((rest : Result Map PerError) → unless_refused c m name asked rest ≡ rest)
@@ -111,10 +110,14 @@ lacks_place c m name asked full is filled passes rest =
     let place : with_place m name rest ≡ Err (LimitReached limit.Elements) = rw here refl in
     λ other. passes (with_place m name rest) ∙ place
 
-pub takes_place : (c : StorageData) (m : Map) (name : List ℕ) (asked : Kind)
-    → ((rest : Result Map PerError) → unless_refused c m name asked (with_place m name rest) ≡ rest)
-    → NeedsMemory (takes_any c m name asked)
-takes_place c m name asked passes = subst (λ (due : Result Map PerError). NeedsMemory due) (sym (passes (Ok m))) tt
+-- an error that is handed on
+pub handed_refusal : {T A : Type 0} (result : Result T PerError) (due : Result A PerError) (error : PerError)
+    → IsErr result × IsErrAnd result (λ e. e ≡ error) → IsRefusal due error → IfErr result (λ e. IsRefusal due e)
+handed_refusal (Ok x) due error is refusal = tt
+handed_refusal (Err e) due error is refusal = subst (λ (x : PerError). IsRefusal due x) (sym is.1) refusal
+
+pub needs_done : {A : Type 0} (due : Result A PerError) (answer : A) → due ≡ Ok answer → NeedsMemory due
+needs_done {A} due answer is = subst (λ (r : Result A PerError). NeedsMemory r) (sym is) tt
 
 -- what a reset needs memory for, where there is an initial value and a place for it
 pub reset_there : (c : StorageData) (m : Map) (name bytes : List ℕ) (full : Bool) → c.read_only ≡ false

@@ -1,4 +1,5 @@
 pub mod Contents
+mod Members
 pub mod Recoveries
 pub mod SameKinds
 mod Sizes

@@ -1,6 +1,6 @@
 -- What a recovery makes of a content, and that a salvage always fits.
-use Rattle.std.proofs.Common.{◌≡◌, ℕ, ◌≤◌, List, length, true, false, refl, sym, ap, subst, ◌∙◌, arith}
-use Rattle.std.specs.Prelude.{Option, Some, None, Result, Ok, Err, IfErr, nat_lt}
+use Rattle.std.proofs.Common.{◌≡◌, ℕ, ◌≤◌, List, length, true, false, refl, sym, ap, subst, ◌∙◌, arith, inr}
+use Rattle.std.specs.Prelude.{◌⊎◌, Option, Some, None, Result, Ok, Err, IfErr, nat_lt}
 use Rattle.std.specs.List.Sorted.{IsStrictlySortedBy}
 use Rattle.per_base.specs.declared.elements.Content.{Content}
 use Rattle.per_base.specs.declared.elements.Content.TheVariants.{Good, Bad}
@@ -9,7 +9,8 @@ use Rattle.per_base.specs.Maps.{Map, element_at, names_of, size_of, with_element
 use Rattle.per_base.specs.Names.{name_cmp}
 use Rattle.std.proofs.lemmas.Bool.Decides.{nat_tests}
 use Rattle.per_base.specs.declared.errors.PerError.{PerError}
-use Rattle.per_base.specs.Refusals.{IsRefusal}
+use Rattle.per_base.specs.declared.errors.PerError.TheVariants.{OutOfMemory}
+use Rattle.per_base.specs.Refusals.{IsRefusal, NeedsMemory}
 use Rattle.per_base.specs.Contents.{is_readable}
 use Rattle.value_model.specs.Encoding.{encoding}
 use Rattle.value_model.specs.Kinds.{kind_depth}
@@ -72,6 +73,13 @@ pub refused_same : {T A : Type 0} (r : Result T PerError) (due other : Result A 
     → IfErr r (λ error. IsRefusal other error) → IfErr r (λ error. IsRefusal due error)
 refused_same (Ok x) due other same h = tt
 refused_same (Err error) due other same h = λ never. same ∙ h never
+
+pub needs_alike : {T A : Type 0} (P : Type 0) (r : Result T PerError) (due other : Result A PerError) → due ≡ other
+    → IfErr r (λ error. error ≡ OutOfMemory → NeedsMemory other)
+    → IfErr r (λ error. error ≡ OutOfMemory → P ⊎ NeedsMemory due)
+needs_alike P (Ok x) due other same h = tt
+needs_alike {A = A} P (Err error) due other same h = λ out. inr (subst (λ (row : Result A PerError). NeedsMemory row)
+    (sym same) (h out))
 
 pub value_kept : (c : StorageData) (m : Map) (name : List ℕ) (tree value : Tree) → value ≡ tree → IsValue value
     → set_value c m name tree ≡ set_any c m name value

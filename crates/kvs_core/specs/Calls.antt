@@ -101,11 +101,6 @@ abbrev pub unless_refused : StorageData → Map → List ℕ → Kind → Result
 unless_refused c m name asked rest = refuse c.read_only IllegalWriteAccess
     (unless_typed (kind_for (element_named c name) (element_at m name)) asked rest)
 
--- what refuses a value of the asked type before it is encoded: all but the lack of room, for which its encoding must
--- be measured
-abbrev pub takes_any : StorageData → Map → List ℕ → Kind → Result Map PerError
-takes_any c m name asked = unless_refused c m name asked (with_place m name (Ok m))
-
 -- setting a key to a value; the key is created where the name is not visible
 abbrev pub set_any : StorageData → Map → List ℕ → Tree → Result Map PerError
 set_any c m name value = unless_refused c m name (type_of value) (with_placed c m name (encoding value))

@@ -17,6 +17,7 @@
 
 mod reading;
 mod restoring;
+mod same_types;
 mod session;
 mod syncing;
 mod typing;

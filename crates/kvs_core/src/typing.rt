@@ -12,6 +12,7 @@ ghost use Rattle.value_model.specs.Trees.{type_of};
 ghost use Rattle.value_model.specs.Views.{kind_of};
 ghost use Rattle.kvs_core.specs.Calls as calls;
 
+use crate::same_types::have_same_type;
 use crate::session::KeySession;
 use key_maps::KeyElement;
 use per_base::{Name, PerError, ValueText};
@@ -72,6 +73,18 @@ impl KeySession {
         }
     }
 
+    /// The refusal where the type of a value differs from that of the stored one.
+    #[tactic(auto, using(value_code::specs::lemmas::ValueLaws::typed_fits))]
+    fn values_differ(&self, stored: &Value, value: &Value) -> PerError
+        ensures { result ≢ PerError.OutOfMemory → result ≡ texts.mismatch (type_of stored.now) (type_of value.now) }
+    {
+        let _valid = stored.node();
+        match stored.value_type(self.alloc) {
+            Ok(stored) => self.differs_from(&stored, value),
+            Err(_) => PerError::OutOfMemory,
+        }
+    }
+
     /// Refuses a value whose type is not that of the key: the configured one, or that of its visible readable value.
     #[tactic(auto, using(crate::proofs::Contents::there))]
     fn check_type(&self, name: &Name, value: &Value) -> Result<(), PerError>
@@ -82,9 +95,9 @@ impl KeySession {
             → IsRefusal (calls.unless_typed (calls.kind_for (element_named self.now.config name.now)
             (element_at self.now.visible name.now)) (type_of value.now) rest) error) }
         ensures memory { IfErr result (λ error. error ≡ PerError.OutOfMemory
+            → (rest : Result Map PerError)
             → NeedsMemory (calls.unless_typed (calls.kind_for (element_named self.now.config name.now)
-            (element_at self.now.visible name.now)) (type_of value.now)
-            (calls.with_place self.now.visible name.now (Ok self.now.visible)))) }
+            (element_at self.now.visible name.now)) (type_of value.now) rest)) }
     {
         if let Some(element) = self.config.element(name) {
             return match &element.value_type {
@@ -105,8 +118,8 @@ impl KeySession {
         ensures refused { IfErr result (λ error. (rest : Result Map PerError)
             → IsRefusal (calls.unless_refused self.now.config self.now.visible name.now (type_of value.now) rest)
             error) }
-        ensures memory { IfErr result (λ error. error ≡ PerError.OutOfMemory
-            → NeedsMemory (calls.takes_any self.now.config self.now.visible name.now (type_of value.now))) }
+        ensures memory { IfErr result (λ error. error ≡ PerError.OutOfMemory → (rest : Result Map PerError)
+            → NeedsMemory (calls.unless_refused self.now.config self.now.visible name.now (type_of value.now) rest)) }
     {
         if self.config.read_only {
             return Err(PerError::IllegalWriteAccess);
@@ -131,22 +144,22 @@ impl KeySession {
     }
 
     /// That a value has the type of the value in a key, if that can be read, or the refusal.
-    #[tactic(auto, using(crate::proofs::Contents::kind_stored, crate::proofs::Contents::kind_bad, crate::proofs::Contents::needs_kind, value_code::specs::lemmas::ValueLaws::typed_fits))]
+    #[tactic(auto, using(crate::proofs::Contents::kind_bad))]
     fn check_stored(&self, key: &KeyElement, value: &Value) -> Result<(), PerError>
         ensures ok { OnOk result ((rest : Result Map PerError)
             → calls.unless_typed (calls.stored_kind key.now.content) (type_of value.now) rest ≡ rest) }
         ensures refused { IfErr result (λ error. (rest : Result Map PerError)
             → IsRefusal (calls.unless_typed (calls.stored_kind key.now.content) (type_of value.now) rest) error) }
-        ensures memory { IfErr result (λ error. error ≡ PerError.OutOfMemory → (m : Map)
-            → NeedsMemory (calls.unless_typed (calls.stored_kind key.now.content) (type_of value.now) (Ok m))) }
+        ensures memory { IfErr result (λ error. error ≡ PerError.OutOfMemory → (rest : Result Map PerError)
+            → NeedsMemory (calls.unless_typed (calls.stored_kind key.now.content) (type_of value.now) rest)) }
     {
         let Some(stored) = key.stored() else {
             return Ok(());
         };
-        let _valid = stored.value().node();
-        match stored.value().value_type(self.alloc) {
-            Ok(stored) => self.check_configured(&stored, value),
-            Err(_) => Err(PerError::OutOfMemory),
+        let stored = stored.value();
+        if have_same_type(stored, value) {
+            return Ok(());
         }
+        Err(self.values_differ(stored, value))
     }
 }

@@ -1,14 +1,13 @@
 //! Writing and removing keys.
 
 ghost use Rattle.std.specs.Prelude.{◌≡◌, ◌≢◌, ◌<◌, ◌≤◌, ◌⊎◌, ◌&&◌, nat_le, not, IfErr, IsTrue, None, Ok, OnErr, OnOk};
-ghost use Rattle.std.specs.Prelude.{Result, length};
+ghost use Rattle.std.specs.Prelude.{length};
 ghost use Rattle.per_base.specs.declared.elements.Element.{Element};
 ghost use Rattle.per_base.specs.declared.errors.PerError.{PerError};
-ghost use Rattle.per_base.specs.Maps.{Map, element_at, has, size_of, with_element};
+ghost use Rattle.per_base.specs.Maps.{element_at, has, size_of, with_element};
 ghost use Rattle.per_base.specs.Contents.{is_readable};
 ghost use Rattle.per_base.specs.Refusals.{IsRefusal, NeedsMemory};
 ghost use Rattle.value_model.specs.Encoding.{encoding};
-ghost use Rattle.value_model.specs.Trees.{type_of};
 ghost use Rattle.per_value.specs.Memory.{Allocates};
 ghost use Rattle.key_maps.specs.KeyElements.{key_of};
 ghost use Rattle.kvs_core.specs.Calls as calls;
@@ -29,15 +28,15 @@ impl KeySession {
     /// configured one, or for a key that is not configured from that of its visible readable value; `LimitReached` with
     /// `Elements` where the name is not visible and 1,024 are; `OutOfStorageSpace` where the visible size would exceed
     /// the maximum, with both numbers; `OutOfMemory`.
-    #[tactic(auto, using(crate::proofs::Contents::takes_place))]
+    #[tactic(auto, using(crate::proofs::Contents::needs_done))]
     pub fn set_any(&mut self, name: &Name, value: Value) -> Result<(), PerError>
         // The visible map is then what `set_any` makes of it, or the refusal that is due is given.
         ensures ok { OnOk result (calls.set_any self.old.config self.old.visible name.now value ≡ Ok self.new.visible) }
         ensures refused { IfErr result (λ error. IsRefusal
             (calls.set_any self.old.config self.old.visible name.now value) error) }
-        // Memory runs out where only a lack of room could still refuse it, or for the types in `DataTypeMismatch`.
+        // Memory runs out where nothing refuses it, or for the types in `DataTypeMismatch`.
         ensures memory { IfErr result (λ error. error ≡ PerError.OutOfMemory
-            → NeedsMemory (calls.takes_any self.old.config self.old.visible name.now (type_of value))) }
+            → NeedsMemory (calls.set_any self.old.config self.old.visible name.now value)) }
         ensures beside { self.new ≡ record self.old { visible = self.new.visible } }
         ensures unchanged { OnErr result (self.new ≡ self.old) }
     {
@@ -48,8 +47,8 @@ impl KeySession {
         self.write(name, value)
     }
 
-    /// Sets a key to a copy of a value, which is made once nothing but a lack of room can refuse it. The key is created
-    /// where the name is not visible.
+    /// Sets a key to a copy of a value, which is made once nothing can refuse it. The key is created where the name is
+    /// not visible.
     ///
     /// # Errors
     ///
@@ -57,16 +56,16 @@ impl KeySession {
     /// configured one, or for a key that is not configured from that of its visible readable value; `LimitReached` with
     /// `Elements` where the name is not visible and 1,024 are; `OutOfStorageSpace` where the visible size would exceed
     /// the maximum, with both numbers; `OutOfMemory`.
-    #[tactic(auto, using(crate::proofs::Contents::takes_place))]
+    #[tactic(auto, using(crate::proofs::Contents::needs_done))]
     pub fn set_copy(&mut self, name: &Name, value: &Value) -> Result<(), PerError>
         // The visible map is then what `set_any` makes of it, or the refusal that is due is given.
         ensures ok { OnOk result (calls.set_any self.old.config self.old.visible name.now value.now
             ≡ Ok self.new.visible) }
         ensures refused { IfErr result (λ error. IsRefusal
             (calls.set_any self.old.config self.old.visible name.now value.now) error) }
-        // Memory runs out where only a lack of room could still refuse it, or for the types in `DataTypeMismatch`.
+        // Memory runs out where nothing refuses it, or for the types in `DataTypeMismatch`.
         ensures memory { IfErr result (λ error. error ≡ PerError.OutOfMemory
-            → NeedsMemory (calls.takes_any self.old.config self.old.visible name.now (type_of value.now))) }
+            → NeedsMemory (calls.set_any self.old.config self.old.visible name.now value.now)) }
         ensures beside { self.new ≡ record self.old { visible = self.new.visible } }
         ensures unchanged { OnErr result (self.new ≡ self.old) }
     {
@@ -89,10 +88,10 @@ impl KeySession {
             ≡ Ok self.new.visible) }
         ensures refused { IfErr result (λ error. IsRefusal
             (calls.set_value self.old.config self.old.visible name.now (T.tree value.now)) error) }
-        // Memory runs out for the value itself; where only a lack of room could refuse it; or for types in a refusal.
+        // Memory runs out for the value itself, where nothing refuses it, or for the types in `DataTypeMismatch`.
         ensures memory { IfErr result (λ error. error ≡ PerError.OutOfMemory
-            → Allocates T.kind ⊎ NeedsMemory (calls.takes_any self.old.config self.old.visible name.now
-            (type_of (T.tree value.now)))) }
+            → Allocates T.kind ⊎ NeedsMemory (calls.set_value self.old.config self.old.visible name.now
+            (T.tree value.now))) }
         ensures beside { self.new ≡ record self.old { visible = self.new.visible } }
         ensures unchanged { OnErr result (self.new ≡ self.old) }
     {
@@ -151,18 +150,18 @@ impl KeySession {
         Ok(())
     }
 
-    /// Refuses a value as `check_value` does, and one whose key would be one too many.
-    #[tactic(auto, using(crate::proofs::Contents::few_without, crate::proofs::Contents::passes_place, crate::proofs::Contents::lacks_place))]
+    /// Refuses a value as `check_value` does, one whose key would be one too many, and one for which there is no room.
+    #[tactic(auto, using(crate::proofs::Contents::few_without, crate::proofs::Contents::lacks_place))]
     fn check_any(&self, name: &Name, value: &Value) -> Result<(), PerError>
-        ensures ok { OnOk result ((rest : Result Map PerError)
-            → calls.unless_refused self.now.config self.now.visible name.now (type_of value.now)
-            (calls.with_place self.now.visible name.now rest) ≡ rest) }
+        ensures ok { OnOk result (calls.set_any self.now.config self.now.visible name.now value.now
+            ≡ Ok (with_element self.now.visible name.now (key_of (encoding value.now)))) }
         ensures place { OnOk result (element_at self.now.visible name.now ≡ None → length self.now.visible < KEYS) }
-        ensures refused { IfErr result (λ error. (rest : Result Map PerError)
-            → IsRefusal (calls.unless_refused self.now.config self.now.visible name.now (type_of value.now)
-            (calls.with_place self.now.visible name.now rest)) error) }
+        ensures room { OnOk result (size_of (with_element self.now.visible name.now (key_of (encoding value.now)))
+            ≤ self.now.config.maximum) }
+        ensures refused { IfErr result (λ error. IsRefusal
+            (calls.set_any self.now.config self.now.visible name.now value.now) error) }
         ensures memory { IfErr result (λ error. error ≡ PerError.OutOfMemory
-            → NeedsMemory (calls.takes_any self.now.config self.now.visible name.now (type_of value.now))) }
+            → NeedsMemory (calls.set_any self.now.config self.now.visible name.now value.now)) }
     {
         self.check_value(name, value)?;
         if self.is_full(name) {
@@ -170,22 +169,23 @@ impl KeySession {
                 which: Limit::Elements,
             });
         }
-        Ok(())
+        let _valid = value.node();
+        self.has_room(name, value.encoded_len() as u32)
     }
 
-    /// Sets a key to a value, unless it does not fit. The key is visible, or one more is allowed.
+    /// Sets a key to a value, which fits. The key is visible, or one more is allowed.
     fn write(&mut self, name: &Name, value: Value) -> Result<(), PerError>
-        requires { element_at self.old.visible name.now ≡ None → length self.old.visible < KEYS }
-        ensures ok { OnOk result (calls.with_room self.old.config
-            (with_element self.old.visible name.now (key_of (encoding value))) ≡ Ok self.new.visible) }
-        ensures refused { IfErr result (λ error. IsRefusal
-            (calls.with_room self.old.config (with_element self.old.visible name.now (key_of (encoding value))))
-            error) }
-        ensures beside { self.new ≡ record self.old { visible = self.new.visible } }
+        requires place { element_at self.old.visible name.now ≡ None → length self.old.visible < KEYS }
+        requires room { size_of (with_element self.old.visible name.now (key_of (encoding value)))
+            ≤ self.old.config.maximum }
+        ensures ok { OnOk result (self.new ≡ record self.old {
+          visible = with_element self.old.visible name.now (key_of (encoding value));
+        }) }
+        ensures memory { IfErr result (λ error. error ≡ PerError.OutOfMemory) }
         ensures unchanged { OnErr result (self.new ≡ self.old) }
     {
         match StoredValue::new(self.alloc, value) {
-            Ok(stored) => self.fit(name, stored),
+            Ok(stored) => self.put(name, KeyElement::new(stored)),
             Err(_) => Err(PerError::OutOfMemory),
         }
     }
@@ -195,21 +195,6 @@ impl KeySession {
         ensures { result ≡ (not (has self.now.visible name.now) && nat_le 1024 (length self.now.visible)) }
     {
         self.maps.count() >= KEYS && !self.maps.has(name)
-    }
-
-    /// Sets a key to a stored value, unless it does not fit. The key is visible, or one more is allowed.
-    pub(crate) fn fit(&mut self, name: &Name, stored: StoredValue) -> Result<(), PerError>
-        requires { element_at self.old.visible name.now ≡ None → length self.old.visible < KEYS }
-        ensures ok { OnOk result (calls.with_room self.old.config
-            (with_element self.old.visible name.now (key_of stored)) ≡ Ok self.new.visible) }
-        ensures refused { IfErr result (λ error. IsRefusal
-            (calls.with_room self.old.config (with_element self.old.visible name.now (key_of stored))) error) }
-        ensures beside { self.new ≡ record self.old { visible = self.new.visible } }
-        ensures unchanged { OnErr result (self.new ≡ self.old) }
-    {
-        let key = KeyElement::new(stored);
-        self.has_room(name, key.len())?;
-        self.put(name, key)
     }
 
     /// Whether there is room for a key whose encoding has this length. Does not allocate.

@@ -4,7 +4,6 @@ ghost use Rattle.std.specs.Prelude.{◌≡◌, ◌⊎◌, IfErr, OnErr, OnOk, So
 ghost use Rattle.per_base.specs.declared.elements.Element.{Element};
 ghost use Rattle.per_base.specs.Maps.{element_at};
 ghost use Rattle.per_base.specs.Refusals.{IsRefusal, NeedsMemory};
-ghost use Rattle.value_model.specs.Trees.{type_of};
 ghost use Rattle.per_value.specs.Memory.{Allocates};
 ghost use Rattle.deployment_model.specs.Lookups.{initial_content};
 ghost use Rattle.kvs_core.specs.Calls as calls;
@@ -31,18 +30,18 @@ impl Kvs {
         ensures refused { IfErr result (λ error.
             IsRefusal (calls.set_any (kvs_session self.old).config (kvs_session self.old).visible name.now value)
             error) }
-        // Memory runs out where only a lack of room could still refuse it, or for the types in `DataTypeMismatch`.
+        // Memory runs out where nothing refuses it, or for the types in `DataTypeMismatch`.
         ensures memory { IfErr result (λ error. error ≡ PerError.OutOfMemory
-            → NeedsMemory (calls.takes_any (kvs_session self.old).config (kvs_session self.old).visible name.now
-            (type_of value))) }
+            → NeedsMemory (calls.set_any (kvs_session self.old).config (kvs_session self.old).visible name.now
+            value)) }
         ensures beside { self.new ≡ showing self.old (kvs_session self.new).visible }
         ensures unchanged { OnErr result (self.new ≡ self.old) }
     {
         self.session.set_any(name, value)
     }
 
-    /// Sets a key to a copy of a value, which is made once nothing but a lack of room can refuse it. The key is created
-    /// where the name is not visible.
+    /// Sets a key to a copy of a value, which is made once nothing can refuse it. The key is created where the name is
+    /// not visible.
     ///
     /// # Errors
     ///
@@ -57,10 +56,10 @@ impl Kvs {
         ensures refused { IfErr result (λ error.
             IsRefusal (calls.set_any (kvs_session self.old).config (kvs_session self.old).visible name.now value.now)
             error) }
-        // Memory runs out where only a lack of room could still refuse it, or for the types in `DataTypeMismatch`.
+        // Memory runs out where nothing refuses it, or for the types in `DataTypeMismatch`.
         ensures memory { IfErr result (λ error. error ≡ PerError.OutOfMemory
-            → NeedsMemory (calls.takes_any (kvs_session self.old).config (kvs_session self.old).visible name.now
-            (type_of value.now))) }
+            → NeedsMemory (calls.set_any (kvs_session self.old).config (kvs_session self.old).visible name.now
+            value.now)) }
         ensures beside { self.new ≡ showing self.old (kvs_session self.new).visible }
         ensures unchanged { OnErr result (self.new ≡ self.old) }
     {
@@ -80,11 +79,11 @@ impl Kvs {
         ensures refused { IfErr result (λ error.
             IsRefusal (calls.set_value (kvs_session self.old).config (kvs_session self.old).visible name.now
             (T.tree value.now)) error) }
-        // Memory runs out where the thing's value is allocated, which comes first; where only a lack of room could
-        // still refuse it; or for the types in `DataTypeMismatch`.
+        // Memory runs out where the thing's value is allocated, which comes first; where nothing refuses it; or for
+        // the types in `DataTypeMismatch`.
         ensures memory { IfErr result (λ error. error ≡ PerError.OutOfMemory → Allocates T.kind
-            ⊎ NeedsMemory (calls.takes_any (kvs_session self.old).config (kvs_session self.old).visible name.now
-            (type_of (T.tree value.now)))) }
+            ⊎ NeedsMemory (calls.set_value (kvs_session self.old).config (kvs_session self.old).visible name.now
+            (T.tree value.now))) }
         ensures beside { self.new ≡ showing self.old (kvs_session self.new).visible }
         ensures unchanged { OnErr result (self.new ≡ self.old) }
     {

@@ -1,14 +1,11 @@
 -- How a call on an open storage is answered.
-use Rattle.std.specs.Prelude.{◌≡◌, ◌⊎◌, ⊤, ℕ, Bool, true, false, Result, Ok, Err}
+use Rattle.std.specs.Prelude.{◌≡◌, Bool, true, false, Result, Ok, Err}
 use Rattle.per_base.specs.declared.errors.PerError.{PerError}
-use Rattle.per_base.specs.declared.errors.PerError.TheVariants.{OutOfStorageSpace}
-use Rattle.per_base.specs.Refusals.{IsRefusal, NeedsMemory}
-use Rattle.deployment_model.specs.Data.{StorageData}
+use Rattle.per_base.specs.Refusals.{IsRefusal}
 use Rattle.command_text.specs.declared.calls.Call.{Call}
 use Rattle.command_text.specs.declared.calls.Call.TheVariants as call
 use Rattle.command_text.specs.declared.replies.Answer.{Answer}
 use Rattle.command_text.specs.Replies.{HasText}
-use Rattle.run_model.specs.Sessions.{Session, in_session}
 
 -- The answer is the row's, and so is what the calls see afterwards. A refusal is the row's, or OutOfMemory, and
 -- changes nothing.
@@ -17,20 +14,6 @@ abbrev pub IsAnsweredAsRow : {S : Type 0} → (row : Result (Answer × S) PerErr
     → Type 0
 IsAnsweredAsRow row old new (Ok answer) = (row ≡ Ok (answer, new)) × HasText answer
 IsAnsweredAsRow row old new (Err error) = IsRefusal row error × (new ≡ old)
-
--- a value that is set does not fit, which is known once it was copied and encoded
-abbrev pub IsForRoom : Call → PerError → Type 0
-IsForRoom (call.Set n k x) (OutOfStorageSpace needed allowed) = ⊤
-IsForRoom other error = ⊥
-
--- a set is refused for its room
-abbrev pub LacksRoom : {A : Type 0} → Call → (row : Result A PerError) → Type 0
-LacksRoom c (Ok answer) = ⊥
-LacksRoom c (Err error) = IsForRoom c error
-
--- memory may run out for a call: it is not refused, or with names or texts, or for the room of a value that is set
-abbrev pub SessionNeedsMemory : StorageData → (now : ℕ) → Session → Call → Type 0
-SessionNeedsMemory c now s l = NeedsMemory (in_session c now s l) ⊎ LacksRoom l (in_session c now s l)
 
 -- ---- the calls on files, in three groups
 

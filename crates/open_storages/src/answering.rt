@@ -1,11 +1,10 @@
 //! The calls on an open storage that touch no disk.
 
 ghost use Rattle.std.specs.Prelude.{◌≡◌, ◌≢◌, IfErr, IfOk, OnErr, Ok};
-ghost use Rattle.per_base.specs.Refusals.{IsRefusal};
+ghost use Rattle.per_base.specs.Refusals.{IsRefusal, NeedsMemory};
 ghost use Rattle.element_store.specs.Stores.{store_shape};
 ghost use Rattle.command_text.specs.Replies.{HasText};
 ghost use Rattle.run_model.specs.Sessions.{in_session, synced_in_session};
-ghost use Rattle.open_storages.specs.Answers.{SessionNeedsMemory};
 ghost use Rattle.open_storages.specs.Opens.{config_in, session_in, store_in};
 
 use crate::opens::Open;
@@ -22,8 +21,7 @@ impl Open {
     /// # Errors
     ///
     /// Those of the call, in their order, and then nothing changes; `StorageNotFound` for every call that does not come
-    /// to an open storage of this kind; `OutOfMemory`, but never in the place of a refusal without names or texts, save
-    /// that a value that is set does not fit.
+    /// to an open storage of this kind; `OutOfMemory`, but never in the place of a refusal without names or texts.
     #[tactic(auto, using(crate::proofs::Rows::answered_ok, crate::proofs::Rows::answered_refused))]
     pub fn call(&mut self, alloc: Global, now: u64, call: &Call) -> Result<Answer, PerError>
         // The row `in_session` gives the answer and the session then; a refusal is the row's, or `OutOfMemory` where
@@ -36,7 +34,7 @@ impl Open {
             (in_session (config_in self.old) now (session_in self.old) call.now) error) }
         ensures unfailed { IfErr result (λ error. error ≢ PerError.PhysicalStorageFailure) }
         ensures memory { IfErr result (λ error. error ≡ PerError.OutOfMemory
-            → SessionNeedsMemory (config_in self.old) now (session_in self.old) call.now) }
+            → NeedsMemory (in_session (config_in self.old) now (session_in self.old) call.now)) }
         ensures unchanged { OnErr result (session_in self.new ≡ session_in self.old) }
         ensures config { config_in self.new ≡ config_in self.old }
         ensures store { store_in self.new ≡ store_in self.old }

@@ -1,11 +1,11 @@
 //! The calls on keys.
 
-ghost use Rattle.std.specs.Prelude.{◌≡◌, ◌⊎◌, IfErr, IfOk, Ok};
+ghost use Rattle.std.specs.Prelude.{◌≡◌, IfErr, IfOk, Ok};
 ghost use Rattle.per_base.specs.Refusals.{IsRefusal, NeedsMemory};
 ghost use Rattle.kvs_core.specs.Calls as calls;
 ghost use Rattle.kvs_store.specs.Storages.{kvs_session, showing};
 ghost use Rattle.run_model.specs.Sessions.{on_keys};
-ghost use Rattle.open_storages.specs.Answers.{IsAnsweredAsRow, LacksRoom};
+ghost use Rattle.open_storages.specs.Answers.{IsAnsweredAsRow};
 ghost use Rattle.open_storages.specs.Opens.{keys_of};
 
 use command_text::{Answer, AskedType, Call};
@@ -20,8 +20,7 @@ pub(crate) fn answer_keys(kvs: &mut Kvs, alloc: Global, call: &Call) -> Result<A
     ensures answered { IsAnsweredAsRow (on_keys kvs.old.config (keys_of kvs.old) call.now) (keys_of kvs.old)
         (keys_of kvs.new) result }
     ensures memory { IfErr result (λ error. error ≡ PerError.OutOfMemory
-        → NeedsMemory (on_keys kvs.old.config (keys_of kvs.old) call.now)
-        ⊎ LacksRoom call.now (on_keys kvs.old.config (keys_of kvs.old) call.now)) }
+        → NeedsMemory (on_keys kvs.old.config (keys_of kvs.old) call.now)) }
     ensures beside { kvs.new ≡ showing kvs.old kvs.new.session.visible }
 {
     match call {

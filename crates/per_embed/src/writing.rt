@@ -2,9 +2,8 @@
 
 ghost use Rattle.std.specs.Prelude.{◌≡◌, ◌⊎◌, ◌↔◌, Err, IfErr, IfSome, IsErrOf, IsSomeAnd, None, Ok, OnErr, OnOk};
 ghost use Rattle.std.specs.Prelude.{option_map};
-ghost use Rattle.value_model.specs.Trees.{type_of};
 ghost use Rattle.value_model.specs.Validity.{IsValue};
-ghost use Rattle.kvs_core.specs.Calls.{remove_key, set_value, takes_any};
+ghost use Rattle.kvs_core.specs.Calls.{remove_key, set_value};
 ghost use Rattle.kvs_store.specs.Storages.{showing};
 ghost use Rattle.kvs_laws.specs.Values.{HasValue};
 ghost use Rattle.per_embed.specs.Owned.{asked_of};
@@ -40,8 +39,7 @@ impl<D: Disk + Drop> KeyStorage<D> {
         ensures refused { IfErr result (λ error. IfSome self.old.kvs (λ kvs.
             IsRefusal (set_value kvs.config kvs.session.visible key.now (T.tree value.now)) error)) }
         ensures memory { IfErr result (λ error. error ≡ PerError.OutOfMemory → IsSomeAnd self.old.kvs (λ kvs.
-            Allocates T.kind ⊎ NeedsMemory (takes_any kvs.config kvs.session.visible key.now
-            (type_of (T.tree value.now))))) }
+            Allocates T.kind ⊎ NeedsMemory (set_value kvs.config kvs.session.visible key.now (T.tree value.now)))) }
         // Nothing else changes, of the storage or of the disk, and by a refused call nothing at all.
         // `PhysicalStorageFailure` comes where the storage is closed, and only there.
         ensures beside { IfSome self.old.kvs (λ kvs. IsSomeAnd self.new.kvs (λ later.
@@ -95,8 +93,7 @@ fn set_in<T: PerValue>(kvs: &mut Option<Kvs>, key: &Name, value: &T) -> Result<(
     ensures refused { IfErr result (λ error. IfSome kvs.old (λ old.
         IsRefusal (set_value old.config old.session.visible key.now (T.tree value.now)) error)) }
     ensures memory { IfErr result (λ error. error ≡ PerError.OutOfMemory → IsSomeAnd kvs.old (λ old.
-        Allocates T.kind ⊎ NeedsMemory (takes_any old.config old.session.visible key.now
-        (type_of (T.tree value.now))))) }
+        Allocates T.kind ⊎ NeedsMemory (set_value old.config old.session.visible key.now (T.tree value.now)))) }
     ensures beside { IfSome kvs.old (λ old. IsSomeAnd kvs.new (λ later. later ≡ showing old later.session.visible)) }
     ensures unchanged { OnErr result (kvs.new ≡ kvs.old) }
     ensures closed { IsErrOf result PerError.PhysicalStorageFailure ↔ (kvs.old ≡ None) }

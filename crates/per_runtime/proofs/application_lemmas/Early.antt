@@ -160,11 +160,11 @@ wipe_needs r (Some name) some = tt
 module _ (app now : ℕ) (r : Application) (some : IsSome (least_open r)) where
   back_wants : no_way_back r.disk.says ≡ None → CallNeedsMemory app now call.Rollback r
   unfolding app_step
-  back_wants none = inr (inl (back_needs r (least_open r) some none))
+  back_wants none = inr (back_needs r (least_open r) some none)
 
   wipe_wants : CallNeedsMemory app now call.Wipe r
   unfolding app_step
-  wipe_wants = inr (inl (wipe_needs r (least_open r) some))
+  wipe_wants = inr (wipe_needs r (least_open r) some)
 
 -- and memory runs out for it
 module _ (told : Bool) (s taken : Running) (root : Root) (m : Medium) (now : ℕ)

@@ -123,9 +123,9 @@ module _ (told : Bool) (rules : List Rule) (answers : Answers) (app now : ℕ) (
           (busy_is tells) is;
       reaches = λ tells is. done_ok r (rolling_back (least_open r) r.disk)
           (subst (λ (b : Option (List ℕ)). IsOk (rolling_back b r.disk)) (busy_is tells) is);
-      wants = λ tells e is due. inl (inr (inl (refused_needs r (rolling_back (least_open r) r.disk) e
+      wants = λ tells e is due. inl (inr (refused_needs r (rolling_back (least_open r) r.disk) e
           (subst (λ (b : Option (List ℕ)). rolling_back b r.disk ≡ Err e) (busy_is tells) is)
-          (held_back busy r.disk e is due))));
+          (held_back busy r.disk e is due)));
       no_storage = refl;
       not_durable = refl;
       no_plan = refl;
@@ -143,9 +143,9 @@ module _ (told : Bool) (rules : List Rule) (answers : Answers) (app now : ℕ) (
           (busy_is tells) is;
       reaches = λ tells is. done_ok r (wiping (least_open r) r.disk)
           (subst (λ (b : Option (List ℕ)). IsOk (wiping b r.disk)) (busy_is tells) is);
-      wants = λ tells e is due. inl (inr (inl (refused_needs r (wiping (least_open r) r.disk) e
+      wants = λ tells e is due. inl (inr (refused_needs r (wiping (least_open r) r.disk) e
           (subst (λ (b : Option (List ℕ)). wiping b r.disk ≡ Err e) (busy_is tells) is)
-          (held_up busy r.disk e is due))));
+          (held_up busy r.disk e is due)));
       no_storage = refl;
       not_durable = refl;
       no_plan = refl;

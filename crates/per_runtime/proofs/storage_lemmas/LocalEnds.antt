@@ -5,7 +5,7 @@ use Rattle.std.specs.Prelude.{slice_get, slice_set}
 use Rattle.per_base.specs.declared.elements.StoreKind.{StoreKind}
 use Rattle.per_base.specs.declared.errors.PerError.{PerError}
 use Rattle.per_base.specs.declared.errors.PerError.TheVariants as error
-use Rattle.per_base.specs.Refusals.{IsRefusal}
+use Rattle.per_base.specs.Refusals.{IsRefusal, NeedsMemory}
 use Rattle.disk_model.specs.Image.{Image}
 use Rattle.disk_model.specs.Laws.{elapses_none}
 use Rattle.disk_model.specs.Medium.{IsLawful, Medium}
@@ -24,7 +24,6 @@ use Rattle.deploy.specs.declared.errors.Stop.{Stop}
 use Rattle.deploy.specs.declared.errors.Stop.TheVariants.{Device, OutOfMemory}
 use Rattle.deploy.specs.declared.roots.Root.{Root}
 use Rattle.deploy.specs.Roots.{IsRootOn, root_says}
-use Rattle.open_storages.specs.Answers.{SessionNeedsMemory}
 use Rattle.open_storages.specs.declared.opens.Open.{Open}
 use Rattle.open_storages.specs.Opens.{config_in, session_in, store_in}
 use Rattle.run_model.specs.Calls.{app_step, local_on, session_at, concluded, with_session}
@@ -207,14 +206,14 @@ module _ (laws : StorageLaws) (texts : TextLaw) (told : Bool) (app now : ℕ) (r
       (sym (ap (λ (r : Reply). r.answer) says) ∙ failed)))
       (subst (λ (r : Reply). HasText r.answer) (sym says) (texts e fed))
 
-  call_needs : SessionNeedsMemory (config_in o) now (session_in o) c → IsTrue told → CallNeedsMemory app now c before
+  call_needs : NeedsMemory (in_session (config_in o) now (session_in o) c) → IsTrue told → CallNeedsMemory app now c before
   call_needs needs tells = session_needs app now before c name kind on (found_on m.image l)
       (found m.image (resting.root_at.disk tells)) (session_in o) session_is
-      (subst (λ (s : StorageData). SessionNeedsMemory s now (session_in o) c) found_config needs)
+      (subst (λ (s : StorageData). NeedsMemory (in_session s now (session_in o) c)) found_config needs)
 
   refuses_handled : (e : PerError) (result : Result Reply Stop) → TellsRefusal e result
       → IsRefusal (in_session (config_in o) now (session_in o) c) e → e ≢ error.PhysicalStorageFailure
-      → (e ≡ error.OutOfMemory → SessionNeedsMemory (config_in o) now (session_in o) c)
+      → (e ≡ error.OutOfMemory → NeedsMemory (in_session (config_in o) now (session_in o) c))
       → session_in later ≡ session_in o → IsStorageCallHandled told app now root c was is m m Same result
   refuses_handled e (Ok reply) refused row unfailed needs unchanged =
       refused_in e reply refused.0 refused.1 row unfailed unchanged
@@ -227,7 +226,7 @@ module _ (laws : StorageLaws) (texts : TextLaw) (told : Bool) (app now : ℕ) (r
       → IfOk given (λ a. in_session (config_in o) now (session_in o) c ≡ Ok (a, session_in later)) → IfOk given HasText
       → IfErr given (λ e. IsRefusal (in_session (config_in o) now (session_in o) c) e)
       → IfErr given (λ e. e ≢ error.PhysicalStorageFailure)
-      → IfErr given (λ e. e ≡ error.OutOfMemory → SessionNeedsMemory (config_in o) now (session_in o) c)
+      → IfErr given (λ e. e ≡ error.OutOfMemory → NeedsMemory (in_session (config_in o) now (session_in o) c))
       → OnErr given (session_in later ≡ session_in o) → IsStorageCallHandled told app now root c was is m m Same result
   local_handled (Ok a) result settles row text refused unfailed needs unchanged =
       subst (λ (r : Result Reply Stop). IsStorageCallHandled told app now root c was is m m Same r) (sym settles)

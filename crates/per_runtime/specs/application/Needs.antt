@@ -40,7 +40,7 @@ ReadsManifest (call.UpdateBegin text) before = no_update_over before.disk.says �
 ReadsManifest other before = ⊥
 
 -- memory may run out for a call: no update in progress refuses it, and it reads a manifest or what is on the disk, or
--- its row is no refusal, or one with names or texts, or for the room of a value that is set
+-- its row is no refusal, or one with names or texts
 pub record MayStarve (app now : ℕ) (c : Call) (before : Application) : Type 0 where
   pub free : beside_update (update_in before.stage) c ≡ None
   pub needs : CallNeedsMemory app now c before ⊎ ReadsManifest c before

@@ -5,7 +5,6 @@ use Rattle.command_text.specs.declared.calls.Call.{Call}
 use Rattle.run_model.specs.Calls.{app_step}
 use Rattle.run_model.specs.Steps.{reaches_device}
 use Rattle.run_model.specs.Worlds.{Application}
-use Rattle.open_storages.specs.Answers.{LacksRoom}
 
 -- the call gets past the refusals that are known without the device, and reads what is on it
 abbrev pub NeedsReading : (app now : ℕ) → Call → (before : Application) → Type 0
@@ -17,5 +16,4 @@ RowNeedsMemory app now c before = NeedsMemory (app_step app before now c)
 
 -- memory may run out for a call that names a storage
 abbrev pub CallNeedsMemory : (app now : ℕ) → Call → (before : Application) → Type 0
-CallNeedsMemory app now c before = NeedsReading app now c before
-    ⊎ (RowNeedsMemory app now c before ⊎ LacksRoom c (app_step app before now c))
+CallNeedsMemory app now c before = NeedsReading app now c before ⊎ RowNeedsMemory app now c before

@@ -42,9 +42,9 @@ returns-in-Err g c =
     c.storages_stand.ensures in let texts = c.errors_have_texts.ensures in
     starved_handled laws told app now root (call.ResetStorage name) was m (c.args.disk.now ≡ c.args.disk.now) refl law
     c.requires
-    (λ tells. inr (inl (as_row (app_step app (resting_with m.image app was) now (call.ResetStorage name)) _
+    (λ tells. inr (as_row (app_step app (resting_with m.image app was) now (call.ResetStorage name)) _
     (reset_is app now (resting_with m.image app was) name)
-    (c.in-Err.ensures.memory m.image (c.requires.root_at.disk tells) (λ f. resetting f.config now f.state))))) was
+    (c.in-Err.ensures.memory m.image (c.requires.root_at.disk tells) (λ f. resetting f.config now f.state)))) was
 
 pub shape-requires : goal.shape-requires
 shape-requires g c =
