@@ -16,8 +16,8 @@ use crate::range::Range;
 use crate::reading::read_all;
 use crate::writing::write_all;
 use disk_model::DiskFailed;
-use std::alloc::Global;
-use std::io;
+use std::alloc::{AllocError, Global};
+use std::{io, mem};
 use system_model::{Asked, Part, System};
 
 /// Writes once more what a failed sync may have dropped, and says whether all of it was written.
@@ -161,8 +161,8 @@ impl<S: System> Folder<S> {
         }
     }
 
-    /// Reads what was written to the file since its last sync.
-    fn hold(&mut self, file: u32) -> Result<Vec<Held>, DiskFailed>
+    /// Reads what was written to the file since its last sync, into what is spare as far as there is room.
+    fn hold(&mut self, file: u32, spare: Vec<u8>) -> Result<Vec<Held>, DiskFailed>
         requires knows { Knows S.told (S.medium self.old.system) self.old.ranges.items self.old.is_fresh
             self.old.is_grown self.old.is_lost }
         requires fresh { IsFalse self.old.is_fresh }
@@ -180,14 +180,21 @@ impl<S: System> Folder<S> {
         ensures passes { OnOk result (self.new.faults ≡ self.old.faults) }
         ensures written { self.new.written ≡ self.old.written }
     {
-        match held_of(&mut self.system, self.alloc, self.ranges.as_slice(), file) {
+        match held_of(
+            &mut self.system,
+            self.alloc,
+            spare,
+            self.ranges.as_slice(),
+            file,
+        ) {
             Ok(held) => Ok(held),
             Err(error) => Err(self.failed(Asked::Sync, Part::File(file), error)),
         }
     }
 
-    /// Syncs a file. Where that fails, what it may have dropped is written again.
-    fn sync_one(&mut self, file: u32) -> Result<(), DiskFailed>
+    /// Syncs a file. Where that fails, what it may have dropped is written again. What is spare is room for that, and
+    /// is then for the next file.
+    fn sync_one(&mut self, file: u32, spare: &mut Vec<u8>) -> Result<(), DiskFailed>
         requires knows { Knows S.told (S.medium self.old.system) self.old.ranges.items self.old.is_fresh
             self.old.is_grown self.old.is_lost }
         requires names { (f : ℕ) → (S.medium self.old.system).named f }
@@ -208,10 +215,12 @@ impl<S: System> Folder<S> {
         ensures passes { OnOk result (self.new.faults ≡ self.old.faults) }
         ensures written { self.new.written ≡ self.old.written }
     {
-        let held = self.hold(file)?;
+        let room = mem::replace(spare, Vec::new(self.alloc));
+        let held = self.hold(file, room)?;
         match self.system.sync_file(file) {
             Ok(()) => {
                 forget(&mut self.ranges, file);
+                give_back(held, spare);
                 Ok(())
             }
             Err(error) => {
@@ -241,9 +250,10 @@ impl<S: System> Folder<S> {
         ensures passes { OnOk result (self.new.faults ≡ self.old.faults) }
         ensures written { self.new.written ≡ self.old.written }
     {
+        let mut spare = Vec::new(self.alloc);
         while let Some(last) = self.ranges.last() {
             let file = last.file;
-            self.sync_one(file)?;
+            self.sync_one(file, &mut spare)?;
         }
         Ok(())
     }
@@ -314,7 +324,8 @@ impl<S: System> Folder<S> {
     {
         self.sync_names()?;
         if !self.is_fresh {
-            return self.sync_one(file);
+            let mut spare = Vec::new(self.alloc);
+            return self.sync_one(file, &mut spare);
         }
         self.sync_found()
     }
@@ -366,10 +377,11 @@ impl<S: System> Folder<S> {
     }
 }
 
-/// Reads what is in the ranges of a file.
+/// Reads what is in the ranges of a file, of the first of them into what is spare.
 fn held_of<S: System>(
     system: &mut Opened<S>,
     alloc: Global,
+    spare: Vec<u8>,
     ranges: &[Range],
     file: u32,
 ) -> io::Result<Vec<Held>>
@@ -379,10 +391,12 @@ fn held_of<S: System>(
         ShowsAll ((S.medium system.old).disk.image file) held.items) }
     ensures held { IfOk result (λ held. (i : ℕ) → IsHeldByte held.items i ↔ Covered ranges.now file i) }
 {
+    let mut spare = spare;
     let mut held = Vec::new(alloc);
     for range in ranges {
         if range.file == file {
-            let part = held_in(system, alloc, *range)?;
+            let room = mem::replace(&mut spare, Vec::new(alloc));
+            let part = held_in(system, room, *range)?;
             match held.push(part) {
                 Ok(()) => {}
                 Err(_) => return Err(no_memory()),
@@ -392,8 +406,8 @@ fn held_of<S: System>(
     Ok(held)
 }
 
-/// Reads what is in a range.
-fn held_in<S: System>(system: &mut Opened<S>, alloc: Global, range: Range) -> io::Result<Held>
+/// Reads what is in a range into this room, which grows where it is short.
+fn held_in<S: System>(system: &mut Opened<S>, room: Vec<u8>, range: Range) -> io::Result<Held>
     requires whole { IsTrue S.told → (f : ℕ) → IsWhole (S.medium system.old) f }
     ensures looks { Looks (S.medium system.old) (S.medium system.new) }
     ensures shows { IsTrue S.told → IfOk result (λ held.
@@ -403,7 +417,7 @@ fn held_in<S: System>(system: &mut Opened<S>, alloc: Global, range: Range) -> io
     if range.at.checked_add(range.len).is_none() {
         return Err(no_memory());
     }
-    let Ok(mut bytes) = Vec::from_elem(alloc, 0, range.len as usize) else {
+    let Ok(mut bytes) = resized(room, range.len as usize) else {
         return Err(no_memory());
     };
     let count = read_all(system, range.file, range.at, bytes.as_mut_slice())?;
@@ -414,6 +428,23 @@ fn held_in<S: System>(system: &mut Opened<S>, alloc: Global, range: Range) -> io
         at: range.at,
         bytes,
     })
+}
+
+/// That many bytes, whatever they are.
+fn resized(room: Vec<u8>, len: usize) -> Result<Vec<u8>, AllocError>
+    ensures { IfOk result (λ bytes. length bytes.items ≡ len) }
+{
+    let mut bytes = room;
+    bytes.resize(len, 0)?;
+    Ok(bytes)
+}
+
+/// Makes the room of what was held last spare.
+fn give_back(held: Vec<Held>, spare: &mut Vec<u8>) {
+    let mut held = held;
+    if let Some(last) = held.pop() {
+        *spare = last.bytes;
+    }
 }
 
 /// The error of a call for which memory ran out.
