@@ -227,7 +227,9 @@ keeps_worlds old new moments exit roots cost = record {
 
 -- what so many roots cost, all eight cost too
 fewer_cost : (image : Image) (count more : ℕ) → roots_cost image count ≤ roots_cost image (count + more)
-fewer_cost image count zero = omega arith
+fewer_cost image count zero =
+    let same : count ≡ count + 0 = omega arith in
+    subst (λ (n : ℕ). roots_cost image count ≤ roots_cost image n) same (le_refl (roots_cost image count))
 fewer_cost image count (suc more) =
     let next : count + suc more ≡ (count + more) + 1 = omega arith in
     let before = fewer_cost image count more in
