@@ -1,6 +1,6 @@
 -- The runtime in memory, the world that it makes with what is on the disk, and what its start and each of its
 -- commands promise.
-use Rattle.std.specs.Prelude.{◌≡◌, ◌⊎◌, ◌<◌, ◌≤◌, ◌+◌, ◌*◌, ◌||◌, ◌&&◌, ℕ, List, [], ◌∷◌, length, not, Option}
+use Rattle.std.specs.Prelude.{◌≡◌, ◌⊎◌, ◌<◌, ◌≤◌, ◌+◌, ◌||◌, ◌&&◌, ℕ, List, [], ◌∷◌, length, not, Option}
 use Rattle.std.specs.Prelude.{Bool, true, false}
 use Rattle.std.specs.Prelude.{Some, None, Ok, is_some, ⊤}
 use Rattle.per_base.specs.declared.errors.PerError.TheVariants as error

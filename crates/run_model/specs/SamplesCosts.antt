@@ -1,14 +1,14 @@
 -- What calls write at most, computed.
 use Rattle.std.specs.Prelude.{◌≡◌, ℕ, ◌+◌, ◌*◌, List, [], ◌∷◌, Some, None, refl}
 use Rattle.std.proofs.Common.{arith}
-use Rattle.per_base.specs.declared.elements.Content.TheVariants.{Good, Bad}
+use Rattle.per_base.specs.declared.elements.Content.TheVariants.{Good}
 use Rattle.element_state.specs.States.{Corrupt}
 use Rattle.element_state.specs.Written.{map_cost}
 use Rattle.migrate_fns.specs.Rules.{Rule, Answers}
 use Rattle.command_text.specs.declared.calls.Call.{Call}
 use Rattle.command_text.specs.declared.calls.Call.TheVariants as call
 use Rattle.deploy_rows.specs.Costs.{format_cost, greatest_cost, install_cost, root_cost}
-use Rattle.run_model.specs.Costs.{call_cost, finishing_cost, next_cost, opening_cost, update_cost, wipe_cost}
+use Rattle.run_model.specs.Costs.{call_cost, finishing_cost, next_cost, opening_cost, update_cost}
 use Rattle.run_model.specs.Samples.{at_first, at_nine, computed, fav, home, in_copies, on, the_plan, world_after}
 use Rattle.run_model.specs.SamplesDamage.{found_so, in_three}
 use Rattle.run_model.specs.SamplesManifests.{cut_text, favourites_text, manifests_read, second_text}

@@ -1,6 +1,6 @@
 -- The start: the roots are opened one after another, and at every moment each application stands between what it was
 -- and itself with its root mended.
-use Rattle.std.specs.Prelude.{◌≡◌, ◌≢◌, ◌⊎◌, ◌<◌, ◌≤◌, ◌+◌, ◌-◌, ◌*◌, ℕ, List, zero, suc, map, true, false, nat_lt}
+use Rattle.std.specs.Prelude.{◌≡◌, ◌≢◌, ◌⊎◌, ◌<◌, ◌≤◌, ◌+◌, ◌-◌, ℕ, List, zero, suc, map, true, false, nat_lt}
 use Rattle.std.proofs.Common.{refl, sym, ap, ◌∙◌, subst, le_refl, inl, inr, ⊎_elim, arith, eq-or-lt_of_le}
 use Rattle.std.proofs.lemmas.Bool.{cases_Bool}
 use Rattle.std.proofs.lemmas.Bool.Decides.{nat_tests}
@@ -227,7 +227,9 @@ keeps_worlds old new moments exit roots cost = record {
 
 -- what so many roots cost, all eight cost too
 fewer_cost : (image : Image) (count more : ℕ) → roots_cost image count ≤ roots_cost image (count + more)
-fewer_cost image count zero = omega arith
+fewer_cost image count zero =
+    let same : count ≡ count + 0 = omega arith in
+    subst (λ (n : ℕ). roots_cost image count ≤ roots_cost image n) same (le_refl (roots_cost image count))
 fewer_cost image count (suc more) =
     let next : count + suc more ≡ (count + more) + 1 = omega arith in
     let before = fewer_cost image count more in
