@@ -192,6 +192,6 @@ pub returns-clause-written : goal.returns-clause-written
 returns-clause-written g c = λ tells. rebuilt_within c.args.shape.now (storage_data c.args.config.now)
     c.in_ok-contents.contents.items _ (g.D.Disk.medium c.args.disk.now).written
     (g.D.Disk.medium c.salvage.new.disk).written (g.D.Disk.medium c.rebuild_over.new.disk).written
-    c.requires.configured 
+    c.requires.configured
     (c.in_ok-contents.ensures.contents ∙ ap (recovered_contents (storage_data c.args.config.now) c.args.now)
     (c.in_ok-view.ensures.view tells)) c.in_ok-view.ensures.written c.rebuild_over.ensures.written
