@@ -33,7 +33,7 @@ found_config told image app name l is tells f found =
 spelled_cost : (copies : ℕ) (x : Option Export) (contents : List Fresh)
     → option_map (λ (e : Export). e.contents) x ≡ Some contents
     → importing_cost copies x ≡ rebuilding_cost copies contents
-spelled_cost copies None contents no = cc
+spelled_cost copies None contents never = cc
 spelled_cost copies (Some x) contents is =
     let same : x.contents ≡ contents = cc in
     ap (rebuilding_cost copies) same
