@@ -43,6 +43,7 @@ impl Runtime {
     /// # Errors
     ///
     /// `OutOfMemory`, and no other: the command is in progress, and the runtime is of no more use.
+    #[inline(always)]
     pub fn step<D: Disk>(
         &mut self,
         disk: &mut D,

@@ -47,6 +47,7 @@ pub(crate) enum Asked<'a> {
 }
 
 /// Tells a call apart.
+#[inline(always)]
 pub(crate) fn sort(call: &Call) -> Asked<'_>
     ensures { asked_call result ≡ call.now }
 {

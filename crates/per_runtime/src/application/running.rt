@@ -180,6 +180,7 @@ impl Running {
     }
 
     // A call of the deployment that is not refused for an update in progress.
+    #[inline(never)]
     fn deploy<D: Disk>(
         &mut self,
         disk: &mut D,

@@ -28,6 +28,7 @@ impl OpenSlots {
     /// # Errors
     ///
     /// `Device` where the disk fails, and the storage is closed. `OutOfMemory` ends the run.
+    #[inline(never)]
     pub(crate) fn close<D: Disk>(
         &mut self,
         alloc: Global,

@@ -27,6 +27,7 @@ impl OpenSlots {
     /// # Errors
     ///
     /// `Device` where the disk fails, and the storage stays closed. `OutOfMemory` ends the run.
+    #[inline(never)]
     pub(crate) fn open<D: Disk>(
         &mut self,
         alloc: Global,

@@ -27,6 +27,7 @@ impl OpenSlots {
     /// # Errors
     ///
     /// `Device` where the disk fails. `OutOfMemory` ends the run.
+    #[inline(never)]
     pub(crate) fn recover<D: Disk>(
         &mut self,
         alloc: Global,
@@ -65,6 +66,7 @@ impl OpenSlots {
     /// # Errors
     ///
     /// `Device` where the disk fails. `OutOfMemory` ends the run.
+    #[inline(never)]
     pub(crate) fn reset<D: Disk>(
         &mut self,
         alloc: Global,

@@ -27,6 +27,7 @@ impl OpenSlots {
     /// # Errors
     ///
     /// `Device` where the disk fails, and the storage is closed. `OutOfMemory` ends the run.
+    #[inline(never)]
     pub(crate) fn sync<D: Disk>(
         &mut self,
         alloc: Global,
@@ -63,6 +64,7 @@ impl OpenSlots {
     /// # Errors
     ///
     /// `Device` where the disk fails, and the storage is closed. `OutOfMemory` ends the run.
+    #[inline(never)]
     pub(crate) fn flush<D: Disk>(
         &mut self,
         alloc: Global,
