@@ -1,17 +1,21 @@
 -- What the matches of the words say, and that the words have matches.
 use Rattle.std.proofs.Common.{ℕ, List, [], ◌∷◌, length, Bool, true, false, Option, Some, None, Result, Ok, Err, IfOk}
 use Rattle.std.proofs.Common.{IsErrAnd, ◌∙◌, ◌≡◌, ◌≢◌, ◌⊎◌, ◌≤◌, ◌<◌, ◌^◌, ◌==◌, refl, sym, ap, subst, arith, ⊎_elim}
-use Rattle.std.proofs.Common.{if◌then◌else◌}
+use Rattle.std.proofs.Common.{ap₂, fold, if◌then◌else◌}
 use Rattle.std.proofs.lemmas.Bool.{cases_Bool, ne_eqb}
+use Rattle.std.specs.Prelude.{⊤}
 use Rattle.std.specs.Str.Parse.{IsNumeral, digits_value, without_leading_plus}
 use Rattle.clap.proofs.OnLiterals.{clap_on_literals}
 use Rattle.clap.proofs.ValueTestLemmas.{accepts-Accepts, Accepts-accepts}
+use Rattle.clap.specs.Built.{AddsArg, AddsInTurn}
 use Rattle.clap.specs.Faults.{fault_of, is_simple_and_free}
 use Rattle.clap.specs.Kinds.{IsAmong, Kinds}
-use Rattle.clap.specs.Simple.{App, is_simple, matches_of}
+use Rattle.clap.specs.Simple.{App, app_of, is_simple, matches_of, with_rule}
 use Rattle.clap.specs.Values.{IsUnsignedIn}
 use Rattle.clap.specs.ValueTests.{is_unsigned_in}
-use Rattle.clap.specs.Walk.{Row}
+use Rattle.clap.specs.Walk.{Row, Rule, rule_of}
+use Rattle.clap.specs.declared.builder.arg.Arg.{Arg}
+use Rattle.clap.specs.declared.builder.command.Command.{Command}
 use Rattle.clap.specs.declared.builder.value_parser.ValueParser.TheVariants as vp
 use Rattle.clap.specs.declared.error.kind.ErrorKind.{ErrorKind}
 use Rattle.per_base.specs.Fields.{◌>>=◌}
@@ -22,6 +26,21 @@ use Rattle.per_run.specs.declared.words.WordsError.TheVariants as words_error
 use Rattle.per_run.specs.Words.{ReadsWord, command, has_matches, job_in, job_of, modes, number_in, only_mode}
 
 -- ---- the command
+
+-- the arguments have these rules, and none is global
+abbrev pub HaveRules : List Arg → List Rule → Type 0
+HaveRules [] [] = ⊤
+HaveRules (x ∷ xs) (r ∷ rs) = (rule_of x ≡ r) × (x.global ≡ false) × HaveRules xs rs
+HaveRules xs rs = ⊥
+
+-- a command that is given them in turn has their rules after its own
+pub with_rules : (old new : Command) (app : App) (xs : List Arg) (rs : List Rule) → AddsInTurn AddsArg old xs new
+    → app_of old ≡ app → HaveRules xs rs → app_of new ≡ fold with_rule app rs
+with_rules old new app [] [] adds is have = ap app_of (sym adds) ∙ is
+with_rules old new app (x ∷ xs) (r ∷ rs) adds is have =
+    with_rules adds.0 new (with_rule app r) xs rs adds.2 (adds.1.shape have.1 ∙ ap₂ with_rule is have.0) have.2
+with_rules old new app [] (r ∷ rs) adds is have = absurd have
+with_rules old new app (x ∷ xs) [] adds is have = absurd have
 
 is_simple_one : is_simple command ≡ true
 unfolding clap_on_literals

@@ -92,18 +92,21 @@ pub fn read_words(alloc: Global, words: &[String]) -> Result<Job, WordsError>
 fn command<'a>(alloc: Global) -> Result<Command<'a>, AllocError>
     ensures { IfOk result (λ c. app_of c ≡ command) }
 {
+    let options = vec![in alloc;
+        option(alloc, "dir").required(true),
+        option(alloc, "flash"),
+        flag(alloc, "format"),
+        option(alloc, "generate"),
+        flag(alloc, "audit"),
+        option(alloc, "export"),
+        option(alloc, "import"),
+        flag(alloc, "serve"),
+        option(alloc, "list"),
+        option(alloc, "recover-root"),
+    ]?;
     Command::new(alloc, "per")
         .no_binary_name(true)
-        .arg(option(alloc, "dir").required(true))?
-        .arg(option(alloc, "flash"))?
-        .arg(flag(alloc, "format"))?
-        .arg(option(alloc, "generate"))?
-        .arg(flag(alloc, "audit"))?
-        .arg(option(alloc, "export"))?
-        .arg(option(alloc, "import"))?
-        .arg(flag(alloc, "serve"))?
-        .arg(option(alloc, "list"))?
-        .arg(option(alloc, "recover-root"))
+        .args(options)
 }
 
 /// An option of this name, with one value.
