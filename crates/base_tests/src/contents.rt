@@ -20,8 +20,10 @@ pub fn content(alloc: Global, words: &str) -> Result<String, CaseError> {
     let (first, words) = cut(words, ' ');
     let (copies, words) = cut(words, ' ');
     let (m, bytes) = cut(words, ' ');
-    let place = place_of(small(first)?, small(copies)?)?;
-    let m = small(m)?;
+    let (Ok(first), Ok(copies), Ok(m)) = (small(first), small(copies), small(m)) else {
+        return Err(CaseError::NoCase);
+    };
+    let place = place_of(first, copies)?;
     let bytes = bytes_of(alloc, bytes)?;
     if m == 0 || bytes.len() > 1_048_576 {
         return Err(CaseError::NoCase);
@@ -91,7 +93,16 @@ fn put_beside(alloc: Global, place: Place, old: &[u8], new: &[u8]) -> Result<Str
     let old_blocks = put.blocks.as_slice();
     let again = put_shared(alloc, &mut disk, place, &mut used, new, old, old_blocks)?;
     let written = disk.written().saturating_sub(before);
+    described_beside(alloc, old_blocks, again.blocks.as_slice(), written)
+}
+
+fn described_beside(
+    alloc: Global,
+    old_blocks: &[u32],
+    new_blocks: &[u32],
+    written: u64,
+) -> Result<String, CaseError> {
     let old_blocks = numbers_text(alloc, old_blocks)?;
-    let new_blocks = numbers_text(alloc, again.blocks.as_slice())?;
+    let new_blocks = numbers_text(alloc, new_blocks)?;
     Ok(format!(in alloc; "{old_blocks} {new_blocks} {written}")?)
 }

@@ -2,35 +2,29 @@
 
 ghost use Rattle.std.specs.Prelude.{◌≤◌, IfOk};
 
-use case_words::{CaseError, bytes_of, cut, number, small};
-use disk_model::{Disk, MemDisk};
-use hash_guard::{MAX_BODY, seal};
+use crate::seals::{Sealing, sealing_of};
+use case_words::{CaseError, bytes_of, cut, small};
+use disk_model::{Disk, DiskFailed, MemDisk};
+use hash_guard::seal;
 use std::alloc::Global;
 
 /// `COPY:GENERATION:BYTES`: seals a text, and makes it durable in the slot of a copy, counted from 1 in a place that
 /// begins at file 0.
 pub fn hold(alloc: Global, disk: &mut MemDisk, rest: &str) -> Result<(), CaseError> {
     let (copy, rest) = cut(rest, ':');
-    let (generation, text) = cut(rest, ':');
-    let generation = number(generation)?;
-    let text = bytes_of(alloc, text)?;
-    if generation == 0 || text.len() > MAX_BODY {
-        return Err(CaseError::NoCase);
-    }
-    let sealed = seal(alloc, generation, &text)?;
+    let file = first_file(copy)?;
+    let Sealing { generation, body } = sealing_of(alloc, rest, ':')?;
+    let sealed = seal(alloc, generation, &body)?;
     let parity = if generation % 2 == 0 { 0 } else { 1 };
-    disk.write_at(first_file(copy)? + parity, 0, &sealed)?;
-    disk.sync()?;
-    Ok(())
+    Ok(put_durably(disk, file + parity, &sealed)?)
 }
 
 /// `COPY:BYTES`: makes a content durable at the start of the area of a copy.
 pub fn fill(alloc: Global, disk: &mut MemDisk, rest: &str) -> Result<(), CaseError> {
     let (copy, bytes) = cut(rest, ':');
+    let area = first_file(copy)? + 2;
     let bytes = bytes_of(alloc, bytes)?;
-    disk.write_at(first_file(copy)? + 2, 0, &bytes)?;
-    disk.sync()?;
-    Ok(())
+    Ok(put_durably(disk, area, &bytes)?)
 }
 
 // The first file of a copy, counted from 1.
@@ -45,15 +39,22 @@ fn first_file(copy: &str) -> Result<u32, CaseError>
 }
 
 /// `FILE`: replaces each of its first bytes, at most 1,024, by its complement, and makes that durable.
-pub fn flip(alloc: Global, disk: &mut MemDisk, word: &str) -> Result<(), CaseError> {
-    let file = small(word)?;
-    let mut room = [0; 1024];
-    let count = disk.read(file, 0, &mut room)?;
-    let mut flipped = Vec::new(alloc);
-    for byte in &room[..count] {
-        flipped.push(!*byte)?;
+pub fn flip(disk: &mut MemDisk, word: &str) -> Result<(), CaseError> {
+    Ok(complement(disk, small(word)?, &mut [0; 1024])?)
+}
+
+/// Replaces each of the first bytes of a file, as many as there is room for, by its complement, and makes that durable.
+pub fn complement(disk: &mut MemDisk, file: u32, room: &mut [u8]) -> Result<(), DiskFailed> {
+    let count = disk.read(file, 0, room)?;
+    let bytes = &mut room[..count];
+    for byte in bytes.iter_mut() {
+        *byte = !*byte;
     }
-    disk.write_at(file, 0, &flipped)?;
-    disk.sync()?;
-    Ok(())
+    put_durably(disk, file, bytes)
+}
+
+// Writes bytes at the start of a file, and makes that durable.
+fn put_durably(disk: &mut MemDisk, file: u32, bytes: &[u8]) -> Result<(), DiskFailed> {
+    disk.write_at(file, 0, bytes)?;
+    disk.sync()
 }

@@ -41,6 +41,10 @@ fn put_entry(alloc: Global, said: &mut String, entry: &IndexEntry) -> Result<(),
     if let Some(info) = &entry.info {
         put_info(said, info)?;
     }
+    put_content(alloc, said, entry)
+}
+
+fn put_content(alloc: Global, said: &mut String, entry: &IndexEntry) -> Result<(), CaseError> {
     let changed = entry.changed;
     let len = entry.len;
     let hash = bytes_text(alloc, &entry.hash)?;

@@ -30,13 +30,14 @@ mod usage;
 mod views;
 mod votes;
 
-use std::io::{self, BufRead, BufReader};
+use std::io::{self, Read};
 
 fn main(rt: HostRuntime) -> io::Result<()> {
     let alloc = rt.alloc();
-    for line in BufReader::new(alloc, rt.reader())?.lines(alloc) {
-        let said = cases::answer(alloc, line?.as_str())?;
-        rt.println(said)?;
+    let mut lines = String::new(alloc);
+    rt.reader().read_to_string(&mut lines)?;
+    for line in lines.as_str().lines() {
+        rt.println(cases::answer(alloc, line)?)?;
     }
     Ok(())
 }

@@ -27,25 +27,40 @@ pub fn plan_of(word: &str) -> Result<Plan, CaseError> {
     let (m, rest) = cut(rest, ':');
     let (copies, rest) = cut(rest, ':');
     let (scope, first) = cut(rest, ':');
-    let kind = match kind {
-        "keys" => StoreKind::Keys,
-        "files" => StoreKind::Files,
-        _ => return Err(CaseError::NoCase),
+    let first = if first.is_empty() { "0" } else { first };
+    let (Some(kind), Some(scope)) = (kind_of(kind), scope_of(scope)) else {
+        return Err(CaseError::NoCase);
     };
-    let scope = match scope {
-        "element" => Scope::Element,
-        "storage" => Scope::Storage,
-        _ => return Err(CaseError::NoCase),
+    let (Ok(first), Ok(copies)) = (small(first), small(copies)) else {
+        return Err(CaseError::NoCase);
     };
-    let first = if first.is_empty() { 0 } else { small(first)? };
+    let (Ok(m), Ok(allowed)) = (small(m), number(allowed)) else {
+        return Err(CaseError::NoCase);
+    };
     Ok(Plan {
         first,
-        copies: small(copies)?,
-        m: small(m)?,
+        copies,
+        m,
         scope,
         kind,
-        allowed: number(allowed)?,
+        allowed,
     })
+}
+
+fn kind_of(word: &str) -> Option<StoreKind> {
+    match word {
+        "keys" => Some(StoreKind::Keys),
+        "files" => Some(StoreKind::Files),
+        _ => None,
+    }
+}
+
+fn scope_of(word: &str) -> Option<Scope> {
+    match word {
+        "element" => Some(Scope::Element),
+        "storage" => Some(Scope::Storage),
+        _ => None,
+    }
 }
 
 impl Plan {

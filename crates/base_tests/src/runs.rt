@@ -32,20 +32,40 @@ pub fn step(alloc: Global, plan: Plan, kept: Kept, word: &str) -> Result<(Kept, 
         "create" => created(alloc, plan, disk_of(kept), rest),
         "open" => opened(alloc, plan, disk_of(kept)),
         "put" => used(alloc, kept, rest),
-        "stop" => {
-            let kept = stopped(kept, number(rest)?);
-            Ok((kept, text(alloc, "ok")?))
-        }
-        "restart" => {
-            let disk = restarted(disk_of(kept), rest)?;
-            Ok((Kept::Closed(disk), text(alloc, "ok")?))
-        }
-        _ => {
-            let mut disk = disk_of(kept);
-            let said = apart(alloc, plan, &mut disk, verb, rest)?;
-            Ok((Kept::Closed(disk), said))
-        }
+        "stop" => cut_off(alloc, kept, rest),
+        "restart" => begun_again(alloc, disk_of(kept), rest),
+        _ => closed(alloc, plan, disk_of(kept), verb, rest),
     }
+}
+
+// `stop:K`: from now on K calls of the disk pass.
+fn cut_off(alloc: Global, kept: Kept, word: &str) -> Result<(Kept, String), CaseError>
+    requires { IsKeptStore kept }
+    ensures { IfOk result (λ next. IsKeptStore next.0) }
+{
+    let kept = stopped(kept, number(word)?);
+    Ok((kept, text(alloc, "ok")?))
+}
+
+fn begun_again(alloc: Global, disk: MemDisk, word: &str) -> Result<(Kept, String), CaseError>
+    ensures { IfOk result (λ next. IsKeptStore next.0) }
+{
+    let disk = restarted(disk, word)?;
+    Ok((Kept::Closed(disk), text(alloc, "ok")?))
+}
+
+// A word on a disk alone.
+fn closed(
+    alloc: Global,
+    plan: Plan,
+    mut disk: MemDisk,
+    verb: &str,
+    rest: &str,
+) -> Result<(Kept, String), CaseError>
+    ensures { IfOk result (λ next. IsKeptStore next.0) }
+{
+    let said = apart(alloc, plan, &mut disk, verb, rest)?;
+    Ok((Kept::Closed(disk), said))
 }
 
 /// `restart:all`, `restart:none`, `restart:PATTERN`: after a power loss that keeps all writes since the last sync,
@@ -71,7 +91,7 @@ fn apart(
         "rebuild" => return rebuilt(alloc, plan, disk, rest),
         "hold" => hold(alloc, disk, rest)?,
         "fill" => fill(alloc, disk, rest)?,
-        "flip" => flip(alloc, disk, rest)?,
+        "flip" => flip(disk, rest)?,
         _ => return Err(CaseError::NoCase),
     }
     text(alloc, "ok")

@@ -1,8 +1,37 @@
 //! Hashes and sealed texts.
 
+ghost use Rattle.std.specs.Prelude.{◌≤◌, IfOk, length};
+ghost use Rattle.hash_guard.specs.SealedText.{max_body};
+
 use case_words::{CaseError, bytes_of, bytes_text, cut, number, text};
 use hash_guard::{HEADER, MAX_BODY, hash, seal, seal_into, verify};
 use std::alloc::Global;
+
+/// A generation, and a body that can be sealed under it.
+#[derive(Drop)]
+pub struct Sealing {
+    pub generation: u64,
+    pub body: Vec<u8>,
+}
+
+/// `GENERATION:BYTES`, or with another character between them.
+pub fn sealing_of(alloc: Global, word: &str, at: char) -> Result<Sealing, CaseError>
+    ensures { IfOk result (λ s. (1 ≤ s.generation) × (length s.body.items ≤ max_body)) }
+{
+    let (generation, body) = cut(word, at);
+    let generation = number(generation)?;
+    let body = bytes_of(alloc, body)?;
+    if generation == 0 || body.len() > MAX_BODY {
+        return Err(CaseError::NoCase);
+    }
+    Ok(Sealing { generation, body })
+}
+
+/// `GENERATION:BYTES`: the sealed text.
+pub fn sealed_text(alloc: Global, word: &str) -> Result<Vec<u8>, CaseError> {
+    let Sealing { generation, body } = sealing_of(alloc, word, ':')?;
+    Ok(seal(alloc, generation, &body)?)
+}
 
 /// `hash BYTES`: their SHA-256.
 pub fn hash_of(alloc: Global, word: &str) -> Result<String, CaseError> {
@@ -11,12 +40,7 @@ pub fn hash_of(alloc: Global, word: &str) -> Result<String, CaseError> {
 
 /// `seal GENERATION BYTES`: the sealed text, written to a new buffer and over other bytes.
 pub fn sealed(alloc: Global, words: &str) -> Result<String, CaseError> {
-    let (generation, word) = cut(words, ' ');
-    let generation = number(generation)?;
-    let body = bytes_of(alloc, word)?;
-    if generation == 0 || body.len() > MAX_BODY {
-        return Err(CaseError::NoCase);
-    }
+    let Sealing { generation, body } = sealing_of(alloc, words, ' ')?;
     let sealed = seal(alloc, generation, &body)?;
     let mut room = vec![in alloc; 9; HEADER + body.len()]?;
     seal_into(&mut room, generation, &body);

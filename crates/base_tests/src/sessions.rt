@@ -1,17 +1,23 @@
 //! Sessions of a disk in memory, and of a register of three copies on it.
 
-ghost use Rattle.std.specs.Prelude.{IfOk};
+ghost use Rattle.std.specs.Prelude.{ℕ, List, OnOk};
+ghost use Rattle.disk_model.specs.Memory.{mem_medium};
+ghost use Rattle.guarded_cell.specs.Cells.{CellAt};
 ghost use Rattle.base_tests.specs.Sessions.{IsRegisterInUse};
 
+use crate::images::complement;
+use crate::runs::restarted;
+use crate::seals::{Sealing, sealed_text, sealing_of};
 use case_words::{
     CaseError, add, bytes_of, bytes_text, cut, number, numbers, numbers_text, small, text,
 };
 use disk_model::{Disk, MemDisk, Place};
 use guarded_cell::{Cell, CellError, Seen, adopt, format_cell, keep_only, look, open_cell};
-use hash_guard::{MAX_BODY, seal};
+use hash_guard::MAX_BODY;
 use per_base::Fault;
 use std::alloc::Global;
 use std::fmt::Write;
+use std::mem;
 
 /// A session: its disk, and a register in use there.
 #[derive(Drop)]
@@ -35,17 +41,16 @@ pub fn session(alloc: Global, words: &str) -> Result<String, CaseError> {
     };
     let mut said = String::new(alloc);
     for word in words.split(' ') {
-        let (next, answer) = step(alloc, run, word)?;
+        let answer = step(alloc, &mut run, word)?;
         add(&mut said, answer.as_str())?;
-        run = next;
     }
     Ok(said)
 }
 
 // One word of a session.
-fn step(alloc: Global, run: Run, word: &str) -> Result<(Run, String), CaseError>
-    requires { IsRegisterInUse run }
-    ensures { IfOk result (λ next. IsRegisterInUse next.0) }
+fn step(alloc: Global, run: &mut Run, word: &str) -> Result<String, CaseError>
+    requires { IsRegisterInUse run.old }
+    ensures { OnOk result (IsRegisterInUse run.new) }
 {
     let (verb, rest) = cut(word, ':');
     match verb {
@@ -58,89 +63,103 @@ fn step(alloc: Global, run: Run, word: &str) -> Result<(Run, String), CaseError>
 }
 
 // `format:BYTES`: formats a register.
-fn format(alloc: Global, run: Run, word: &str) -> Result<(Run, String), CaseError>
-    ensures { IfOk result (λ next. IsRegisterInUse next.0) }
+fn format(alloc: Global, run: &mut Run, word: &str) -> Result<String, CaseError>
+    ensures { OnOk result (IsRegisterInUse run.new) }
 {
-    let Run { mut disk, cell: _ } = run;
     let body = bytes_of(alloc, word)?;
     if body.len() > MAX_BODY {
         return Err(CaseError::NoCase);
     }
-    match format_cell(alloc, &mut disk, place(), &body) {
-        Ok(cell) => {
-            let cell = Some(cell);
-            Ok((Run { disk, cell }, text(alloc, "ok")?))
-        }
-        Err(error) => Ok((Run { disk, cell: None }, fault(alloc, error)?)),
+    drop(run.cell.take());
+    match format_cell(alloc, &mut run.disk, place(), &body) {
+        Ok(cell) => used(alloc, run, cell),
+        Err(error) => fault(alloc, error),
     }
 }
 
 // `put:BYTES`: writes the next text of the register in use.
-fn put(alloc: Global, run: Run, word: &str) -> Result<(Run, String), CaseError>
-    requires { IsRegisterInUse run }
-    ensures { IfOk result (λ next. IsRegisterInUse next.0) }
+fn put(alloc: Global, run: &mut Run, word: &str) -> Result<String, CaseError>
+    requires { IsRegisterInUse run.old }
+    ensures { OnOk result (IsRegisterInUse run.new) }
 {
-    let Run { mut disk, cell } = run;
-    let Some(cell) = cell else {
+    let body = bytes_of(alloc, word)?;
+    let Some(cell) = run.cell.take() else {
         return Err(CaseError::NoCase);
     };
-    let body = bytes_of(alloc, word)?;
     if body.len() > MAX_BODY || cell.generation() == u64::MAX {
         return Err(CaseError::NoCase);
     }
-    match cell.write(alloc, &mut disk, &body) {
-        Ok(cell) => {
-            let cell = Some(cell);
-            Ok((Run { disk, cell }, text(alloc, "ok")?))
-        }
-        Err(Fault::Device) => Ok((Run { disk, cell: None }, text(alloc, "failed")?)),
+    match cell.write(alloc, &mut run.disk, &body) {
+        Ok(cell) => used(alloc, run, cell),
+        Err(Fault::Device) => text(alloc, "failed"),
         Err(Fault::OutOfMemory(_)) => Err(CaseError::OutOfMemory),
     }
 }
 
-// `stop:K`: from now on K calls of the disk pass.
-fn stop(alloc: Global, run: Run, word: &str) -> Result<(Run, String), CaseError>
-    requires { IsRegisterInUse run }
-    ensures { IfOk result (λ next. IsRegisterInUse next.0) }
+// From now on this register is in use.
+fn used(alloc: Global, run: &mut Run, cell: Cell) -> Result<String, CaseError>
+    requires { (t : List ℕ) × CellAt (mem_medium run.old.disk).image cell t }
+    ensures { OnOk result (IsRegisterInUse run.new) }
 {
-    let Run { mut disk, cell } = run;
-    disk.stop_after(number(word)?);
-    Ok((Run { disk, cell }, text(alloc, "ok")?))
+    drop(run.cell.replace(cell));
+    text(alloc, "ok")
+}
+
+// `stop:K`: from now on K calls of the disk pass.
+fn stop(alloc: Global, run: &mut Run, word: &str) -> Result<String, CaseError>
+    requires { IsRegisterInUse run.old }
+    ensures { OnOk result (IsRegisterInUse run.new) }
+{
+    run.disk.stop_after(number(word)?);
+    text(alloc, "ok")
 }
 
 // `crash:all`, `crash:none`, `crash:PATTERN`: a power loss that keeps all writes since the last sync, none, or those of
 // the pattern.
-fn crash(alloc: Global, run: Run, word: &str) -> Result<(Run, String), CaseError>
-    ensures { IfOk result (λ next. IsRegisterInUse next.0) }
+fn crash(alloc: Global, run: &mut Run, word: &str) -> Result<String, CaseError>
+    ensures { OnOk result (IsRegisterInUse run.new) }
 {
-    let Run { disk, cell: _ } = run;
-    let disk = match word {
-        "all" => disk.crash(true)?,
-        "none" => disk.crash(false)?,
-        _ => disk.crash_torn(number(word)?)?,
-    };
-    Ok((Run { disk, cell: None }, text(alloc, "ok")?))
+    drop(run.cell.take());
+    let stopped = mem::replace(&mut run.disk, MemDisk::new(alloc));
+    drop(mem::replace(&mut run.disk, restarted(stopped, word)?));
+    text(alloc, "ok")
 }
 
 // A word that takes the register out of use.
-fn apart(alloc: Global, run: Run, verb: &str, rest: &str) -> Result<(Run, String), CaseError>
-    ensures { IfOk result (λ next. IsRegisterInUse next.0) }
+fn apart(alloc: Global, run: &mut Run, verb: &str, rest: &str) -> Result<String, CaseError>
+    ensures { IsRegisterInUse run.new }
 {
-    let Run { mut disk, cell: _ } = run;
-    let said = match verb {
-        "read" => read(alloc, &mut disk, rest)?,
-        "write" => write(alloc, &mut disk, rest)?,
-        "seal" => seal_front(alloc, &mut disk, rest)?,
-        "flip" => flip(alloc, &mut disk, rest)?,
-        "spoil" => spoil(alloc, &mut disk, rest)?,
-        "files" => files(alloc, &mut disk)?,
-        "look" => looked(alloc, &mut disk)?,
-        "open" => opened(alloc, &mut disk, rest)?,
-        "adopt" => adopted(alloc, &mut disk, rest)?,
-        "keep" => kept(alloc, &mut disk, rest)?,
-        _ => called(alloc, &mut disk, verb, rest)?,
-    };
-    Ok((Run { disk, cell: None }, said))
+    drop(run.cell.take());
+    told(alloc, &mut run.disk, verb, rest)
+}
+
+// The calls of a disk.
+fn told(alloc: Global, disk: &mut MemDisk, verb: &str, rest: &str) -> Result<String, CaseError> {
+    match verb {
+        "read" => read(alloc, disk, rest),
+        "write" => write(alloc, disk, rest),
+        "seal" => seal_front(alloc, disk, rest),
+        "flip" => flip(alloc, disk, rest),
+        "spoil" => spoil(alloc, disk, rest),
+        "files" => files(alloc, disk),
+        _ => registered(alloc, disk, verb, rest),
+    }
+}
+
+// The calls of a register.
+fn registered(
+    alloc: Global,
+    disk: &mut MemDisk,
+    verb: &str,
+    rest: &str,
+) -> Result<String, CaseError> {
+    match verb {
+        "look" => looked(alloc, disk),
+        "open" => opened(alloc, disk, rest),
+        "adopt" => adopted(alloc, disk, rest),
+        "keep" => kept(alloc, disk, rest),
+        _ => called(alloc, disk, verb, rest),
+    }
 }
 
 // The short calls of a disk.
@@ -179,13 +198,22 @@ fn fault(alloc: Global, error: CellError) -> Result<String, CaseError> {
     }
 }
 
+// `FILE:AT:REST`.
+fn spot_of(rest: &str) -> Result<(u32, u64, &str), CaseError> {
+    let (file, rest) = cut(rest, ':');
+    let (at, rest) = cut(rest, ':');
+    let (Ok(file), Ok(at)) = (small(file), number(at)) else {
+        return Err(CaseError::NoCase);
+    };
+    Ok((file, at, rest))
+}
+
 // `read:FILE:AT:ROOM`: the bytes that a read gives.
 fn read(alloc: Global, disk: &mut MemDisk, rest: &str) -> Result<String, CaseError> {
-    let (file, rest) = cut(rest, ':');
-    let (at, len) = cut(rest, ':');
+    let (file, at, len) = spot_of(rest)?;
     let len = small(len)?;
     let mut room = vec![in alloc; 0; len as usize]?;
-    match disk.read(small(file)?, number(at)?, &mut room) {
+    match disk.read(file, at, &mut room) {
         Ok(count) => bytes_text(alloc, &room[..count]),
         Err(_) => text(alloc, "failed"),
     }
@@ -193,72 +221,63 @@ fn read(alloc: Global, disk: &mut MemDisk, rest: &str) -> Result<String, CaseErr
 
 // `write:FILE:AT:BYTES`.
 fn write(alloc: Global, disk: &mut MemDisk, rest: &str) -> Result<String, CaseError> {
-    let (file, rest) = cut(rest, ':');
-    let (at, bytes) = cut(rest, ':');
+    let (file, at, bytes) = spot_of(rest)?;
     let bytes = bytes_of(alloc, bytes)?;
-    let written = disk.write_at(small(file)?, number(at)?, &bytes);
+    let written = disk.write_at(file, at, &bytes);
     done(alloc, written.is_ok())
 }
 
 // `seal:FILE:GENERATION:BYTES`: the sealed text at the start of the file.
 fn seal_front(alloc: Global, disk: &mut MemDisk, rest: &str) -> Result<String, CaseError> {
     let (file, rest) = cut(rest, ':');
-    let (generation, body) = cut(rest, ':');
-    let generation = number(generation)?;
-    let body = bytes_of(alloc, body)?;
-    if generation == 0 || body.len() > MAX_BODY {
-        return Err(CaseError::NoCase);
-    }
-    let sealed = seal(alloc, generation, &body)?;
-    let written = disk.write_at(small(file)?, 0, &sealed);
+    let file = small(file)?;
+    let sealed = sealed_text(alloc, rest)?;
+    let written = disk.write_at(file, 0, &sealed);
     done(alloc, written.is_ok())
 }
 
 // `flip:FILE`: makes each of its first 256 bytes the complement, durably.
 fn flip(alloc: Global, disk: &mut MemDisk, rest: &str) -> Result<String, CaseError> {
-    let file = small(rest)?;
-    let mut room = [0; 256];
-    let count = disk.read(file, 0, &mut room)?;
-    let mut flipped = Vec::new(alloc);
-    for byte in &room[..count] {
-        flipped.push(!*byte)?;
-    }
-    disk.write_at(file, 0, &flipped)?;
-    disk.sync()?;
+    complement(disk, small(rest)?, &mut [0; 256])?;
     done(alloc, true)
 }
 
 // `spoil:FILE:AT:BYTES`: after a sync, damage by the first of the bytes.
 fn spoil(alloc: Global, disk: &mut MemDisk, rest: &str) -> Result<String, CaseError> {
-    let (file, rest) = cut(rest, ':');
-    let (at, bytes) = cut(rest, ':');
-    let file = small(file)?;
-    let at = number(at)?;
-    let bytes = bytes_of(alloc, bytes)?;
-    let byte = bytes.first().copied().unwrap_or(0);
+    let (file, at, bytes) = spot_of(rest)?;
+    let byte = first_byte(alloc, bytes)?;
     disk.sync()?;
-    text(
-        alloc,
-        if disk.spoil(file, at, byte) {
-            "yes"
-        } else {
-            "no"
-        },
-    )
+    let is_spoilt = disk.spoil(file, at, byte);
+    text(alloc, if is_spoilt { "yes" } else { "no" })
+}
+
+fn first_byte(alloc: Global, word: &str) -> Result<u8, CaseError> {
+    Ok(bytes_of(alloc, word)?.first().copied().unwrap_or(0))
 }
 
 // `files`: the first twelve files that are not empty.
 fn files(alloc: Global, disk: &mut MemDisk) -> Result<String, CaseError> {
     let mut said = String::new(alloc);
     for file in 0..12 {
-        let mut room = [0; 256];
-        let count = disk.read(file, 0, &mut room)?;
-        if count > 0 {
-            let bytes = bytes_text(alloc, &room[..count])?;
-            write!(said, "{file}={bytes};")?;
-        }
+        put_file(alloc, disk, file, &mut said)?;
     }
     Ok(said)
+}
+
+// Adds a file that is not empty.
+fn put_file(
+    alloc: Global,
+    disk: &mut MemDisk,
+    file: u32,
+    said: &mut String,
+) -> Result<(), CaseError> {
+    let mut room = [0; 256];
+    let count = disk.read(file, 0, &mut room)?;
+    if count > 0 {
+        let bytes = bytes_text(alloc, &room[..count])?;
+        write!(said, "{file}={bytes};")?;
+    }
+    Ok(())
 }
 
 // `look`: the texts that copies hold.
@@ -272,15 +291,21 @@ fn looked(alloc: Global, disk: &mut MemDisk) -> Result<String, CaseError> {
 fn seens_text(alloc: Global, seens: &[Seen]) -> Result<String, CaseError> {
     let mut said = String::new(alloc);
     for seen in seens {
-        let generation = seen.generation;
-        let bytes = bytes_text(alloc, seen.text.as_slice())?;
-        let copies = numbers_text(alloc, seen.copies.as_slice())?;
-        write!(said, "{generation}={bytes}@{copies};")?;
+        put_seen(alloc, &mut said, seen)?;
     }
     if said.is_empty() {
-        return text(alloc, "none");
+        said.push_str("none")?;
     }
     Ok(said)
+}
+
+// Adds a text that copies hold.
+fn put_seen(alloc: Global, said: &mut String, seen: &Seen) -> Result<(), CaseError> {
+    let generation = seen.generation;
+    let bytes = bytes_text(alloc, seen.text.as_slice())?;
+    let copies = numbers_text(alloc, seen.copies.as_slice())?;
+    write!(said, "{generation}={bytes}@{copies};")?;
+    Ok(())
 }
 
 // `open:M`: the text that stands, and the copies that lacked it.
@@ -302,12 +327,7 @@ fn opened(alloc: Global, disk: &mut MemDisk, rest: &str) -> Result<String, CaseE
 
 // `adopt:GENERATION:BYTES`: brings every copy to this text.
 fn adopted(alloc: Global, disk: &mut MemDisk, rest: &str) -> Result<String, CaseError> {
-    let (generation, body) = cut(rest, ':');
-    let generation = number(generation)?;
-    let body = bytes_of(alloc, body)?;
-    if generation == 0 || body.len() > MAX_BODY {
-        return Err(CaseError::NoCase);
-    }
+    let Sealing { generation, body } = sealing_of(alloc, rest, ':')?;
     match adopt(alloc, disk, place(), generation, &body) {
         Ok(_) => done(alloc, true),
         Err(error) => fault(alloc, error),
@@ -317,8 +337,9 @@ fn adopted(alloc: Global, disk: &mut MemDisk, rest: &str) -> Result<String, Case
 // `keep:GENERATION:BYTES`: takes every other text away.
 fn kept(alloc: Global, disk: &mut MemDisk, rest: &str) -> Result<String, CaseError> {
     let (generation, body) = cut(rest, ':');
+    let generation = number(generation)?;
     let body = bytes_of(alloc, body)?;
-    match keep_only(alloc, disk, place(), number(generation)?, &body) {
+    match keep_only(alloc, disk, place(), generation, &body) {
         Ok(()) => done(alloc, true),
         Err(error) => fault(alloc, error),
     }

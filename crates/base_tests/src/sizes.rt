@@ -1,8 +1,9 @@
 //! Names, and the sizes of storages.
 
-use case_words::{CaseError, add, bytes_of, bytes_text, cut, text};
+use case_words::{CaseError, bytes_of, bytes_text, cut, text};
 use per_base::{Bytes, Content, Entry, Fresh, Name, Numbers, PerError, storage_size};
 use std::alloc::Global;
+use std::fmt::Write;
 
 /// `name TEXT`: the name of this text, copied.
 pub fn name(alloc: Global, words: &str) -> Result<String, CaseError> {
@@ -15,35 +16,30 @@ pub fn name(alloc: Global, words: &str) -> Result<String, CaseError> {
 
 /// `size NAME=BYTES ..`: the elements, and the size of a storage of these.
 pub fn size(alloc: Global, words: &str) -> Result<String, CaseError> {
-    let mut entries = Vec::new(alloc);
-    let mut said = String::new(alloc);
-    for word in words.split(' ') {
-        let entry = entry(alloc, word)?;
-        let shown = shown(alloc, &entry)?;
-        add(&mut said, shown.as_str())?;
-        entries.push(entry)?;
-    }
+    let entries = entries(alloc, words)?;
     if entries.len() > 1024 {
         return Err(CaseError::NoCase);
     }
+    let mut said = String::new(alloc);
+    for entry in &entries {
+        put_entry(alloc, &mut said, entry)?;
+    }
     let total = storage_size(&entries);
-    add(&mut said, format!(in alloc; "{total}")?.as_str())?;
+    write!(said, "{total}")?;
     Ok(said)
+}
+
+fn entries(alloc: Global, words: &str) -> Result<Vec<Entry>, CaseError> {
+    let mut entries = Vec::new(alloc);
+    for word in words.split(' ') {
+        entries.push(entry(alloc, word)?)?;
+    }
+    Ok(entries)
 }
 
 // An element that was copied, and copied again as an entry.
 fn entry(alloc: Global, word: &str) -> Result<Entry, CaseError> {
-    let (name, bytes) = cut(word, '=');
-    let Ok(name) = Name::new(alloc, name) else {
-        return Err(CaseError::NoCase);
-    };
-    let bytes = Bytes::new(bytes_of(alloc, bytes)?);
-    let fresh = Fresh {
-        name,
-        info: None,
-        bytes,
-    };
-    let Fresh { name, info, bytes } = fresh.copy()?;
+    let Fresh { name, info, bytes } = fresh(alloc, word)?;
     let Ok(len) = u32::try_from(bytes.len()) else {
         return Err(CaseError::NoCase);
     };
@@ -58,12 +54,28 @@ fn entry(alloc: Global, word: &str) -> Result<Entry, CaseError> {
     Ok(entry.copy()?)
 }
 
-// An entry as a word.
-fn shown(alloc: Global, entry: &Entry) -> Result<String, CaseError> {
+// An element that was copied.
+fn fresh(alloc: Global, word: &str) -> Result<Fresh, CaseError> {
+    let (name, bytes) = cut(word, '=');
+    let bytes = Bytes::new(bytes_of(alloc, bytes)?);
+    let Ok(name) = Name::new(alloc, name) else {
+        return Err(CaseError::NoCase);
+    };
+    let fresh = Fresh {
+        name,
+        info: None,
+        bytes,
+    };
+    Ok(fresh.copy()?)
+}
+
+// Adds an entry as a word.
+fn put_entry(alloc: Global, said: &mut String, entry: &Entry) -> Result<(), CaseError> {
     let Content::Good(bytes) = &entry.content else {
         return Err(CaseError::NoCase);
     };
     let name = entry.name.as_str();
     let bytes = bytes_text(alloc, bytes.as_slice())?;
-    Ok(format!(in alloc; "{name}={bytes}")?)
+    write!(said, "{name}={bytes} ")?;
+    Ok(())
 }

@@ -6,7 +6,7 @@ use crate::plans::Plan;
 use crate::views::{fault, store_text, view_text};
 use case_words::{CaseError, numbers_text, text};
 use disk_model::{MemDisk, Place};
-use element_store::{Shape, StoreError, open_store, salvage};
+use element_store::{Shape, Store, StoreError, open_store, salvage};
 use guarded_cell::{CellError, Seen, look};
 use std::alloc::Global;
 use std::fmt::Write;
@@ -15,14 +15,21 @@ use std::fmt::Write;
 pub fn state(alloc: Global, plan: Plan, mut disk: MemDisk) -> Result<String, CaseError> {
     let shape = plan.shape(alloc)?;
     match open_store(alloc, &mut disk, shape.copy()?) {
-        Ok(opened) => {
-            let mut said = store_text(alloc, &opened.store)?;
-            put_texts(alloc, &mut said, &mut disk, shape.place)?;
-            Ok(said)
-        }
+        Ok(opened) => shown(alloc, &mut disk, &opened.store, shape.place),
         Err(StoreError::Corrupt) => corrupt(alloc, &mut disk, &shape),
         Err(error) => fault(alloc, error),
     }
+}
+
+fn shown(
+    alloc: Global,
+    disk: &mut MemDisk,
+    store: &Store,
+    place: Place,
+) -> Result<String, CaseError> {
+    let mut said = store_text(alloc, store)?;
+    put_texts(alloc, &mut said, disk, place)?;
+    Ok(said)
 }
 
 // Adds the format of each text, and the copies that hold it.

@@ -85,11 +85,9 @@ fn follow(alloc: Global, course: Course<'_>, way: &str) -> Result<Option<String>
     let is_whole = way == "all" || way == "none";
     let mut is_over = false;
     for passing in 0..ENOUGH {
-        let (disk, done) = stopped_at(alloc, course, passing)?;
-        let now = state(alloc, course.plan, restarted(disk, way)?)?;
+        let (now, done) = state_at(alloc, course, passing, way)?;
         if !is_allowed(course, done || is_over, now.as_str()) {
-            let fault = format!(in alloc; "restart {way} after {passing} calls: {now}")?;
-            return Ok(Some(fault));
+            return fault_text(alloc, way, passing, now.as_str());
         }
         if done {
             return Ok(None);
@@ -97,6 +95,28 @@ fn follow(alloc: Global, course: Course<'_>, way: &str) -> Result<Option<String>
         is_over = is_whole && now.as_str() == course.after;
     }
     Ok(Some(text(alloc, "the word does not end")?))
+}
+
+fn fault_text(
+    alloc: Global,
+    way: &str,
+    passing: u64,
+    now: &str,
+) -> Result<Option<String>, CaseError> {
+    let fault = format!(in alloc; "restart {way} after {passing} calls: {now}")?;
+    Ok(Some(fault))
+}
+
+// What an opening finds where the word is stopped after that many calls, and whether the word succeeded.
+fn state_at(
+    alloc: Global,
+    course: Course<'_>,
+    passing: u64,
+    way: &str,
+) -> Result<(String, bool), CaseError> {
+    let (disk, done) = stopped_at(alloc, course, passing)?;
+    let now = state(alloc, course.plan, restarted(disk, way)?)?;
+    Ok((now, done))
 }
 
 // The disk on which the word is stopped after that many calls, and whether it succeeded.

@@ -3,6 +3,7 @@
 use case_words::{CaseError, add, bytes_of, bytes_text, cut, number, numbers, text};
 use per_base::{MemSink, MemSource, Sink, Source};
 use std::alloc::Global;
+use std::fmt::Write;
 
 /// `source PIECE FAILING BYTES ROOM ..`: what a read into room of each size answers: the count, and the room, which
 /// held zeros.
@@ -10,17 +11,27 @@ pub fn source(alloc: Global, words: &str) -> Result<String, CaseError> {
     let (piece, words) = cut(words, ' ');
     let (failing, words) = cut(words, ' ');
     let (bytes, rooms) = cut(words, ' ');
-    let piece = number(piece)?;
-    if piece == 0 {
-        return Err(CaseError::NoCase);
-    }
-    let mut source = MemSource::new(bytes_of(alloc, bytes)?, piece, numbers(alloc, failing)?);
+    let mut source = source_of(alloc, piece, failing, bytes)?;
     let mut said = String::new(alloc);
     for room in numbers(alloc, rooms)? {
         let read = read(alloc, &mut source, room)?;
         add(&mut said, read.as_str())?;
     }
     Ok(said)
+}
+
+fn source_of(
+    alloc: Global,
+    piece: &str,
+    failing: &str,
+    bytes: &str,
+) -> Result<MemSource, CaseError> {
+    let piece = number(piece)?;
+    if piece == 0 {
+        return Err(CaseError::NoCase);
+    }
+    let failing = numbers(alloc, failing)?;
+    Ok(MemSource::new(bytes_of(alloc, bytes)?, piece, failing))
 }
 
 // One read.
@@ -42,22 +53,33 @@ fn read(alloc: Global, source: &mut MemSource, len: u64) -> Result<String, CaseE
 pub fn sink(alloc: Global, words: &str) -> Result<String, CaseError> {
     let (piece, words) = cut(words, ' ');
     let (failing, writes) = cut(words, ' ');
-    let mut sink = MemSink::new(alloc, number(piece)?, numbers(alloc, failing)?);
+    let piece = number(piece)?;
+    let mut sink = MemSink::new(alloc, piece, numbers(alloc, failing)?);
     let mut said = String::new(alloc);
     for word in writes.split(' ') {
-        let written = write(alloc, &mut sink, &bytes_of(alloc, word)?)?;
-        add(&mut said, written.as_str())?;
+        put_write(alloc, &mut said, &mut sink, word)?;
     }
-    add(&mut said, bytes_text(alloc, sink.bytes())?.as_str())?;
-    let starved = sink.starved();
-    add(&mut said, format!(in alloc; "{starved}")?.as_str())?;
+    put_taken(alloc, &mut said, &sink)?;
     Ok(said)
 }
 
-// One write.
-fn write(alloc: Global, sink: &mut MemSink, bytes: &[u8]) -> Result<String, CaseError> {
-    match sink.write(bytes) {
-        Ok(count) => Ok(format!(in alloc; "{count}")?),
-        Err(_) => text(alloc, "failed"),
+// One write, and what it answers.
+fn put_write(
+    alloc: Global,
+    said: &mut String,
+    sink: &mut MemSink,
+    word: &str,
+) -> Result<(), CaseError> {
+    let bytes = bytes_of(alloc, word)?;
+    match sink.write(&bytes) {
+        Ok(count) => Ok(write!(said, "{count} ")?),
+        Err(_) => Ok(said.push_str("failed ")?),
     }
+}
+
+fn put_taken(alloc: Global, said: &mut String, sink: &MemSink) -> Result<(), CaseError> {
+    let taken = bytes_text(alloc, sink.bytes())?;
+    let starved = sink.starved();
+    write!(said, "{taken} {starved}")?;
+    Ok(())
 }

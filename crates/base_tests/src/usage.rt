@@ -3,6 +3,7 @@
 ghost use Rattle.std.specs.Prelude.{IfOk};
 ghost use Rattle.element_state.specs.Conditions.{IsShape, AreCommittable};
 ghost use Rattle.element_store.specs.Stores.{store_shape, view_in};
+ghost use Rattle.index_text.specs.Contents.{AreContents};
 ghost use Rattle.base_tests.specs.Usage.{IsKeptStore, IsStoreInUse};
 
 use crate::elements::{alone, element_of, takes};
@@ -11,7 +12,7 @@ use crate::views::fault;
 use case_words::{CaseError, text};
 use disk_model::MemDisk;
 use element_store::{OpenedStore, Shape, Store, create, open_store, rebuild, salvage};
-use per_base::{Change, Fault};
+use per_base::{Change, Fault, Fresh};
 use std::alloc::Global;
 
 /// A storage that is in use on a disk in memory.
@@ -60,6 +61,15 @@ pub fn stopped(kept: Kept, passing: u64) -> Kept
     }
 }
 
+// `NAME=BYTES`: the storage that is planned, with this element alone.
+fn planned(alloc: Global, plan: Plan, word: &str) -> Result<(Shape, Vec<Fresh>), CaseError>
+    ensures { IfOk result (λ made. IsShape made.0 × AreContents made.0.kind made.0.allowed made.1.items) }
+{
+    let shape = plan.shape(alloc)?;
+    let contents = alone(alloc, &shape, element_of(alloc, plan.kind, word)?)?;
+    Ok((shape, contents))
+}
+
 /// `create:NAME=BYTES`: rebuilds the storage with one element.
 pub fn created(
     alloc: Global,
@@ -69,8 +79,7 @@ pub fn created(
 ) -> Result<(Kept, String), CaseError>
     ensures { IfOk result (λ next. IsKeptStore next.0) }
 {
-    let shape = plan.shape(alloc)?;
-    let contents = alone(alloc, &shape, element_of(alloc, plan.kind, word)?)?;
+    let (shape, contents) = planned(alloc, plan, word)?;
     match create(alloc, &mut disk, shape.copy()?, contents) {
         Ok(store) => shown(alloc, InUse { disk, store, shape }),
         Err(error) => Ok((Kept::Closed(disk), fault(alloc, error)?)),
@@ -109,8 +118,7 @@ pub fn rebuilt(
     disk: &mut MemDisk,
     word: &str,
 ) -> Result<String, CaseError> {
-    let shape = plan.shape(alloc)?;
-    let contents = alone(alloc, &shape, element_of(alloc, plan.kind, word)?)?;
+    let (shape, contents) = planned(alloc, plan, word)?;
     match salvage(alloc, disk, &shape) {
         Err(error) => return fault(alloc, error),
         Ok(Some(view)) if view.generation == u64::MAX => return Err(CaseError::NoCase),

@@ -2,7 +2,7 @@
 
 use case_words::{CaseError, bytes_text, numbers_text};
 use element_store::{Store, StoreError, View};
-use per_base::{Content, Entry};
+use per_base::{Content, Entry, Numbers};
 use std::alloc::Global;
 use std::fmt::Write;
 
@@ -10,11 +10,7 @@ use std::fmt::Write;
 pub fn view_text(alloc: Global, view: &View) -> Result<String, CaseError> {
     let generation = view.generation;
     let mut said = format!(in alloc; "{generation}")?;
-    let lacking = view.lacking.as_slice();
-    if !lacking.is_empty() {
-        let lacking = numbers_text(alloc, lacking)?;
-        write!(said, "~{lacking}")?;
-    }
+    put_lacking(alloc, &mut said, &view.lacking)?;
     put_entries(alloc, &mut said, view.entries.as_slice())?;
     Ok(said)
 }
@@ -42,10 +38,14 @@ fn put_entry(alloc: Global, said: &mut String, entry: &Entry) -> Result<(), Case
     let len = entry.len;
     let changed = entry.changed;
     write!(said, ";{name}{content}/{len}@{changed}")?;
-    let lacking = entry.lacking.as_slice();
-    if !lacking.is_empty() {
-        let lacking = numbers_text(alloc, lacking)?;
-        write!(said, "~{lacking}")?;
+    put_lacking(alloc, said, &entry.lacking)
+}
+
+// Adds the copies that lack something.
+fn put_lacking(alloc: Global, said: &mut String, lacking: &Numbers) -> Result<(), CaseError> {
+    if !lacking.as_slice().is_empty() {
+        let copies = numbers_text(alloc, lacking.as_slice())?;
+        write!(said, "~{copies}")?;
     }
     Ok(())
 }

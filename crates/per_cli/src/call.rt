@@ -108,34 +108,41 @@ pub(crate) fn run<R: Files<File = File> + AllocGlobal + Input + Print + Screen>(
 ) -> u8 {
     match made(rt, words, named) {
         Ok(status) => status,
-        Err(Unmade::Refused) => {
-            let _ = say_refused(rt, rt.alloc(), words, named);
-            REFUSED_WORDS
-        }
-        Err(Unmade::Beside) => {
-            let _ = rt.eprintln(
-                "per: invalid arguments: a call takes --dir DIR and --flash N alone (per --help)",
-            );
-            REFUSED_WORDS
-        }
-        Err(Unmade::NoManifest) => {
-            let _ = rt.eprintln("per: invalid arguments: the manifest is empty (per --help)");
-            REFUSED_WORDS
-        }
-        Err(Unmade::LongManifest) => {
-            let _ = rt.eprintln(
-                "per: invalid arguments: the manifest has more than 65536 bytes (per --help)",
-            );
-            REFUSED_WORDS
-        }
-        Err(Unmade::Unread(error)) => {
-            let input = input_name(named);
-            let line = format!(in rt.alloc(); "per: {input} cannot be read: {error}");
-            let _ = say(rt, rt.alloc(), line);
-            NO_INPUT
-        }
-        Err(Unmade::OutOfMemory) => program::no_memory(rt),
+        Err(unmade) => not_made(rt, words, named, unmade),
     }
+}
+
+/// Says why no call was made, and gives the status.
+fn not_made<R: AllocGlobal + Screen>(
+    rt: &R,
+    words: &[String],
+    named: &[&[u8]],
+    unmade: Unmade,
+) -> u8 {
+    let line = match unmade {
+        Unmade::Refused => {
+            let _ = say_refused(rt, rt.alloc(), words, named);
+            return REFUSED_WORDS;
+        }
+        Unmade::Beside => {
+            "per: invalid arguments: a call takes --dir DIR and --flash N alone (per --help)"
+        }
+        Unmade::NoManifest => "per: invalid arguments: the manifest is empty (per --help)",
+        Unmade::LongManifest => {
+            "per: invalid arguments: the manifest has more than 65536 bytes (per --help)"
+        }
+        Unmade::Unread(error) => return say_unread(rt, rt.alloc(), input_name(named), error),
+        Unmade::OutOfMemory => return program::no_memory(rt),
+    };
+    let _ = rt.eprintln(line);
+    REFUSED_WORDS
+}
+
+/// Says why what the call takes cannot be read, and gives the status.
+fn say_unread<R: Screen>(rt: &R, alloc: Global, input: &str, error: io::Error) -> u8 {
+    let line = format!(in alloc; "per: {input} cannot be read: {error}");
+    let _ = say(rt, alloc, line);
+    NO_INPUT
 }
 
 /// What the call takes: a file by its name, or standard input.
@@ -156,20 +163,17 @@ fn say_refused<R: Screen>(
     named: &[&[u8]],
 ) -> io::Result<()> {
     if let Some(why) = unknown_option(alloc, words)? {
-        return say(
-            rt,
-            alloc,
-            format!(in alloc; "per: invalid arguments: {why} (per --help)"),
-        );
+        return say_why(rt, alloc, why.as_str());
     }
     match why_refused(alloc, named) {
-        Ok(Some(why)) => say(
-            rt,
-            alloc,
-            format!(in alloc; "per: invalid arguments: {why} (per --help)"),
-        ),
+        Ok(Some(why)) => say_why(rt, alloc, why.as_str()),
         Ok(None) | Err(_) => rt.eprintln(refusal_of(named)),
     }
+}
+
+fn say_why<R: Screen>(rt: &R, alloc: Global, why: &str) -> io::Result<()> {
+    let line = format!(in alloc; "per: invalid arguments: {why} (per --help)");
+    say(rt, alloc, line)
 }
 
 /// Which option is none of a run, where one is.
@@ -212,30 +216,49 @@ fn why_refused(alloc: Global, named: &[&[u8]]) -> Result<Option<String>, AllocEr
     let Some((digit, storage)) = target_in(target) else {
         return why_no_target(alloc, call, target);
     };
-    if storage.is_some() && is_of_application(alloc, call)? {
+    let is_of_application = is_of_application(alloc, call)?;
+    if storage.is_some() && is_of_application {
         return why_no_target(alloc, call, target);
     }
     if takes_manifest(call) && arguments.is_empty() {
-        let missing = "what is missing is a file with a manifest";
-        return Ok(Some(String::from_str(alloc, missing)?));
+        return missing(alloc, "a file with a manifest");
     }
-    if storage.is_none_or(|name| name.is_empty()) && !is_of_application(alloc, call)? {
-        let missing = "what is missing is a storage, as 0:k";
-        return Ok(Some(String::from_str(alloc, missing)?));
+    if storage.is_none_or(|name| name.is_empty()) && !is_of_application {
+        return missing(alloc, "a storage, as 0:k");
     }
+    let line = line_of(alloc, digit, call, storage, arguments)?;
+    why_no_call(alloc, line.as_slice())
+}
+
+/// What is said where this is missing.
+fn missing(alloc: Global, what: &str) -> Result<Option<String>, AllocError> {
+    Ok(Some(format!(in alloc; "what is missing is {what}")?))
+}
+
+/// The line of a call.
+fn line_of(
+    alloc: Global,
+    digit: u8,
+    call: &[u8],
+    storage: Option<&[u8]>,
+    arguments: &[&[u8]],
+) -> Result<Vec<u8>, AllocError> {
     let mut line = Vec::new(alloc);
     line.push(digit)?;
-    line.push(b' ')?;
-    line.extend_from_slice(call_word(call))?;
+    put_word(&mut line, call_word(call))?;
     if let Some(storage) = storage {
-        line.push(b' ')?;
-        line.extend_from_slice(storage)?;
+        put_word(&mut line, storage)?;
     }
     for argument in arguments {
-        line.push(b' ')?;
-        line.extend_from_slice(*argument)?;
+        put_word(&mut line, *argument)?;
     }
-    why_no_call(alloc, line.as_slice())
+    Ok(line)
+}
+
+/// Adds a word after others.
+fn put_word(line: &mut Vec<u8>, word: &[u8]) -> Result<(), AllocError> {
+    line.push(b' ')?;
+    line.extend_from_slice(word)
 }
 
 /// The digit of an application, and the name after a colon where one follows it.
@@ -252,8 +275,7 @@ fn why_no_words(alloc: Global, named: &[&[u8]]) -> Result<Option<String>, AllocE
     let [call] = named else {
         return Ok(None);
     };
-    let needed = target_needed(alloc, call)?;
-    Ok(Some(format!(in alloc; "what is missing is {needed}")?))
+    missing(alloc, target_needed(alloc, call)?)
 }
 
 /// To what the call is made.
@@ -304,11 +326,15 @@ fn made<R: Files<File = File> + AllocGlobal + Input + Print + Screen>(
     };
     // An installation makes an empty folder ready first.
     if is_first(named, b"install") {
-        let serve = String::from_str(alloc, "--serve")?;
-        options.push(serve).map_err(AllocError::from)?;
+        push_serve(alloc, &mut options)?;
     }
     let part = Vec::with_capacity(alloc, text.part_bytes())?;
     Ok(status_of_lines(rt, alloc, options.as_slice(), text, part))
+}
+
+fn push_serve(alloc: Global, options: &mut Vec<String>) -> Result<(), AllocError> {
+    options.push(String::from_str(alloc, "--serve")?)?;
+    Ok(())
 }
 
 /// Whether the options of the run that makes the call are valid, none of which may ask for another job.

@@ -219,16 +219,8 @@ pub(crate) fn none_of_these(alloc: Global, word: &[u8]) -> Result<Option<String>
 fn has_wrong_value(alloc: Global, words: &[String], option: &str) -> Result<bool, AllocError> {
     for (at, word) in words.iter().enumerate() {
         if is_option(word, option) {
-            let mut tried = Vec::new(alloc);
-            if option != "--dir" {
-                tried.push(String::from_str(alloc, "--dir=.")?)?;
-            }
-            tried.push(word.clone()?)?;
-            if word.as_str() == option {
-                if let Some(value) = words.get(at.saturating_add(1)) {
-                    tried.push(value.clone()?)?;
-                }
-            }
+            let value = words.get(at.saturating_add(1));
+            let tried = words_tried(alloc, word, value, option)?;
             match read_words(alloc, tried.as_slice()) {
                 Ok(_) => {}
                 Err(WordsError::Refused) => return Ok(true),
@@ -237,6 +229,26 @@ fn has_wrong_value(alloc: Global, words: &[String], option: &str) -> Result<bool
         }
     }
     Ok(false)
+}
+
+/// The arguments that a value is tried in: its option, and a folder where that is another one.
+fn words_tried(
+    alloc: Global,
+    word: &String,
+    value: Option<&String>,
+    option: &str,
+) -> Result<Vec<String>, AllocError> {
+    let mut tried = Vec::new(alloc);
+    if option != "--dir" {
+        tried.push(String::from_str(alloc, "--dir=.")?)?;
+    }
+    tried.push(word.clone()?)?;
+    if word.as_str() == option {
+        if let Some(value) = value {
+            tried.push(value.clone()?)?;
+        }
+    }
+    Ok(tried)
 }
 
 /// Whether the word is this option, with its value after an equals sign or not.

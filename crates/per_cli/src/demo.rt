@@ -108,19 +108,26 @@ fn run<R: Files<File = File> + AllocGlobal + Print + Screen>(
     lines: &[&'static str],
 ) -> io::Result<u8> {
     let word = typed(rt.alloc(), dir)?;
-    let mut words = Vec::new(rt.alloc());
     if is_format {
-        words.push(String::from_str(rt.alloc(), "--format")?)?;
         println!(rt; "$ ./per --format --dir {word}")?;
     } else {
         println!(rt; "$ ./per --dir {word}")?;
     }
-    words.push(String::from_str(rt.alloc(), "--dir")?)?;
-    words.push(String::from_str(rt.alloc(), dir)?)?;
+    let words = words_of_run(rt.alloc(), dir, is_format)?;
     Ok(program::run(
         rt,
         &words,
         LinesShown { rt, lines, read: 0 },
         io::writer(rt),
     ))
+}
+
+fn words_of_run(alloc: Global, dir: &str, is_format: bool) -> Result<Vec<String>, AllocError> {
+    let mut words = Vec::new(alloc);
+    if is_format {
+        words.push(String::from_str(alloc, "--format")?)?;
+    }
+    words.push(String::from_str(alloc, "--dir")?)?;
+    words.push(String::from_str(alloc, dir)?)?;
+    Ok(words)
 }

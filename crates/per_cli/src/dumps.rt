@@ -122,22 +122,29 @@ pub(crate) fn run<R: Files<File = File> + AllocGlobal + Input + Print + Screen>(
     let alloc = rt.alloc();
     match begun(rt, alloc, words, named) {
         Ok((wanted, place)) => done(rt, alloc, words, &wanted, place),
-        Err(Unbegun::Refused(why)) => {
+        Err(unbegun) => not_begun(rt, alloc, named, unbegun),
+    }
+}
+
+/// Says why nothing was begun, and gives the status.
+fn not_begun<R: Screen>(rt: &R, alloc: Global, named: &[&[u8]], unbegun: Unbegun) -> u8 {
+    match unbegun {
+        Unbegun::Refused(why) => {
             let _ = eprintln!(rt; "per: invalid arguments: {why} (per --help)");
             REFUSED_WORDS
         }
-        Err(Unbegun::Unread(error)) => {
+        Unbegun::Unread(error) => {
             let input = input_name(named);
             let line = format!(in alloc; "per: the dump cannot be read: {input}: {error}");
             let _ = say_line(rt, alloc, line);
             NO_INPUT
         }
-        Err(Unbegun::NoDump(why)) => {
+        Unbegun::NoDump(why) => {
             let line = format!(in alloc; "per: the text is no dump: {why}");
             let _ = say_line(rt, alloc, line);
             REFUSED_CALL
         }
-        Err(Unbegun::OutOfMemory) => program::no_memory(rt),
+        Unbegun::OutOfMemory => program::no_memory(rt),
     }
 }
 
@@ -157,29 +164,49 @@ fn begun<R: Files<File = File> + Input + Screen>(
     named: &[&[u8]],
 ) -> Result<(Wanted, Place), Unbegun> {
     let place = place_of(alloc, words)?;
-    let wanted = match named {
-        [word] if *word == b"dump".as_slice() => Wanted::Dump(None),
-        [word, application] if *word == b"dump".as_slice() => {
-            Wanted::Dump(Some(application_of(application)?))
-        }
-        [word] if *word == b"restore".as_slice() => {
-            let mut text = Vec::new(alloc);
-            say_awaited(rt, DUMP_AWAITED);
-            rt.reader().read_to_end(&mut text)?;
-            Wanted::Restore(dump_in(alloc, text.as_slice())?)
-        }
-        [word, file] if *word == b"restore".as_slice() => {
-            let Ok(file) = str::from_utf8(file) else {
-                return Err(Unbegun::Refused(RESTORE_TAKES));
-            };
-            let mut text = Vec::new(alloc);
-            fs::open(rt, file)?.read_to_end(&mut text)?;
-            Wanted::Restore(dump_in(alloc, text.as_slice())?)
-        }
-        [word, ..] if *word == b"dump".as_slice() => return Err(Unbegun::Refused(DUMP_TAKES)),
-        _ => return Err(Unbegun::Refused(RESTORE_TAKES)),
-    };
+    let wanted = wanted_in(rt, alloc, named)?;
     Ok((wanted, place))
+}
+
+/// What the words ask for.
+fn wanted_in<R: Files<File = File> + Input + Screen>(
+    rt: &R,
+    alloc: Global,
+    named: &[&[u8]],
+) -> Result<Wanted, Unbegun> {
+    let is_dump = named
+        .first()
+        .is_some_and(|word| *word == b"dump".as_slice());
+    match named {
+        [_] if is_dump => Ok(Wanted::Dump(None)),
+        [_, application] if is_dump => Ok(Wanted::Dump(Some(application_of(application)?))),
+        _ if is_dump => Err(Unbegun::Refused(DUMP_TAKES)),
+        [_] => typed_dump(rt, alloc),
+        [_, file] => dump_in_file(rt, alloc, file),
+        _ => Err(Unbegun::Refused(RESTORE_TAKES)),
+    }
+}
+
+/// The applications of the dump on standard input.
+fn typed_dump<R: Input + Screen>(rt: &R, alloc: Global) -> Result<Wanted, Unbegun> {
+    let mut text = Vec::new(alloc);
+    say_awaited(rt, DUMP_AWAITED);
+    rt.reader().read_to_end(&mut text)?;
+    Ok(Wanted::Restore(dump_in(alloc, text.as_slice())?))
+}
+
+/// The applications of the dump in a file.
+fn dump_in_file<R: Files<File = File>>(
+    rt: &R,
+    alloc: Global,
+    file: &[u8],
+) -> Result<Wanted, Unbegun> {
+    let Ok(file) = str::from_utf8(file) else {
+        return Err(Unbegun::Refused(RESTORE_TAKES));
+    };
+    let mut text = Vec::new(alloc);
+    fs::open(rt, file)?.read_to_end(&mut text)?;
+    Ok(Wanted::Restore(dump_in(alloc, text.as_slice())?))
 }
 
 /// The applications of a dump.

@@ -110,28 +110,36 @@ fn main(rt: HostRuntime) -> ExitCode {
             return ExitCode::from(status_of(&error));
         }
     };
-    let Ok(named) = named_words(rt.alloc(), &words) else {
-        return ExitCode::from(program::no_memory(&rt));
+    ExitCode::from(answered(&rt, &words))
+}
+
+/// Does what the arguments ask for, and gives the status.
+fn answered(rt: &HostRuntime, words: &[String]) -> u8 {
+    let Ok(named) = named_words(rt.alloc(), words) else {
+        return program::no_memory(rt);
     };
-    let status = match wish_of(&words, named.as_slice()) {
-        Asked::Help => help::show(&rt, rt.alloc()),
-        Asked::Version => help::show_version(&rt, rt.alloc()),
-        Asked::Demo => demo::show(&rt, process::id(rt.process())),
-        Asked::Call => call::run(&rt, &words, named.as_slice()),
-        Asked::Listing => listing::run(&rt, &words),
-        Asked::Job => jobs::run(&rt, &words, named.as_slice()),
-        Asked::Dump => dumps::run(&rt, &words, named.as_slice()),
-        Asked::Run if is_asked(&rt, &words) => {
-            program::run_asked(&rt, &words, Asking::new(&rt, rt.alloc()), rt.stdout())
-        }
-        Asked::Run => {
-            if awaits_export(&rt, &words) {
-                say_awaited(&rt, EXPORT_AWAITED);
-            }
-            program::run(&rt, &words, rt.stdin(), rt.stdout())
-        }
-    };
-    ExitCode::from(status)
+    let named = named.as_slice();
+    match wish_of(words, named) {
+        Asked::Help => help::show(rt, rt.alloc()),
+        Asked::Version => help::show_version(rt, rt.alloc()),
+        Asked::Demo => demo::show(rt, process::id(rt.process())),
+        Asked::Call => call::run(rt, words, named),
+        Asked::Listing => listing::run(rt, words),
+        Asked::Job => jobs::run(rt, words, named),
+        Asked::Dump => dumps::run(rt, words, named),
+        Asked::Run => run(rt, words),
+    }
+}
+
+/// Runs the program, for a person at a terminal or not, and gives the status.
+fn run(rt: &HostRuntime, words: &[String]) -> u8 {
+    if is_asked(rt, words) {
+        return program::run_asked(rt, words, Asking::new(rt, rt.alloc()), rt.stdout());
+    }
+    if awaits_export(rt, words) {
+        say_awaited(rt, EXPORT_AWAITED);
+    }
+    program::run(rt, words, rt.stdin(), rt.stdout())
 }
 
 /// The arguments after the program's name.

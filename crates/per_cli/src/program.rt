@@ -14,13 +14,13 @@ use folder_flash::{FolderFlash, of_flash};
 use migrate_fns::Migrations;
 use number_converters::{WithConverters, with_converters};
 use per_base::{Sink, Source};
-use per_run::{FlashRun, JobKind, WordsError, per_flash, per_run, read_words};
+use per_run::{FlashRun, Job, JobKind, WordsError, per_flash, per_run, read_words};
 use per_system::{
     Access, DeviceKind, HostSystem, Noted, NotedFlash, Notes, StdSink, StdSource, holds_only_others,
 };
 use std::alloc::{AllocError, Global};
 use std::fs::File;
-use std::io::{Read, Write};
+use std::io::{self, Read, Write};
 use std::rt::Files;
 use system_model::{Failure, System};
 
@@ -162,13 +162,7 @@ fn run_noting<'a, R: Files<File = File> + Screen, I: Read + Drop, O: Write + Dro
     last: &'a LastRead,
     marks: &'a Marks,
 ) -> u8 {
-    if is_foreign(rt, alloc, target) {
-        let dir = target.dir.as_str();
-        let _ = say_foreign(rt, alloc, dir, target.flash);
-        return NO_DISK;
-    }
-    if target.lists && !has_folder(rt, target.dir.as_str()) {
-        let _ = say_of_folder(rt, alloc, target.dir.as_str(), target.flash);
+    if says_unfit(rt, alloc, target) {
         return NO_DISK;
     }
     let mut source = StdSource::new(input);
@@ -203,6 +197,37 @@ fn run_noting<'a, R: Files<File = File> + Screen, I: Read + Drop, O: Write + Dro
         ),
         Err(failure) => not_held(notes, Some(failure)),
     };
+    let failures = (source.failure(), sink.failure());
+    say_end(rt, alloc, words, target, outcome, notes, marks, failures);
+    outcome.status
+}
+
+/// Says that the folder holds only files of others, or that there is none to list, and whether one of both is so.
+fn says_unfit<R: Files<File = File> + Screen>(rt: &R, alloc: Global, target: &Target) -> bool {
+    let dir = target.dir.as_str();
+    if is_foreign(rt, alloc, target) {
+        let _ = say_foreign(rt, alloc, dir, target.flash);
+        return true;
+    }
+    if target.lists && !has_folder(rt, dir) {
+        let _ = say_of_folder(rt, alloc, dir, target.flash);
+        return true;
+    }
+    false
+}
+
+/// Says why the run ended so, where there is something to say. The failures are those of the input and the output.
+fn say_end<R: Files + Screen>(
+    rt: &R,
+    alloc: Global,
+    words: &[String],
+    target: &Target,
+    outcome: Outcome,
+    notes: &Notes,
+    marks: &Marks,
+    failures: (Option<io::Error>, Option<io::Error>),
+) {
+    let (source, sink) = failures;
     let ended = Ended {
         status: outcome.status,
         dir: target.dir.as_str(),
@@ -214,11 +239,10 @@ fn run_noting<'a, R: Files<File = File> + Screen, I: Read + Drop, O: Write + Dro
         is_told: marks.is_told(),
         has_damage: marks.has_damage(),
         disk: notes.last().map(Fault::System).or(outcome.fault),
-        source: source.failure(),
-        sink: sink.failure(),
+        source,
+        sink,
     };
     let _ = say(rt, alloc, &ended);
-    outcome.status
 }
 
 /// What the folder holds.
@@ -322,10 +346,8 @@ fn run_over_flash<'a, R: Files + Screen, Y: System + Drop, S: Source, K: Sink>(
     marks: &Marks,
 ) -> Outcome {
     let mut flash = flash;
-    match flash.device_mut().is_too_long() {
-        Ok(false) => {}
-        Ok(true) => return outcome_of(WRONG_SIZE, Some(Fault::Longer), flash.device()),
-        Err(_) => return outcome_of(NO_DISK, None, flash.device()),
+    if let Some(outcome) = unusable(&mut flash) {
+        return outcome;
     }
     if !flash.device().has_file() {
         note_blank(rt, alloc, target, marks);
@@ -333,27 +355,44 @@ fn run_over_flash<'a, R: Files + Screen, Y: System + Drop, S: Source, K: Sink>(
     if target.formats && is_right_size(flash.blocks()) && erase_all(&mut flash).is_err() {
         return outcome_of(NO_DISK, None, flash.device());
     }
-    if target.takes_lines {
-        flash = match reclaim(alloc, flash) {
-            Ok(reclaimed) => reclaimed.flash,
-            Err(refused) => match refused.error {
-                FlashOpenError::Device => {
-                    return outcome_of(NO_DISK, None, refused.flash.device());
-                }
-                FlashOpenError::OutOfMemory => {
-                    return outcome_of(NO_MEMORY, None, refused.flash.device());
-                }
-                // The run says so.
-                FlashOpenError::WrongSize | FlashOpenError::Unusable => refused.flash,
-            },
-        };
-    }
+    let flash = if target.takes_lines {
+        match reclaimed(alloc, flash) {
+            Ok(flash) => flash,
+            Err(outcome) => return outcome,
+        }
+    } else {
+        flash
+    };
     match per_flash(alloc, words, migrations, source, sink, flash) {
         FlashRun::Ran(status, disk) => {
             let fault = (disk.own_faults() > 0).then_some(Fault::Full);
             outcome_of(status, fault, disk.into_flash().device())
         }
         FlashRun::Unopened(status, flash) => outcome_of(status, None, flash.device()),
+    }
+}
+
+/// The outcome where the file of the flash has more bytes than its blocks, or cannot be looked at.
+fn unusable<'a, Y: System + Drop>(flash: &mut NotedFlash<'a, FolderFlash<Y>>) -> Option<Outcome> {
+    match flash.device_mut().is_too_long() {
+        Ok(false) => None,
+        Ok(true) => Some(outcome_of(WRONG_SIZE, Some(Fault::Longer), flash.device())),
+        Err(_) => Some(outcome_of(NO_DISK, None, flash.device())),
+    }
+}
+
+/// The flash without what no application needs any more. One that does not open is left to the run, which says so.
+fn reclaimed<'a, Y: System + Drop>(
+    alloc: Global,
+    flash: NotedFlash<'a, FolderFlash<Y>>,
+) -> Result<NotedFlash<'a, FolderFlash<Y>>, Outcome> {
+    match reclaim(alloc, flash) {
+        Ok(reclaimed) => Ok(reclaimed.flash),
+        Err(refused) => match refused.error {
+            FlashOpenError::Device => Err(outcome_of(NO_DISK, None, refused.flash.device())),
+            FlashOpenError::OutOfMemory => Err(outcome_of(NO_MEMORY, None, refused.flash.device())),
+            FlashOpenError::WrongSize | FlashOpenError::Unusable => Ok(refused.flash),
+        },
     }
 }
 
@@ -402,43 +441,39 @@ fn target_of(
 ) -> Result<(Target, String), AllocError> {
     match read_words(alloc, words) {
         Ok(job) => {
-            let access = access_of(&job.kind);
-            let formats = matches!(job.kind, JobKind::Format | JobKind::Generate(_));
-            let audits = matches!(job.kind, JobKind::Audit);
-            let takes_lines = matches!(job.kind, JobKind::Run | JobKind::Serve);
-            let lists = matches!(job.kind, JobKind::Listing(_));
-            let formats_blank = matches!(job.kind, JobKind::Serve);
-            let flash = job.flash;
-            let dir = job.dir.into_string();
-            let copy = dir.clone()?;
-            let target = Target {
-                dir,
-                access,
-                formats,
-                audits,
-                takes_lines,
-                lists,
-                formats_blank,
-                is_asked,
-                flash,
-            };
-            Ok((target, copy))
-        }
-        Err(WordsError::Refused) => {
-            let dir = String::new(alloc);
-            let target = Target {
-                dir: String::new(alloc),
-                access: Access::Read,
-                formats: false,
-                audits: false,
-                takes_lines: false,
-                lists: false,
-                formats_blank: false,
-                is_asked,
-                flash: None,
-            };
+            let target = target_in(job, is_asked);
+            let dir = target.dir.clone()?;
             Ok((target, dir))
         }
+        Err(WordsError::Refused) => Ok((no_target(alloc, is_asked), String::new(alloc))),
         Err(WordsError::OutOfMemory) => Err(AllocError),
+    }
+}
+
+fn target_in(job: Job, is_asked: bool) -> Target {
+    Target {
+        access: access_of(&job.kind),
+        formats: matches!(job.kind, JobKind::Format | JobKind::Generate(_)),
+        audits: matches!(job.kind, JobKind::Audit),
+        takes_lines: matches!(job.kind, JobKind::Run | JobKind::Serve),
+        lists: matches!(job.kind, JobKind::Listing(_)),
+        formats_blank: matches!(job.kind, JobKind::Serve),
+        is_asked,
+        flash: job.flash,
+        dir: job.dir.into_string(),
+    }
+}
+
+fn no_target(alloc: Global, is_asked: bool) -> Target {
+    Target {
+        dir: String::new(alloc),
+        access: Access::Read,
+        formats: false,
+        audits: false,
+        takes_lines: false,
+        lists: false,
+        formats_blank: false,
+        is_asked,
+        flash: None,
     }
 }
