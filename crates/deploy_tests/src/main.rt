@@ -33,14 +33,13 @@ mod stops;
 mod storages;
 mod versions;
 
-use std::io::{self, Read};
+use std::io::{self, BufRead, BufReader};
 
 fn main(rt: HostRuntime) -> io::Result<()> {
     let alloc = rt.alloc();
-    let mut lines = String::new(alloc);
-    rt.reader().read_to_string(&mut lines)?;
-    for line in lines.as_str().lines() {
-        rt.println(cases::answer(alloc, line)?)?;
+    for line in BufReader::new(alloc, rt.reader())?.lines(alloc) {
+        let said = cases::answer(alloc, line?.as_str())?;
+        rt.println(said)?;
     }
     Ok(())
 }
