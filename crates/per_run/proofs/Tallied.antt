@@ -1,11 +1,11 @@
 -- One reply more is counted; and the lines of a number, one after the other.
 use Rattle.std.proofs.Common.{ℕ, zero, suc, List, [], ◌∷◌, ◌++◌, length, map, ◌≡◌, ◌≤◌, ◌<◌, ◌+◌, ◌-◌, ◌^◌, ◌&&◌, not}
 use Rattle.std.proofs.Common.{min, cond, refl, sym, ◌∙◌, ap, ap₂, subst, arith, Option, Some, None, Bool, true, false}
-use Rattle.std.proofs.Common.{count_by, append_assoc, length-append, get_or, take, add-one, Bor}
+use Rattle.std.proofs.Common.{count_by, append-nil, append_assoc, drop, length-append, get_or, take, add-one, Bor}
 use Rattle.std.specs.Option.{option_or}
 use Rattle.std.proofs.lemmas.List.Sums.{sum_by_push, count_by-le-length}
 use Rattle.std.proofs.Math.Seq.{take-suc}
-use Rattle.std.proofs.lemmas.List.{length-take, map-append, take_all}
+use Rattle.std.proofs.lemmas.List.{length-take, map-append, take-append-drop, take_all}
 use Rattle.disk_model.specs.Medium.{Medium, IsLawful, Elapses}
 use Rattle.migrate_fns.specs.Rules.{Rule, Answers}
 use Rattle.command_text.specs.declared.replies.Answer.{Answer}
@@ -19,7 +19,7 @@ use Rattle.run_model.specs.Worlds.{World}
 use Rattle.per_run.specs.declared.tally.Tally.{Tally}
 use Rattle.per_run.specs.Jobs.{done_in, error_in, number_in, is_done, is_error, is_other, size_given, summary}
 use Rattle.per_run.specs.Jobs.{summary_text}
-use Rattle.per_run.specs.Steps.{Counted, Goes, IsLineAnswered, Tallies}
+use Rattle.per_run.specs.Steps.{BeginWith, Counted, Goes, IsLineAnswered, Tallies}
 use Rattle.per_run.proofs.Gives.{give_turn, replies_on}
 use Rattle.per_run.proofs.Goes.{goes_on}
 
@@ -166,6 +166,17 @@ module _ (told : Bool) (rules : List Rule) (answers : Answers) (start : Medium) 
   counted_along lines same memory tally medium is counted =
       subst (λ (l : List (List ℕ)). Counted told rules answers start l memory tally medium) (sym is) counted
 
+-- ---- lines that begin with others
+
+pub begin_less : (lines more all : List (List ℕ)) → BeginWith (lines ++ more) all → BeginWith lines all
+begin_less lines more all begin = (more ++ begin.0, begin.1 ∙ append_assoc lines more begin.0)
+
+pub begin_as : (lines same all : List (List ℕ)) → lines ≡ same → BeginWith lines all → BeginWith same all
+begin_as lines same all is begin = subst (λ (l : List (List ℕ)). BeginWith l all) is begin
+
+pub begin_here : (all : List (List ℕ)) → BeginWith all all
+begin_here all = ([], sym (append-nil all))
+
 -- ---- the lines of a number
 
 -- the number after that many others
@@ -229,6 +240,27 @@ few_generated before n i few lt = omega (
   length_lines i 1 n,
 )
 
+-- the first of them are lines before the others
+lines_split : (a b i x : ℕ) → generated_lines (a + b) i x
+    ≡ generated_lines a i x ++ generated_lines b (i + a) (number_after x a)
+lines_split zero b i x = ap (λ (k : ℕ). generated_lines b k x) (place_none i)
+lines_split (suc a) b i x = ap (λ (ls : List (List ℕ)). generated_line (next_number x) i ∷ ls)
+    (lines_split a b (i + 1) (next_number x)
+    ∙ ap (λ (k : ℕ). generated_lines a (i + 1) (next_number x)
+    ++ generated_lines b k (number_after (next_number x) a)) (place_more i a))
+
+-- all lines begin with those up to the next one
+pub begin_generated : (before all : List (List ℕ)) (n i : ℕ) → i < n → BeginWith (before ++ generated_lines n 1 n) all
+    → BeginWith (before ++ generated_lines (i + 1) 1 n) all
+begin_generated before all n i lt begin =
+    let parts : n ≡ (i + 1) + (n - (i + 1)) = omega (arith, lt) in
+    begin_less (before ++ generated_lines (i + 1) 1 n)
+    (generated_lines (n - (i + 1)) (1 + (i + 1)) (number_after n (i + 1))) all
+    (begin_as _ _ all (ap (λ (k : ℕ). before ++ generated_lines k 1 n) parts
+    ∙ ap (λ (ls : List (List ℕ)). before ++ ls) (lines_split (i + 1) (n - (i + 1)) 1 n)
+    ∙ sym (append_assoc before (generated_lines (i + 1) 1 n)
+    (generated_lines (n - (i + 1)) (1 + (i + 1)) (number_after n (i + 1))))) begin)
+
 -- ---- lines that are borrowed
 
 abbrev pub texts_of : List (Bor (List ℕ)) → List (List ℕ)
@@ -264,3 +296,12 @@ few_each before lines i few = omega (
 pub each_whole : (before : List (List ℕ)) (lines : List (Bor (List ℕ))) (i : ℕ) → length lines ≤ i
     → before ++ texts_of lines ≡ before ++ texts_of (take i lines)
 each_whole before lines i all = ap (λ (ls : List (Bor (List ℕ))). before ++ texts_of ls) (sym (take_all i lines all))
+
+-- all of them begin with those up to the next one
+pub begin_each : (before all : List (List ℕ)) (lines : List (Bor (List ℕ))) (i : ℕ)
+    → BeginWith (before ++ texts_of lines) all → BeginWith (before ++ texts_of (take i lines)) all
+begin_each before all lines i begin = begin_less (before ++ texts_of (take i lines)) (texts_of (drop i lines)) all
+    (begin_as _ _ all (ap (λ (ls : List (Bor (List ℕ))). before ++ texts_of ls) (sym (take-append-drop i lines))
+    ∙ ap (λ (ls : List (List ℕ)). before ++ ls)
+    (map-append (λ (l : Bor (List ℕ)). l.now) (take i lines) (drop i lines))
+    ∙ sym (append_assoc before (texts_of (take i lines)) (texts_of (drop i lines)))) begin)
