@@ -5,12 +5,11 @@ ghost use Rattle.disk_model.specs.Memory.{mem_medium};
 ghost use Rattle.deploy.specs.Building.{StagedAt};
 ghost use Rattle.deploy.specs.Roots.{RootAt};
 
-use crate::calls::UPDATED;
+use crate::calls::{UPDATED, put_outcome};
 use crate::courses::add;
 use crate::faults::Fault;
 use crate::manifests::manifest;
-use crate::refusals::refusal_text;
-use case_words::{cut, small};
+use case_words::{CaseError, cut, small};
 use deploy::{Begin, Root, Staged, begin_update, open_root};
 use disk_model::MemDisk;
 use migrate_fns::Migrations;
@@ -36,8 +35,7 @@ pub fn built(
     let text = manifest(name).as_bytes();
     match begin_update(alloc, disk, app, root, None, text, migrations, UPDATED)? {
         Begin::Refused(root, refused) => {
-            let answer = refusal_text(alloc, &refused)?;
-            add(said, answer.as_str())?;
+            put_outcome(alloc, Some(&refused), said)?;
             Ok(root)
         }
         Begin::Ready(staged) => {
@@ -60,17 +58,25 @@ fn stepped(
     ensures { IfOk result (StagedAt true (mem_medium disk.new).image app) }
 {
     let mut staged = staged;
+    put_offer(alloc, &staged, said)?;
+    for _ in 0..steps {
+        staged = staged.next_storage(disk)?;
+        put_remaining(alloc, &staged, said)?;
+    }
+    Ok(staged)
+}
+
+fn put_offer(alloc: Global, staged: &Staged, said: &mut String) -> Result<(), CaseError> {
     let offered = staged.offered();
     let remaining = staged.remaining();
     let answer = format!(in alloc; "offers {offered}, {remaining} remain")?;
-    add(said, answer.as_str())?;
-    for _ in 0..steps {
-        staged = staged.next_storage(disk)?;
-        let remaining = staged.remaining();
-        let answer = format!(in alloc; "{remaining} remain")?;
-        add(said, answer.as_str())?;
-    }
-    Ok(staged)
+    add(said, answer.as_str())
+}
+
+fn put_remaining(alloc: Global, staged: &Staged, said: &mut String) -> Result<(), CaseError> {
+    let remaining = staged.remaining();
+    let answer = format!(in alloc; "{remaining} remain")?;
+    add(said, answer.as_str())
 }
 
 // The root at the end of an update.

@@ -1,8 +1,8 @@
 //! Calls on a root.
 
-ghost use Rattle.std.specs.Prelude.{◌<◌, IfOk, true};
+ghost use Rattle.std.specs.Prelude.{◌≡◌, ◌<◌, IfOk, true};
 ghost use Rattle.disk_model.specs.Memory.{mem_medium};
-ghost use Rattle.deploy.specs.Roots.{RootAt};
+ghost use Rattle.deploy.specs.Roots.{IsRootOf, RootAt};
 
 use crate::building::built;
 use crate::courses::add;
@@ -58,18 +58,42 @@ fn called(
     let (verb, rest) = cut(call, '=');
     match verb {
         "look" => {
-            let answer = looked(alloc, disk, app, &root)?;
-            add(said, answer.as_str())?;
+            put_look(alloc, disk, app, &root, said)?;
             Ok(root)
         }
         "build" => built(alloc, disk, app, root, migrations, rest, said),
         _ => {
             let outcome = made(alloc, disk, app, root, migrations, verb, rest)?;
-            let answer = outcome_text(alloc, outcome.refused.as_ref())?;
-            add(said, answer.as_str())?;
+            put_outcome(alloc, outcome.refused.as_ref(), said)?;
             Ok(outcome.root)
         }
     }
+}
+
+// Adds what a look at the root shows.
+fn put_look(
+    alloc: Global,
+    disk: &mut MemDisk,
+    app: u32,
+    root: &Root,
+    said: &mut String,
+) -> Result<(), Fault>
+    requires app { app < 8 }
+    requires root { IsRootOf app root.now }
+    ensures { (mem_medium disk.new).image ≡ (mem_medium disk.old).image }
+{
+    let answer = looked(alloc, disk, app, root)?;
+    Ok(add(said, answer.as_str())?)
+}
+
+/// Adds `ok`, or the refusal.
+pub fn put_outcome(
+    alloc: Global,
+    refused: Option<&PerError>,
+    said: &mut String,
+) -> Result<(), CaseError> {
+    let answer = outcome_text(alloc, refused)?;
+    add(said, answer.as_str())
 }
 
 // A call with an outcome.

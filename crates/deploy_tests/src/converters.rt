@@ -47,24 +47,18 @@ pub fn with_converters(
     requires { app < 8 }
 {
     let mut list = Vec::new(alloc);
-    add(
-        &mut list,
-        ValueType::U8,
-        ValueType::U16,
-        Box::new(alloc, u8_to_u16)?,
-    )?;
-    add(
-        &mut list,
-        ValueType::U16,
-        ValueType::U32,
-        Box::new(alloc, u16_to_u32)?,
-    )?;
-    add(
-        &mut list,
-        ValueType::U32,
-        ValueType::U64,
-        Box::new(alloc, u32_to_u64)?,
-    )?;
+    let Ok(convert) = Box::new(alloc, u8_to_u16) else {
+        return Err(Fault::OutOfMemory);
+    };
+    add(&mut list, ValueType::U8, ValueType::U16, convert)?;
+    let Ok(convert) = Box::new(alloc, u16_to_u32) else {
+        return Err(Fault::OutOfMemory);
+    };
+    add(&mut list, ValueType::U16, ValueType::U32, convert)?;
+    let Ok(convert) = Box::new(alloc, u32_to_u64) else {
+        return Err(Fault::OutOfMemory);
+    };
+    add(&mut list, ValueType::U32, ValueType::U64, convert)?;
     let migrations = Migrations::new(list);
     calls(alloc, disk, app, &migrations, words, said)
 }

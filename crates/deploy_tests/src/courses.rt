@@ -79,21 +79,33 @@ fn told(
 ) -> Result<(), Fault> {
     match verb {
         "format" => format_all(alloc, disk)?,
-        "flip" => flip(alloc, disk, rest)?,
+        "flip" => flip(disk, rest)?,
         "spoil" => spoil(disk, rest)?,
         "hold" => hold(alloc, disk, rest)?,
         "wear" => wear(alloc, disk, rest)?,
         "fail" => disk.fail_calls(numbers(alloc, rest)?),
         "stop" => disk.stop_after(number(rest)?),
-        "view" => return viewed(alloc, disk, app_of(rest)?, said),
-        "open" | "set" | "recover" | "reset" => {
-            let (app, rest) = cut(rest, ':');
-            return stored(alloc, disk, app_of(app)?, verb, rest, said);
-        }
-        _ => return with_converters(alloc, disk, app_of(verb)?, rest, said),
+        _ => return called(alloc, disk, verb, rest, said),
     }
-    add(said, "ok")?;
-    Ok(())
+    Ok(add(said, "ok")?)
+}
+
+// A word on an application.
+fn called(
+    alloc: Global,
+    disk: &mut MemDisk,
+    verb: &str,
+    rest: &str,
+    said: &mut String,
+) -> Result<(), Fault> {
+    match verb {
+        "view" => viewed(alloc, disk, app_of(rest)?, said),
+        "open" | "set" | "thing" | "recover" | "reset" => {
+            let (app, rest) = cut(rest, ':');
+            stored(alloc, disk, app_of(app)?, verb, rest, said)
+        }
+        _ => with_converters(alloc, disk, app_of(verb)?, rest, said),
+    }
 }
 
 // The number of an application.

@@ -13,7 +13,7 @@
 //!   `update=MANIFEST/BUSY`, `build=MANIFEST/STEPS/END`, `finish`, `rollback=BUSY`, `wipe=BUSY`, `look`. A busy storage
 //!   may be left out, and END is `commit`, `abort` or `forget`.
 //! - `open:APP:STORAGE`, `set:APP:STORAGE:KEY=VALUE+..`, `recover:APP:STORAGE`, `reset:APP:STORAGE` act on a storage of
-//!   the active version.
+//!   the active version; `thing:APP:STORAGE:KEY=KIND:COUNT+..` makes things of Rust types visible and syncs nothing.
 //! - `flip:FILE,..`, `spoil:FILE:AT:BYTE`, `hold:FILE:GENERATION:BYTES`, `wear:FIRST:COPIES` change files.
 //! - `fail:CALL,..`, `stop:CALLS`, `restart:WAY` fail calls of the disk, and cut the power.
 #![tactic(auto)]
@@ -31,15 +31,17 @@ mod roots;
 mod snapshots;
 mod stops;
 mod storages;
+mod things;
 mod versions;
 
-use std::io::{self, BufRead, BufReader};
+use std::io::{self, Read};
 
 fn main(rt: HostRuntime) -> io::Result<()> {
     let alloc = rt.alloc();
-    for line in BufReader::new(alloc, rt.reader())?.lines(alloc) {
-        let said = cases::answer(alloc, line?.as_str())?;
-        rt.println(said)?;
+    let mut lines = String::new(alloc);
+    rt.reader().read_to_string(&mut lines)?;
+    for line in lines.as_str().lines() {
+        rt.println(cases::answer(alloc, line)?)?;
     }
     Ok(())
 }

@@ -11,8 +11,8 @@ pub fn outcome_text(alloc: Global, refused: Option<&PerError>) -> Result<String,
     }
 }
 
-/// A refusal, with what it carries.
-pub fn refusal_text(alloc: Global, error: &PerError) -> Result<String, AllocError> {
+// A refusal, with what it carries.
+fn refusal_text(alloc: Global, error: &PerError) -> Result<String, AllocError> {
     match error {
         PerError::IntegrityCorrupted { unit } => corrupted_text(alloc, unit),
         PerError::ResourceBusy {

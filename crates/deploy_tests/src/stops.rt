@@ -46,22 +46,38 @@ pub fn damaged(alloc: Global, rest: &str) -> Result<String, CaseError> {
 fn follow_all(alloc: Global, rest: &str, damages: &[&str]) -> Result<String, CaseError> {
     let (earlier, rest) = cut_part(rest);
     let course = course_of(rest);
-    let (mut disk, _said) = run(alloc, MemDisk::new(alloc), earlier)?;
-    let start = Snapshot::taken(alloc, &mut disk)?;
+    let start = started(alloc, earlier)?;
     let moments = moments(alloc, &start, course.word)?;
-    for way in RESTARTS {
-        if let Some(fault) = follow(alloc, &start, course, &moments, "", way)? {
+    if let Some(fault) = follow_ways(alloc, &start, course, &moments, "")? {
+        return Ok(fault);
+    }
+    for damage in damages {
+        if let Some(fault) = follow_ways(alloc, &start, course, &moments, damage)? {
             return Ok(fault);
         }
     }
-    for damage in damages {
-        for way in RESTARTS {
-            if let Some(fault) = follow(alloc, &start, course, &moments, damage, way)? {
-                return Ok(fault);
-            }
+    text(alloc, "kept")
+}
+
+// What the words before leave.
+fn started(alloc: Global, earlier: &str) -> Result<Snapshot, CaseError> {
+    let (mut disk, _said) = run(alloc, MemDisk::new(alloc), earlier)?;
+    Snapshot::taken(alloc, &mut disk)
+}
+
+fn follow_ways(
+    alloc: Global,
+    start: &Snapshot,
+    course: Course<'_>,
+    moments: &[u64],
+    damage: &str,
+) -> Result<Option<String>, CaseError> {
+    for way in RESTARTS {
+        if let Some(fault) = follow(alloc, start, course, moments, damage, way)? {
+            return Ok(Some(fault));
         }
     }
-    text(alloc, "kept")
+    Ok(None)
 }
 
 fn course_of(rest: &str) -> Course<'_> {
@@ -117,15 +133,35 @@ fn follow(
     let mut is_over = false;
     for passing in moments {
         let (disk, done) = stopped_at(alloc, start, course.word, *passing)?;
-        let (disk, _said) = run(alloc, restarted(disk, way)?, damage)?;
-        let (_disk, now) = run(alloc, disk, course.look)?;
+        let now = answer_after(alloc, restarted(disk, way)?, damage, course.look)?;
         if !is_allowed(course, done || is_over, now.as_str()) {
-            let fault = format!(in alloc; "{damage} restart {way} after {passing} calls: {now}")?;
-            return Ok(Some(fault));
+            return fault_text(alloc, damage, way, *passing, now.as_str());
         }
         is_over = is_whole && now.as_str() == course.after;
     }
     Ok(None)
+}
+
+fn answer_after(
+    alloc: Global,
+    disk: MemDisk,
+    damage: &str,
+    look: &str,
+) -> Result<String, CaseError> {
+    let (disk, _said) = run(alloc, disk, damage)?;
+    let (_disk, now) = run(alloc, disk, look)?;
+    Ok(now)
+}
+
+fn fault_text(
+    alloc: Global,
+    damage: &str,
+    way: &str,
+    passing: u64,
+    now: &str,
+) -> Result<Option<String>, CaseError> {
+    let fault = format!(in alloc; "{damage} restart {way} after {passing} calls: {now}")?;
+    Ok(Some(fault))
 }
 
 // The disk on which the word is stopped after that many calls, and whether it succeeded.

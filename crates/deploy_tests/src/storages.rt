@@ -10,7 +10,8 @@ ghost use Rattle.per_base.specs.declared.elements.StoreKind.TheVariants.{Keys};
 use crate::calls::name_of;
 use crate::courses::add;
 use crate::faults::Fault;
-use crate::refusals::{outcome_text, refusal_text};
+use crate::refusals::outcome_text;
+use crate::things::things;
 use case_words::{cut, text};
 use deploy::{Root, open_root, recover_storage, reset_storage, shape_of};
 use deployment_model::StorageConfig;
@@ -67,16 +68,39 @@ fn worded(
     match verb {
         "open" => opened(alloc, disk, shape),
         "set" if config.kind == StoreKind::Keys => set(alloc, disk, shape, config, rest),
-        "recover" => {
-            let refused = recover_storage(alloc, disk, &shape, config, RECOVERED)?;
-            Ok(outcome_text(alloc, refused.as_ref())?)
-        }
-        "reset" => {
-            let refused = reset_storage(alloc, disk, &shape, config, RECOVERED)?;
-            Ok(outcome_text(alloc, refused.as_ref())?)
-        }
+        "thing" if config.kind == StoreKind::Keys => things(alloc, disk, shape, config, rest),
+        "recover" => recovered(alloc, disk, &shape, config),
+        "reset" => reset(alloc, disk, &shape, config),
         _ => Err(Fault::CaseError),
     }
+}
+
+fn recovered(
+    alloc: Global,
+    disk: &mut MemDisk,
+    shape: &Shape,
+    config: &StorageConfig,
+) -> Result<String, Fault>
+    requires shape { IsShape shape.now }
+    requires config { IsStorage (storage_data config.now) }
+    requires configured { IsConfigured config.now.kind (storage_data config.now) shape.now }
+{
+    let refused = recover_storage(alloc, disk, shape, config, RECOVERED)?;
+    Ok(outcome_text(alloc, refused.as_ref())?)
+}
+
+fn reset(
+    alloc: Global,
+    disk: &mut MemDisk,
+    shape: &Shape,
+    config: &StorageConfig,
+) -> Result<String, Fault>
+    requires shape { IsShape shape.now }
+    requires config { IsStorage (storage_data config.now) }
+    requires configured { IsConfigured config.now.kind (storage_data config.now) shape.now }
+{
+    let refused = reset_storage(alloc, disk, shape, config, RECOVERED)?;
+    Ok(outcome_text(alloc, refused.as_ref())?)
 }
 
 // `open`: brings every copy to what the storage opens at.
